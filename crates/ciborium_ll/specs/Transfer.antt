@@ -1,0 +1,20 @@
+-- What a write does to the bytes and the room that a writer tells. A read consumes bytes by std's `Consumes`,
+-- and a write appends them by std's `Appends`.
+use Rattle.std.specs.Prelude.{◌≡◌, ℕ, ◌+◌, ◌≤◌, List, length, take, ⊤, None, Some}
+use Rattle.std.specs.Io.KnownBytes.{Appends}
+use Rattle.std.specs.declared.option.Option.{Option}
+
+-- a room that is told is less by n
+abbrev pub Shrinks : Option ℕ → Option ℕ → ℕ → Type 0
+Shrinks None new n = ⊤
+Shrinks (Some old) None n = ⊥
+Shrinks (Some old) (Some new) n = old ≡ new + n
+
+-- the first `count` of the bytes were appended, and a room that is told is less by as many
+abbrev pub AppendsFirst : Option (List ℕ) → Option (List ℕ) → Option ℕ → Option ℕ → List ℕ → ℕ → Type 0
+AppendsFirst written written' room room' bytes count =
+    Appends written written' (take count bytes) × Shrinks room room' count × (count ≤ length bytes)
+
+-- a beginning of the bytes was appended
+abbrev pub AppendsFront : Option (List ℕ) → Option (List ℕ) → Option ℕ → Option ℕ → List ℕ → Type 0
+AppendsFront written written' room room' bytes = (count : ℕ) × AppendsFirst written written' room room' bytes count

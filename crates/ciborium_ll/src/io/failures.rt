@@ -1,0 +1,33 @@
+//! A count for contracts alone.
+
+ghost use Rattle.std.specs.Prelude.{◌≡◌, ℕ, ◌+◌};
+ghost use Rattle.std.specs.Borrow.{ftrue};
+
+use std::marker::{Model, PhantomData};
+
+/// How many calls of a reader or a writer failed. It has no greatest value and takes no bytes.
+#[derive(Drop)]
+pub struct Failures {
+    marker: PhantomData<()>,
+    pub ghost count: { ℕ },
+}
+
+impl Model for Failures {
+    ghost also_owns = { λ _. ftrue };
+}
+
+impl Failures {
+    /// No failure yet.
+    pub fn new() -> Failures
+        ensures { result.count ≡ 0 }
+    {
+        Failures {
+            marker: PhantomData,
+        }
+    }
+
+    /// Counts one failure.
+    pub fn raise(&mut self)
+        ensures { self.new.count ≡ self.old.count + 1 }
+    {}
+}

@@ -1,0 +1,130 @@
+//! A reader and a writer over slices.
+
+ghost use Rattle.std.specs.Prelude.{true, IsTrue, IfSome, ◌≡◌, ◌≤◌, ◌<◌, ◌-◌, ◌+◌, ◌↔◌, [], Some, length, take, refl, OnOk, OnErr, IsOk};
+ghost use Rattle.std.specs.Io.KnownBytes.{Appends, Consumes};
+ghost use Rattle.ciborium_ll.specs.Transfer.{Shrinks, AppendsFront};
+
+use super::failures::Failures;
+use super::{Read, Write};
+
+/// Fewer bytes are left than were asked for. Nothing was consumed.
+#[derive(Debug, Drop)]
+pub struct EndOfFile;
+
+/// Reads from a slice. It is steady, and tells what is left of the slice.
+#[derive(Drop)]
+pub struct SliceReader<'a> {
+    left: &'a [u8],
+    failures: Failures,
+}
+
+impl<'a> SliceReader<'a> {
+    /// A reader of the whole slice.
+    pub fn new(bytes: &'a [u8]) -> SliceReader<'a>
+        ensures ahead { ⟦<SliceReader<'a> as Read>⟧.ahead result ≡ Some bytes.now }
+        ensures failures { ⟦<SliceReader<'a> as Read>⟧.failures result ≡ 0 }
+    {
+        SliceReader {
+            left: bytes,
+            failures: Failures::new(),
+        }
+    }
+
+    /// The bytes that were not read yet.
+    pub fn left(&self) -> &[u8]
+        ensures { ⟦<SliceReader<'a> as Read>⟧.ahead self.now ≡ Some result.now }
+    {
+        self.left
+    }
+}
+
+impl<'a> Read for SliceReader<'a> {
+    type Error = EndOfFile;
+
+    ghost ahead = { λ r. Some r.left.now };
+
+    ghost steady = { λ _. true };
+
+    ghost failures = { λ r. r.failures.count };
+
+    ghost steady_is_told = { λ _ _. refl };
+
+    fn read_exact(&mut self, data: &mut [u8]) -> Result<(), EndOfFile> {
+        if self.left.len() < data.len() {
+            self.failures.raise();
+            return Err(EndOfFile);
+        }
+        let (front, rest) = self.left.split_at(data.len());
+        data.copy_from_slice(front);
+        self.left = rest;
+        Ok(())
+    }
+}
+
+/// The room is smaller than what was to be written. Nothing was written.
+#[derive(Debug, Drop)]
+pub struct OutOfSpace;
+
+/// Writes into a slice, from its front on. It tells what it wrote and its room.
+#[derive(Drop)]
+pub struct SliceWriter<'a> {
+    buffer: &'a mut [u8],
+    filled: usize,
+    failures: Failures,
+    ghost within: { filled ≤ length buffer.now },
+}
+
+impl<'a> SliceWriter<'a> {
+    /// A writer with the whole slice as its room.
+    pub fn new(buffer: &'a mut [u8]) -> SliceWriter<'a>
+        ensures written { ⟦<SliceWriter<'a> as Write>⟧.written result ≡ Some [] }
+        ensures room { ⟦<SliceWriter<'a> as Write>⟧.room result ≡ Some (length buffer.old) }
+        ensures failures { ⟦<SliceWriter<'a> as Write>⟧.failures result ≡ 0 }
+        ensures same_reference { result.buffer.ghost_name ≡ buffer.entry.ghost_name }
+    {
+        SliceWriter {
+            buffer,
+            filled: 0,
+            failures: Failures::new(),
+        }
+    }
+
+    /// The bytes written so far.
+    pub fn written(&self) -> &[u8]
+        ensures { ⟦<SliceWriter<'a> as Write>⟧.written self.now ≡ Some result.now }
+    {
+        &self.buffer[..self.filled]
+    }
+
+    /// How many more bytes fit.
+    pub fn room(&self) -> usize
+        ensures { ⟦<SliceWriter<'a> as Write>⟧.room self.now ≡ Some result }
+    {
+        self.buffer.len() - self.filled
+    }
+}
+
+impl<'a> Write for SliceWriter<'a> {
+    type Error = OutOfSpace;
+
+    ghost written = { λ w. Some (take w.filled w.buffer.now) };
+
+    ghost room = { λ w. Some (length w.buffer.now - w.filled) };
+
+    ghost failures = { λ w. w.failures.count };
+
+    fn write_all(&mut self, data: &[u8]) -> Result<(), OutOfSpace> {
+        if self.room() < data.len() {
+            self.failures.raise();
+            return Err(OutOfSpace);
+        }
+        let end = self.filled + data.len();
+        self.buffer[self.filled..end].copy_from_slice(data);
+        self.filled = end;
+        Ok(())
+    }
+
+    fn flush(&mut self) -> Result<(), OutOfSpace> {
+        Ok(())
+    }
+}

@@ -1,0 +1,4 @@
+//! Titles of CBOR items (RFC 7049, 2.1 to 2.3).
+#![tactic(auto)]
+
+pub mod io;
