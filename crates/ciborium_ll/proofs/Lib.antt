@@ -1,0 +1,3 @@
+pub mod Lists
+pub mod PartsLaws
+pub mod TitleLaws

@@ -1,1 +1,3 @@
+pub mod Parts
+pub mod Title
 pub mod Transfer

@@ -1,0 +1,238 @@
+//! Headers, and the parts of a title.
+
+ghost use Rattle.std.specs.Prelude.{◌≡◌, ◌+◌, ◌*◌, ◌<◌, length, IfSome, IfNone, [], ◌∷◌};
+ghost use Rattle.ciborium_ll.specs.Title.{IsTitle, IsRefused, IsNeverOpen, Major, least_size, minor_of, affix_of, shortest_title, title_len, shortest_with_length, float_title, first_byte, major_code};
+ghost use Rattle.ciborium_ll.specs.Parts.{IsMinor, IsParts, minor_affix, minor_code, minor_number, parts_bytes, parts_first, title_bytes};
+
+/// A float by its width and its raw bits (RFC 7049, 2.3).
+///
+/// Two floats are equal where width and bits are: a NaN equals itself, and the zeros of both signs differ.
+#[derive(Clone, Copy, Debug, PartialEq, Eq)]
+pub enum Float {
+    /// The bits of a float of 16 bits.
+    Half(u16),
+    /// The bits of a float of 32 bits.
+    Single(u32),
+    /// The bits of a float of 64 bits.
+    Double(u64),
+}
+
+/// What a title means (RFC 7049, 2.1 to 2.3). The body of an item is no part of it.
+///
+/// A length or a count of `None` is the indefinite form, which a `Break` ends.
+#[derive(Clone, Copy, Debug, PartialEq, Eq)]
+pub enum Header {
+    /// An unsigned integer.
+    Positive(u64),
+    /// The negative integer -1 - n.
+    Negative(u64),
+    /// A float, as raw bits with their width.
+    Float(Float),
+    /// A simple value.
+    Simple(u8),
+    /// A tag, for the item behind it.
+    Tag(u64),
+    /// The end of an indefinite string, array or map.
+    Break,
+    /// A byte string of this many bytes.
+    Bytes(Option<usize>),
+    /// A text string of this many bytes.
+    Text(Option<usize>),
+    /// An array of this many items.
+    Array(Option<usize>),
+    /// A map of this many pairs of items.
+    Map(Option<usize>),
+}
+
+/// The lower five bits of a first byte, with the number that they hold or announce.
+#[derive(Clone, Copy)]
+pub(crate) enum Minor {
+    /// The number itself, below 24.
+    Small(u8),
+    /// A number in one byte behind.
+    One(u8),
+    /// A number in two bytes behind.
+    Two(u16),
+    /// A number in four bytes behind.
+    Four(u32),
+    /// A number in eight bytes behind.
+    Eight(u64),
+    /// No number: an indefinite form or a break.
+    Open,
+}
+
+impl Minor {
+    /// The number, where there is one.
+    fn number(self) -> Option<u64>
+        ensures { result ≡ minor_number self }
+    {
+        match self {
+            Minor::Small(n) | Minor::One(n) => Some(u64::from(n)),
+            Minor::Two(n) => Some(u64::from(n)),
+            Minor::Four(n) => Some(u64::from(n)),
+            Minor::Eight(n) => Some(n),
+            Minor::Open => None,
+        }
+    }
+
+    /// The smallest form that holds a number.
+    fn holding(number: u64) -> Minor
+        ensures minor { IsMinor result }
+        ensures code { minor_code result ≡ minor_of (least_size number) number }
+        ensures affix { minor_affix result ≡ affix_of (least_size number) number }
+    {
+        if number < 24 {
+            Minor::Small(number as u8)
+        } else if number < 0x100 {
+            Minor::One(number as u8)
+        } else if number < 0x1_0000 {
+            Minor::Two(number as u16)
+        } else if number < 0x1_0000_0000 {
+            Minor::Four(number as u32)
+        } else {
+            Minor::Eight(number)
+        }
+    }
+
+    /// The smallest form that holds a length, or the indefinite form.
+    fn holding_length(length: Option<usize>) -> Minor
+        ensures minor { IsMinor result }
+        ensures bytes { (major : Major) → parts_bytes (major_code major) result ≡ shortest_with_length major length }
+    {
+        match length {
+            Some(length) => Minor::holding(length as u64),
+            None => Minor::Open,
+        }
+    }
+
+    /// The minor as it stands in the first byte.
+    pub(crate) fn code(self) -> u8
+        requires { IsMinor self }
+        ensures value { result ≡ minor_code self }
+        ensures bits { result < 32 }
+    {
+        match self {
+            Minor::Small(n) => n,
+            Minor::One(_) => 24,
+            Minor::Two(_) => 25,
+            Minor::Four(_) => 26,
+            Minor::Eight(_) => 27,
+            Minor::Open => 31,
+        }
+    }
+
+    /// How many bytes stand behind the first one.
+    fn affix_len(self) -> usize
+        ensures { result ≡ length (minor_affix self) }
+    {
+        match self {
+            Minor::Small(_) | Minor::Open => 0,
+            Minor::One(_) => 1,
+            Minor::Two(_) => 2,
+            Minor::Four(_) => 4,
+            Minor::Eight(_) => 8,
+        }
+    }
+}
+
+/// A title in its parts: the major type, below 8, and the minor.
+#[derive(Clone, Copy)]
+pub(crate) struct Title {
+    pub(crate) major: u8,
+    pub(crate) minor: Minor,
+}
+
+impl Title {
+    /// The first byte.
+    pub(crate) fn first_byte(self) -> u8
+        requires { IsParts self }
+        ensures { result ≡ parts_first self.major self.minor }
+    {
+        self.major * 32 + self.minor.code()
+    }
+
+    /// What the title means, or nothing for the minor 31 where it has no meaning.
+    pub(crate) fn header(self) -> Option<Header>
+        requires { IsParts self }
+        ensures some { IfSome result (IsTitle (title_bytes self)) }
+        ensures none { IfNone result ((minor_code self.minor ≡ 31) × IsNeverOpen self.major) }
+    {
+        let n = match self.minor.number() {
+            Some(n) => n,
+            None => return open_header(self.major),
+        };
+        Some(match self.major {
+            0 => Header::Positive(n),
+            1 => Header::Negative(n),
+            2 => Header::Bytes(Some(n as usize)),
+            3 => Header::Text(Some(n as usize)),
+            4 => Header::Array(Some(n as usize)),
+            5 => Header::Map(Some(n as usize)),
+            6 => Header::Tag(n),
+            _ => other_header(self.minor),
+        })
+    }
+}
+
+/// What the minor 31 means.
+fn open_header(major: u8) -> Option<Header>
+    requires { major < 8 }
+    ensures some { IfSome result (IsTitle ((32 * major + 31) ∷ [])) }
+    ensures none { IfNone result (IsNeverOpen major) }
+{
+    match major {
+        2 => Some(Header::Bytes(None)),
+        3 => Some(Header::Text(None)),
+        4 => Some(Header::Array(None)),
+        5 => Some(Header::Map(None)),
+        7 => Some(Header::Break),
+        _ => None,
+    }
+}
+
+/// What a minor means under the major type 7.
+fn other_header(minor: Minor) -> Header
+    requires { IsMinor minor }
+    ensures { IsTitle (parts_bytes 7 minor) result }
+{
+    match minor {
+        Minor::Small(n) | Minor::One(n) => Header::Simple(n),
+        Minor::Two(n) => Header::Float(Float::Half(n)),
+        Minor::Four(n) => Header::Float(Float::Single(n)),
+        Minor::Eight(n) => Header::Float(Float::Double(n)),
+        Minor::Open => Header::Break,
+    }
+}
+
+impl Header {
+    /// The length in bytes of the header's shortest title, from 1 to 9.
+    pub fn title_len(&self) -> usize
+        ensures value { result ≡ title_len self.now }
+        ensures least { 0 < result }
+        ensures most { result < 10 }
+    {
+        1 + self.shortest().minor.affix_len()
+    }
+
+    /// The shortest title in its parts.
+    pub(crate) fn shortest(self) -> Title
+        ensures parts { IsParts result }
+        ensures bytes { title_bytes result ≡ shortest_title self }
+    {
+        let (major, minor) = match self {
+            Header::Positive(n) => (0, Minor::holding(n)),
+            Header::Negative(n) => (1, Minor::holding(n)),
+            Header::Bytes(length) => (2, Minor::holding_length(length)),
+            Header::Text(length) => (3, Minor::holding_length(length)),
+            Header::Array(length) => (4, Minor::holding_length(length)),
+            Header::Map(length) => (5, Minor::holding_length(length)),
+            Header::Tag(n) => (6, Minor::holding(n)),
+            Header::Simple(n) => (7, Minor::holding(u64::from(n))),
+            Header::Float(Float::Half(bits)) => (7, Minor::Two(bits)),
+            Header::Float(Float::Single(bits)) => (7, Minor::Four(bits)),
+            Header::Float(Float::Double(bits)) => (7, Minor::Eight(bits)),
+            Header::Break => (7, Minor::Open),
+        };
+        Title { major, minor }
+    }
+}
