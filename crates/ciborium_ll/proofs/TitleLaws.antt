@@ -46,7 +46,7 @@ size_back Two n p = refl
 size_back Four n p = refl
 size_back Eight n p = refl
 
-minor_below : (s : Size) (n : ℕ) → n < size_limit s → minor_of s n < 28
+pub minor_below : (s : Size) (n : ℕ) → n < size_limit s → minor_of s n < 28
 minor_below Small n p = omega arith
 minor_below One n p = omega arith
 minor_below Two n p = omega arith

@@ -3,5 +3,6 @@
 
 mod hdr;
 pub mod io;
+pub mod laws;
 
 pub use self::hdr::{Float, Header};
