@@ -1,3 +1,5 @@
 pub mod Parts
+pub mod Strings
+pub mod Text
 pub mod Title
 pub mod Transfer

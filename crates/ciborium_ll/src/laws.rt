@@ -1,7 +1,13 @@
 //! Laws of the definitions. Each function is empty: its contract is the law.
 
+mod strings;
+mod text;
 mod titles;
 
+pub use self::strings::one_string;
+pub use self::text::{
+    joined_texts, no_rest_of_text, no_text_begins, one_front, rest_of_text, same_text,
+};
 pub use self::titles::{
     cut_titles, one_title, refused_first_bytes, shortest_titles, title_header, title_length,
 };
