@@ -1,4 +1,6 @@
 pub mod AffixLaws
+pub mod CutLaws
+pub mod ElementLaws
 pub mod Lists
 pub mod PartsLaws
 pub mod RefusedBytes

@@ -1,3 +1,5 @@
+pub mod Cuts
+pub mod Elements
 pub mod Parts
 pub mod Strings
 pub mod Text
