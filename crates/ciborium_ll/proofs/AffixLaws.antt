@@ -1,5 +1,5 @@
 -- Titles by their first byte: how many bytes follow it, and that any bytes of that number make a title.
-use Rattle.std.proofs.Common.{◌≡◌, ℕ, zero, suc, ◌+◌, ◌-◌, ◌*◌, ◌/◌, ◌%◌, ◌^◌, ◌<◌, ◌≤◌, ◌⊎◌, ◌↔◌, List, [], ◌∷◌, ◌++◌, length, get_or, Some, None, refl, sym, ap, subst, ◌∙◌, arith, inl, inr, append_assoc}
+use Rattle.std.proofs.Common.{◌≡◌, ℕ, zero, suc, ◌+◌, ◌-◌, ◌*◌, ◌/◌, ◌%◌, ◌^◌, ◌<◌, ◌≤◌, ◌⊎◌, ◌↔◌, List, [], ◌∷◌, ◌++◌, length, get_or, take, Some, None, refl, sym, ap, subst, ◌∙◌, arith, inl, inr, append_assoc}
 use Rattle.std.specs.Int.{w8, w16, w32, w64, from_be_bytes, to_be_bytes}
 use Rattle.std.proofs.Math.ListN.{replicate}
 use Rattle.std.proofs.lemmas.Bool.{cases_lt, ne_eqb}
@@ -160,6 +160,12 @@ pub AreBytes-append : (a b : List ℕ) → AreBytes a → AreBytes b → AreByte
 AreBytes-append [] b f g i = g i
 AreBytes-append (x ∷ a) b f g zero = f zero
 AreBytes-append (x ∷ a) b f g (suc i) = AreBytes-append a b (λ j. f (suc j)) g i
+
+pub AreBytes-take : (n : ℕ) (a : List ℕ) → AreBytes a → AreBytes (take n a)
+AreBytes-take zero a f i = omega arith
+AreBytes-take (suc n) [] f i = f i
+AreBytes-take (suc n) (x ∷ a) f zero = f zero
+AreBytes-take (suc n) (x ∷ a) f (suc i) = AreBytes-take n a (λ j. f (suc j)) i
 
 refused_affix : (b : ℕ) → IsRefused b → affix_len (b % 32) ≡ 0
 refused_affix b r = no_affix (b % 32) (inr (omega (arith, r)))

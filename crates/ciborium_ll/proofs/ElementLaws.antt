@@ -9,7 +9,7 @@ use Rattle.ciborium_ll.specs.Strings.IsString.{definite as definite_str, indefin
 use Rattle.ciborium_ll.specs.Elements.{Mark, Plain, Whole, Open, Piece, Close, IsPlain, mark_spelling, spelling, pieces, IsElement, plain, definite, indefinite, IsRun, done, next}
 use Rattle.ciborium_ll.proofs.Lists.{same_front}
 use Rattle.ciborium_ll.proofs.TitleLaws.{one_title, title_in_range, IsTitle-shortest, shortest_or_longer}
-use Rattle.ciborium_ll.proofs.StringLaws.{fronts, one_strings_then}
+use Rattle.ciborium_ll.proofs.StringLaws.{some_is, mixed, fronts, one_strings_then}
 
 abbrev pub SameElement : List ℕ → List ℕ → List Mark → List Mark → List ℕ → List ℕ → Type 0
 SameElement w w' ms ms' v v' = (w ≡ w') × (ms ≡ ms') × (v ≡ v')
@@ -36,12 +36,6 @@ string_fronts k k' t t' u u' o o' p p' e =
     let kk : k ≡ k' = kind_is k k' o o' r.1 in
     let f = fronts k t t' u u' o o' p (subst (λ (z : Kind). IsTitle t' (kind_header z o')) (sym kk) p') e in
     (kk, f.0, f.1, f.2)
-
-some_is : (m n : ℕ) → Some m ≡ Some n → m ≡ n
-some_is m n e = cc
-
-mixed : (n : ℕ) → Some n ≡ None → ⊥
-mixed n e = cc
 
 pub one_element : (w w' v v' : List ℕ) (ms ms' : List Mark) → IsElement w ms → IsElement w' ms' → w ++ v ≡ w' ++ v' → SameElement w w' ms ms' v v'
 one_element w w' v v' ms ms' (plain x p q) (plain x' p' q') e =

@@ -1,9 +1,12 @@
 pub mod AffixLaws
+pub mod Complete
 pub mod CutLaws
 pub mod ElementLaws
+pub mod FaultLaws
 pub mod Lists
 pub mod PartsLaws
 pub mod RefusedBytes
+pub mod StepLaws
 pub mod StringLaws
 pub mod TextLaws
 pub mod TitleLaws

@@ -6,8 +6,13 @@ use Rattle.ciborium_ll.specs.Strings.{Kind, Bytes, Text, kind_header, IsString, 
 use Rattle.ciborium_ll.proofs.Lists.{same_front}
 use Rattle.ciborium_ll.proofs.TitleLaws.{one_title}
 
-abbrev some : ℕ → Option ℕ
-some n = Some n
+-- lengths that are told
+pub some_is : (m n : ℕ) → Some m ≡ Some n → m ≡ n
+some_is m n e = cc
+
+-- a length that is told isn't the indefinite form
+pub mixed : (n : ℕ) → Some n ≡ None → ⊥
+mixed n e = cc
 
 pub same_len : (k : Kind) (o o' : Option ℕ) → kind_header k o ≡ kind_header k o' → o ≡ o'
 same_len Bytes o o' e = cc
@@ -37,12 +42,6 @@ str_front k w u v bs (indefinite {title = t} {strings = x} p q) e = no_front k t
 
 abbrev pub SameStr : List ℕ → List ℕ → List (List ℕ) → List (List ℕ) → List ℕ → List ℕ → Type 0
 SameStr w w' bs bs' v v' = (w ≡ w') × (bs ≡ bs') × (v ≡ v')
-
-some_is : (m n : ℕ) → some m ≡ some n → m ≡ n
-some_is m n e = cc
-
-mixed : (n : ℕ) → some n ≡ None → ⊥
-mixed n e = cc
 
 definites : (k : Kind) (t b t' b' v v' : List ℕ) → IsTitle t (kind_header k (Some (length b))) → IsTitle t' (kind_header k (Some (length b'))) → (t ++ b) ++ v ≡ (t' ++ b') ++ v'
     → SameStr (t ++ b) (t' ++ b') (b ∷ []) (b' ∷ []) v v'

@@ -1,6 +1,8 @@
 pub mod Cuts
 pub mod Elements
+pub mod Faults
 pub mod Parts
+pub mod Steps
 pub mod Strings
 pub mod Text
 pub mod Title

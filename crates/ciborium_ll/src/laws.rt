@@ -2,12 +2,14 @@
 
 mod cuts;
 mod elements;
+mod faults;
 mod strings;
 mod text;
 mod titles;
 
 pub use self::cuts::full_cuts;
 pub use self::elements::{one_element, one_run, spelled_run};
+pub use self::faults::{no_fault, one_fault, run_or_fault};
 pub use self::strings::one_string;
 pub use self::text::{
     joined_texts, no_rest_of_text, no_text_begins, one_front, rest_of_text, same_text,
