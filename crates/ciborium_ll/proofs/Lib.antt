@@ -3,6 +3,7 @@ pub mod Complete
 pub mod CutLaws
 pub mod ElementLaws
 pub mod FaultLaws
+pub mod ItemLaws
 pub mod Lists
 pub mod PartsLaws
 pub mod RefusedBytes
@@ -11,3 +12,4 @@ pub mod StringLaws
 pub mod TextLaws
 pub mod TitleLaws
 pub mod Utf8Laws
+pub mod ValueLaws

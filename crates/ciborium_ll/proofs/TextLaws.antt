@@ -44,7 +44,7 @@ one_front x a r b s p q =
     let k = q.longest a r p.parts p.text in
     same_front a b r s (omega (arith, l, k)) (sym p.parts ∙ q.parts)
 
-character_length : (c : List ℕ) → IsCharacter c → (0 < length c) × (length c ≤ 4)
+pub character_length : (c : List ℕ) → IsCharacter c → (0 < length c) × (length c ≤ 4)
 character_length c (row1 p) = omega arith
 character_length c (row2 p q) = omega arith
 character_length c (row3 p q r) = omega arith
@@ -55,8 +55,8 @@ character_length c (row7 p q r s) = omega arith
 character_length c (row8 p q r s) = omega arith
 character_length c (row9 p q r s) = omega arith
 
-one_character : (c : List ℕ) → IsCharacter c → IsCharacters c
-one_character c p = record { characters = c ∷ []; each = (p, tt); whole = sym (append-nil c) }
+pub character_is_text : (c : List ℕ) → IsCharacter c → IsCharacters c
+character_is_text c p = record { characters = c ∷ []; each = (p, tt); whole = sym (append-nil c) }
 
 damned : (x a r y : List ℕ) (cs : List (List ℕ)) → IsFront x a r → 3 < length r → AllByRecursion IsCharacter cs → r ++ y ≡ joined cs → ⊥
 damned x a r y [] f l all e = let n = ap length e in omega (arith, length-append r y)
@@ -64,7 +64,7 @@ damned x a r y (c ∷ cs) f l all e =
     let k = character_length c all.0 in
     let m = front_of_front c r (joined cs) y (sym e) (omega arith) in
     let parts : x ≡ (a ++ c) ++ m.0 = f.parts ∙ (ap (λ (z : List ℕ). a ++ z) m.1 ∙ sym (append_assoc a c m.0)) in
-    let longer = f.longest (a ++ c) m.0 parts (IsCharacters-append a c f.text (one_character c all.0)) in
+    let longer = f.longest (a ++ c) m.0 parts (IsCharacters-append a c f.text (character_is_text c all.0)) in
     omega (arith, length-append a c)
 
 -- more than three bytes that no character begins: no text begins with the list

@@ -1,9 +1,11 @@
 pub mod Cuts
 pub mod Elements
 pub mod Faults
+pub mod Items
 pub mod Parts
 pub mod Steps
 pub mod Strings
 pub mod Text
 pub mod Title
 pub mod Transfer
+pub mod Values

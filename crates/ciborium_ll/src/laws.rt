@@ -3,6 +3,7 @@
 mod cuts;
 mod elements;
 mod faults;
+mod items;
 mod strings;
 mod text;
 mod titles;
@@ -10,6 +11,7 @@ mod titles;
 pub use self::cuts::full_cuts;
 pub use self::elements::{one_element, one_run, spelled_run};
 pub use self::faults::{no_fault, one_fault, run_or_fault};
+pub use self::items::one_item;
 pub use self::strings::one_string;
 pub use self::text::{
     joined_texts, no_rest_of_text, no_text_begins, one_front, rest_of_text, same_text,

@@ -1,5 +1,9 @@
 use Rattle.ciborium_ll.proofs.CutLaws.{fewest, one_full}
+use Rattle.ciborium_ll.proofs.ValueLaws.{full_cut}
 use Rattle.ciborium_ll.proofs.laws.cuts.full_cuts.Goals as goal
+
+pub returns-clause-exists : goal.returns-clause-exists
+returns-clause-exists c = full_cut
 
 pub returns-clause-one : goal.returns-clause-one
 returns-clause-one c = one_full
