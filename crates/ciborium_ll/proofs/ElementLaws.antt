@@ -131,7 +131,7 @@ mutual
 pub respell : (k : Kind) (w : List ℕ) (bs : List (List ℕ)) → AreStrings k w bs → Respelled k w bs
 respell k w bs s = respell_all k w bs s
 
-open_spelled : (k : Kind) (bs : List (List ℕ)) → spelling (Open k ∷ (pieces k bs ++ Close ∷ [])) ≡ shortest_title (kind_header k None) ++ (spelling (pieces k bs) ++ 0xff ∷ [])
+pub open_spelled : (k : Kind) (bs : List (List ℕ)) → spelling (Open k ∷ (pieces k bs ++ Close ∷ [])) ≡ shortest_title (kind_header k None) ++ (spelling (pieces k bs) ++ 0xff ∷ [])
 open_spelled k bs = ap (λ y. shortest_title (kind_header k None) ++ y) (spelling-append (pieces k bs) (Close ∷ []))
 
 pub record Again (w : List ℕ) (ms : List Mark) : Type 0 where

@@ -7,6 +7,7 @@ mod items;
 mod strings;
 mod text;
 mod titles;
+mod values;
 
 pub use self::cuts::full_cuts;
 pub use self::elements::{one_element, one_run, spelled_run};
@@ -19,3 +20,4 @@ pub use self::text::{
 pub use self::titles::{
     cut_titles, one_title, refused_first_bytes, shortest_titles, title_header, title_length,
 };
+pub use self::values::written_values;

@@ -1,0 +1,16 @@
+//! Laws of values that are written in pieces.
+
+ghost use Rattle.std.specs.Prelude.{◌≡◌, ◌≤◌, ◌<◌, ◌^◌, ℕ, List, [], ◌∷◌, length};
+ghost use Rattle.ciborium_ll.specs.Strings.{Kind};
+ghost use Rattle.ciborium_ll.specs.Elements.{Mark, IsSound, IsElement, spelling};
+ghost use Rattle.ciborium_ll.specs.Values.{least_limit, IsWritten};
+
+/// Each value is written in just one way under a limit, and what is written is one element.
+pub fn written_values()
+    ensures exists { (kind : Kind) (limit : ℕ) (value : List ℕ) → least_limit kind ≤ limit → IsSound kind (value ∷ [])
+        → (marks : List Mark) × IsWritten kind limit value marks }
+    ensures one { (kind : Kind) (limit : ℕ) (value : List ℕ) (marks others : List Mark) → IsWritten kind limit value marks
+        → IsWritten kind limit value others → marks ≡ others }
+    ensures element { (kind : Kind) (limit : ℕ) (value : List ℕ) (marks : List Mark) → IsWritten kind limit value marks
+        → IsSound kind (value ∷ []) → length value < 2 ^ 64 → IsElement (spelling marks) marks }
+{}
