@@ -14,6 +14,7 @@ use Rattle.ciborium_ll.specs.Elements.{IsSound, Mark, Plain, Whole, Open, Close,
 use Rattle.ciborium_ll.specs.Faults.{Due, In, Body, Reaches, due, inside, body, body_inside, IsMisplaced, CutTitle, NoTitle, OtherTitle, DamagedText, CutBody, RunInFront, HasFault, Short, Syntax, IsWritable}
 use Rattle.ciborium_ll.specs.Steps.{IsInsideAt, one_open}
 use Rattle.ciborium_ll.proofs.AffixLaws.{AreBytes-take, title_or_refused}
+use Rattle.ciborium_ll.proofs.ElementLaws.{IsSound-append}
 use Rattle.ciborium_ll.proofs.TextLaws.{IsCharacters-nil}
 use Rattle.ciborium_ll.proofs.Utf8Laws.{to_std, from_std}
 use Rattle.ciborium_ll.proofs.StepLaws.{add_string, add_open, close_inner, close_last, counted, add_element}
@@ -209,11 +210,6 @@ break_is : (t : List ℕ) (x : Header) → IsTitle t x → x ≡ h.Break → t �
 break_is t x (numbered m s n p) e = absurd (not_break_number m s n e)
 break_is t x (alone m y o) e = break_alone m y o e
 
-Sound-append : (k : Kind) (bs cs : List (List ℕ)) → IsSound k bs → IsSound k cs → IsSound k (bs ++ cs)
-Sound-append Bytes bs cs p q = tt
-Sound-append Text [] cs p q = q
-Sound-append Text (b ∷ bs) cs p q = (p.0, Sound-append Text bs cs p.1 q)
-
 break_step : (n i left j : ℕ) (u v s rest : List ℕ) (ms : List Mark) (bs : List (List ℕ)) (k : Kind) → i + suc left ≡ n → IsRun i u ms → IsInsideAt k (suc j) v bs → IsSound k bs → s ≡ 0xff ∷ rest → Step n (u ++ v) s
 break_step n i left zero u v s rest ms bs k e r ia ok q =
     goes (u ++ (v ++ 0xff ∷ [])) rest (between (suc i) left (ms ++ (Open k ∷ (pieces k bs ++ Close ∷ []))) (omega arith) (add_element i u ms r (v ++ 0xff ∷ []) (Open k ∷ (pieces k bs ++ Close ∷ [])) (close_last k v bs ia ok)))
@@ -239,7 +235,7 @@ in_step n i left j u v s ms bs k e r ia ok (titled t rest x p q) =
             | too_few a ↦ fails (moved n ((u ++ v) ++ s) (((u ++ v) ++ t) ++ rest) (shift (u ++ v) t s rest q) (body_faulty n ((u ++ v) ++ t) rest (ms ++ Open k ∷ pieces k bs) k l (length (u ++ v)) deep a))
             | is_bad kt le un ↦ fails (moved n ((u ++ v) ++ s) (((u ++ v) ++ t) ++ rest) (shift (u ++ v) t s rest q) (text_faulty n ((u ++ v) ++ t) rest (ms ++ Open k ∷ pieces k bs) k l (length (u ++ v)) deep kt le un))
             | is_good b more is len good ↦
-                goes (u ++ (v ++ (t ++ b))) more (within i left j ms (bs ++ b ∷ []) k e r (add_string k (suc j) v (t ++ b) bs (b ∷ []) ia (definite_str (subst (λ (z : ℕ). IsTitle t (kind_header k (Some z))) (sym len) pt))) (Sound-append k bs (b ∷ []) ok good))
+                goes (u ++ (v ++ (t ++ b))) more (within i left j ms (bs ++ b ∷ []) k e r (add_string k (suc j) v (t ++ b) bs (b ∷ []) ia (definite_str (subst (λ (z : ℕ). IsTitle t (kind_header k (Some z))) (sym len) pt))) (IsSound-append k bs (b ∷ []) ok good))
                 (shift (u ++ v) (t ++ b) s more (q ∙ shift t b rest more is) ∙ ap (λ (z : List ℕ). z ++ more) (append_assoc u v (t ++ b))) (omega (arith, less t rest s x p q, ap length is, length-append b more))
           ])
     ]

@@ -7,9 +7,9 @@ use Rattle.std.specs.List.{AllByRecursion}
 use Rattle.std.proofs.Math.Utf8.{encode}
 use Rattle.ciborium_ll.specs.Text.{IsCharacter, joined, IsCharacters}
 use Rattle.ciborium_ll.specs.Cuts.{IsMember, IsNonempty, IsCut, AreFilled, IsFullCut}
-use Rattle.ciborium_ll.proofs.Lists.{same_front}
+use Rattle.ciborium_ll.proofs.Lists.{same_front, front_of_front}
 use Rattle.ciborium_ll.proofs.Utf8Laws.{written}
-use Rattle.ciborium_ll.proofs.TextLaws.{front_of_front, IsCharacters-append, IsCharacters-rest, IsCharacters-nil}
+use Rattle.ciborium_ll.proofs.TextLaws.{IsCharacters-append, IsCharacters-rest, IsCharacters-nil}
 
 -- no character begins another one
 pub one_character : (x y r s : List ℕ) → IsCharacter x → IsCharacter y → x ++ r ≡ y ++ s → x ≡ y

@@ -1,12 +1,11 @@
 -- Elements begin no other one; their spelling is an element again, and no longer.
-use Rattle.std.proofs.Common.{◌≡◌, ℕ, suc, ◌^◌, ◌<◌, ◌≤◌, List, [], ◌∷◌, ◌++◌, length, Option, Some, None, refl, sym, ap, subst, ◌∙◌, append_assoc, arith, inl, inr}
+use Rattle.std.proofs.Common.{◌≡◌, ℕ, suc, ◌≤◌, List, [], ◌∷◌, ◌++◌, length, Option, Some, None, refl, sym, ap, subst, ◌∙◌, append_assoc, arith, inl, inr}
 use Rattle.std.proofs.lemmas.List.{append-nil, length-append}
 use Rattle.ciborium_ll.specs.declared.hdr.Header.{Header}
-use Rattle.ciborium_ll.specs.declared.hdr.Header.TheVariants as h
 use Rattle.ciborium_ll.specs.Title.{IsTitle, shortest_title}
 use Rattle.ciborium_ll.specs.Strings.{Kind, Bytes, Text, kind_header, IsString, AreStrings, none, more}
 use Rattle.ciborium_ll.specs.Strings.IsString.{definite as definite_str, indefinite as indefinite_str}
-use Rattle.ciborium_ll.specs.Elements.{Mark, Plain, Whole, Open, Piece, Close, IsPlain, mark_spelling, spelling, pieces, IsElement, plain, definite, indefinite, IsRun, done, next}
+use Rattle.ciborium_ll.specs.Elements.{IsSound, Mark, Plain, Whole, Open, Piece, Close, IsPlain, mark_spelling, spelling, pieces, IsElement, plain, definite, indefinite, IsRun, done, next}
 use Rattle.ciborium_ll.proofs.Lists.{same_front}
 use Rattle.ciborium_ll.proofs.TitleLaws.{one_title, title_in_range, IsTitle-shortest, shortest_or_longer}
 use Rattle.ciborium_ll.proofs.StringLaws.{some_is, mixed, fronts, one_strings_then}
@@ -78,6 +77,23 @@ one_run n w ms (next {first = x} {rest = y} {marks = ns} {others = os} a r) w' v
     let nn : ns ≡ ns' = f.1 in
     let oo : os ≡ os' = g.1 in
     (rw (xx, yy) refl, rw (nn, oo) refl, g.2)
+
+-- ---- sound bodies
+
+pub IsSound-left : (k : Kind) (bs cs : List (List ℕ)) → IsSound k (bs ++ cs) → IsSound k bs
+IsSound-left Bytes bs cs s = tt
+IsSound-left Text [] cs s = tt
+IsSound-left Text (b ∷ bs) cs s = (s.0, IsSound-left Text bs cs s.1)
+
+pub IsSound-right : (k : Kind) (bs cs : List (List ℕ)) → IsSound k (bs ++ cs) → IsSound k cs
+IsSound-right Bytes bs cs s = tt
+IsSound-right Text [] cs s = s
+IsSound-right Text (b ∷ bs) cs s = IsSound-right Text bs cs s.1
+
+pub IsSound-append : (k : Kind) (bs cs : List (List ℕ)) → IsSound k bs → IsSound k cs → IsSound k (bs ++ cs)
+IsSound-append Bytes bs cs p q = tt
+IsSound-append Text [] cs p q = q
+IsSound-append Text (b ∷ bs) cs p q = (p.0, IsSound-append Text bs cs p.1 q)
 
 -- ---- the spelling
 

@@ -3,8 +3,10 @@ pub mod Complete
 pub mod CutLaws
 pub mod ElementLaws
 pub mod FaultLaws
+pub mod HaltLaws
 pub mod ItemLaws
 pub mod Lists
+pub mod OneFault
 pub mod PartsLaws
 pub mod RefusedBytes
 pub mod StepLaws

@@ -7,7 +7,7 @@ use Rattle.std.specs.Str.{IsUtf8, IsValidUpTo}
 use Rattle.std.specs.List.{AllByRecursion}
 use Rattle.std.proofs.Math.Utf8.{encode, encodes}
 use Rattle.ciborium_ll.specs.Text.{IsCharacter, row1, row2, row3, row4, row5, row6, row7, row8, row9, joined, IsCharacters, IsFront}
-use Rattle.ciborium_ll.proofs.Lists.{same_front}
+use Rattle.ciborium_ll.proofs.Lists.{same_front, front_of_front}
 use Rattle.ciborium_ll.proofs.Utf8Laws.{to_std, from_std}
 
 pub IsCharacters-append : (a b : List ℕ) → IsCharacters a → IsCharacters b → IsCharacters (a ++ b)
@@ -26,17 +26,6 @@ IsCharacters-rest a b p q =
 
 pub IsCharacters-nil : IsCharacters []
 IsCharacters-nil = record { characters = []; each = tt; whole = refl }
-
--- the shorter of two fronts of a list begins the longer
-pub front_of_front : (a b r s : List ℕ) → a ++ r ≡ b ++ s → length a ≤ length b → (m : List ℕ) × (b ≡ a ++ m) × (r ≡ m ++ s)
-front_of_front [] b r s e l = (b, refl, e)
-front_of_front (x ∷ a) [] r s e l = absurd (omega arith)
-front_of_front (x ∷ a) (y ∷ b) r s e l =
-    let heads : x ≡ y = cc in
-    let tails : a ++ r ≡ b ++ s = cc in
-    let h = front_of_front a b r s tails (omega arith) in
-    let hb : b ≡ a ++ h.0 = h.1 in
-    (h.0, cc (heads, hb), h.2)
 
 pub one_front : (x a r b s : List ℕ) → IsFront x a r → IsFront x b s → (a ≡ b) × (r ≡ s)
 one_front x a r b s p q =

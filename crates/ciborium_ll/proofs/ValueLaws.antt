@@ -1,16 +1,15 @@
 -- Each value has pieces under a limit, and what is written of it is one element.
-use Rattle.std.proofs.Common.{◌≡◌, ℕ, zero, suc, ◌+◌, ◌-◌, ◌^◌, ◌<◌, ◌≤◌, ◌⊎◌, List, [], ◌∷◌, ◌++◌, length, take, drop, Some, None, refl, sym, ap, ◌∙◌, subst, inl, inr, arith, append_assoc}
+use Rattle.std.proofs.Common.{◌≡◌, ℕ, zero, suc, ◌+◌, ◌^◌, ◌<◌, ◌≤◌, List, [], ◌∷◌, ◌++◌, length, take, drop, Some, None, refl, sym, ap, ◌∙◌, subst, inl, inr, arith, append_assoc}
 use Rattle.std.proofs.lemmas.Bool.{cases_lt}
 use Rattle.std.proofs.lemmas.List.{append-nil, length-append, take-append-drop, length-take-le, length-drop}
 use Rattle.std.specs.List.{AllByRecursion}
-use Rattle.ciborium_ll.specs.declared.hdr.Header.{Header}
 use Rattle.ciborium_ll.specs.declared.hdr.Header.TheVariants as h
 use Rattle.ciborium_ll.specs.Title.{IsTitle, shortest_title}
 use Rattle.ciborium_ll.specs.Strings.{Kind, Bytes, Text, kind_header, AreStrings, none, more}
 use Rattle.ciborium_ll.specs.Strings.IsString.{definite as definite_str}
 use Rattle.ciborium_ll.specs.Text.{IsCharacter, joined, IsCharacters}
 use Rattle.ciborium_ll.specs.Elements.{IsSound, Mark, Whole, spelling, pieces, open_marks, IsElement, definite, indefinite}
-use Rattle.ciborium_ll.specs.Cuts.{IsMember, IsNonempty, IsCut, IsFilled, AreFilled, IsFullCut}
+use Rattle.ciborium_ll.specs.Cuts.{IsMember, IsNonempty, IsFilled, AreFilled, IsFullCut}
 use Rattle.ciborium_ll.specs.Values.{least_limit, AreChunks, AreBytePieces, ArePieces, IsWritten, in_one, in_pieces}
 use Rattle.ciborium_ll.proofs.Lists.{same_front}
 use Rattle.ciborium_ll.proofs.TitleLaws.{IsTitle-shortest}

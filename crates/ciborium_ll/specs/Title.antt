@@ -1,7 +1,7 @@
 -- Titles: the first byte of an item and the number behind it (RFC 7049, 2.1 to 2.3), and the headers that they mean.
 --
 -- A number here has no range. `IsInRange header` says that a header's numbers are those of its Rust type.
-use Rattle.std.specs.Prelude.{◌≡◌, ℕ, ◌+◌, ◌*◌, ◌/◌, ◌%◌, ◌<◌, ◌≤◌, ◌^◌, ◌⊎◌, List, [], ◌∷◌, ◌++◌, length, Option, Some, None, IfSome, if◌then◌else◌, nat_lt, ◌==◌, slice_index}
+use Rattle.std.specs.Prelude.{◌≡◌, ℕ, ◌+◌, ◌*◌, ◌/◌, ◌%◌, ◌<◌, ◌≤◌, ◌^◌, ◌⊎◌, List, [], ◌∷◌, length, Option, Some, None, IfSome, if◌then◌else◌, nat_lt, ◌==◌, slice_index}
 use Rattle.std.specs.Int.{to_be_bytes, w8, w16, w32, w64}
 use Rattle.ciborium_ll.specs.declared.hdr.Header.{Header}
 use Rattle.ciborium_ll.specs.declared.hdr.Header.TheVariants as h

@@ -1,4 +1,4 @@
-use Rattle.ciborium_ll.proofs.FaultLaws.{one_fault}
+use Rattle.ciborium_ll.proofs.OneFault.{one_fault}
 use Rattle.ciborium_ll.proofs.laws.faults.one_fault.Goals as goal
 
 pub returns : goal.returns
