@@ -45,16 +45,19 @@ data Going (n : ℕ) : List ℕ → Type 0 where
   between : {u : List ℕ} (i left : ℕ) (ms : List Mark) → i + left ≡ n → IsRun i u ms → Going n u
   within : {u v : List ℕ} (i left j : ℕ) (ms : List Mark) (bs : List (List ℕ)) (k : Kind) → i + suc left ≡ n → IsRun i u ms → IsInsideAt k (suc j) v bs → IsSound k bs → Going n (u ++ v)
 
+-- what one step over a title comes to: a run, a fault, or fewer bytes ahead
 data Step (n : ℕ) (u s : List ℕ) : Type 0 where
   whole : RunInFront n (u ++ s) → Step n u s
   fails : HasFault n (u ++ s) → Step n u s
   goes : (u' s' : List ℕ) → Going n u' → u ++ s ≡ u' ++ s' → length s' < length s → Step n u s
 
+-- a header by what it begins
 data View (x : Header) : Type 0 where
   is_plain : IsPlain x → View x
   is_definite : (k : Kind) (l : ℕ) → x ≡ kind_header k (Some l) → View x
   is_open : (k : Kind) → x ≡ kind_header k None → View x
 
+-- each header begins one of the three
 view_of : (x : Header) → View x
 view_of (h.Positive n) = is_plain tt
 view_of (h.Negative n) = is_plain tt
@@ -69,12 +72,14 @@ view_of (h.Text (Some l)) = is_definite Text l refl
 view_of (h.Array len) = is_plain tt
 view_of (h.Map len) = is_plain tt
 
+-- a header by what it is within a string of the kind
 data ViewIn (k : Kind) (x : Header) : Type 0 where
   in_break : x ≡ h.Break → ViewIn k x
   in_definite : (l : ℕ) → x ≡ kind_header k (Some l) → ViewIn k x
   in_open : x ≡ kind_header k None → ViewIn k x
   in_foreign : IsMisplaced k x → ViewIn k x
 
+-- each header is one of the four
 view_in : (k : Kind) (x : Header) → ViewIn k x
 view_in Bytes (h.Bytes None) = in_open refl
 view_in Bytes (h.Bytes (Some l)) = in_definite l refl
@@ -110,18 +115,22 @@ data Bodied (k : Kind) (l : ℕ) (s : List ℕ) : Type 0 where
   is_bad : k ≡ Text → l ≤ length s → (IsCharacters (take l s) → ⊥) → Bodied k l s
   is_good : (b rest : List ℕ) → s ≡ b ++ rest → length b ≡ l → IsSound k (b ∷ []) → Bodied k l s
 
+-- a body of a text that is long enough is a text or none
 bodied_text : (l : ℕ) (s : List ℕ) → l ≤ length s → (v : Bool) → is_utf8 (take l s) ≡ v → Bodied Text l s
 bodied_text l s le true e = is_good (take l s) (drop l s) (sym (take-append-drop l s)) (omega (arith, length-take l s)) (from_std (take l s) (IsUtf8-from_is_utf8 (take l s) e), tt)
 bodied_text l s le false e = is_bad refl le (λ u. (let w = is_utf8-from_IsUtf8 (take l s) (to_std (take l s) u) in absurd (cc (e, w))))
 
+-- each body is one of the three
 bodied : (k : Kind) (l : ℕ) (s : List ℕ) → Bodied k l s
 bodied Bytes l s = elim (cases_lt (length s) l) [ inl a ↦ too_few a | inr a ↦ is_good (take l s) (drop l s) (sym (take-append-drop l s)) (omega (arith, length-take l s)) tt ]
 bodied Text l s = elim (cases_lt (length s) l) [ inl a ↦ too_few a | inr a ↦ bodied_text l s a (is_utf8 (take l s)) refl ]
 
+-- no bytes may be written of any body
 part_nil : (k : Kind) → IsWritable k []
 part_nil Bytes = tt
 part_nil Text = IsCharacters-nil
 
+-- the bytes end within a body
 body_faulty : (n : ℕ) (v s : List ℕ) (ms : List Mark) (k : Kind) (l p : ℕ) → Reaches n v ms (Body k l p) → length s < l → HasFault n (v ++ s)
 body_faulty n v s ms k l p r lt = record {
   before = v;
@@ -136,6 +145,7 @@ body_faulty n v s ms k l p r lt = record {
   fault = CutBody [] s lt refl (part_nil k) (omega arith) (omega arith);
 }
 
+-- a body of a text is no text
 text_faulty : (n : ℕ) (v s : List ℕ) (ms : List Mark) (k : Kind) (l p : ℕ) → Reaches n v ms (Body k l p) → k ≡ Text → l ≤ length s → (IsCharacters (take l s) → ⊥) → HasFault n (v ++ s)
 text_faulty n v s ms k l p r e le un = record {
   before = v;
@@ -150,15 +160,19 @@ text_faulty n v s ms k l p r e le un = record {
   fault = DamagedText [] (take l s) le un refl IsCharacters-nil (omega arith);
 }
 
+-- bytes taken from those ahead
 shift : (u t s rest : List ℕ) → s ≡ t ++ rest → u ++ s ≡ (u ++ t) ++ rest
 shift u t s rest e = ap (λ (z : List ℕ). u ++ z) e ∙ sym (append_assoc u t rest)
 
+-- a fault of the same bytes
 moved : (n : ℕ) (x y : List ℕ) → x ≡ y → HasFault n y → HasFault n x
 moved n x y e f = subst (HasFault n) (sym e) f
 
+-- behind a title fewer bytes are ahead
 less : (t rest s : List ℕ) (x : Header) → IsTitle t x → s ≡ t ++ rest → length rest < length s
 less t rest s x p e = omega (arith, title_length t x p, ap length e, length-append t rest)
 
+-- the step where an element is due
 due_step : (n i left : ℕ) (u s : List ℕ) (ms : List Mark) → i + suc left ≡ n → IsRun i u ms → Sight s → Step n u s
 due_step n i left u s ms e r (ends c) = fails (record { before = u; marks = ms; place = Due; ahead = s; answer = Short; written = spelling ms; consumed = min 1 (length s); reach = due (omega arith) r; is = refl; fault = CutTitle tt c })
 due_step n i left u s ms e r (refuses c) = fails (record { before = u; marks = ms; place = Due; ahead = s; answer = Syntax (length u); written = spelling ms; consumed = 1; reach = due (omega arith) r; is = refl; fault = NoTitle tt c })
@@ -182,6 +196,7 @@ due_step n i left u s ms e r (titled t rest x p q) =
     no_bodies Bytes = tt
     no_bodies Text = tt
 
+-- no number is a break
 not_break_number : (m : Major) (s : Size) (n : ℕ) → numbered_header m s n ≡ h.Break → ⊥
 not_break_number Unsigned s n e = cc
 not_break_number Negative s n e = cc
@@ -196,6 +211,7 @@ not_break_number Other Two n e = cc
 not_break_number Other Four n e = cc
 not_break_number Other Eight n e = cc
 
+-- the break of the minor 31 is ff
 break_alone : (m : Major) (x : Header) → open_header m ≡ Some x → x ≡ h.Break → first_byte m 31 ∷ [] ≡ 0xff ∷ []
 break_alone Unsigned x o e = absurd cc
 break_alone Negative x o e = absurd cc
@@ -206,10 +222,12 @@ break_alone Map x o e = absurd cc
 break_alone Tag x o e = absurd cc
 break_alone Other x o e = refl
 
+-- the title of a break is ff
 break_is : (t : List ℕ) (x : Header) → IsTitle t x → x ≡ h.Break → t ≡ 0xff ∷ []
 break_is t x (numbered m s n p) e = absurd (not_break_number m s n e)
 break_is t x (alone m y o) e = break_alone m y o e
 
+-- the step over a break
 break_step : (n i left j : ℕ) (u v s rest : List ℕ) (ms : List Mark) (bs : List (List ℕ)) (k : Kind) → i + suc left ≡ n → IsRun i u ms → IsInsideAt k (suc j) v bs → IsSound k bs → s ≡ 0xff ∷ rest → Step n (u ++ v) s
 break_step n i left zero u v s rest ms bs k e r ia ok q =
     goes (u ++ (v ++ 0xff ∷ [])) rest (between (suc i) left (ms ++ (Open k ∷ (pieces k bs ++ Close ∷ []))) (omega arith) (add_element i u ms r (v ++ 0xff ∷ []) (Open k ∷ (pieces k bs ++ Close ∷ [])) (close_last k v bs ia ok)))
@@ -218,6 +236,7 @@ break_step n i left (suc j) u v s rest ms bs k e r ia ok q =
     goes (u ++ (v ++ 0xff ∷ [])) rest (within i left j ms bs k e r (close_inner k j v bs ia) ok)
     (shift (u ++ v) (0xff ∷ []) s rest q ∙ ap (λ (z : List ℕ). z ++ rest) (append_assoc u v (0xff ∷ []))) (omega (arith, ap length q))
 
+-- the step within a string
 in_step : (n i left j : ℕ) (u v s : List ℕ) (ms : List Mark) (bs : List (List ℕ)) (k : Kind) → i + suc left ≡ n → IsRun i u ms → IsInsideAt k (suc j) v bs → IsSound k bs → Sight s → Step n (u ++ v) s
 in_step n i left j u v s ms bs k e r ia ok (ends c) = fails (record { before = u ++ v; marks = ms ++ Open k ∷ pieces k bs; place = In k; ahead = s; answer = Short; written = spelling (ms ++ Open k ∷ pieces k bs); consumed = min 1 (length s); reach = inside (omega arith) r (counted k (suc j) v bs ia) ok; is = refl; fault = CutTitle tt c })
 in_step n i left j u v s ms bs k e r ia ok (refuses c) = fails (record { before = u ++ v; marks = ms ++ Open k ∷ pieces k bs; place = In k; ahead = s; answer = Syntax (length (u ++ v)); written = spelling (ms ++ Open k ∷ pieces k bs); consumed = 1; reach = inside (omega arith) r (counted k (suc j) v bs ia) ok; is = refl; fault = NoTitle tt c })
@@ -240,6 +259,7 @@ in_step n i left j u v s ms bs k e r ia ok (titled t rest x p q) =
           ])
     ]
 
+-- the step anywhere
 step : (n : ℕ) (u : List ℕ) → Going n u → (s : List ℕ) → AreBytes s → Step n u s
 step n u (between i zero ms e r) s f = whole (record { elements = u; marks = ms; rest = s; run = subst (λ (z : ℕ). IsRun z u ms) (let d : i ≡ n = omega arith in d) r; is = refl })
 step n u (between i (suc left) ms e r) s f = due_step n i left u s ms e r (sight s f)
@@ -251,6 +271,7 @@ IsBytes-rest : (a b : List ℕ) → AreBytes (a ++ b) → AreBytes b
 IsBytes-rest [] b f = f
 IsBytes-rest (x ∷ a) b f = IsBytes-rest a b (λ i. f (suc i))
 
+-- all steps, by the bytes that are ahead
 all_steps : (fuel n : ℕ) (u s : List ℕ) → length s < fuel → Going n u → AreBytes (u ++ s) → RunInFront n (u ++ s) ⊎ HasFault n (u ++ s)
 all_steps zero n u s l g f = absurd (omega arith)
 all_steps (suc fuel) n u s l g f =
@@ -260,5 +281,6 @@ all_steps (suc fuel) n u s l g f =
       | goes u' s' g' e m ↦ subst (λ (z : List ℕ). RunInFront n z ⊎ HasFault n z) (sym e) (all_steps fuel n u' s' (omega arith) g' (subst AreBytes e f))
     ]
 
+-- in any bytes a run of n elements stands in front, or a fault stops it
 pub complete : (n : ℕ) (x : List ℕ) → AreBytes x → RunInFront n x ⊎ HasFault n x
 complete n x f = all_steps (suc (length x)) n [] x (omega arith) (between 0 n [] (omega arith) done) f

@@ -26,10 +26,12 @@ record Starts (t : List ℕ) : Type 0 where
   rest : List ℕ
   is : t ≡ char ++ rest
 
+-- characters joined start with the first one
 starts_at : (t : List ℕ) (cs : List (List ℕ)) → AllByRecursion IsCharacter cs → t ≡ joined cs → 0 < length t → Starts t
 starts_at t [] all e l = absurd (omega (arith, ap length e))
 starts_at t (c ∷ cs) all e l = record { char = c; ok = all.0; rest = joined cs; is = e }
 
+-- a text that isn't empty starts with a character
 starts : (t : List ℕ) → IsCharacters t → 0 < length t → Starts t
 starts t u l = starts_at t u.characters u.each u.whole l
 
@@ -44,6 +46,7 @@ passes m c q rest (d ∷ cs) each full filled u l e =
     let room = filled.0 a.char a.rest a.ok a.is in
     omega (arith, ap length same, ap length b.is, length-append b.char b.rest)
 
+-- what is filled stays so without the first member
 AreFilled-rest : (m : ℕ) (c : List ℕ) (cs : List (List ℕ)) → AreFilled m (c ∷ cs) → AreFilled m cs
 AreFilled-rest m c [] f = tt
 AreFilled-rest m c (d ∷ cs) f = f.1
@@ -70,11 +73,13 @@ fewest_behind m (c ∷ cs) (d ∷ ds) r u each full filled each' e =
           omega arith)
     ]
 
+-- no cut has fewer members than a full one
 pub fewest : (t : List ℕ) (m : ℕ) (cs ds : List (List ℕ)) → IsFullCut t m cs → IsCut t m ds → length cs ≤ length ds
 fewest t m cs ds f c = fewest_behind m cs ds [] IsCharacters-nil f.cut.each f.nonempty f.filled c.each (sym f.cut.whole ∙ c.whole)
 
 -- ---- there is one
 
+-- members that are filled are the only ones of their text
 same_members : (m : ℕ) (cs ds : List (List ℕ)) → AllByRecursion (IsMember m) cs → AllByRecursion IsNonempty cs → AreFilled m cs → AllByRecursion (IsMember m) ds → AllByRecursion IsNonempty ds → AreFilled m ds → joined cs ≡ joined ds → cs ≡ ds
 same_members m [] [] a b f a' b' f' e = refl
 same_members m [] (d ∷ ds) a b f a' b' f' e = let l = b'.0 in absurd (omega (arith, ap length e, length-append d (joined ds)))
@@ -100,5 +105,6 @@ same_members m (c ∷ cs) (d ∷ ds) a b f a' b' f' e =
           | inr l ↦ l
         ]
 
+-- a text has one full cut at most
 pub one_full : (t : List ℕ) (m : ℕ) (cs ds : List (List ℕ)) → IsFullCut t m cs → IsFullCut t m ds → cs ≡ ds
 one_full t m cs ds f g = same_members m cs ds f.cut.each f.nonempty f.filled g.cut.each g.nonempty g.filled (sym f.cut.whole ∙ g.cut.whole)

@@ -10,18 +10,22 @@ use Rattle.ciborium_ll.proofs.Lists.{same_front}
 use Rattle.ciborium_ll.proofs.TitleLaws.{one_title, title_in_range, IsTitle-shortest, shortest_or_longer}
 use Rattle.ciborium_ll.proofs.StringLaws.{some_is, mixed, fronts, one_strings_then}
 
+-- the same bytes, the same marks and the same rest
 abbrev pub SameElement : List ℕ → List ℕ → List Mark → List Mark → List ℕ → List ℕ → Type 0
 SameElement w w' ms ms' v v' = (w ≡ w') × (ms ≡ ms') × (v ≡ v')
 
+-- a string's header is no plain one
 not_plain : (k : Kind) (o : Option ℕ) → IsPlain (kind_header k o) → ⊥
 not_plain Bytes o p = p
 not_plain Text o p = p
 
+-- a title of a plain header is none of a string
 plain_string : (w t u v : List ℕ) (x : Header) (k : Kind) (o : Option ℕ) → IsTitle w x → IsPlain x → IsTitle t (kind_header k o) → w ++ v ≡ t ++ u → ⊥
 plain_string w t u v x k o p q r e =
     let s = one_title w t v u x (kind_header k o) p r e in
     not_plain k o (subst IsPlain s.1 q)
 
+-- the kind is read off the header
 pub kind_is : (k k' : Kind) (o o' : Option ℕ) → kind_header k o ≡ kind_header k' o' → k ≡ k'
 kind_is Bytes Bytes o o' e = refl
 kind_is Bytes Text o o' e = absurd cc
@@ -36,6 +40,7 @@ string_fronts k k' t t' u u' o o' p p' e =
     let f = fronts k t t' u u' o o' p (subst (λ (z : Kind). IsTitle t' (kind_header z o')) (sym kk) p') e in
     (kk, f.0, f.1, f.2)
 
+-- no element begins another one, nor has two lists of marks
 pub one_element : (w w' v v' : List ℕ) (ms ms' : List Mark) → IsElement w ms → IsElement w' ms' → w ++ v ≡ w' ++ v' → SameElement w w' ms ms' v v'
 one_element w w' v v' ms ms' (plain x p q) (plain x' p' q') e =
     let r = one_title w w' v v' x x' p p' e in
@@ -67,6 +72,7 @@ one_element w w' v v' ms ms' (indefinite {title = t} {strings = y} {bodies = bs}
     let bb : bs ≡ bs' = f.1 in
     (rw (tt', yy) refl, rw (kk, bb) refl, f.2)
 
+-- of runs of as many elements none begins another one, nor has two lists of marks
 pub one_run : (n : ℕ) (w : List ℕ) (ms : List Mark) → IsRun n w ms → (w' v v' : List ℕ) (ms' : List Mark) → IsRun n w' ms' → w ++ v ≡ w' ++ v' → SameElement w w' ms ms' v v'
 one_run n w ms done w' v v' ms' done e = (refl, refl, e)
 one_run n w ms (next {first = x} {rest = y} {marks = ns} {others = os} a r) w' v v' ms' (next {first = x'} {rest = y'} {marks = ns'} {others = os'} a' r') e =
@@ -80,16 +86,19 @@ one_run n w ms (next {first = x} {rest = y} {marks = ns} {others = os} a r) w' v
 
 -- ---- sound bodies
 
+-- the front of sound bodies is sound
 pub IsSound-left : (k : Kind) (bs cs : List (List ℕ)) → IsSound k (bs ++ cs) → IsSound k bs
 IsSound-left Bytes bs cs s = tt
 IsSound-left Text [] cs s = tt
 IsSound-left Text (b ∷ bs) cs s = (s.0, IsSound-left Text bs cs s.1)
 
+-- the rest of sound bodies is sound
 pub IsSound-right : (k : Kind) (bs cs : List (List ℕ)) → IsSound k (bs ++ cs) → IsSound k cs
 IsSound-right Bytes bs cs s = tt
 IsSound-right Text [] cs s = s
 IsSound-right Text (b ∷ bs) cs s = IsSound-right Text bs cs s.1
 
+-- sound bodies joined are sound
 pub IsSound-append : (k : Kind) (bs cs : List (List ℕ)) → IsSound k bs → IsSound k cs → IsSound k (bs ++ cs)
 IsSound-append Bytes bs cs p q = tt
 IsSound-append Text [] cs p q = q
@@ -97,12 +106,14 @@ IsSound-append Text (b ∷ bs) cs p q = (p.0, IsSound-append Text bs cs p.1 q)
 
 -- ---- the spelling
 
+-- a header's shortest title is no longer than any of its titles
 shorter : (w : List ℕ) (x : Header) → IsTitle w x → length (shortest_title x) ≤ length w
 shorter w x t = elim (shortest_or_longer x w t) [ inl e ↦ (let l = ap length e in omega arith) | inr l ↦ omega arith ]
 
 IsTitle-shortest_of : (w : List ℕ) (x : Header) → IsTitle w x → IsTitle (shortest_title x) x
 IsTitle-shortest_of w x t = IsTitle-shortest x (title_in_range w x t)
 
+-- marks joined are spelled one behind the other
 pub spelling-append : (ms ns : List Mark) → spelling (ms ++ ns) ≡ spelling ms ++ spelling ns
 spelling-append [] ns = refl
 spelling-append (m ∷ ms) ns = ap (λ y. mark_spelling m ++ y) (spelling-append ms ns) ∙ sym (append_assoc (mark_spelling m) (spelling ms) (spelling ns))
@@ -110,18 +121,22 @@ spelling-append (m ∷ ms) ns = ap (λ y. mark_spelling m ++ y) (spelling-append
 -- what the pieces of strings spell
 pub record Respelled (k : Kind) (w : List ℕ) (bs : List (List ℕ)) : Type 0 where
   pub strings : AreStrings k (spelling (pieces k bs)) bs
+  -- a header's shortest title is no longer than any of its titles
   pub shorter : length (spelling (pieces k bs)) ≤ length w
 
+-- bodies joined give their pieces joined
 pieces-append : (k : Kind) (bs cs : List (List ℕ)) → pieces k (bs ++ cs) ≡ pieces k bs ++ pieces k cs
 pieces-append k [] cs = refl
 pieces-append k (b ∷ bs) cs = ap (λ y. Piece k b ∷ y) (pieces-append k bs cs)
 
+-- strings joined are strings
 pub AreStrings-append : (k : Kind) (w : List ℕ) (bs : List (List ℕ)) → AreStrings k w bs → (v : List ℕ) (cs : List (List ℕ)) → AreStrings k v cs → AreStrings k (w ++ v) (bs ++ cs)
 AreStrings-append k w bs none v cs r = r
 AreStrings-append k w bs (more {first = x} {rest = y} {bodies = ds} {others = es} s ss) v cs r =
     rw (append_assoc x y v, append_assoc ds es cs) (more s (AreStrings-append k y es ss v cs r))
 
 mutual
+  -- a string is spelled again as its pieces, no longer
   respell_one : (k : Kind) (w : List ℕ) (bs : List (List ℕ)) → IsString k w bs → Respelled k w bs
   respell_one k w bs (definite_str {title = t} {body = b} p) =
       record {
@@ -133,6 +148,7 @@ mutual
       let r = respell_all k x cs q in
       record { strings = r.strings; shorter = (let l = r.shorter in omega (arith, length-append t (x ++ 0xff ∷ []), length-append x (0xff ∷ []))) }
 
+  -- strings are spelled again as their pieces, no longer
   respell_all : (k : Kind) (w : List ℕ) (bs : List (List ℕ)) → AreStrings k w bs → Respelled k w bs
   respell_all k w bs none = record { strings = none; shorter = omega arith }
   respell_all k w bs (more {first = x} {rest = y} {bodies = ds} {others = es} s ss) =
@@ -144,16 +160,21 @@ mutual
         shorter = (let l = a.shorter in let m = b.shorter in omega (arith, ap length e, length-append (spelling (pieces k ds)) (spelling (pieces k es)), length-append x y));
       }
 
+-- strings are spelled again as their pieces, no longer
 pub respell : (k : Kind) (w : List ℕ) (bs : List (List ℕ)) → AreStrings k w bs → Respelled k w bs
 respell k w bs s = respell_all k w bs s
 
+-- the spelling of a string of indefinite length: its open, its pieces and a break
 pub open_spelled : (k : Kind) (bs : List (List ℕ)) → spelling (Open k ∷ (pieces k bs ++ Close ∷ [])) ≡ shortest_title (kind_header k None) ++ (spelling (pieces k bs) ++ 0xff ∷ [])
 open_spelled k bs = ap (λ y. shortest_title (kind_header k None) ++ y) (spelling-append (pieces k bs) (Close ∷ []))
 
+-- the spelling of marks is an element with the same marks, and no longer than the bytes
 pub record Again (w : List ℕ) (ms : List Mark) : Type 0 where
   pub element : IsElement (spelling ms) ms
+  -- a header's shortest title is no longer than any of its titles
   pub shorter : length (spelling ms) ≤ length w
 
+-- the spelling of an element's marks is that element again
 pub element_again : (w : List ℕ) (ms : List Mark) → IsElement w ms → Again w ms
 element_again w ms (plain x p q) =
     record { element = subst (λ (z : List ℕ). IsElement z (Plain x ∷ [])) (sym (append-nil (shortest_title x))) (plain x (IsTitle-shortest_of w x p) q); shorter = (let l = shorter w x p in omega (arith, length-append (shortest_title x) [])) }
@@ -172,10 +193,13 @@ element_again w ms (indefinite {title = t} {strings = y} {bodies = bs} k p q s) 
           omega (arith, ap length (open_spelled k bs), length-append (shortest_title x) (spelling (pieces k bs) ++ 0xff ∷ []), length-append (spelling (pieces k bs)) (0xff ∷ []), length-append t (y ++ 0xff ∷ []), length-append y (0xff ∷ [])));
     }
 
+-- the spelling of marks is a run with the same marks, and no longer than the bytes
 pub record RunAgain (n : ℕ) (w : List ℕ) (ms : List Mark) : Type 0 where
   pub run : IsRun n (spelling ms) ms
+  -- a header's shortest title is no longer than any of its titles
   pub shorter : length (spelling ms) ≤ length w
 
+-- the spelling of a run's marks is that run again
 pub run_again : (n : ℕ) (w : List ℕ) (ms : List Mark) → IsRun n w ms → RunAgain n w ms
 run_again n w ms done = record { run = done; shorter = omega arith }
 run_again n w ms (next {count = m} {first = x} {rest = y} {marks = ns} {others = os} a r) =

@@ -14,6 +14,7 @@ pub record Follows (x : List ℕ) : Type 0 where
   pub rest : List ℕ
   pub is : x ≡ word ++ rest
 
+-- of two runs in front of one list the longer goes on with an element
 pub follows : (i : ℕ) (u : List ℕ) (ms : List Mark) → IsRun i u ms → (n : ℕ) (w : List ℕ) (ns : List Mark) → IsRun n w ns → i < n → (x v : List ℕ) → u ++ x ≡ w ++ v → Follows x
 follows i u ms done n w ns done l x v e = absurd (omega arith)
 follows i u ms done n w ns (next {first = a} {rest = b} {marks = os} p r) l x v e = record { word = a; marks = os; ok = p; rest = b ++ v; is = e ∙ append_assoc a b v }
@@ -28,6 +29,7 @@ data Stuck : Place → List ℕ → Type 0 where
   halt : {s : List ℕ} (k : Kind) → Halt k s → Stuck (In k) s
   bad_body : {s : List ℕ} {k : Kind} {l p : ℕ} → IsBad k l s → Stuck (Body k l p) s
 
+-- no run of n elements stands in front where what is due cannot come
 reach_stuck : (n : ℕ) (u : List ℕ) (ms : List Mark) (at : Place) → Reaches n u ms at → (s : List ℕ) → Stuck at s → (w v : List ℕ) (ns : List Mark) → IsRun n w ns → u ++ s ≡ w ++ v → ⊥
 reach_stuck n u ms at (due {before = i} l r) s (stop f) w v ns r' e =
     let z = follows i u ms r n w ns r' l s v e in
@@ -40,10 +42,12 @@ reach_stuck n u ms at (body {bytes = a} {title = t} {len = l} k r p) s (bad_body
 reach_stuck n u ms at (body_inside {bytes = a} {title = t} {len = l} {kind = k} r p) s (bad_body f) w v ns r' e =
     reach_stuck n a ms (In k) r (t ++ s) (halt k (halt_bad s l p f refl)) w v ns r' (sym (append_assoc a t s) ∙ e)
 
+-- a body that is too short is bad
 pub too_short : (k : Kind) (l : ℕ) (s : List ℕ) → length s < l → IsBad k l s
 too_short Bytes l s f = f
 too_short Text l s f = inl f
 
+-- at a fault what is due cannot come
 stuck : (u : List ℕ) (ms : List Mark) (at : Place) (s : List ℕ) (a : Answer) (out : List ℕ) (c : ℕ) → FirstFault u ms at s a out c → Stuck at s
 stuck u ms at s a out c (CutTitle {place = Due} d f) = stop (stop_cut f)
 stuck u ms at s a out c (CutTitle {place = In k} d f) = halt k (halt_cut f)

@@ -21,20 +21,24 @@ abbrev pub IsBad : Kind → ℕ → List ℕ → Type 0
 IsBad Bytes l s = length s < l
 IsBad Text l s = (length s < l) ⊎ (IsCharacters (take l s) → ⊥)
 
+-- why no string of the kind, no further open and no break comes
 pub data Halt (k : Kind) : List ℕ → Type 0 where
   halt_cut : {y : List ℕ} → IsCutTitle y → Halt k y
   halt_refused : {y : List ℕ} → BeginsRefused y → Halt k y
   halt_misplaced : {y t : List ℕ} (s : List ℕ) (x : Header) → IsTitle t x → IsMisplaced k x → y ≡ t ++ s → Halt k y
   halt_bad : {y t : List ℕ} (s : List ℕ) (l : ℕ) → IsTitle t (kind_header k (Some l)) → IsBad k l s → y ≡ t ++ s → Halt k y
 
+-- a header of the kind may stand within its strings
 pub kind_not_misplaced : (k : Kind) (o : Option ℕ) → IsMisplaced k (kind_header k o) → ⊥
 kind_not_misplaced Bytes o f = f
 kind_not_misplaced Text o f = f
 
+-- a break may stand within a string
 break_not_misplaced : (k : Kind) → IsMisplaced k h.Break → ⊥
 break_not_misplaced Bytes f = f
 break_not_misplaced Text f = f
 
+-- a sound body is not bad
 good_body : (k : Kind) (b v : List ℕ) (l : ℕ) → l ≡ length b → IsSound k (b ∷ []) → IsBad k l (b ++ v) → ⊥
 good_body Bytes b v l e s un = omega (arith, length-append b v)
 good_body Text b v l e s un =
@@ -54,6 +58,7 @@ definite_halts k t b v y (halt_bad {t = t'} r l q f z) p s e =
     let o = fronts k t' t r (b ++ v) (Some l) (Some (length b)) q p (sym z ∙ e) in
     good_body k b v l (some_is l (length b) o.1) s (subst (IsBad k l) o.2 f)
 
+-- no open comes
 pub open_halts : (k : Kind) (t v y : List ℕ) → Halt k y → IsTitle t (kind_header k None) → y ≡ t ++ v → ⊥
 open_halts k t v y (halt_cut c) p e = title_not_cut t v (kind_header k None) p (subst IsCutTitle e c)
 open_halts k t v y (halt_refused r) p e = title_refused t v (kind_header k None) p (subst BeginsRefused e r)
@@ -64,6 +69,7 @@ open_halts k t v y (halt_bad {t = t'} r l q f z) p e =
     let o = fronts k t' t r v (Some l) None q p (sym z ∙ e) in
     mixed l o.1
 
+-- no break comes
 break_halts : (k : Kind) (v y : List ℕ) → Halt k y → y ≡ 0xff ∷ v → ⊥
 break_halts k v y (halt_cut c) e = title_not_cut (0xff ∷ []) v h.Break break_title (subst IsCutTitle e c)
 break_halts k v y (halt_refused r) e = title_refused (0xff ∷ []) v h.Break break_title (subst BeginsRefused e r)
@@ -81,11 +87,13 @@ pub data Opens (k : Kind) : List ℕ → List (List ℕ) → Type 0 where
   last : {t w : List ℕ} {bs : List (List ℕ)} → IsTitle t (kind_header k None) → AreStrings k w bs → Opens k (t ++ w) bs
   link : {t w u : List ℕ} {bs cs : List (List ℕ)} → IsTitle t (kind_header k None) → AreStrings k w bs → Opens k u cs → Opens k ((t ++ w) ++ u) (bs ++ cs)
 
+-- opens behind opens
 opens-append : (k : Kind) (u : List ℕ) (bs : List (List ℕ)) → Opens k u bs → (v : List ℕ) (cs : List (List ℕ)) → Opens k v cs → Opens k (u ++ v) (bs ++ cs)
 opens-append k u bs (last p s) v cs c = link p s c
 opens-append k u bs (link {t} {w} {u = x} {bs = ds} {cs = es} p s d) v cs c =
     rw (append_assoc (t ++ w) x v, append_assoc ds es cs) (link p s (opens-append k x es d v cs c))
 
+-- what is inside a string is opens
 pub opens_of : (k : Kind) (u : List ℕ) (bs : List (List ℕ)) → IsInside k u bs → Opens k u bs
 opens_of k u bs (opened p s) = last p s
 opens_of k u bs (deeper {outer = x} {inner = y} {bodies = cs} {others = ds} p q) = opens-append k x cs (opens_of k x cs p) y ds (opens_of k y ds q)
@@ -98,6 +106,7 @@ record Goes (k : Kind) (x v : List ℕ) : Type 0 where
   sound : IsSound k bodies
   is : x ≡ strings ++ 0xff ∷ v
 
+-- strings in front of more strings and a break leave strings and a break
 goes_on : (k : Kind) (w : List ℕ) (bs : List (List ℕ)) → AreStrings k w bs → (w' x v : List ℕ) (bs' : List (List ℕ)) → AreStrings k w' bs' → IsSound k bs' → w ++ x ≡ w' ++ 0xff ∷ v → Goes k x v
 goes_on k w bs none w' x v bs' s' ok e = record { strings = w'; bodies = bs'; ok = s'; sound = ok; is = e }
 goes_on k w bs (more {first = a} {rest = y} {bodies = cs} {others = ds} s ss) w' x v bs' none ok e =
@@ -106,13 +115,15 @@ goes_on k w bs (more {first = a} {rest = y} {bodies = cs} {others = ds} s ss) w'
     let o = one_string k a a' (y ++ x) (y' ++ 0xff ∷ v) cs cs' s s' (sym (append_assoc a y x) ∙ (e ∙ append_assoc a' y' (0xff ∷ v))) in
     goes_on k y ds ss y' x v ds' ss' (IsSound-right k cs' ds' ok) o.2
 
-pub str_halts : (k : Kind) (w : List ℕ) (bs : List (List ℕ)) → IsString k w bs → IsSound k bs → (v y : List ℕ) → Halt k y → y ≡ w ++ v → ⊥
-str_halts k w bs (definite_str {title = t} {body = b} p) s v y f e = definite_halts k t b v y f p s (e ∙ append_assoc t b v)
-str_halts k w bs (indefinite_str {title = t} {strings = x} p q) s v y f e = open_halts k t ((x ++ 0xff ∷ []) ++ v) y f p (e ∙ append_assoc t (x ++ 0xff ∷ []) v)
+-- no string comes
+pub string_halts : (k : Kind) (w : List ℕ) (bs : List (List ℕ)) → IsString k w bs → IsSound k bs → (v y : List ℕ) → Halt k y → y ≡ w ++ v → ⊥
+string_halts k w bs (definite_str {title = t} {body = b} p) s v y f e = definite_halts k t b v y f p s (e ∙ append_assoc t b v)
+string_halts k w bs (indefinite_str {title = t} {strings = x} p q) s v y f e = open_halts k t ((x ++ 0xff ∷ []) ++ v) y f p (e ∙ append_assoc t (x ++ 0xff ∷ []) v)
 
+-- no strings and a break come
 goes_halts : (k : Kind) (w : List ℕ) (bs : List (List ℕ)) → AreStrings k w bs → IsSound k bs → (v y : List ℕ) → Halt k y → y ≡ w ++ 0xff ∷ v → ⊥
 goes_halts k w bs none s v y f e = break_halts k v y f e
-goes_halts k w bs (more {first = a} {rest = b} {bodies = cs} {others = ds} p q) s v y f e = str_halts k a cs p (IsSound-left k cs ds s) (b ++ 0xff ∷ v) y f (e ∙ append_assoc a b (0xff ∷ v))
+goes_halts k w bs (more {first = a} {rest = b} {bodies = cs} {others = ds} p q) s v y f e = string_halts k a cs p (IsSound-left k cs ds s) (b ++ 0xff ∷ v) y f (e ∙ append_assoc a b (0xff ∷ v))
 
 -- an open string in front of opens that halt
 pub opens_title : (k : Kind) (u : List ℕ) {os : List (List ℕ)} → Opens k u os → (t : List ℕ) × (r : List ℕ) × IsTitle t (kind_header k None) × (u ≡ t ++ r)
@@ -126,6 +137,7 @@ behind k t w x bs p s t' w' v bs' p' s' ok e =
     let o = fronts k t t' (w ++ x) (w' ++ 0xff ∷ v) None None p p' (sym (append_assoc t w x) ∙ e) in
     goes_on k w bs s w' x v bs' s' ok o.2
 
+-- no sound string comes behind opens that halt
 pub opens_string : (k : Kind) (u : List ℕ) {os : List (List ℕ)} → Opens k u os → (y : List ℕ) → ((t w v : List ℕ) (bs : List (List ℕ)) → IsTitle t (kind_header k None) → AreStrings k w bs → IsSound k bs → u ++ y ≡ t ++ (w ++ 0xff ∷ v) → ⊥)
     → (a : List ℕ) (bs : List (List ℕ)) → IsString k a bs → IsSound k bs → (v : List ℕ) → u ++ y ≡ a ++ v → ⊥
 opens_string k u c y rec a bs (definite_str {title = t} {body = b} p) ok v e =
@@ -135,6 +147,7 @@ opens_string k u c y rec a bs (definite_str {title = t} {body = b} p) ok v e =
 opens_string k u c y rec a bs (indefinite_str {title = t} {strings = x} {bodies = cs} p q) ok v e =
     rec t x v cs p q ok (e ∙ (append_assoc t (x ++ 0xff ∷ []) v ∙ ap (λ (z : List ℕ). t ++ z) (append_assoc x (0xff ∷ []) v)))
 
+-- no sound strings and a break come behind opens that halt
 opens_strings : (k : Kind) (u : List ℕ) {os : List (List ℕ)} → Opens k u os → (y : List ℕ) → ((t w v : List ℕ) (bs : List (List ℕ)) → IsTitle t (kind_header k None) → AreStrings k w bs → IsSound k bs → u ++ y ≡ t ++ (w ++ 0xff ∷ v) → ⊥)
     → (w : List ℕ) (bs : List (List ℕ)) → AreStrings k w bs → IsSound k bs → (v : List ℕ) → u ++ y ≡ w ++ 0xff ∷ v → ⊥
 opens_strings k u c y rec w bs none ok v e =
@@ -143,6 +156,7 @@ opens_strings k u c y rec w bs none ok v e =
 opens_strings k u c y rec w bs (more {first = a} {rest = b} {bodies = cs} {others = ds} p q) ok v e =
     opens_string k u c y rec a cs p (IsSound-left k cs ds ok) (b ++ 0xff ∷ v) (e ∙ append_assoc a b (0xff ∷ v))
 
+-- no sound string of indefinite length begins with opens that halt
 pub opens_halt : (k : Kind) (u : List ℕ) {os : List (List ℕ)} → Opens k u os → (y : List ℕ) → Halt k y → (t w v : List ℕ) (bs : List (List ℕ)) → IsTitle t (kind_header k None) → AreStrings k w bs → IsSound k bs → u ++ y ≡ t ++ (w ++ 0xff ∷ v) → ⊥
 opens_halt k u (last {t = t0} {w = w0} {bs = b0} p s) y f t w v bs q r ok e =
     let g = behind k t0 w0 y b0 p s t w v bs q r ok e in
@@ -159,6 +173,7 @@ pub data Stop : List ℕ → Type 0 where
   stop_refused : {y : List ℕ} → BeginsRefused y → Stop y
   stop_bad : {y t : List ℕ} (s : List ℕ) (k : Kind) (l : ℕ) → IsTitle t (kind_header k (Some l)) → IsBad k l s → y ≡ t ++ s → Stop y
 
+-- a string's header is no plain one
 plain_kind : (k : Kind) (o : Option ℕ) → IsPlain (kind_header k o) → ⊥
 plain_kind Bytes o p = p
 plain_kind Text o p = p
@@ -171,9 +186,11 @@ halt_of y (stop_bad {t} s j l p b e) k same =
     let jk = same t s j l p e in
     halt_bad s l (subst (λ (z : Kind). IsTitle t (kind_header z (Some l))) jk p) (subst (λ (z : Kind). IsBad z l s) jk b) e
 
+-- two titles of strings in front of the same bytes are of one kind
 pub same_kind : (k : Kind) (t u y : List ℕ) (o : Option ℕ) → IsTitle t (kind_header k o) → y ≡ t ++ u → (t' s : List ℕ) (j : Kind) (l : ℕ) → IsTitle t' (kind_header j (Some l)) → y ≡ t' ++ s → j ≡ k
 same_kind k t u y o p e t' s j l q e' = (string_fronts j k t' t s u (Some l) o q p (sym e' ∙ e)).0
 
+-- no element comes where one is due and there is none
 pub element_stops : (w : List ℕ) (ms : List Mark) → IsElement w ms → (v y : List ℕ) → Stop y → y ≡ w ++ v → ⊥
 element_stops w ms (definite {title = t} {body = b} k p s) v y f e =
     let e2 = e ∙ append_assoc t b v in
@@ -187,6 +204,7 @@ element_stops w ms (plain x p q) v y (stop_bad {t} s k l r b z) e =
     let o = one_title w t v s x (kind_header k (Some l)) p r (sym e ∙ z) in
     plain_kind k (Some l) (subst IsPlain o.1 q)
 
+-- no element begins with opens that halt
 pub element_inside : (w : List ℕ) (ms : List Mark) → IsElement w ms → (k : Kind) (u y v : List ℕ) {os : List (List ℕ)} → Opens k u os → Halt k y → u ++ y ≡ w ++ v → ⊥
 element_inside w ms (plain x p q) k u y v c f e =
     let z = opens_title k u c in

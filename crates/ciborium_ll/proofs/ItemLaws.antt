@@ -9,21 +9,26 @@ use Rattle.ciborium_ll.proofs.Lists.{same_front}
 use Rattle.ciborium_ll.proofs.TitleLaws.{one_title}
 use Rattle.ciborium_ll.proofs.StringLaws.{one_strings_then, break_title}
 
+-- the same bytes and the same rest
 abbrev Same : List ℕ → List ℕ → List ℕ → List ℕ → Type 0
 Same w w' v v' = (w ≡ w') × (v ≡ v')
 
+-- a break behind a list, joined to the rest
 closed : (w w' v v' : List ℕ) → (w ++ 0xff ∷ []) ++ v ≡ (w' ++ 0xff ∷ []) ++ v' → w ++ 0xff ∷ v ≡ w' ++ 0xff ∷ v'
 closed w w' v v' e = sym (append_assoc w (0xff ∷ []) v) ∙ (e ∙ append_assoc w' (0xff ∷ []) v')
 
+-- nothing completes an item behind a break
 no_break : (e : ℕ) (r : List ℕ) → Completes e h.Break r → ⊥
 no_break e r c = elim c [ ]
 
+-- no item begins with a break
 title_break : (e : ℕ) (t r u v : List ℕ) (x : Header) → IsTitle t x → Completes e x r → t ++ u ≡ 0xff ∷ v → ⊥
 title_break e t r u v x p c z =
     let o = one_title t (0xff ∷ []) u v x h.Break p break_title z in
     no_break e r (subst (λ (y : Header). Completes e y r) o.1 c)
 
 mutual
+  -- of what completes items of one header none begins another
   one_completion : (e : ℕ) (x : Header) (r : List ℕ) → Completes e x r → (e' : ℕ) (r' v v' : List ℕ) → Completes e' x r' → r ++ v ≡ r' ++ v' → Same r r' v v'
   one_completion e x r positive e' r' v v' positive z = (refl, z)
   one_completion e x r negative e' r' v v' negative z = (refl, z)
@@ -43,6 +48,7 @@ mutual
   one_completion e x r (open_pairs {depth = d} {items = w} j i) e' r' v v' (open_pairs {depth = d'} {items = w'} j' i') z =
       let o = ended_items d (2 * j) w i d' (2 * j') w' v v' i' (closed w w' v v' z) in (ap (λ (y : List ℕ). y ++ 0xff ∷ []) o.0, o.1)
 
+  -- of as many items none begins another
   same_items : (e n : ℕ) (w : List ℕ) → AreItems e n w → (e' : ℕ) (w' v v' : List ℕ) → AreItems e' n w' → w ++ v ≡ w' ++ v' → Same w w' v v'
   same_items e n w no_items e' w' v v' no_items z = (refl, z)
   same_items e n w (more_items {count = m} {title = t} {rest = r} {others = a} {header = x} p c i) e' w' v v' (more_items {title = t'} {rest = r'} {others = a'} {header = x'} p' c' i') z =
@@ -54,6 +60,7 @@ mutual
       let aa : a ≡ a' = k.0 in
       (rw (tt', rr, aa) refl, k.1)
 
+  -- of items in front of a break none begins another
   ended_items : (e n : ℕ) (w : List ℕ) → AreItems e n w → (e' n' : ℕ) (w' v v' : List ℕ) → AreItems e' n' w' → w ++ 0xff ∷ v ≡ w' ++ 0xff ∷ v' → Same w w' v v'
   ended_items e n w no_items e' n' w' v v' no_items z = (refl, cc)
   ended_items e n w no_items e' n' w' v v' (more_items {title = t'} {rest = r'} {others = a'} {header = x'} p' c' i') z =
@@ -69,5 +76,6 @@ mutual
       let aa : a ≡ a' = k.0 in
       (rw (tt', rr, aa) refl, k.1)
 
+-- no item begins another one, whatever their depths
 pub one_item : (e e' : ℕ) (w w' v v' : List ℕ) → IsItem e w → IsItem e' w' → w ++ v ≡ w' ++ v' → Same w w' v v'
 one_item e e' w w' v v' i i' z = same_items e (suc zero) w i e' w' v v' i' z

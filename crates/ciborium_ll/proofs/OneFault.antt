@@ -10,7 +10,7 @@ use Rattle.ciborium_ll.proofs.TitleLaws.{one_title, title_refused}
 use Rattle.ciborium_ll.proofs.AffixLaws.{title_not_cut}
 use Rattle.ciborium_ll.proofs.StringLaws.{some_is, fronts, one_string, SameString}
 use Rattle.ciborium_ll.proofs.ElementLaws.{one_run, string_fronts, IsSound-left, IsSound-right}
-use Rattle.ciborium_ll.proofs.HaltLaws.{IsBad, Halt, halt_cut, halt_refused, halt_misplaced, halt_bad, Opens, last, link, opens_of, opens_title, opens_string, opens_halt, str_halts, open_halts, Stop, stop_cut, stop_refused, stop_bad, halt_of, same_kind, element_stops, element_inside, kind_not_misplaced}
+use Rattle.ciborium_ll.proofs.HaltLaws.{IsBad, Halt, halt_cut, halt_refused, halt_misplaced, halt_bad, Opens, last, link, opens_of, opens_title, opens_string, opens_halt, string_halts, open_halts, Stop, stop_cut, stop_refused, stop_bad, halt_of, same_kind, element_stops, element_inside, kind_not_misplaced}
 use Rattle.ciborium_ll.proofs.FaultLaws.{follows, too_short}
 
 -- a string in front
@@ -22,6 +22,7 @@ record Ahead (k : Kind) (x : List ℕ) : Type 0 where
   rest : List ℕ
   is : x ≡ word ++ rest
 
+-- of strings in front of one list either both are the same, or a string comes behind one
 compare : (k : Kind) (w : List ℕ) (bs : List (List ℕ)) → AreStrings k w bs → (w' x x' : List ℕ) (bs' : List (List ℕ)) → AreStrings k w' bs' → IsSound k bs → IsSound k bs' → w ++ x ≡ w' ++ x' → SameString w w' bs bs' x x' ⊎ (Ahead k x ⊎ Ahead k x')
 compare k w bs none w' x x' bs' none ok ok' e = inl (refl, refl, e)
 compare k w bs none w' x x' bs' (more {first = a} {rest = b} {bodies = cs} {others = ds} p q) ok ok' e =
@@ -37,15 +38,19 @@ compare k w bs (more {first = a} {rest = b} {bodies = cs} {others = ds} p q) w' 
       | inr r ↦ inr r
     ]
 
+-- no string is ahead where none comes
 ahead_halts : (k : Kind) (y : List ℕ) → Halt k y → Ahead k y → ⊥
-ahead_halts k y f a = str_halts k a.word a.bodies a.ok a.sound a.rest y f a.is
+ahead_halts k y f a = string_halts k a.word a.bodies a.ok a.sound a.rest y f a.is
 
+-- no string is ahead where opens halt
 ahead_opens : (k : Kind) (u y : List ℕ) {os : List (List ℕ)} → Opens k u os → Halt k y → Ahead k (u ++ y) → ⊥
 ahead_opens k u y c f a = opens_string k u c y (λ t w v bs q r ok e. opens_halt k u c y f t w v bs q r ok e) a.word a.bodies a.ok a.sound a.rest a.is
 
+-- no opens are ahead where none comes
 open_ahead : (k : Kind) (u y z : List ℕ) {os : List (List ℕ)} → Opens k u os → Halt k y → y ≡ u ++ z → ⊥
 open_ahead k u y z c f e = let t = opens_title k u c in open_halts k t.0 (t.1 ++ z) y f t.2 (e ∙ (ap (λ (x : List ℕ). x ++ z) t.3 ∙ append_assoc t.0 t.1 z))
 
+-- two lists of opens that halt are the same
 opens_same : (k : Kind) (u : List ℕ) (bs : List (List ℕ)) → Opens k u bs → (y : List ℕ) → Halt k y → IsSound k bs → (u' y' : List ℕ) (bs' : List (List ℕ)) → Opens k u' bs' → Halt k y' → IsSound k bs' → u ++ y ≡ u' ++ y' → SameString u u' bs bs' y y'
 opens_same k u bs (last {t} {w} p s) y f ok u' y' bs' (last {t = t'} {w = w'} p' s') f' ok' e =
     let o = fronts k t t' (w ++ y) (w' ++ y') None None p p' (sym (append_assoc t w y) ∙ (e ∙ append_assoc t' w' y')) in
@@ -83,6 +88,7 @@ opens_same k u bs (link {t} {w} {u = x} {bs = cs} {cs = ds} p s d) y f ok u' y' 
 abbrev NoElement : List ℕ → Type 0
 NoElement y = (w : List ℕ) (ms : List Mark) → IsElement w ms → (v : List ℕ) → y ≡ w ++ v → ⊥
 
+-- two runs in front of places where no element comes are the same
 same_run : (i i' : ℕ) (u u' y y' : List ℕ) (ms ms' : List Mark) → IsRun i u ms → IsRun i' u' ms' → NoElement y → NoElement y' → u ++ y ≡ u' ++ y' → (u ≡ u') × (ms ≡ ms') × (y ≡ y')
 same_run i i' u u' y y' ms ms' r r' f f' e =
     elim (cases_order i i') [
@@ -98,21 +104,26 @@ data Base (n : ℕ) : List ℕ → List Mark → Place → List ℕ → Type 0 w
   at_due : {i : ℕ} {u y : List ℕ} {ms : List Mark} → i < n → IsRun i u ms → Stop y → Base n u ms Due y
   at_in : {i : ℕ} {u v y : List ℕ} {ms : List Mark} {bs : List (List ℕ)} {k : Kind} → i < n → IsRun i u ms → IsInside k v bs → IsSound k bs → Halt k y → Base n (u ++ v) (ms ++ Open k ∷ pieces k bs) (In k) y
 
+-- the same bytes before, marks, place and bytes ahead
 abbrev pub SameBase : List ℕ → List ℕ → List Mark → List Mark → Place → Place → List ℕ → List ℕ → Type 0
 SameBase u u' ms ms' at at' y y' = (u ≡ u') × (ms ≡ ms') × (at ≡ at') × (y ≡ y')
 
+-- no element comes where one is due and there is none
 no_at_stop : (y : List ℕ) → Stop y → NoElement y
 no_at_stop y f w ms p v e = element_stops w ms p v y f e
 
+-- no element comes before opens that halt
 no_at_halt : (k : Kind) (u y : List ℕ) {os : List (List ℕ)} → Opens k u os → Halt k y → NoElement (u ++ y)
 no_at_halt k u y c f w ms p v e = element_inside w ms p k u y v c f e
 
+-- no opens are ahead where no element comes
 open_stops : (k : Kind) (u y z : List ℕ) {os : List (List ℕ)} → Opens k u os → Stop y → y ≡ u ++ z → ⊥
 open_stops k u y z c f e =
     let t = opens_title k u c in
     let g = e ∙ (ap (λ (x : List ℕ). x ++ z) t.3 ∙ append_assoc t.0 t.1 z) in
     open_halts k t.0 (t.1 ++ z) y (halt_of y f k (same_kind k t.0 (t.1 ++ z) y None t.2 g)) t.2 g
 
+-- the places where a title is due and cannot come are one
 one_base : (n : ℕ) (u : List ℕ) (ms : List Mark) (at : Place) (y : List ℕ) → Base n u ms at y → (u' : List ℕ) (ms' : List Mark) (at' : Place) (y' : List ℕ) → Base n u' ms' at' y' → u ++ y ≡ u' ++ y' → SameBase u u' ms ms' at at' y y'
 one_base n u ms at y (at_due {i} l r f) u' ms' at' y' (at_due {i = i'} l' r' f') e =
     let o = same_run i i' u u' y y' ms ms' r r' (no_at_stop y f) (no_at_stop y' f') e in
@@ -147,11 +158,13 @@ data Flat : Place → List ℕ → Type 0 where
   flat_refused : {at : Place} {y : List ℕ} → BeginsRefused y → Flat at y
   flat_foreign : {k : Kind} {y t : List ℕ} (r : List ℕ) (x : Header) → IsTitle t x → IsMisplaced k x → y ≡ t ++ r → Flat (In k) y
 
+-- a body of the kind may be due behind the place
 abbrev IsOf : Place → Kind → Type 0
 IsOf Due k = Unit {0}
 IsOf (In j) k = j ≡ k
 IsOf (Body j l p) k = ⊥
 
+-- no title of a string of the kind stands where none can come
 flat_deep : (at : Place) (y : List ℕ) → Flat at y → (t s : List ℕ) (k : Kind) (l : ℕ) → IsOf at k → IsTitle t (kind_header k (Some l)) → y ≡ t ++ s → ⊥
 flat_deep at y (flat_cut c) t s k l o p e = title_not_cut t s (kind_header k (Some l)) p (subst IsCutTitle e c)
 flat_deep at y (flat_refused c) t s k l o p e = title_refused t s (kind_header k (Some l)) p (subst BeginsRefused e c)
@@ -159,11 +172,13 @@ flat_deep at y (flat_foreign {k = j} {t = t'} r x q f z) t s k l o p e =
     let g = one_title t' t r s x (kind_header k (Some l)) q p (sym z ∙ e) in
     kind_not_misplaced k (Some l) (subst (IsMisplaced k) g.1 (subst (λ (i : Kind). IsMisplaced i x) o f))
 
+-- the place of a body behind a title that was due
 abbrev place_of : Place → Kind → ℕ → List ℕ → List ℕ → Place
 place_of Due k l u t = Body k l (length (u ++ t) - title_len (kind_header k (Some l)))
 place_of (In j) k l u t = Body k l (length u)
 place_of (Body j m p) k l u t = Due
 
+-- the body at fault is bad
 bad_of : (k : Kind) (l p : ℕ) (s u : List ℕ) (ms : List Mark) (a : Answer) (out : List ℕ) (c : ℕ) → FirstFault u ms (Body k l p) s a out c → IsBad k l s
 bad_of k l p s u ms a out c (CutTitle d f) = absurd d
 bad_of k l p s u ms a out c (NoTitle d f) = absurd d
@@ -171,10 +186,12 @@ bad_of k l p s u ms a out c (DamagedText b r g f e z m) = inr f
 bad_of k l p s u ms a out c (CutBody b r f e g m m2) = too_short k l s f
 bad_of k l p s u ms a out c (CutDamagedText b r f g e z m) = inl f
 
+-- a fault by the place where its title was due
 data Seen (n : ℕ) : List ℕ → List Mark → Place → List ℕ → Type 0 where
   seen_flat : {u s : List ℕ} {ms : List Mark} {at : Place} → Base n u ms at s → Flat at s → Seen n u ms at s
   seen_deep : {u t s : List ℕ} {ms : List Mark} {at : Place} (k : Kind) (l : ℕ) → Base n u ms at (t ++ s) → IsOf at k → IsTitle t (kind_header k (Some l)) → Seen n (u ++ t) ms (place_of at k l u t) s
 
+-- each fault is at a place where a title was due
 seen : (n : ℕ) (u : List ℕ) (ms : List Mark) (at : Place) → Reaches n u ms at → (s : List ℕ) (a : Answer) (out : List ℕ) (c : ℕ) → FirstFault u ms at s a out c → Seen n u ms at s
 seen n u ms at (due l r) s a out c (CutTitle d f) = seen_flat (at_due l r (stop_cut f)) (flat_cut f)
 seen n u ms at (due l r) s a out c (NoTitle d f) = seen_flat (at_due l r (stop_refused f)) (flat_refused f)
@@ -184,6 +201,7 @@ seen n u ms at (inside {kind = k} l r q ok) s a out c (OtherTitle x z p f e) = s
 seen n u ms at (body {bytes = b} {title = t} {len = m} k (due l r) p) s a out c f = seen_deep k m (at_due l r (stop_bad s k m p (bad_of k m _ s _ _ _ _ _ f) refl)) tt p
 seen n u ms at (body_inside {title = t} {len = m} (inside {kind = k} l r q ok) p) s a out c f = seen_deep k m (at_in l r q ok (halt_bad s m p (bad_of k m _ s _ _ _ _ _ f) refl)) refl p
 
+-- faults in one list are at one place
 one_seen : (n : ℕ) (u : List ℕ) (ms : List Mark) (at : Place) (s : List ℕ) → Seen n u ms at s → (u' : List ℕ) (ms' : List Mark) (at' : Place) (s' : List ℕ) → Seen n u' ms' at' s' → u ++ s ≡ u' ++ s' → SameBase u u' ms ms' at at' s s'
 one_seen n u ms at s (seen_flat b f) u' ms' at' s' (seen_flat b' f') e = one_base n u ms at s b u' ms' at' s' b' e
 one_seen n u ms at s (seen_flat b f) u' ms' at' s' (seen_deep {u = v'} {t = t'} {at = p'} k' l' b' o' q') e =

@@ -58,6 +58,7 @@ at_minor (suc (suc (suc (suc (suc (suc (suc zero))))))) (suc (suc (suc zero))) p
 at_minor (suc (suc (suc (suc (suc (suc (suc zero))))))) (suc (suc (suc (suc rest)))) p q f = absurd (omega arith)
 at_minor (suc (suc (suc (suc (suc (suc (suc (suc major)))))))) rest p q f = absurd (omega arith)
 
+-- a byte is refused just where it stands in the list
 pub refused_listed : (b : ℕ) → b < 256 → (IsRefused b ↔ Contains refused_bytes b)
 refused_listed b lt = (λ r. to r, λ c. of_all IsRefused refused_bytes b c.0 all_refused c.1 c.2)
   where

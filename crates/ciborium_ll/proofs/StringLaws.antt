@@ -14,14 +14,17 @@ some_is m n e = cc
 pub mixed : (n : ℕ) → Some n ≡ None → ⊥
 mixed n e = cc
 
+-- a header of the kind is of one length
 pub same_len : (k : Kind) (o o' : Option ℕ) → kind_header k o ≡ kind_header k o' → o ≡ o'
 same_len Bytes o o' e = cc
 same_len Text o o' e = cc
 
+-- a string's header is no break
 pub not_break : (k : Kind) (o : Option ℕ) → kind_header k o ≡ h.Break → ⊥
 not_break Bytes o e = cc
 not_break Text o e = cc
 
+-- the title of a break
 pub break_title : IsTitle (0xff ∷ []) h.Break
 break_title = alone Other h.Break refl
 
@@ -31,18 +34,22 @@ fronts k t t' u u' o o' p p' e =
     let r = one_title t t' u u' (kind_header k o) (kind_header k o') p p' e in
     (r.0, same_len k o o' r.1, r.2)
 
+-- a string's title begins as no break
 pub title_not_break : (k : Kind) (t u v : List ℕ) (o : Option ℕ) → IsTitle t (kind_header k o) → t ++ u ≡ 0xff ∷ v → ⊥
 title_not_break k t u v o p e =
     let r = one_title t (0xff ∷ []) u v (kind_header k o) h.Break p break_title e in
     not_break k o r.1
 
+-- no string begins as a break
 pub string_not_break : (k : Kind) (w u v : List ℕ) (bs : List (List ℕ)) → IsString k w bs → w ++ u ≡ 0xff ∷ v → ⊥
 string_not_break k w u v bs (definite {title = t} {body = b} p) e = title_not_break k t (b ++ u) v (Some (length b)) p (sym (append_assoc t b u) ∙ e)
 string_not_break k w u v bs (indefinite {title = t} {strings = x} p q) e = title_not_break k t ((x ++ 0xff ∷ []) ++ u) v None p (sym (append_assoc t (x ++ 0xff ∷ []) u) ∙ e)
 
+-- the same bytes, the same bodies and the same rest
 abbrev pub SameString : List ℕ → List ℕ → List (List ℕ) → List (List ℕ) → List ℕ → List ℕ → Type 0
 SameString w w' bs bs' v v' = (w ≡ w') × (bs ≡ bs') × (v ≡ v')
 
+-- strings of a definite length begin no other one
 definites : (k : Kind) (t b t' b' v v' : List ℕ) → IsTitle t (kind_header k (Some (length b))) → IsTitle t' (kind_header k (Some (length b'))) → (t ++ b) ++ v ≡ (t' ++ b') ++ v'
     → SameString (t ++ b) (t' ++ b') (b ∷ []) (b' ∷ []) v v'
 definites k t b t' b' v v' p p' e =
@@ -53,6 +60,7 @@ definites k t b t' b' v v' p p' e =
     (rw (tt', bb') refl, rw bb' refl, f.1)
 
 mutual
+  -- no string begins another one
   one_str : (k : Kind) (w : List ℕ) (bs : List (List ℕ)) → IsString k w bs → (w' : List ℕ) (bs' : List (List ℕ)) → IsString k w' bs' → (v v' : List ℕ) → w ++ v ≡ w' ++ v' → SameString w w' bs bs' v v'
   one_str k w bs (definite {title = t} {body = b} p) w' bs' (definite {title = t'} {body = b'} p') v v' e = definites k t b t' b' v v' p p' e
   one_str k w bs (definite {title = t} {body = b} p) w' bs' (indefinite {title = t'} {strings = x'} p' q') v v' e =
@@ -67,6 +75,7 @@ mutual
       let xx' : x ≡ x' = s.0 in
       (rw (tt', xx') refl, s.1, s.2)
 
+  -- of strings in front of a break none begin others
   one_strs : (k : Kind) (w : List ℕ) (bs : List (List ℕ)) → AreStrings k w bs → (w' : List ℕ) (bs' : List (List ℕ)) → AreStrings k w' bs' → (v v' : List ℕ) → w ++ 0xff ∷ v ≡ w' ++ 0xff ∷ v' → SameString w w' bs bs' v v'
   one_strs k w bs none w' bs' none v v' e = (refl, refl, cc)
   one_strs k w bs none w' bs' (more {first = x'} {rest = y'} {bodies = cs'} s' ss') v v' e = absurd (string_not_break k x' (y' ++ 0xff ∷ v') v cs' s' (sym (append_assoc x' y' (0xff ∷ v')) ∙ sym e))
@@ -80,8 +89,10 @@ mutual
       let dd' : ds ≡ ds' = b.1 in
       (rw (xx', yy') refl, rw (cc', dd') refl, b.2)
 
+-- no string begins another one, and each has one list of bodies
 pub one_string : (k : Kind) (w w' v v' : List ℕ) (bs bs' : List (List ℕ)) → IsString k w bs → IsString k w' bs' → w ++ v ≡ w' ++ v' → SameString w w' bs bs' v v'
 one_string k w w' v v' bs bs' p p' e = one_str k w bs p w' bs' p' v v' e
 
+-- strings in front of a break are the only ones, with one list of bodies
 pub one_strings_then : (k : Kind) (w w' v v' : List ℕ) (bs bs' : List (List ℕ)) → AreStrings k w bs → AreStrings k w' bs' → w ++ 0xff ∷ v ≡ w' ++ 0xff ∷ v' → SameString w w' bs bs' v v'
 one_strings_then k w w' v v' bs bs' p p' e = one_strs k w bs p w' bs' p' v v' e

@@ -10,13 +10,16 @@ use Rattle.ciborium_ll.specs.Text.{IsCharacter, row1, row2, row3, row4, row5, ro
 use Rattle.ciborium_ll.proofs.Lists.{same_front, front_of_front}
 use Rattle.ciborium_ll.proofs.Utf8Laws.{to_std, from_std}
 
+-- texts joined are a text
 pub IsCharacters-append : (a b : List ℕ) → IsCharacters a → IsCharacters b → IsCharacters (a ++ b)
 IsCharacters-append a b p q = from_std (a ++ b) (IsUtf8-append a b (to_std a p) (to_std b q))
 
+-- what follows whole characters of std in a text is a text
 past : (cs : List ℕ) (b : List ℕ) → IsUtf8 (encodes cs ++ b) → IsUtf8 b
 past [] b u = u
 past (c ∷ cs) b u = past cs b (IsUtf8-past_char (encodes (c ∷ cs) ++ b) (encodes cs ++ b) c u (append_assoc (encode c) (encodes cs) b))
 
+-- what follows a text in a text is a text
 pub IsCharacters-rest : (a b : List ℕ) → IsCharacters a → IsCharacters (a ++ b) → IsCharacters b
 IsCharacters-rest a b p q =
     let u = to_std a p in
@@ -24,15 +27,18 @@ IsCharacters-rest a b p q =
 
 -- ---- fronts
 
+-- no bytes are a text
 pub IsCharacters-nil : IsCharacters []
 IsCharacters-nil = record { characters = []; each = tt; whole = refl }
 
+-- a list has one front
 pub one_front : (x a r b s : List ℕ) → IsFront x a r → IsFront x b s → (a ≡ b) × (r ≡ s)
 one_front x a r b s p q =
     let l = p.longest b s q.parts q.text in
     let k = q.longest a r p.parts p.text in
     same_front a b r s (omega (arith, l, k)) (sym p.parts ∙ q.parts)
 
+-- a character has from one to four bytes
 pub character_length : (c : List ℕ) → IsCharacter c → (0 < length c) × (length c ≤ 4)
 character_length c (row1 p) = omega arith
 character_length c (row2 p q) = omega arith
@@ -44,9 +50,11 @@ character_length c (row7 p q r s) = omega arith
 character_length c (row8 p q r s) = omega arith
 character_length c (row9 p q r s) = omega arith
 
+-- one character is a text
 pub character_is_text : (c : List ℕ) → IsCharacter c → IsCharacters c
 character_is_text c p = record { characters = c ∷ []; each = (p, tt); whole = sym (append-nil c) }
 
+-- more bytes than three behind a front are no beginning of a text
 damned : (x a r y : List ℕ) (cs : List (List ℕ)) → IsFront x a r → 3 < length r → AllByRecursion IsCharacter cs → r ++ y ≡ joined cs → ⊥
 damned x a r y [] f l all e = let n = ap length e in omega (arith, length-append r y)
 damned x a r y (c ∷ cs) f l all e =
@@ -75,6 +83,7 @@ front_of_valid x n v =
       ]);
     }
 
+-- the front of a text is the whole
 pub front_of_text : (x : List ℕ) → IsCharacters x → IsFront x x []
 front_of_text x u = record { parts = sym (append-nil x); text = u; longest = λ b s e h. omega (arith, length-append b s, ap length e) }
 

@@ -13,6 +13,7 @@ use Rattle.ciborium_ll.proofs.Lists.{same_front}
 
 -- ---- first bytes
 
+-- the major type of a code
 abbrev major_of : ℕ → Major
 major_of zero = Unsigned
 major_of (suc zero) = Negative
@@ -23,6 +24,7 @@ major_of (suc (suc (suc (suc (suc zero))))) = Map
 major_of (suc (suc (suc (suc (suc (suc zero)))))) = Tag
 major_of (suc (suc (suc (suc (suc (suc (suc n))))))) = Other
 
+-- a major type is read off its code
 major_back : (m : Major) → major_of (major_code m) ≡ m
 major_back Unsigned = refl
 major_back Negative = refl
@@ -33,12 +35,15 @@ major_back Map = refl
 major_back Tag = refl
 major_back Other = refl
 
+-- a code is of one major type
 pub same_major : (m m' : Major) → major_code m ≡ major_code m' → m ≡ m'
 same_major m m' e = sym (major_back m) ∙ (ap major_of e ∙ major_back m')
 
+-- the size that a minor tells
 abbrev size_of : ℕ → Size
 size_of k = if nat_lt k 24 then Small else (if k == 24 then One else (if k == 25 then Two else (if k == 26 then Four else Eight)))
 
+-- a size is read off its minor
 size_back : (s : Size) (n : ℕ) → n < size_limit s → size_of (minor_of s n) ≡ s
 size_back Small n p = rw (lt-ltb n 24 p) refl
 size_back One n p = refl
@@ -46,6 +51,7 @@ size_back Two n p = refl
 size_back Four n p = refl
 size_back Eight n p = refl
 
+-- the minor of a number is below 28
 pub minor_below : (s : Size) (n : ℕ) → n < size_limit s → minor_of s n < 28
 minor_below Small n p = omega arith
 minor_below One n p = omega arith
@@ -53,6 +59,7 @@ minor_below Two n p = omega arith
 minor_below Four n p = omega arith
 minor_below Eight n p = omega arith
 
+-- a first byte has one major type and one minor
 pub same_first : (m m' : Major) (a b : ℕ) → a < 32 → b < 32 → first_byte m a ≡ first_byte m' b → (m ≡ m') × (a ≡ b)
 same_first m m' a b p q e =
     let c : major_code m ≡ major_code m' = omega arith in
@@ -60,6 +67,7 @@ same_first m m' a b p q e =
 
 -- ---- numbers
 
+-- an affix of a size is of one number, and none begins another
 same_affix : (s : Size) (n n' : ℕ) (v v' : List ℕ) → n < size_limit s → n' < size_limit s → minor_of s n ≡ minor_of s n' → affix_of s n ++ v ≡ affix_of s n' ++ v' → (n ≡ n') × (v ≡ v')
 same_affix Small n n' v v' p p' m e = (m, e)
 same_affix One n n' v v' p p' m e =
@@ -76,9 +84,11 @@ same_affix Eight n n' v v' p p' m e =
     let g = same_front (to_be_bytes w64 n) (to_be_bytes w64 n') v v' refl e in
     (sym (from_be_bytes-to_be_bytes_8 n p) ∙ (ap (from_be_bytes w64) g.0 ∙ from_be_bytes-to_be_bytes_8 n' p'), g.1)
 
+-- the same bytes, the same header and the same rest
 abbrev pub Same : List ℕ → List ℕ → Header → Header → List ℕ → List ℕ → Type 0
 Same w w' h h' v v' = (w ≡ w') × (h ≡ h') × (v ≡ v')
 
+-- titles of numbers begin no other one
 same_number : (m m' : Major) (s s' : Size) (n n' : ℕ) (v v' : List ℕ) → n < size_limit s → n' < size_limit s' → numbered_title m s n ++ v ≡ numbered_title m' s' n' ++ v'
     → Same (numbered_title m s n) (numbered_title m' s' n') (numbered_header m s n) (numbered_header m' s' n') v v'
 same_number m m' s s' n n' v v' p p' e =
@@ -96,6 +106,7 @@ same_number m m' s s' n n' v v' p p' e =
     let heads2 : numbered_header m s n ≡ numbered_header m' s' n' = rw (mm, ss, nn) refl in
     (words, heads2, r.1)
 
+-- a title of a number begins as none of the minor 31
 not_alone : (m m' : Major) (s : Size) (n : ℕ) (v v' : List ℕ) → n < size_limit s → numbered_title m s n ++ v ≡ first_byte m' 31 ∷ v' → ⊥
 not_alone m m' s n v v' p e =
     let b : minor_of s n < 28 = minor_below s n p in
@@ -103,6 +114,7 @@ not_alone m m' s n v v' p e =
     let g = same_first m m' (minor_of s n) 31 (omega arith) (omega arith) heads in
     omega arith
 
+-- titles of the minor 31 are of one header
 same_alone : (m m' : Major) (h h' : Header) (v v' : List ℕ) → open_header m ≡ Some h → open_header m' ≡ Some h' → first_byte m 31 ∷ v ≡ first_byte m' 31 ∷ v' → Same (first_byte m 31 ∷ []) (first_byte m' 31 ∷ []) h h' v v'
 same_alone m m' h h' v v' p p' e =
     let heads : first_byte m 31 ≡ first_byte m' 31 = cc in
@@ -111,6 +123,7 @@ same_alone m m' h h' v v' p p' e =
     let hh : Some h ≡ Some h' = sym p ∙ (o ∙ p') in
     (cc heads, cc hh, cc)
 
+-- no title begins another one, and each is of one header
 pub one_title : (w w' v v' : List ℕ) (h h' : Header) → IsTitle w h → IsTitle w' h' → w ++ v ≡ w' ++ v' → Same w w' h h' v v'
 one_title w w' v v' h h' (numbered m s n p) (numbered m' s' n' p') e = same_number m m' s s' n n' v v' p p' e
 one_title w w' v v' h h' (numbered m s n p) (alone m' x' o') e = absurd (not_alone m m' s n v v' p e)
@@ -119,6 +132,7 @@ one_title w w' v v' h h' (alone m x o) (alone m' x' o') e = same_alone m m' x x'
 
 -- ---- the shortest
 
+-- a number fits into its least size
 least_fits : (n : ℕ) → n < 2 ^ 64 → n < size_limit (least_size n)
 least_fits n p =
     elim (cases_lt n 24) [
@@ -135,11 +149,13 @@ least_fits n p =
       ])
     ]
 
+-- the least size gives a title of a number
 pub least_is_title : (m : Major) (n : ℕ) (header : Header) → n < 2 ^ 64 → ((s : Size) → n < size_limit s → numbered_header m s n ≡ header) → IsTitle (shortest_numbered m n) header
 least_is_title m n header p f =
     let q = least_fits n p in
     subst (λ (x : Header). IsTitle (shortest_numbered m n) x) (f (least_size n) q) (numbered m (least_size n) n q)
 
+-- the least size gives a title of a simple value
 simple_is_title : (n : ℕ) → n < 2 ^ 8 → IsTitle (shortest_numbered Other n) (h.Simple n)
 simple_is_title n p =
     elim (cases_lt n 24) [
@@ -147,11 +163,13 @@ simple_is_title n p =
       | inr a ↦ rw (le-ltb n 24 a, lt-ltb n (2 ^ 8) p) (numbered Other One n p)
     ]
 
+-- the title of a float
 float_is_title : (x : Float) → IsFloatInRange x → IsTitle (float_title x) (h.Float x)
 float_is_title (f.Half n) p = numbered Other Two n p
 float_is_title (f.Single n) p = numbered Other Four n p
 float_is_title (f.Double n) p = numbered Other Eight n p
 
+-- the shortest title of a header is a title of it
 pub IsTitle-shortest : (header : Header) → IsInRange header → IsTitle (shortest_title header) header
 IsTitle-shortest (h.Positive n) p = least_is_title Unsigned n (h.Positive n) p (λ s q. refl)
 IsTitle-shortest (h.Negative n) p = least_is_title Negative n (h.Negative n) p (λ s q. refl)
@@ -168,6 +186,7 @@ IsTitle-shortest (h.Array (Some n)) p = least_is_title Array n (h.Array (Some n)
 IsTitle-shortest (h.Map None) p = alone Map (h.Map None) refl
 IsTitle-shortest (h.Map (Some n)) p = least_is_title Map n (h.Map (Some n)) p (λ s q. refl)
 
+-- a size is the least one, or its affix is longer
 least_or : (s : Size) (n : ℕ) → n < size_limit s → (s ≡ least_size n) ⊎ (length (affix_of (least_size n) n) < length (affix_of s n))
 least_or Small n p = inl (rw (lt-ltb n 24 p) refl)
 least_or One n p =
@@ -209,9 +228,11 @@ least_or Eight n p =
       ])
     ]
 
+-- the same bytes, or more of them
 abbrev pub LeastOr : List ℕ → List ℕ → Type 0
 LeastOr w w' = (w ≡ w') ⊎ (length w' < length w)
 
+-- a title of a number is the shortest one, or longer
 least_shortest : (m : Major) (s : Size) (n : ℕ) → n < size_limit s → LeastOr (numbered_title m s n) (shortest_numbered m n)
 least_shortest m s n p =
     elim (least_or s n p) [
@@ -219,6 +240,7 @@ least_shortest m s n p =
       | inr l ↦ inr (omega (arith, l))
     ]
 
+-- a title of a number is the shortest one of its header, or longer
 number_shortest : (m : Major) (s : Size) (n : ℕ) → n < size_limit s → LeastOr (numbered_title m s n) (shortest_title (numbered_header m s n))
 number_shortest Unsigned s n p = least_shortest Unsigned s n p
 number_shortest Negative s n p = least_shortest Negative s n p
@@ -233,6 +255,7 @@ number_shortest Other Two n p = inl refl
 number_shortest Other Four n p = inl refl
 number_shortest Other Eight n p = inl refl
 
+-- a title of the minor 31 is the shortest one
 alone_shortest : (m : Major) (x : Header) → open_header m ≡ Some x → LeastOr (first_byte m 31 ∷ []) (shortest_title x)
 alone_shortest Unsigned x o = absurd cc
 alone_shortest Negative x o = absurd cc
@@ -243,18 +266,21 @@ alone_shortest Map x o = let e : h.Map None ≡ x = cc in inl (rw (← e) refl)
 alone_shortest Tag x o = absurd cc
 alone_shortest Other x o = let e : h.Break ≡ x = cc in inl (rw (← e) refl)
 
+-- a title is the shortest one of its header, or longer
 pub shortest_or_longer : (header : Header) (w : List ℕ) → IsTitle w header → LeastOr w (shortest_title header)
 shortest_or_longer header w (numbered m s n p) = number_shortest m s n p
 shortest_or_longer header w (alone m x o) = alone_shortest m x o
 
 -- ---- first bytes with no title
 
+-- the first byte of a number is not refused
 refused_number : (m : Major) (s : Size) (n : ℕ) → n < size_limit s → IsRefused (first_byte m (minor_of s n)) → ⊥
 refused_number m s n p r =
     let b = minor_below s n p in
     let d : first_byte m (minor_of s n) % 32 ≡ minor_of s n = omega arith in
     omega (arith, r)
 
+-- a first byte of the minor 31 with a header is not refused
 refused_alone : (m : Major) (x : Header) → open_header m ≡ Some x → IsRefused (first_byte m 31) → ⊥
 refused_alone Unsigned x o r = absurd cc
 refused_alone Negative x o r = absurd cc
@@ -265,12 +291,14 @@ refused_alone Map x o r = omega (arith, r)
 refused_alone Tag x o r = absurd cc
 refused_alone Other x o r = omega (arith, r)
 
+-- no title stands in front of bytes that begin with a refused one
 pub title_refused : (w v : List ℕ) (x : Header) → IsTitle w x → BeginsRefused (w ++ v) → ⊥
 title_refused w v x (numbered m s n p) r = refused_number m s n p r
 title_refused w v x (alone m x' o) r = refused_alone m x' o r
 
 -- ---- the numbers of a title's header are in range
 
+-- a number of any size is below 2 ^ 64
 limit_below : (s : Size) (n : ℕ) → n < size_limit s → n < 2 ^ 64
 limit_below Small n p = omega arith
 limit_below One n p = omega arith
@@ -278,6 +306,7 @@ limit_below Two n p = omega arith
 limit_below Four n p = omega arith
 limit_below Eight n p = p
 
+-- the header of a number is in range
 numbered_in_range : (m : Major) (s : Size) (n : ℕ) → n < size_limit s → IsInRange (numbered_header m s n)
 numbered_in_range Unsigned s n p = limit_below s n p
 numbered_in_range Negative s n p = limit_below s n p
@@ -292,6 +321,7 @@ numbered_in_range Other Two n p = p
 numbered_in_range Other Four n p = p
 numbered_in_range Other Eight n p = p
 
+-- the header of the minor 31 is in range
 alone_in_range : (m : Major) (x : Header) → open_header m ≡ Some x → IsInRange x
 alone_in_range Unsigned x o = absurd cc
 alone_in_range Negative x o = absurd cc

@@ -8,22 +8,27 @@ use Rattle.ciborium_ll.specs.Text.{IsFrom, IsTail, IsCharacter, row1, row2, row3
 
 -- ---- what std writes for a character
 
+-- a character below 128 has one byte
 encode_1 : (c : ℕ) → c < 128 → encode c ≡ c ∷ []
 unfolding encode
 encode_1 c p = rw (lt-ltb c 128 p) refl
 
+-- a character below 2048 has two bytes
 encode_2 : (c : ℕ) → 128 ≤ c → c < 2048 → encode c ≡ (192 + c / 64) ∷ next c ∷ []
 unfolding encode
 encode_2 c p q = rw (le-ltb c 128 p, lt-ltb c 2048 q) refl
 
+-- a character below 65536 has three bytes
 encode_3 : (c : ℕ) → 2048 ≤ c → c < 65536 → encode c ≡ (224 + c / 4096) ∷ next (c / 64) ∷ next c ∷ []
 unfolding encode
 encode_3 c p q = rw (le-ltb c 128 (omega arith), le-ltb c 2048 p, lt-ltb c 65536 q) refl
 
+-- any further character has four bytes
 encode_4 : (c : ℕ) → 65536 ≤ c → encode c ≡ (240 + c / 262144) ∷ next (c / 4096) ∷ next (c / 64) ∷ next c ∷ []
 unfolding encode
 encode_4 c p = rw (le-ltb c 128 (omega arith), le-ltb c 2048 (omega arith), le-ltb c 65536 p) refl
 
+-- numbers above the surrogates are characters
 high_scalar : (c : ℕ) → 57344 ≤ c → c < 1114112 → scalar c ≡ true
 high_scalar c p q = rw (le-ltb c 55296 (omega arith), le-leb 57344 c p, lt-ltb c 1114112 q) refl
 
@@ -35,33 +40,41 @@ pub record IsWritten (bytes : List ℕ) : Type 0 where
   pub ok : scalar char ≡ true
   pub is : encode char ≡ bytes
 
+-- two equal bytes make equal lists
 same_2 : (a b a' b' : ℕ) → a ≡ a' → b ≡ b' → a ∷ b ∷ [] ≡ a' ∷ b' ∷ []
 same_2 a b a' b' p q = rw (p, q) refl
 
+-- three equal bytes make equal lists
 same_3 : (a b c a' b' c' : ℕ) → a ≡ a' → b ≡ b' → c ≡ c' → a ∷ b ∷ c ∷ [] ≡ a' ∷ b' ∷ c' ∷ []
 same_3 a b c a' b' c' p q r = rw (p, q, r) refl
 
+-- four equal bytes make equal lists
 same_4 : (a b c d a' b' c' d' : ℕ) → a ≡ a' → b ≡ b' → c ≡ c' → d ≡ d' → a ∷ b ∷ c ∷ d ∷ [] ≡ a' ∷ b' ∷ c' ∷ d' ∷ []
 same_4 a b c d a' b' c' d' p q r s = rw (p, q, r, s) refl
 
--- the numbers of the characters of two, three and four bytes
+-- the number of a character of two bytes
 abbrev two : ℕ → ℕ → ℕ
 two a b = (a - 192) * 64 + (b - 128)
 
+-- the number of a character of three bytes
 abbrev three : ℕ → ℕ → ℕ → ℕ
 three a b c = (a - 224) * 4096 + ((b - 128) * 64 + (c - 128))
 
+-- the number of a character of four bytes
 abbrev four : ℕ → ℕ → ℕ → ℕ → ℕ
 four a b c d = (a - 240) * 262144 + ((b - 128) * 4096 + ((c - 128) * 64 + (d - 128)))
 
+-- three bytes are what is written for their number
 written_3 : (a b c : ℕ) → IsFrom 0xe0 0xef a → IsTail b → IsTail c → 2048 ≤ three a b c → encode (three a b c) ≡ a ∷ b ∷ c ∷ []
 written_3 a b c p q r l =
     encode_3 (three a b c) l (omega arith) ∙ same_3 (224 + three a b c / 4096) (next (three a b c / 64)) (next (three a b c)) a b c (omega arith) (omega arith) (omega arith)
 
+-- four bytes are what is written for their number
 written_4 : (a b c d : ℕ) → IsFrom 0xf0 0xf4 a → IsTail b → IsTail c → IsTail d → 65536 ≤ four a b c d → encode (four a b c d) ≡ a ∷ b ∷ c ∷ d ∷ []
 written_4 a b c d p q r s l =
     encode_4 (four a b c d) l ∙ same_4 (240 + four a b c d / 262144) (next (four a b c d / 4096)) (next (four a b c d / 64)) (next (four a b c d)) a b c d (omega arith) (omega arith) (omega arith) (omega arith)
 
+-- each row is written for a character
 pub written : (bytes : List ℕ) → IsCharacter bytes → IsWritten bytes
 written bytes (row1 {a} p) = record { char = a; ok = low_scalar a (omega arith); is = encode_1 a (omega arith) }
 written bytes (row2 {a} {b} p q) = record {
@@ -79,12 +92,15 @@ written bytes (row9 {a} {b} {c} {d} p q r s) = record { char = four a b c d; ok 
 
 -- ---- what is written for each character is a row
 
+-- the six bits of a later byte make a tail
 tail_of : (n : ℕ) → IsTail (next n)
 tail_of n = (omega arith, omega arith)
 
+-- two bytes are of row 2
 is_2 : (c : ℕ) → 128 ≤ c → c < 2048 → IsCharacter ((192 + c / 64) ∷ next c ∷ [])
 is_2 c p q = row2 (omega arith, omega arith) (tail_of c)
 
+-- three bytes are of the rows 3 to 6
 is_3 : (c : ℕ) → 2048 ≤ c → c < 65536 → (c < 55296) ⊎ (57344 ≤ c) → IsCharacter ((224 + c / 4096) ∷ next (c / 64) ∷ next c ∷ [])
 is_3 c p q s =
     elim (cases_lt c 4096) [
@@ -98,6 +114,7 @@ is_3 c p q s =
       ]
     ]
 
+-- four bytes are of the rows 7 to 9
 is_4 : (c : ℕ) → 65536 ≤ c → c < 1114112 → IsCharacter ((240 + c / 262144) ∷ next (c / 4096) ∷ next (c / 64) ∷ next c ∷ [])
 is_4 c p q =
     elim (cases_lt c 262144) [
@@ -108,10 +125,12 @@ is_4 c p q =
       ]
     ]
 
+-- the range of characters, and the gap of the surrogates
 ranges : (c : ℕ) → (c < 55296) ⊎ ((57344 ≤ c) × (c < 1114112)) → ((c < 55296) ⊎ (57344 ≤ c)) × (c < 1114112)
 ranges c (inl p) = (inl p, omega arith)
 ranges c (inr p) = (inr p.0, p.1)
 
+-- what is written for a character is of one row
 is_character : (c : ℕ) → scalar c ≡ true → IsCharacter (encode c)
 is_character c s =
     let r = ranges c (scalar_cases c s) in
@@ -128,6 +147,7 @@ is_character c s =
 
 -- ---- texts
 
+-- characters joined are UTF-8 for std
 all_written : (characters : List (List ℕ)) → AllByRecursion IsCharacter characters → IsUtf8 (joined characters)
 all_written [] each = ([], (refl, refl))
 all_written (x ∷ xs) each =
@@ -137,6 +157,7 @@ all_written (x ∷ xs) each =
     let is : encodes (w.char ∷ u.0) ≡ x ++ joined xs = ap (λ (z : List ℕ). z ++ encodes u.0) w.is ∙ ap (λ (z : List ℕ). x ++ z) u.1.1 in
     (w.char ∷ u.0, (ok, is))
 
+-- what std writes for characters are characters, joined
 all_characters : (cs : List ℕ) → scalars cs ≡ true → IsCharacters (encodes cs)
 all_characters [] s = record { characters = []; each = tt; whole = refl }
 all_characters (c ∷ cs) s =
@@ -144,8 +165,10 @@ all_characters (c ∷ cs) s =
     let u = all_characters cs p.1 in
     record { characters = encode c ∷ u.characters; each = (is_character c p.0, u.each); whole = ap (λ (z : List ℕ). encode c ++ z) u.whole }
 
+-- a text is UTF-8 for std
 pub to_std : (t : List ℕ) → IsCharacters t → IsUtf8 t
 to_std t u = subst IsUtf8 (sym u.whole) (all_written u.characters u.each)
 
+-- what is UTF-8 for std is a text
 pub from_std : (t : List ℕ) → IsUtf8 t → IsCharacters t
 from_std t u = subst IsCharacters u.1.1 (all_characters u.0 u.1.0)

@@ -37,6 +37,7 @@ no_room limit member character rest following p e l x r q f =
     let same = one_character x character r rest q p (sym f ∙ e) in
     omega (arith, ap length same)
 
+-- one member so far and the characters behind it give a full cut
 filling : (limit : ℕ) → 4 ≤ limit → (member : List ℕ) → IsMember limit member → IsNonempty member → (cs : List (List ℕ)) → AllByRecursion IsCharacter cs → Filling limit member cs
 filling limit four member ok some [] all = record {
   first = member;
@@ -77,6 +78,7 @@ filling limit four member ok some (c ∷ cs) all =
           })
     ]
 
+-- characters joined have a full cut
 full_cut_of : (limit : ℕ) → 4 ≤ limit → (cs : List (List ℕ)) → AllByRecursion IsCharacter cs → (members : List (List ℕ)) × IsFullCut (joined cs) limit members
 full_cut_of limit four [] all = ([], record { cut = record { whole = refl; each = tt }; nonempty = tt; filled = tt })
 full_cut_of limit four (c ∷ cs) all =
@@ -92,10 +94,12 @@ full_cut text limit u four =
 
 -- ---- bytes
 
+-- a piece as long as the limit, in front of pieces
 chunk_first : (limit : ℕ) (piece : List ℕ) (members : List (List ℕ)) → length piece ≡ limit → AreChunks limit members → AreChunks limit (piece ∷ members)
 chunk_first limit piece [] l c = absurd c
 chunk_first limit piece (following ∷ others) l c = (l, c)
 
+-- bytes have pieces, by their length
 chunks_of : (fuel limit : ℕ) (value : List ℕ) → length value < fuel → 0 < length value → 0 < limit → (members : List (List ℕ)) × AreBytePieces limit value members
 chunks_of zero limit value l some one = absurd (omega arith)
 chunks_of (suc fuel) limit value l some one =
@@ -119,10 +123,12 @@ byte_pieces value limit some one = chunks_of (suc (length value)) limit value (o
 
 -- ---- one list of pieces
 
+-- pieces joined aren't empty
 chunk_some : (limit : ℕ) (piece : List ℕ) (members : List (List ℕ)) → AreChunks limit (piece ∷ members) → 0 < length (joined (piece ∷ members))
 chunk_some limit piece [] c = let l = c.0 in omega (arith, length-append piece [])
 chunk_some limit piece (x ∷ xs) c = let l = chunk_some limit x xs c.1 in omega (arith, length-append piece (joined (x ∷ xs)))
 
+-- bytes have one list of pieces
 same_chunks : (limit : ℕ) (cs ds : List (List ℕ)) → AreChunks limit cs → AreChunks limit ds → joined cs ≡ joined ds → cs ≡ ds
 same_chunks limit [] ds a b e = absurd a
 same_chunks limit (c ∷ []) [] a b e = absurd b
@@ -142,6 +148,7 @@ same_chunks limit (c ∷ y ∷ cs) (d ∷ x ∷ ds) a b e =
     let tails : y ∷ cs ≡ x ∷ ds = same_chunks limit (y ∷ cs) (x ∷ ds) a.1 b.1 f.1 in
     cc (heads, tails)
 
+-- a value has one list of pieces
 same_pieces : (k : Kind) (limit : ℕ) (value : List ℕ) (cs ds : List (List ℕ)) → ArePieces k limit value cs → ArePieces k limit value ds → cs ≡ ds
 same_pieces Bytes limit value cs ds p q = same_chunks limit cs ds p.1 q.1 (sym p.0 ∙ q.0)
 same_pieces Text limit value cs ds p q = one_full value limit cs ds p q
@@ -155,6 +162,7 @@ one_writing k limit value ms ns (in_one l) (in_pieces ds m q) = absurd (omega ar
 one_writing k limit value ms ns (in_pieces cs l p) (in_one m) = absurd (omega arith)
 one_writing k limit value ms ns (in_pieces cs l p) (in_pieces ds m q) = ap (open_marks k) (same_pieces k limit value cs ds p q)
 
+-- a value longer than the limit has pieces
 pieces_exist : (k : Kind) (limit : ℕ) (value : List ℕ) → least_limit k ≤ limit → IsSound k (value ∷ []) → limit < length value → (members : List (List ℕ)) × ArePieces k limit value members
 pieces_exist Bytes limit value l s m = byte_pieces value limit (omega arith) l
 pieces_exist Text limit value l s m = full_cut value limit s.0 l
@@ -169,24 +177,29 @@ some_writing k limit value l s =
 
 -- ---- it is an element
 
+-- the shortest title of a string of a length is a title
 title_of_length : (k : Kind) (n : ℕ) → n < 2 ^ 64 → IsTitle (shortest_title (kind_header k (Some n))) (kind_header k (Some n))
 title_of_length Bytes n p = IsTitle-shortest (h.Bytes (Some n)) p
 title_of_length Text n p = IsTitle-shortest (h.Text (Some n)) p
 
+-- the open of a kind is a title
 open_title : (k : Kind) → IsTitle (shortest_title (kind_header k None)) (kind_header k None)
 open_title Bytes = IsTitle-shortest (h.Bytes None) tt
 open_title Text = IsTitle-shortest (h.Text None) tt
 
+-- the spelling of pieces are strings with these bodies
 piece_strings : (k : Kind) (members : List (List ℕ)) → length (joined members) < 2 ^ 64 → AreStrings k (spelling (pieces k members)) members
 piece_strings k [] l = none
 piece_strings k (x ∷ xs) l =
     let n = length-append x (joined xs) in
     more (definite_str (title_of_length k (length x) (omega arith))) (piece_strings k xs (omega arith))
 
+-- members are texts
 text_members : (limit : ℕ) (members : List (List ℕ)) → AllByRecursion (IsMember limit) members → AllByRecursion IsCharacters members
 text_members limit [] all = tt
 text_members limit (x ∷ xs) all = (all.0.0, text_members limit xs all.1)
 
+-- pieces joined are the value, and they are sound
 sound_pieces : (k : Kind) (limit : ℕ) (value : List ℕ) (members : List (List ℕ)) → ArePieces k limit value members → (value ≡ joined members) × IsSound k members
 sound_pieces Bytes limit value members p = (p.0, tt)
 sound_pieces Text limit value members p = (p.cut.whole, text_members limit members p.cut.each)
