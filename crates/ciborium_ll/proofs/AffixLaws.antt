@@ -14,7 +14,13 @@ use Rattle.ciborium_ll.proofs.TitleLaws.{minor_below, title_refused}
 
 -- an affix is as long as its minor announces
 affix_length : (s : Size) (n : ℕ) → n < size_limit s → length (affix_of s n) ≡ affix_len (minor_of s n)
-affix_length Small n p = rw (ne_eqb n 24 (λ e. omega (arith, e)), ne_eqb n 25 (λ e. omega (arith, e)), ne_eqb n 26 (λ e. omega (arith, e)), ne_eqb n 27 (λ e. omega (arith, e))) refl
+affix_length Small n p =
+    rw (
+      ne_eqb n 24 (λ e. omega (arith, e)),
+      ne_eqb n 25 (λ e. omega (arith, e)),
+      ne_eqb n 26 (λ e. omega (arith, e)),
+      ne_eqb n 27 (λ e. omega (arith, e)),
+    ) refl
 affix_length One n p = refl
 affix_length Two n p = refl
 affix_length Four n p = refl
@@ -44,7 +50,8 @@ announced w x (alone m y o) = record { byte = first_byte m 31; affix = []; is = 
 -- ---- titles that are cut
 
 -- a list that goes on into an affix is cut
-cut_of_length : (s : List ℕ) (b : ℕ) (more : List ℕ) (a : ℕ) (v : List ℕ) → s ++ b ∷ more ≡ a ∷ v → length v ≡ affix_len (a % 32) → IsCutTitle s
+cut_of_length : (s : List ℕ) (b : ℕ) (more : List ℕ) (a : ℕ) (v : List ℕ) → s ++ b ∷ more ≡ a ∷ v → length v ≡ affix_len (a % 32)
+    → IsCutTitle s
 cut_of_length [] b more a v e l = tt
 cut_of_length (c ∷ s) b more a v e l =
     let heads : c ≡ a = cc in
@@ -63,7 +70,8 @@ longer_not_cut b v r l c = omega (arith, l, c, length-append v r)
 
 -- a list in front of which a title stands isn't cut
 pub title_not_cut : (t r : List ℕ) (x : Header) → IsTitle t x → IsCutTitle (t ++ r) → ⊥
-title_not_cut t r x p c = let a = announced t x p in longer_not_cut a.byte a.affix r a.long (subst (λ (z : List ℕ). IsCutTitle (z ++ r)) a.is c)
+title_not_cut t r x p c =
+    let a = announced t x p in longer_not_cut a.byte a.affix r a.long (subst (λ (z : List ℕ). IsCutTitle (z ++ r)) a.is c)
 
 -- ---- bytes that make a title
 
@@ -88,20 +96,34 @@ record Spelled (s : Size) (bytes : List ℕ) : Type 0 where
 -- one byte is a number
 spelled_one : (bytes : List ℕ) → AreBytes bytes → length bytes ≡ 1 → Spelled One bytes
 spelled_one [] f l = absurd (omega arith)
-spelled_one (b ∷ []) f l = let p : b < 256 = f 0 in let e : b % 256 ≡ b = omega arith in record { number = b; below = p; is = ap (λ (z : ℕ). z ∷ []) e }
+spelled_one (b ∷ []) f l =
+    let p : b < 256 = f 0 in let e : b % 256 ≡ b = omega arith in record { number = b; below = p; is = ap (λ (z : ℕ). z ∷ []) e }
 spelled_one (b ∷ c ∷ bytes) f l = absurd (omega arith)
 
 -- two bytes are a number
 spelled_two : (bytes : List ℕ) → AreBytes bytes → length bytes ≡ 2 → Spelled Two bytes
-spelled_two bytes f l = record { number = from_be_bytes w16 bytes; below = omega (arith, f 0, f 1); is = be_bytes_2 bytes (from_be_bytes w16 bytes) l f refl }
+spelled_two bytes f l =
+    record { number = from_be_bytes w16 bytes; below = omega (arith, f 0, f 1); is = be_bytes_2 bytes (from_be_bytes w16 bytes) l f refl }
 
 -- four bytes are a number
 spelled_four : (bytes : List ℕ) → AreBytes bytes → length bytes ≡ 4 → Spelled Four bytes
-spelled_four bytes f l = record { number = from_be_bytes w32 bytes; below = omega (arith, f 0, f 1, f 2, f 3); is = be_bytes_4 bytes (from_be_bytes w32 bytes) l f refl }
+spelled_four bytes f l =
+    record {
+      number = from_be_bytes w32 bytes;
+      below = omega (arith, f 0, f 1, f 2, f 3);
+      is = be_bytes_4 bytes
+          (from_be_bytes w32 bytes) l f refl;
+    }
 
 -- eight bytes are a number
 spelled_eight : (bytes : List ℕ) → AreBytes bytes → length bytes ≡ 8 → Spelled Eight bytes
-spelled_eight bytes f l = record { number = from_be_bytes w64 bytes; below = omega (arith, f 0, f 1, f 2, f 3, f 4, f 5, f 6, f 7); is = be_bytes_8 bytes (from_be_bytes w64 bytes) l f refl }
+spelled_eight bytes f l =
+    record {
+      number = from_be_bytes w64 bytes;
+      below = omega (arith, f 0, f 1, f 2, f 3, f 4, f 5, f 6, f 7);
+      is = be_bytes_8 bytes
+          (from_be_bytes w64 bytes) l f refl;
+    }
 
 -- the bytes behind this one make a title
 abbrev pub Titled : ℕ → List ℕ → Type 0
@@ -112,7 +134,8 @@ by_number : (b : ℕ) (bytes : List ℕ) (m : Major) (s : Size) (v : Spelled s b
 by_number b bytes m s v e = (
   numbered_header m s v.number,
   subst (λ (z : ℕ). IsTitle (z ∷ bytes) (numbered_header m s v.number)) e
-      (subst (λ (z : List ℕ). IsTitle (first_byte m (minor_of s v.number) ∷ z) (numbered_header m s v.number)) v.is (numbered m s v.number v.below)),
+      (subst (λ (z : List ℕ). IsTitle (first_byte m (minor_of s v.number) ∷ z) (numbered_header m s v.number)) v.is
+      (numbered m s v.number v.below)),
 )
 
 -- a list of length 0 is empty
@@ -137,27 +160,46 @@ open_or_refused b Other e c = inr (open_title b Other h.Break refl (omega arith)
 
 -- a minor below 24 or above 27 announces no bytes
 no_affix : (a : ℕ) → (a < 24) ⊎ (27 < a) → affix_len a ≡ 0
-no_affix a (inl p) = rw (ne_eqb a 24 (λ e. omega (arith, e)), ne_eqb a 25 (λ e. omega (arith, e)), ne_eqb a 26 (λ e. omega (arith, e)), ne_eqb a 27 (λ e. omega (arith, e))) refl
-no_affix a (inr p) = rw (ne_eqb a 24 (λ e. omega (arith, e)), ne_eqb a 25 (λ e. omega (arith, e)), ne_eqb a 26 (λ e. omega (arith, e)), ne_eqb a 27 (λ e. omega (arith, e))) refl
+no_affix a (inl p) =
+    rw (
+      ne_eqb a 24 (λ e. omega (arith, e)),
+      ne_eqb a 25 (λ e. omega (arith, e)),
+      ne_eqb a 26 (λ e. omega (arith, e)),
+      ne_eqb a 27 (λ e. omega (arith, e)),
+    ) refl
+no_affix a (inr p) =
+    rw (
+      ne_eqb a 24 (λ e. omega (arith, e)),
+      ne_eqb a 25 (λ e. omega (arith, e)),
+      ne_eqb a 26 (λ e. omega (arith, e)),
+      ne_eqb a 27 (λ e. omega (arith, e)),
+    ) refl
 
 -- a byte that isn't refused and as many behind it as it announces are a title
-pub title_or_refused : (b : ℕ) (bytes : List ℕ) → b < 256 → AreBytes bytes → length bytes ≡ affix_len (b % 32) → IsRefused b ⊎ Titled b bytes
+pub title_or_refused : (b : ℕ) (bytes : List ℕ) → b < 256 → AreBytes bytes → length bytes ≡ affix_len (b % 32)
+    → IsRefused b ⊎ Titled b bytes
 title_or_refused b bytes lt f l =
     let m = major_with (b / 32) (omega arith) in
     let mc = m.1 in
     elim (cases_lt (b % 32) 24) [
-      | inl p ↦ inr (by_number b bytes m.0 Small (record { number = b % 32; below = p; is = sym (no_bytes bytes (l ∙ no_affix (b % 32) (inl p))) }) (omega arith))
+      | inl p ↦ inr (by_number b bytes m.0 Small
+          (record { number = b % 32; below = p; is = sym (no_bytes bytes (l ∙ no_affix (b % 32) (inl p))) }) (omega arith))
       | inr p ↦ elim (cases_lt (b % 32) 25) [
-        | inl q ↦ (let e : b % 32 ≡ 24 = omega arith in let v = spelled_one bytes f (l ∙ ap affix_len e) in inr (by_number b bytes m.0 One v (omega arith)))
+        | inl q ↦ (let e : b % 32 ≡ 24 = omega arith in let v = spelled_one bytes f (l ∙ ap affix_len e) in inr
+            (by_number b bytes m.0 One v (omega arith)))
         | inr q ↦ elim (cases_lt (b % 32) 26) [
-          | inl r ↦ (let e : b % 32 ≡ 25 = omega arith in let v = spelled_two bytes f (l ∙ ap affix_len e) in inr (by_number b bytes m.0 Two v (omega arith)))
+          | inl r ↦ (let e : b % 32 ≡ 25 = omega arith in let v = spelled_two bytes f (l ∙ ap affix_len e) in inr
+              (by_number b bytes m.0 Two v (omega arith)))
           | inr r ↦ elim (cases_lt (b % 32) 27) [
-            | inl s ↦ (let e : b % 32 ≡ 26 = omega arith in let v = spelled_four bytes f (l ∙ ap affix_len e) in inr (by_number b bytes m.0 Four v (omega arith)))
+            | inl s ↦ (let e : b % 32 ≡ 26 = omega arith in let v = spelled_four bytes f (l ∙ ap affix_len e) in inr
+                (by_number b bytes m.0 Four v (omega arith)))
             | inr s ↦ elim (cases_lt (b % 32) 28) [
-              | inl k ↦ (let e : b % 32 ≡ 27 = omega arith in let v = spelled_eight bytes f (l ∙ ap affix_len e) in inr (by_number b bytes m.0 Eight v (omega arith)))
+              | inl k ↦ (let e : b % 32 ≡ 27 = omega arith in let v = spelled_eight bytes f (l ∙ ap affix_len e) in inr
+                  (by_number b bytes m.0 Eight v (omega arith)))
               | inr k ↦ elim (cases_lt (b % 32) 31) [
                 | inl n ↦ inl (inl (omega arith))
-                | inr n ↦ (let e = no_bytes bytes (l ∙ no_affix (b % 32) (inr (omega arith))) in subst (λ (z : List ℕ). IsRefused b ⊎ Titled b z) (sym e) (open_or_refused b m.0 (omega arith) mc))
+                | inr n ↦ (let e = no_bytes bytes (l ∙ no_affix (b % 32) (inr (omega arith))) in subst
+                    (λ (z : List ℕ). IsRefused b ⊎ Titled b z) (sym e) (open_or_refused b m.0 (omega arith) mc))
               ]
             ]
           ]
@@ -222,7 +264,8 @@ refused_begins_none b w x r p = refused_one b w (b ∷ w) x p refl r
 -- with each other byte a title begins
 pub refused_or_begins : (b : ℕ) → b < 256 → IsRefused b ⊎ ((w : List ℕ) × (x : Header) × IsTitle (b ∷ w) x)
 refused_or_begins b lt =
-    elim (title_or_refused b (replicate (affix_len (b % 32)) 0) lt (AreBytes-zeros (affix_len (b % 32))) (length-replicate {A = ℕ} (affix_len (b % 32)) 0)) [
+    elim (title_or_refused b (replicate (affix_len (b % 32)) 0) lt (AreBytes-zeros (affix_len (b % 32)))
+    (length-replicate {A = ℕ} (affix_len (b % 32)) 0)) [
       | inl r ↦ inl r
       | inr t ↦ inr (replicate (affix_len (b % 32)) 0, t.0, t.1)
     ]

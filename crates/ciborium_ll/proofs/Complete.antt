@@ -43,7 +43,8 @@ sight (b ∷ y) f =
 -- n elements are under way, and u is taken
 data Going (n : ℕ) : List ℕ → Type 0 where
   between : {u : List ℕ} (i left : ℕ) (ms : List Mark) → i + left ≡ n → IsRun i u ms → Going n u
-  within : {u v : List ℕ} (i left j : ℕ) (ms : List Mark) (bs : List (List ℕ)) (k : Kind) → i + suc left ≡ n → IsRun i u ms → IsInsideAt k (suc j) v bs → IsSound k bs → Going n (u ++ v)
+  within : {u v : List ℕ} (i left j : ℕ) (ms : List Mark) (bs : List (List ℕ)) (k : Kind) → i + suc left ≡ n → IsRun i u ms
+      → IsInsideAt k (suc j) v bs → IsSound k bs → Going n (u ++ v)
 
 -- what one step over a title comes to: a run, a fault, or fewer bytes ahead
 data Step (n : ℕ) (u s : List ℕ) : Type 0 where
@@ -117,12 +118,19 @@ data Bodied (k : Kind) (l : ℕ) (s : List ℕ) : Type 0 where
 
 -- a body of a text that is long enough is a text or none
 bodied_text : (l : ℕ) (s : List ℕ) → l ≤ length s → (v : Bool) → is_utf8 (take l s) ≡ v → Bodied Text l s
-bodied_text l s le true e = is_good (take l s) (drop l s) (sym (take-append-drop l s)) (omega (arith, length-take l s)) (from_std (take l s) (IsUtf8-from_is_utf8 (take l s) e), tt)
+bodied_text l s le true e =
+    is_good (take l s) (drop l s) (sym (take-append-drop l s)) (omega (arith, length-take l s))
+    (from_std (take l s) (IsUtf8-from_is_utf8 (take l s) e), tt)
 bodied_text l s le false e = is_bad refl le (λ u. (let w = is_utf8-from_IsUtf8 (take l s) (to_std (take l s) u) in absurd (cc (e, w))))
 
 -- each body is one of the three
 bodied : (k : Kind) (l : ℕ) (s : List ℕ) → Bodied k l s
-bodied Bytes l s = elim (cases_lt (length s) l) [ inl a ↦ too_few a | inr a ↦ is_good (take l s) (drop l s) (sym (take-append-drop l s)) (omega (arith, length-take l s)) tt ]
+bodied Bytes l s =
+    elim (cases_lt (length s) l) [
+      | inl a ↦ too_few a
+      | inr a ↦ is_good (take l s) (drop l s) (sym (take-append-drop l s))
+          (omega (arith, length-take l s)) tt
+    ]
 bodied Text l s = elim (cases_lt (length s) l) [ inl a ↦ too_few a | inr a ↦ bodied_text l s a (is_utf8 (take l s)) refl ]
 
 -- no bytes may be written of any body
@@ -131,7 +139,8 @@ part_nil Bytes = tt
 part_nil Text = IsCharacters-nil
 
 -- the bytes end within a body
-body_faulty : (n : ℕ) (v s : List ℕ) (ms : List Mark) (k : Kind) (l p : ℕ) → Reaches n v ms (Body k l p) → length s < l → HasFault n (v ++ s)
+body_faulty : (n : ℕ) (v s : List ℕ) (ms : List Mark) (k : Kind) (l p : ℕ) → Reaches n v ms (Body k l p) → length s < l
+    → HasFault n (v ++ s)
 body_faulty n v s ms k l p r lt = record {
   before = v;
   marks = ms;
@@ -146,7 +155,8 @@ body_faulty n v s ms k l p r lt = record {
 }
 
 -- a body of a text is no text
-text_faulty : (n : ℕ) (v s : List ℕ) (ms : List Mark) (k : Kind) (l p : ℕ) → Reaches n v ms (Body k l p) → k ≡ Text → l ≤ length s → (IsCharacters (take l s) → ⊥) → HasFault n (v ++ s)
+text_faulty : (n : ℕ) (v s : List ℕ) (ms : List Mark) (k : Kind) (l p : ℕ) → Reaches n v ms (Body k l p) → k ≡ Text → l ≤ length s
+    → (IsCharacters (take l s) → ⊥) → HasFault n (v ++ s)
 text_faulty n v s ms k l p r e le un = record {
   before = v;
   marks = ms;
@@ -174,21 +184,55 @@ less t rest s x p e = omega (arith, title_length t x p, ap length e, length-appe
 
 -- the step where an element is due
 due_step : (n i left : ℕ) (u s : List ℕ) (ms : List Mark) → i + suc left ≡ n → IsRun i u ms → Sight s → Step n u s
-due_step n i left u s ms e r (ends c) = fails (record { before = u; marks = ms; place = Due; ahead = s; answer = Short; written = spelling ms; consumed = min 1 (length s); reach = due (omega arith) r; is = refl; fault = CutTitle tt c })
-due_step n i left u s ms e r (refuses c) = fails (record { before = u; marks = ms; place = Due; ahead = s; answer = Syntax (length u); written = spelling ms; consumed = 1; reach = due (omega arith) r; is = refl; fault = NoTitle tt c })
+due_step n i left u s ms e r (ends c) =
+    fails (record {
+      before = u;
+      marks = ms;
+      place = Due;
+      ahead = s;
+      answer = Short;
+      written = spelling ms;
+      consumed = min 1
+          (length s);
+      reach = due (omega arith) r;
+      is = refl;
+      fault = CutTitle tt c;
+    })
+due_step n i left u s ms e r (refuses c) =
+    fails (record {
+      before = u;
+      marks = ms;
+      place = Due;
+      ahead = s;
+      answer = Syntax
+          (length u);
+      written = spelling ms;
+      consumed = 1;
+      reach = due (omega arith) r;
+      is = refl;
+      fault = NoTitle tt c;
+    })
 due_step n i left u s ms e r (titled t rest x p q) =
     elim (view_of x) [
-      | is_plain o ↦ goes (u ++ t) rest (between (suc i) left (ms ++ Plain x ∷ []) (omega arith) (add_element i u ms r t (Plain x ∷ []) (plain x p o))) (shift u t s rest q) (less t rest s x p q)
-      | is_open k o ↦ goes (u ++ t) rest (within i left 0 ms [] k e r (subst (λ (z : List ℕ). IsInsideAt k (suc zero) z []) (append-nil t) (one_open (subst (IsTitle t) o p) none)) (no_bodies k)) (shift u t s rest q) (less t rest s x p q)
+      | is_plain o ↦ goes (u ++ t) rest (between (suc i) left (ms ++ Plain x ∷ []) (omega arith)
+          (add_element i u ms r t (Plain x ∷ []) (plain x p o))) (shift u t s rest q) (less t rest s x p q)
+      | is_open k o ↦ goes (u ++ t) rest (within i left 0 ms [] k e r
+          (subst (λ (z : List ℕ). IsInsideAt k (suc zero) z []) (append-nil t) (one_open (subst (IsTitle t) o p) none)) (no_bodies k))
+          (shift u t s rest q) (less t rest s x p q)
       | is_definite k l o ↦
           (let pt = subst (IsTitle t) o p in
-          let reach : Reaches n (u ++ t) ms (Body k l (length (u ++ t) - title_len (kind_header k (Some l)))) = body k (due (omega arith) r) pt in
+          let reach : Reaches n (u ++ t) ms (Body k l (length (u ++ t) - title_len (kind_header k (Some l)))) = body k
+          (due (omega arith) r) pt in
           elim (bodied k l rest) [
             | too_few a ↦ fails (moved n (u ++ s) ((u ++ t) ++ rest) (shift u t s rest q) (body_faulty n (u ++ t) rest ms k l _ reach a))
-            | is_bad kt le un ↦ fails (moved n (u ++ s) ((u ++ t) ++ rest) (shift u t s rest q) (text_faulty n (u ++ t) rest ms k l _ reach kt le un))
+            | is_bad kt le un ↦ fails (moved n (u ++ s) ((u ++ t) ++ rest) (shift u t s rest q)
+                (text_faulty n (u ++ t) rest ms k l _ reach kt le un))
             | is_good b more is len ok ↦
-                goes (u ++ (t ++ b)) more (between (suc i) left (ms ++ Whole k b ∷ []) (omega arith) (add_element i u ms r (t ++ b) (Whole k b ∷ []) (definite k (subst (λ (z : ℕ). IsTitle t (kind_header k (Some z))) (sym len) pt) ok)))
-                (shift u (t ++ b) s more (q ∙ shift t b rest more is)) (omega (arith, less t rest s x p q, ap length is, length-append b more))
+                goes (u ++ (t ++ b)) more (between (suc i) left (ms ++ Whole k b ∷ []) (omega arith)
+                (add_element i u ms r (t ++ b) (Whole k b ∷ [])
+                (definite k (subst (λ (z : ℕ). IsTitle t (kind_header k (Some z))) (sym len) pt) ok)))
+                (shift u (t ++ b) s more (q ∙ shift t b rest more is))
+                (omega (arith, less t rest s x p q, ap length is, length-append b more))
           ])
     ]
   where
@@ -228,22 +272,67 @@ break_is t x (numbered m s n p) e = absurd (not_break_number m s n e)
 break_is t x (alone m y o) e = break_alone m y o e
 
 -- the step over a break
-break_step : (n i left j : ℕ) (u v s rest : List ℕ) (ms : List Mark) (bs : List (List ℕ)) (k : Kind) → i + suc left ≡ n → IsRun i u ms → IsInsideAt k (suc j) v bs → IsSound k bs → s ≡ 0xff ∷ rest → Step n (u ++ v) s
+break_step : (n i left j : ℕ) (u v s rest : List ℕ) (ms : List Mark) (bs : List (List ℕ)) (k : Kind) → i + suc left ≡ n → IsRun i u ms
+    → IsInsideAt k (suc j) v bs → IsSound k bs → s ≡ 0xff ∷ rest → Step n (u ++ v) s
 break_step n i left zero u v s rest ms bs k e r ia ok q =
-    goes (u ++ (v ++ 0xff ∷ [])) rest (between (suc i) left (ms ++ (Open k ∷ (pieces k bs ++ Close ∷ []))) (omega arith) (add_element i u ms r (v ++ 0xff ∷ []) (Open k ∷ (pieces k bs ++ Close ∷ [])) (close_last k v bs ia ok)))
+    goes (u ++ (v ++ 0xff ∷ [])) rest (between (suc i) left (ms ++ (Open k ∷ (pieces k bs ++ Close ∷ []))) (omega arith)
+    (add_element i u ms r (v ++ 0xff ∷ []) (Open k ∷ (pieces k bs ++ Close ∷ [])) (close_last k v bs ia ok)))
     (shift (u ++ v) (0xff ∷ []) s rest q ∙ ap (λ (z : List ℕ). z ++ rest) (append_assoc u v (0xff ∷ []))) (omega (arith, ap length q))
 break_step n i left (suc j) u v s rest ms bs k e r ia ok q =
     goes (u ++ (v ++ 0xff ∷ [])) rest (within i left j ms bs k e r (close_inner k j v bs ia) ok)
     (shift (u ++ v) (0xff ∷ []) s rest q ∙ ap (λ (z : List ℕ). z ++ rest) (append_assoc u v (0xff ∷ []))) (omega (arith, ap length q))
 
 -- the step within a string
-in_step : (n i left j : ℕ) (u v s : List ℕ) (ms : List Mark) (bs : List (List ℕ)) (k : Kind) → i + suc left ≡ n → IsRun i u ms → IsInsideAt k (suc j) v bs → IsSound k bs → Sight s → Step n (u ++ v) s
-in_step n i left j u v s ms bs k e r ia ok (ends c) = fails (record { before = u ++ v; marks = ms ++ Open k ∷ pieces k bs; place = In k; ahead = s; answer = Short; written = spelling (ms ++ Open k ∷ pieces k bs); consumed = min 1 (length s); reach = inside (omega arith) r (counted k (suc j) v bs ia) ok; is = refl; fault = CutTitle tt c })
-in_step n i left j u v s ms bs k e r ia ok (refuses c) = fails (record { before = u ++ v; marks = ms ++ Open k ∷ pieces k bs; place = In k; ahead = s; answer = Syntax (length (u ++ v)); written = spelling (ms ++ Open k ∷ pieces k bs); consumed = 1; reach = inside (omega arith) r (counted k (suc j) v bs ia) ok; is = refl; fault = NoTitle tt c })
+in_step : (n i left j : ℕ) (u v s : List ℕ) (ms : List Mark) (bs : List (List ℕ)) (k : Kind) → i + suc left ≡ n → IsRun i u ms
+    → IsInsideAt k (suc j) v bs → IsSound k bs → Sight s → Step n (u ++ v) s
+in_step n i left j u v s ms bs k e r ia ok (ends c) =
+    fails (record {
+      before = u ++ v;
+      marks = ms ++ Open k ∷ pieces k bs;
+      place = In k;
+      ahead = s;
+      answer = Short;
+      written = spelling
+          (ms ++ Open k ∷ pieces k bs);
+      consumed =
+          min 1 (length s);
+      reach = inside (omega arith) r (counted k (suc j) v bs ia) ok;
+      is = refl;
+      fault = CutTitle tt c;
+    })
+in_step n i left j u v s ms bs k e r ia ok (refuses c) =
+    fails (record {
+      before = u ++ v;
+      marks = ms ++ Open k ∷ pieces k bs;
+      place = In k;
+      ahead = s;
+      answer = Syntax
+          (length (u ++ v));
+      written =
+          spelling (ms ++ Open k ∷ pieces k bs);
+      consumed =
+          1;
+      reach = inside (omega arith) r (counted k (suc j) v bs ia) ok;
+      is = refl;
+      fault = NoTitle tt c;
+    })
 in_step n i left j u v s ms bs k e r ia ok (titled t rest x p q) =
     let reach : Reaches n (u ++ v) (ms ++ Open k ∷ pieces k bs) (In k) = inside (omega arith) r (counted k (suc j) v bs ia) ok in
     elim (view_in k x) [
-      | in_foreign f ↦ fails (record { before = u ++ v; marks = ms ++ Open k ∷ pieces k bs; place = In k; ahead = s; answer = Syntax (length (u ++ v)); written = spelling (ms ++ Open k ∷ pieces k bs); consumed = length t; reach = reach; is = refl; fault = OtherTitle x rest p f q })
+      | in_foreign f ↦ fails (record {
+        before = u ++ v;
+        marks = ms ++ Open k ∷ pieces k bs;
+        place = In k;
+        ahead = s;
+        answer = Syntax
+            (length (u ++ v));
+        written =
+            spelling (ms ++ Open k ∷ pieces k bs);
+        consumed = length t;
+        reach = reach;
+        is = refl;
+        fault = OtherTitle x rest p f q;
+      })
       | in_break o ↦ break_step n i left j u v s rest ms bs k e r ia ok (q ∙ ap (λ (z : List ℕ). z ++ rest) (break_is t x p o))
       | in_open o ↦ goes (u ++ (v ++ t)) rest (within i left (suc j) ms bs k e r (add_open k (suc j) v t bs ia (subst (IsTitle t) o p)) ok)
           (shift (u ++ v) t s rest q ∙ ap (λ (z : List ℕ). z ++ rest) (append_assoc u v t)) (less t rest s x p q)
@@ -251,17 +340,31 @@ in_step n i left j u v s ms bs k e r ia ok (titled t rest x p q) =
           (let pt = subst (IsTitle t) o p in
           let deep : Reaches n ((u ++ v) ++ t) (ms ++ Open k ∷ pieces k bs) (Body k l (length (u ++ v))) = body_inside reach pt in
           elim (bodied k l rest) [
-            | too_few a ↦ fails (moved n ((u ++ v) ++ s) (((u ++ v) ++ t) ++ rest) (shift (u ++ v) t s rest q) (body_faulty n ((u ++ v) ++ t) rest (ms ++ Open k ∷ pieces k bs) k l (length (u ++ v)) deep a))
-            | is_bad kt le un ↦ fails (moved n ((u ++ v) ++ s) (((u ++ v) ++ t) ++ rest) (shift (u ++ v) t s rest q) (text_faulty n ((u ++ v) ++ t) rest (ms ++ Open k ∷ pieces k bs) k l (length (u ++ v)) deep kt le un))
+            | too_few a ↦ fails (moved n ((u ++ v) ++ s) (((u ++ v) ++ t) ++ rest) (shift (u ++ v) t s rest q)
+                (body_faulty n ((u ++ v) ++ t) rest (ms ++ Open k ∷ pieces k bs) k l (length (u ++ v)) deep a))
+            | is_bad kt le un ↦ fails (moved n ((u ++ v) ++ s) (((u ++ v) ++ t) ++ rest) (shift (u ++ v) t s rest q)
+                (text_faulty n ((u ++ v) ++ t) rest (ms ++ Open k ∷ pieces k bs) k l (length (u ++ v)) deep kt le un))
             | is_good b more is len good ↦
-                goes (u ++ (v ++ (t ++ b))) more (within i left j ms (bs ++ b ∷ []) k e r (add_string k (suc j) v (t ++ b) bs (b ∷ []) ia (definite_str (subst (λ (z : ℕ). IsTitle t (kind_header k (Some z))) (sym len) pt))) (IsSound-append k bs (b ∷ []) ok good))
-                (shift (u ++ v) (t ++ b) s more (q ∙ shift t b rest more is) ∙ ap (λ (z : List ℕ). z ++ more) (append_assoc u v (t ++ b))) (omega (arith, less t rest s x p q, ap length is, length-append b more))
+                goes (u ++ (v ++ (t ++ b))) more (within i left j ms (bs ++ b ∷ []) k e r
+                (add_string k (suc j) v (t ++ b) bs (b ∷ []) ia
+                (definite_str (subst (λ (z : ℕ). IsTitle t (kind_header k (Some z))) (sym len) pt)))
+                (IsSound-append k bs (b ∷ []) ok good))
+                (shift (u ++ v) (t ++ b) s more (q ∙ shift t b rest more is) ∙ ap (λ (z : List ℕ). z ++ more) (append_assoc u v (t ++ b)))
+                (omega (arith, less t rest s x p q, ap length is, length-append b more))
           ])
     ]
 
 -- the step anywhere
 step : (n : ℕ) (u : List ℕ) → Going n u → (s : List ℕ) → AreBytes s → Step n u s
-step n u (between i zero ms e r) s f = whole (record { elements = u; marks = ms; rest = s; run = subst (λ (z : ℕ). IsRun z u ms) (let d : i ≡ n = omega arith in d) r; is = refl })
+step n u (between i zero ms e r) s f =
+    whole (record {
+      elements = u;
+      marks = ms;
+      rest = s;
+      run = subst (λ (z : ℕ). IsRun z u ms)
+          (let d : i ≡ n = omega arith in d) r;
+      is = refl;
+    })
 step n u (between i (suc left) ms e r) s f = due_step n i left u s ms e r (sight s f)
 step n u (within {u = a} {v} i left j ms bs k e r ia ok) s f = in_step n i left j a v s ms bs k e r ia ok (sight s f)
 
@@ -278,7 +381,8 @@ all_steps (suc fuel) n u s l g f =
     elim (step n u g s (IsBytes-rest u s f)) [
       | whole r ↦ inl r
       | fails r ↦ inr r
-      | goes u' s' g' e m ↦ subst (λ (z : List ℕ). RunInFront n z ⊎ HasFault n z) (sym e) (all_steps fuel n u' s' (omega arith) g' (subst AreBytes e f))
+      | goes u' s' g' e m ↦ subst (λ (z : List ℕ). RunInFront n z ⊎ HasFault n z) (sym e)
+          (all_steps fuel n u' s' (omega arith) g' (subst AreBytes e f))
     ]
 
 -- in any bytes a run of n elements stands in front, or a fault stops it

@@ -36,13 +36,16 @@ starts : (t : List ℕ) → IsCharacters t → 0 < length t → Starts t
 starts t u l = starts_at t u.characters u.each u.whole l
 
 -- what goes past the end of a full member is too long
-passes : (m : ℕ) (c q rest : List ℕ) (cs : List (List ℕ)) → AllByRecursion (IsMember m) cs → AllByRecursion IsNonempty cs → AreFilled m (c ∷ cs) → IsCharacters q → 0 < length q → joined cs ≡ q ++ rest → m < length c + length q
+passes : (m : ℕ) (c q rest : List ℕ) (cs : List (List ℕ)) → AllByRecursion (IsMember m) cs → AllByRecursion IsNonempty cs
+    → AreFilled m (c ∷ cs) → IsCharacters q → 0 < length q → joined cs ≡ q ++ rest → m < length c + length q
 passes m c q rest [] each full filled u l e = absurd (omega (arith, ap length e, length-append q rest))
 passes m c q rest (d ∷ cs) each full filled u l e =
     let a = starts d each.0.0 full.0 in
     let b = starts q u l in
     let same = one_character a.char b.char (a.rest ++ joined cs) (b.rest ++ rest) a.ok b.ok
-    (sym (append_assoc a.char a.rest (joined cs)) ∙ (ap (λ (z : List ℕ). z ++ joined cs) (sym a.is) ∙ (e ∙ (ap (λ (z : List ℕ). z ++ rest) b.is ∙ append_assoc b.char b.rest rest)))) in
+    (sym (append_assoc a.char a.rest (joined cs))
+    ∙ (ap (λ (z : List ℕ). z ++ joined cs) (sym a.is) ∙ (e ∙ (ap (λ (z : List ℕ). z ++ rest) b.is ∙ append_assoc b.char b.rest rest))))
+    in
     let room = filled.0 a.char a.rest a.ok a.is in
     omega (arith, ap length same, ap length b.is, length-append b.char b.rest)
 
@@ -52,9 +55,11 @@ AreFilled-rest m c [] f = tt
 AreFilled-rest m c (d ∷ cs) f = f.1
 
 -- ds has the text that cs has, behind some text r
-fewest_behind : (m : ℕ) (cs ds : List (List ℕ)) (r : List ℕ) → IsCharacters r → AllByRecursion (IsMember m) cs → AllByRecursion IsNonempty cs → AreFilled m cs → AllByRecursion (IsMember m) ds → r ++ joined cs ≡ joined ds → length cs ≤ length ds
+fewest_behind : (m : ℕ) (cs ds : List (List ℕ)) (r : List ℕ) → IsCharacters r → AllByRecursion (IsMember m) cs
+    → AllByRecursion IsNonempty cs → AreFilled m cs → AllByRecursion (IsMember m) ds → r ++ joined cs ≡ joined ds → length cs ≤ length ds
 fewest_behind m [] ds r u each full filled each' e = omega arith
-fewest_behind m (c ∷ cs) [] r u each full filled each' e = let l = full.0 in absurd (omega (arith, ap length e, length-append r (c ++ joined cs), length-append c (joined cs)))
+fewest_behind m (c ∷ cs) [] r u each full filled each' e =
+    let l = full.0 in absurd (omega (arith, ap length e, length-append r (c ++ joined cs), length-append c (joined cs)))
 fewest_behind m (c ∷ cs) (d ∷ ds) r u each full filled each' e =
     let whole : (r ++ c) ++ joined cs ≡ d ++ joined ds = append_assoc r c (joined cs) ∙ e in
     let rc = IsCharacters-append r c u each.0.0 in
@@ -80,7 +85,8 @@ fewest t m cs ds f c = fewest_behind m cs ds [] IsCharacters-nil f.cut.each f.no
 -- ---- there is one
 
 -- members that are filled are the only ones of their text
-same_members : (m : ℕ) (cs ds : List (List ℕ)) → AllByRecursion (IsMember m) cs → AllByRecursion IsNonempty cs → AreFilled m cs → AllByRecursion (IsMember m) ds → AllByRecursion IsNonempty ds → AreFilled m ds → joined cs ≡ joined ds → cs ≡ ds
+same_members : (m : ℕ) (cs ds : List (List ℕ)) → AllByRecursion (IsMember m) cs → AllByRecursion IsNonempty cs → AreFilled m cs
+    → AllByRecursion (IsMember m) ds → AllByRecursion IsNonempty ds → AreFilled m ds → joined cs ≡ joined ds → cs ≡ ds
 same_members m [] [] a b f a' b' f' e = refl
 same_members m [] (d ∷ ds) a b f a' b' f' e = let l = b'.0 in absurd (omega (arith, ap length e, length-append d (joined ds)))
 same_members m (c ∷ cs) [] a b f a' b' f' e = let l = b.0 in absurd (omega (arith, ap length e, length-append c (joined cs)))
@@ -92,7 +98,8 @@ same_members m (c ∷ cs) (d ∷ ds) a b f a' b' f' e =
     let tails : cs ≡ ds = same_members m cs ds a.1 b.1 (AreFilled-rest m c cs f) a'.1 b'.1 (AreFilled-rest m d ds f') h.1 in
     cc (heads, tails)
   where
-    not_longer : (m : ℕ) (c : List ℕ) (cs : List (List ℕ)) (d y : List ℕ) → IsCharacters c → AllByRecursion (IsMember m) cs → AllByRecursion IsNonempty cs → AreFilled m (c ∷ cs) → IsMember m d → c ++ joined cs ≡ d ++ y → length d ≤ length c
+    not_longer : (m : ℕ) (c : List ℕ) (cs : List (List ℕ)) (d y : List ℕ) → IsCharacters c → AllByRecursion (IsMember m) cs
+        → AllByRecursion IsNonempty cs → AreFilled m (c ∷ cs) → IsMember m d → c ++ joined cs ≡ d ++ y → length d ≤ length c
     not_longer m c cs d y u a b f md e =
         elim (cases_lt (length c) (length d)) [
           | inl l ↦

@@ -15,11 +15,14 @@ pub record Follows (x : List ℕ) : Type 0 where
   pub is : x ≡ word ++ rest
 
 -- of two runs in front of one list the longer goes on with an element
-pub follows : (i : ℕ) (u : List ℕ) (ms : List Mark) → IsRun i u ms → (n : ℕ) (w : List ℕ) (ns : List Mark) → IsRun n w ns → i < n → (x v : List ℕ) → u ++ x ≡ w ++ v → Follows x
+pub follows : (i : ℕ) (u : List ℕ) (ms : List Mark) → IsRun i u ms → (n : ℕ) (w : List ℕ) (ns : List Mark) → IsRun n w ns → i < n
+    → (x v : List ℕ) → u ++ x ≡ w ++ v → Follows x
 follows i u ms done n w ns done l x v e = absurd (omega arith)
-follows i u ms done n w ns (next {first = a} {rest = b} {marks = os} p r) l x v e = record { word = a; marks = os; ok = p; rest = b ++ v; is = e ∙ append_assoc a b v }
+follows i u ms done n w ns (next {first = a} {rest = b} {marks = os} p r) l x v e =
+    record { word = a; marks = os; ok = p; rest = b ++ v; is = e ∙ append_assoc a b v }
 follows i u ms (next p r) n w ns done l x v e = absurd (omega arith)
-follows i u ms (next {count = j} {first = a} {rest = b} {marks = os} {others = ps} p r) n w ns (next {count = m} {first = a'} {rest = b'} {marks = os'} {others = ps'} p' r') l x v e =
+follows i u ms (next {count = j} {first = a} {rest = b} {marks = os} {others = ps} p r) n w ns
+    (next {count = m} {first = a'} {rest = b'} {marks = os'} {others = ps'} p' r') l x v e =
     let o = one_element a a' (b ++ x) (b' ++ v) os os' p p' (sym (append_assoc a b x) ∙ (e ∙ append_assoc a' b' v)) in
     follows j b ps r m b' ps' r' (omega arith) x v o.2
 
@@ -30,11 +33,13 @@ data Stuck : Place → List ℕ → Type 0 where
   bad_body : {s : List ℕ} {k : Kind} {l p : ℕ} → IsBad k l s → Stuck (Body k l p) s
 
 -- no run of n elements stands in front where what is due cannot come
-reach_stuck : (n : ℕ) (u : List ℕ) (ms : List Mark) (at : Place) → Reaches n u ms at → (s : List ℕ) → Stuck at s → (w v : List ℕ) (ns : List Mark) → IsRun n w ns → u ++ s ≡ w ++ v → ⊥
+reach_stuck : (n : ℕ) (u : List ℕ) (ms : List Mark) (at : Place) → Reaches n u ms at → (s : List ℕ) → Stuck at s
+    → (w v : List ℕ) (ns : List Mark) → IsRun n w ns → u ++ s ≡ w ++ v → ⊥
 reach_stuck n u ms at (due {before = i} l r) s (stop f) w v ns r' e =
     let z = follows i u ms r n w ns r' l s v e in
     element_stops z.word z.marks z.ok z.rest s f z.is
-reach_stuck n u ms at (inside {before = i} {bytes = a} {opens = b} {marks = os} {bodies = bs} {kind = k} l r q ok) s (halt k' f) w v ns r' e =
+reach_stuck n u ms at (inside {before = i} {bytes = a} {opens = b} {marks = os} {bodies = bs} {kind = k} l r q ok) s
+    (halt k' f) w v ns r' e =
     let z = follows i a os r n w ns r' l (b ++ s) v (sym (append_assoc a b s) ∙ e) in
     element_inside z.word z.marks z.ok k b s z.rest (opens_of k b bs q) f z.is
 reach_stuck n u ms at (body {bytes = a} {title = t} {len = l} k r p) s (bad_body f) w v ns r' e =
@@ -48,7 +53,8 @@ too_short Bytes l s f = f
 too_short Text l s f = inl f
 
 -- at a fault what is due cannot come
-stuck : (u : List ℕ) (ms : List Mark) (at : Place) (s : List ℕ) (a : Answer) (out : List ℕ) (c : ℕ) → FirstFault u ms at s a out c → Stuck at s
+stuck : (u : List ℕ) (ms : List Mark) (at : Place) (s : List ℕ) (a : Answer) (out : List ℕ) (c : ℕ) → FirstFault u ms at s a out c
+    → Stuck at s
 stuck u ms at s a out c (CutTitle {place = Due} d f) = stop (stop_cut f)
 stuck u ms at s a out c (CutTitle {place = In k} d f) = halt k (halt_cut f)
 stuck u ms at s a out c (CutTitle {place = Body k l p} d f) = absurd d

@@ -23,13 +23,15 @@ record Ahead (k : Kind) (x : List ℕ) : Type 0 where
   is : x ≡ word ++ rest
 
 -- of strings in front of one list either both are the same, or a string comes behind one
-compare : (k : Kind) (w : List ℕ) (bs : List (List ℕ)) → AreStrings k w bs → (w' x x' : List ℕ) (bs' : List (List ℕ)) → AreStrings k w' bs' → IsSound k bs → IsSound k bs' → w ++ x ≡ w' ++ x' → SameString w w' bs bs' x x' ⊎ (Ahead k x ⊎ Ahead k x')
+compare : (k : Kind) (w : List ℕ) (bs : List (List ℕ)) → AreStrings k w bs → (w' x x' : List ℕ) (bs' : List (List ℕ)) → AreStrings k w' bs'
+    → IsSound k bs → IsSound k bs' → w ++ x ≡ w' ++ x' → SameString w w' bs bs' x x' ⊎ (Ahead k x ⊎ Ahead k x')
 compare k w bs none w' x x' bs' none ok ok' e = inl (refl, refl, e)
 compare k w bs none w' x x' bs' (more {first = a} {rest = b} {bodies = cs} {others = ds} p q) ok ok' e =
     inr (inl (record { word = a; bodies = cs; ok = p; sound = IsSound-left k cs ds ok'; rest = b ++ x'; is = e ∙ append_assoc a b x' }))
 compare k w bs (more {first = a} {rest = b} {bodies = cs} {others = ds} p q) w' x x' bs' none ok ok' e =
     inr (inr (record { word = a; bodies = cs; ok = p; sound = IsSound-left k cs ds ok; rest = b ++ x; is = sym e ∙ append_assoc a b x }))
-compare k w bs (more {first = a} {rest = b} {bodies = cs} {others = ds} p q) w' x x' bs' (more {first = a'} {rest = b'} {bodies = cs'} {others = ds'} p' q') ok ok' e =
+compare k w bs (more {first = a} {rest = b} {bodies = cs} {others = ds} p q) w' x x' bs'
+    (more {first = a'} {rest = b'} {bodies = cs'} {others = ds'} p' q') ok ok' e =
     let o = one_string k a a' (b ++ x) (b' ++ x') cs cs' p p' (sym (append_assoc a b x) ∙ (e ∙ append_assoc a' b' x')) in
     let aa : a ≡ a' = o.0 in
     let ccs : cs ≡ cs' = o.1 in
@@ -44,14 +46,17 @@ ahead_halts k y f a = string_halts k a.word a.bodies a.ok a.sound a.rest y f a.i
 
 -- no string is ahead where opens halt
 ahead_opens : (k : Kind) (u y : List ℕ) {os : List (List ℕ)} → Opens k u os → Halt k y → Ahead k (u ++ y) → ⊥
-ahead_opens k u y c f a = opens_string k u c y (λ t w v bs q r ok e. opens_halt k u c y f t w v bs q r ok e) a.word a.bodies a.ok a.sound a.rest a.is
+ahead_opens k u y c f a =
+    opens_string k u c y (λ t w v bs q r ok e. opens_halt k u c y f t w v bs q r ok e) a.word a.bodies a.ok a.sound a.rest a.is
 
 -- no opens are ahead where none comes
 open_ahead : (k : Kind) (u y z : List ℕ) {os : List (List ℕ)} → Opens k u os → Halt k y → y ≡ u ++ z → ⊥
-open_ahead k u y z c f e = let t = opens_title k u c in open_halts k t.0 (t.1 ++ z) y f t.2 (e ∙ (ap (λ (x : List ℕ). x ++ z) t.3 ∙ append_assoc t.0 t.1 z))
+open_ahead k u y z c f e =
+    let t = opens_title k u c in open_halts k t.0 (t.1 ++ z) y f t.2 (e ∙ (ap (λ (x : List ℕ). x ++ z) t.3 ∙ append_assoc t.0 t.1 z))
 
 -- two lists of opens that halt are the same
-opens_same : (k : Kind) (u : List ℕ) (bs : List (List ℕ)) → Opens k u bs → (y : List ℕ) → Halt k y → IsSound k bs → (u' y' : List ℕ) (bs' : List (List ℕ)) → Opens k u' bs' → Halt k y' → IsSound k bs' → u ++ y ≡ u' ++ y' → SameString u u' bs bs' y y'
+opens_same : (k : Kind) (u : List ℕ) (bs : List (List ℕ)) → Opens k u bs → (y : List ℕ) → Halt k y → IsSound k bs
+    → (u' y' : List ℕ) (bs' : List (List ℕ)) → Opens k u' bs' → Halt k y' → IsSound k bs' → u ++ y ≡ u' ++ y' → SameString u u' bs bs' y y'
 opens_same k u bs (last {t} {w} p s) y f ok u' y' bs' (last {t = t'} {w = w'} p' s') f' ok' e =
     let o = fronts k t t' (w ++ y) (w' ++ y') None None p p' (sym (append_assoc t w y) ∙ (e ∙ append_assoc t' w' y')) in
     let tt' : t ≡ t' = o.0 in
@@ -60,21 +65,26 @@ opens_same k u bs (last {t} {w} p s) y f ok u' y' bs' (last {t = t'} {w = w'} p'
       | inr r ↦ elim r [ inl a ↦ absurd (ahead_halts k y f a) | inr a ↦ absurd (ahead_halts k y' f' a) ]
     ]
 opens_same k u bs (last {t} {w} p s) y f ok u' y' bs' (link {t = t'} {w = w'} {u = x'} {bs = cs'} {cs = ds'} p' s' d') f' ok' e =
-    let o = fronts k t t' (w ++ y) (w' ++ (x' ++ y')) None None p p' (sym (append_assoc t w y) ∙ (e ∙ (append_assoc (t' ++ w') x' y' ∙ append_assoc t' w' (x' ++ y')))) in
+    let o = fronts k t t' (w ++ y) (w' ++ (x' ++ y')) None None p p'
+    (sym (append_assoc t w y) ∙ (e ∙ (append_assoc (t' ++ w') x' y' ∙ append_assoc t' w' (x' ++ y')))) in
     let c' = d' in
     elim (compare k w bs s w' y (x' ++ y') cs' s' ok (IsSound-left k cs' ds' ok') o.2) [
       | inl r ↦ absurd (open_ahead k x' y y' c' f r.2)
       | inr r ↦ elim r [ inl a ↦ absurd (ahead_halts k y f a) | inr a ↦ absurd (ahead_opens k x' y' c' f' a) ]
     ]
 opens_same k u bs (link {t} {w} {u = x} {bs = cs} {cs = ds} p s d) y f ok u' y' bs' (last {t = t'} {w = w'} p' s') f' ok' e =
-    let o = fronts k t t' (w ++ (x ++ y)) (w' ++ y') None None p p' (sym (append_assoc (t ++ w) x y ∙ append_assoc t w (x ++ y)) ∙ (e ∙ append_assoc t' w' y')) in
+    let o = fronts k t t' (w ++ (x ++ y)) (w' ++ y') None None p p'
+    (sym (append_assoc (t ++ w) x y ∙ append_assoc t w (x ++ y)) ∙ (e ∙ append_assoc t' w' y')) in
     let c = d in
     elim (compare k w cs s w' (x ++ y) y' bs' s' (IsSound-left k cs ds ok) ok' o.2) [
       | inl r ↦ absurd (open_ahead k x y' y c f' (sym r.2))
       | inr r ↦ elim r [ inl a ↦ absurd (ahead_opens k x y c f a) | inr a ↦ absurd (ahead_halts k y' f' a) ]
     ]
-opens_same k u bs (link {t} {w} {u = x} {bs = cs} {cs = ds} p s d) y f ok u' y' bs' (link {t = t'} {w = w'} {u = x'} {bs = cs'} {cs = ds'} p' s' d') f' ok' e =
-    let o = fronts k t t' (w ++ (x ++ y)) (w' ++ (x' ++ y')) None None p p' (sym (append_assoc (t ++ w) x y ∙ append_assoc t w (x ++ y)) ∙ (e ∙ (append_assoc (t' ++ w') x' y' ∙ append_assoc t' w' (x' ++ y')))) in
+opens_same k u bs (link {t} {w} {u = x} {bs = cs} {cs = ds} p s d) y f ok u' y' bs'
+    (link {t = t'} {w = w'} {u = x'} {bs = cs'} {cs = ds'} p' s' d') f' ok' e =
+    let o = fronts k t t' (w ++ (x ++ y)) (w' ++ (x' ++ y')) None None p p'
+    (sym (append_assoc (t ++ w) x y ∙ append_assoc t w (x ++ y))
+    ∙ (e ∙ (append_assoc (t' ++ w') x' y' ∙ append_assoc t' w' (x' ++ y')))) in
     let tt' : t ≡ t' = o.0 in
     elim (compare k w cs s w' (x ++ y) (x' ++ y') cs' s' (IsSound-left k cs ds ok) (IsSound-left k cs' ds' ok') o.2) [
       | inl r ↦
@@ -89,7 +99,8 @@ abbrev NoElement : List ℕ → Type 0
 NoElement y = (w : List ℕ) (ms : List Mark) → IsElement w ms → (v : List ℕ) → y ≡ w ++ v → ⊥
 
 -- two runs in front of places where no element comes are the same
-same_run : (i i' : ℕ) (u u' y y' : List ℕ) (ms ms' : List Mark) → IsRun i u ms → IsRun i' u' ms' → NoElement y → NoElement y' → u ++ y ≡ u' ++ y' → (u ≡ u') × (ms ≡ ms') × (y ≡ y')
+same_run : (i i' : ℕ) (u u' y y' : List ℕ) (ms ms' : List Mark) → IsRun i u ms → IsRun i' u' ms' → NoElement y → NoElement y'
+    → u ++ y ≡ u' ++ y' → (u ≡ u') × (ms ≡ ms') × (y ≡ y')
 same_run i i' u u' y y' ms ms' r r' f f' e =
     elim (cases_order i i') [
       | inl q ↦ one_run i' u ms (subst (λ (n : ℕ). IsRun n u ms) q r) u' y y' ms' r' e
@@ -102,7 +113,8 @@ same_run i i' u u' y y' ms ms' r r' f f' e =
 -- a place where a title is due, and can't come
 data Base (n : ℕ) : List ℕ → List Mark → Place → List ℕ → Type 0 where
   at_due : {i : ℕ} {u y : List ℕ} {ms : List Mark} → i < n → IsRun i u ms → Stop y → Base n u ms Due y
-  at_in : {i : ℕ} {u v y : List ℕ} {ms : List Mark} {bs : List (List ℕ)} {k : Kind} → i < n → IsRun i u ms → IsInside k v bs → IsSound k bs → Halt k y → Base n (u ++ v) (ms ++ Open k ∷ pieces k bs) (In k) y
+  at_in : {i : ℕ} {u v y : List ℕ} {ms : List Mark} {bs : List (List ℕ)} {k : Kind} → i < n → IsRun i u ms → IsInside k v bs → IsSound k bs
+      → Halt k y → Base n (u ++ v) (ms ++ Open k ∷ pieces k bs) (In k) y
 
 -- the same bytes before, marks, place and bytes ahead
 abbrev pub SameBase : List ℕ → List ℕ → List Mark → List Mark → Place → Place → List ℕ → List ℕ → Type 0
@@ -124,7 +136,9 @@ open_stops k u y z c f e =
     open_halts k t.0 (t.1 ++ z) y (halt_of y f k (same_kind k t.0 (t.1 ++ z) y None t.2 g)) t.2 g
 
 -- the places where a title is due and cannot come are one
-one_base : (n : ℕ) (u : List ℕ) (ms : List Mark) (at : Place) (y : List ℕ) → Base n u ms at y → (u' : List ℕ) (ms' : List Mark) (at' : Place) (y' : List ℕ) → Base n u' ms' at' y' → u ++ y ≡ u' ++ y' → SameBase u u' ms ms' at at' y y'
+one_base : (n : ℕ) (u : List ℕ) (ms : List Mark) (at : Place) (y : List ℕ) → Base n u ms at y
+    → (u' : List ℕ) (ms' : List Mark) (at' : Place) (y' : List ℕ) → Base n u' ms' at' y' → u ++ y ≡ u' ++ y'
+    → SameBase u u' ms ms' at at' y y'
 one_base n u ms at y (at_due {i} l r f) u' ms' at' y' (at_due {i = i'} l' r' f') e =
     let o = same_run i i' u u' y y' ms ms' r r' (no_at_stop y f) (no_at_stop y' f') e in
     (o.0, o.1, refl, o.2)
@@ -136,15 +150,19 @@ one_base n u ms at y (at_in {i} {u = a} {v = b} {ms = os} {bs} {k} l r q ok f) u
     let c = opens_of k b bs q in
     let o = same_run i i' a u' (b ++ y) y' os ms' r r' (no_at_halt k b y c f) (no_at_stop y' f') (sym (append_assoc a b y) ∙ e) in
     absurd (open_stops k b y' y c f' (sym o.2))
-one_base n u ms at y (at_in {i} {u = a} {v = b} {ms = os} {bs} {k} l r q ok f) u' ms' at' y' (at_in {i = i'} {u = a'} {v = b'} {ms = os'} {bs = bs'} {k = k'} l' r' q' ok' f') e =
+one_base n u ms at y (at_in {i} {u = a} {v = b} {ms = os} {bs} {k} l r q ok f) u' ms' at' y'
+    (at_in {i = i'} {u = a'} {v = b'} {ms = os'} {bs = bs'} {k = k'} l' r' q' ok' f') e =
     let c = opens_of k b bs q in
     let c' = opens_of k' b' bs' q' in
-    let o = same_run i i' a a' (b ++ y) (b' ++ y') os os' r r' (no_at_halt k b y c f) (no_at_halt k' b' y' c' f') (sym (append_assoc a b y) ∙ (e ∙ append_assoc a' b' y')) in
+    let o = same_run i i' a a' (b ++ y) (b' ++ y') os os' r r' (no_at_halt k b y c f) (no_at_halt k' b' y' c' f')
+    (sym (append_assoc a b y) ∙ (e ∙ append_assoc a' b' y')) in
     let z = opens_title k b c in
     let z' = opens_title k' b' c' in
     let kk = (string_fronts k k' z.0 z'.0 (z.1 ++ y) (z'.1 ++ y') None None z.2 z'.2
-    (sym (append_assoc z.0 z.1 y) ∙ (ap (λ (x : List ℕ). x ++ y) (sym z.3) ∙ (o.2 ∙ (ap (λ (x : List ℕ). x ++ y') z'.3 ∙ append_assoc z'.0 z'.1 y'))))).0 in
-    let g = opens_same k b bs (opens_of k b bs q) y f ok b' y' bs' (subst (λ (j : Kind). Opens j b' bs') (sym kk) (opens_of k' b' bs' q')) (subst (λ (j : Kind). Halt j y') (sym kk) f') (subst (λ (j : Kind). IsSound j bs') (sym kk) ok') o.2 in
+    (sym (append_assoc z.0 z.1 y) ∙ (ap (λ (x : List ℕ). x ++ y) (sym z.3)
+    ∙ (o.2 ∙ (ap (λ (x : List ℕ). x ++ y') z'.3 ∙ append_assoc z'.0 z'.1 y'))))).0 in
+    let g = opens_same k b bs (opens_of k b bs q) y f ok b' y' bs' (subst (λ (j : Kind). Opens j b' bs') (sym kk) (opens_of k' b' bs' q'))
+    (subst (λ (j : Kind). Halt j y') (sym kk) f') (subst (λ (j : Kind). IsSound j bs') (sym kk) ok') o.2 in
     let aa : a ≡ a' = o.0 in
     let oo : os ≡ os' = o.1 in
     let bb : b ≡ b' = g.0 in
@@ -165,7 +183,8 @@ IsOf (In j) k = j ≡ k
 IsOf (Body j l p) k = ⊥
 
 -- no title of a string of the kind stands where none can come
-flat_deep : (at : Place) (y : List ℕ) → Flat at y → (t s : List ℕ) (k : Kind) (l : ℕ) → IsOf at k → IsTitle t (kind_header k (Some l)) → y ≡ t ++ s → ⊥
+flat_deep : (at : Place) (y : List ℕ) → Flat at y → (t s : List ℕ) (k : Kind) (l : ℕ) → IsOf at k → IsTitle t (kind_header k (Some l))
+    → y ≡ t ++ s → ⊥
 flat_deep at y (flat_cut c) t s k l o p e = title_not_cut t s (kind_header k (Some l)) p (subst IsCutTitle e c)
 flat_deep at y (flat_refused c) t s k l o p e = title_refused t s (kind_header k (Some l)) p (subst BeginsRefused e c)
 flat_deep at y (flat_foreign {k = j} {t = t'} r x q f z) t s k l o p e =
@@ -179,7 +198,8 @@ place_of (In j) k l u t = Body k l (length u)
 place_of (Body j m p) k l u t = Due
 
 -- the body at fault is bad
-bad_of : (k : Kind) (l p : ℕ) (s u : List ℕ) (ms : List Mark) (a : Answer) (out : List ℕ) (c : ℕ) → FirstFault u ms (Body k l p) s a out c → IsBad k l s
+bad_of : (k : Kind) (l p : ℕ) (s u : List ℕ) (ms : List Mark) (a : Answer) (out : List ℕ) (c : ℕ) → FirstFault u ms (Body k l p) s a out c
+    → IsBad k l s
 bad_of k l p s u ms a out c (CutTitle d f) = absurd d
 bad_of k l p s u ms a out c (NoTitle d f) = absurd d
 bad_of k l p s u ms a out c (DamagedText b r g f e z m) = inr f
@@ -189,20 +209,27 @@ bad_of k l p s u ms a out c (CutDamagedText b r f g e z m) = inl f
 -- a fault by the place where its title was due
 data Seen (n : ℕ) : List ℕ → List Mark → Place → List ℕ → Type 0 where
   seen_flat : {u s : List ℕ} {ms : List Mark} {at : Place} → Base n u ms at s → Flat at s → Seen n u ms at s
-  seen_deep : {u t s : List ℕ} {ms : List Mark} {at : Place} (k : Kind) (l : ℕ) → Base n u ms at (t ++ s) → IsOf at k → IsTitle t (kind_header k (Some l)) → Seen n (u ++ t) ms (place_of at k l u t) s
+  seen_deep : {u t s : List ℕ} {ms : List Mark} {at : Place} (k : Kind) (l : ℕ) → Base n u ms at (t ++ s) → IsOf at k
+      → IsTitle t (kind_header k (Some l)) → Seen n (u ++ t) ms (place_of at k l u t) s
 
 -- each fault is at a place where a title was due
-seen : (n : ℕ) (u : List ℕ) (ms : List Mark) (at : Place) → Reaches n u ms at → (s : List ℕ) (a : Answer) (out : List ℕ) (c : ℕ) → FirstFault u ms at s a out c → Seen n u ms at s
+seen : (n : ℕ) (u : List ℕ) (ms : List Mark) (at : Place) → Reaches n u ms at → (s : List ℕ) (a : Answer) (out : List ℕ) (c : ℕ)
+    → FirstFault u ms at s a out c → Seen n u ms at s
 seen n u ms at (due l r) s a out c (CutTitle d f) = seen_flat (at_due l r (stop_cut f)) (flat_cut f)
 seen n u ms at (due l r) s a out c (NoTitle d f) = seen_flat (at_due l r (stop_refused f)) (flat_refused f)
 seen n u ms at (inside {kind = k} l r q ok) s a out c (CutTitle d f) = seen_flat (at_in l r q ok (halt_cut f)) (flat_cut f)
 seen n u ms at (inside {kind = k} l r q ok) s a out c (NoTitle d f) = seen_flat (at_in l r q ok (halt_refused f)) (flat_refused f)
-seen n u ms at (inside {kind = k} l r q ok) s a out c (OtherTitle x z p f e) = seen_flat (at_in l r q ok (halt_misplaced z x p f e)) (flat_foreign z x p f e)
-seen n u ms at (body {bytes = b} {title = t} {len = m} k (due l r) p) s a out c f = seen_deep k m (at_due l r (stop_bad s k m p (bad_of k m _ s _ _ _ _ _ f) refl)) tt p
-seen n u ms at (body_inside {title = t} {len = m} (inside {kind = k} l r q ok) p) s a out c f = seen_deep k m (at_in l r q ok (halt_bad s m p (bad_of k m _ s _ _ _ _ _ f) refl)) refl p
+seen n u ms at (inside {kind = k} l r q ok) s a out c (OtherTitle x z p f e) =
+    seen_flat (at_in l r q ok (halt_misplaced z x p f e)) (flat_foreign z x p f e)
+seen n u ms at (body {bytes = b} {title = t} {len = m} k (due l r) p) s a out c f =
+    seen_deep k m (at_due l r (stop_bad s k m p (bad_of k m _ s _ _ _ _ _ f) refl)) tt p
+seen n u ms at (body_inside {title = t} {len = m} (inside {kind = k} l r q ok) p) s a out c f =
+    seen_deep k m (at_in l r q ok (halt_bad s m p (bad_of k m _ s _ _ _ _ _ f) refl)) refl p
 
 -- faults in one list are at one place
-one_seen : (n : ℕ) (u : List ℕ) (ms : List Mark) (at : Place) (s : List ℕ) → Seen n u ms at s → (u' : List ℕ) (ms' : List Mark) (at' : Place) (s' : List ℕ) → Seen n u' ms' at' s' → u ++ s ≡ u' ++ s' → SameBase u u' ms ms' at at' s s'
+one_seen : (n : ℕ) (u : List ℕ) (ms : List Mark) (at : Place) (s : List ℕ) → Seen n u ms at s
+    → (u' : List ℕ) (ms' : List Mark) (at' : Place) (s' : List ℕ) → Seen n u' ms' at' s' → u ++ s ≡ u' ++ s'
+    → SameBase u u' ms ms' at at' s s'
 one_seen n u ms at s (seen_flat b f) u' ms' at' s' (seen_flat b' f') e = one_base n u ms at s b u' ms' at' s' b' e
 one_seen n u ms at s (seen_flat b f) u' ms' at' s' (seen_deep {u = v'} {t = t'} {at = p'} k' l' b' o' q') e =
     let z = one_base n u ms at s b v' ms' p' (t' ++ s') b' (e ∙ append_assoc v' t' s') in
@@ -222,6 +249,7 @@ one_seen n u ms at s (seen_deep {u = v} {t} {at = p} k l b o q) u' ms' at' s' (s
 
 -- all faults behind parts of n elements are at one place
 pub one_fault : (n : ℕ) (x u s u' s' : List ℕ) (ms ms' : List Mark) (at at' : Place) (a a' : Answer) (out out' : List ℕ) (c c' : ℕ)
-    → Reaches n u ms at → x ≡ u ++ s → FirstFault u ms at s a out c → Reaches n u' ms' at' → x ≡ u' ++ s' → FirstFault u' ms' at' s' a' out' c' → SameBase u u' ms ms' at at' s s'
+    → Reaches n u ms at → x ≡ u ++ s → FirstFault u ms at s a out c → Reaches n u' ms' at' → x ≡ u' ++ s'
+    → FirstFault u' ms' at' s' a' out' c' → SameBase u u' ms ms' at at' s s'
 one_fault n x u s u' s' ms ms' at at' a a' out out' c c' r e f r' e' f' =
     one_seen n u ms at s (seen n u ms at r s a out c f) u' ms' at' s' (seen n u' ms' at' r' s' a' out' c' f') (sym e ∙ e')

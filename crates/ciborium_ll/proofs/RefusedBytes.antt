@@ -11,8 +11,85 @@ of_all P (y ∷ xs) x (suc k) all l e = of_all P xs x k all.1 (omega arith) e
 
 -- each of the list is refused
 all_refused : AllByRecursion IsRefused refused_bytes
-all_refused =
-    (inl (omega arith, omega arith), (inl (omega arith, omega arith), (inl (omega arith, omega arith), (inr (refl, inl refl), (inl (omega arith, omega arith), (inl (omega arith, omega arith), (inl (omega arith, omega arith), (inr (refl, inr (inl refl)), (inl (omega arith, omega arith), (inl (omega arith, omega arith), (inl (omega arith, omega arith), (inl (omega arith, omega arith), (inl (omega arith, omega arith), (inl (omega arith, omega arith), (inl (omega arith, omega arith), (inl (omega arith, omega arith), (inl (omega arith, omega arith), (inl (omega arith, omega arith), (inl (omega arith, omega arith), (inl (omega arith, omega arith), (inl (omega arith, omega arith), (inl (omega arith, omega arith), (inl (omega arith, omega arith), (inr (refl, inr (inr refl)), (inl (omega arith, omega arith), (inl (omega arith, omega arith), (inl (omega arith, omega arith), tt)))))))))))))))))))))))))))
+all_refused = (
+  inl (omega arith, omega arith),
+  (
+    inl (omega arith, omega arith),
+    (
+      inl (omega arith, omega arith),
+      (
+        inr (refl, inl refl),
+        (
+          inl (omega arith, omega arith),
+          (
+            inl (omega arith, omega arith),
+            (
+              inl (omega arith, omega arith),
+              (
+                inr (refl, inr (inl refl)),
+                (
+                  inl (omega arith, omega arith),
+                  (
+                    inl (omega arith, omega arith),
+                    (
+                      inl (omega arith, omega arith),
+                      (
+                        inl (omega arith, omega arith),
+                        (
+                          inl (omega arith, omega arith),
+                          (
+                            inl (omega arith, omega arith),
+                            (
+                              inl (omega arith, omega arith),
+                              (
+                                inl (omega arith, omega arith),
+                                (
+                                  inl (omega arith, omega arith),
+                                  (
+                                    inl (omega arith, omega arith),
+                                    (
+                                      inl (omega arith, omega arith),
+                                      (
+                                        inl (omega arith, omega arith),
+                                        (
+                                          inl (omega arith, omega arith),
+                                          (
+                                            inl (omega arith, omega arith),
+                                            (
+                                              inl (omega arith, omega arith),
+                                              (
+                                                inr (refl, inr (inr refl)),
+                                                (
+                                                  inl (omega arith, omega arith),
+                                                  (
+                                                    inl (omega arith, omega arith),
+                                                    (inl (omega arith, omega arith), tt),
+                                                  ),
+                                                ),
+                                              ),
+                                            ),
+                                          ),
+                                        ),
+                                      ),
+                                    ),
+                                  ),
+                                ),
+                              ),
+                            ),
+                          ),
+                        ),
+                      ),
+                    ),
+                  ),
+                ),
+              ),
+            ),
+          ),
+        ),
+      ),
+    ),
+  ),
+)
 
 -- each reserved minor, and 31 where it is never open, stands in the list
 at_minor : (major rest : ℕ) → major < 8 → rest < 4 → (rest ≡ 3 → IsNeverOpen major) → Contains refused_bytes (32 * major + (28 + rest))

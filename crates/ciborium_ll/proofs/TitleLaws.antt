@@ -68,7 +68,8 @@ same_first m m' a b p q e =
 -- ---- numbers
 
 -- an affix of a size is of one number, and none begins another
-same_affix : (s : Size) (n n' : ℕ) (v v' : List ℕ) → n < size_limit s → n' < size_limit s → minor_of s n ≡ minor_of s n' → affix_of s n ++ v ≡ affix_of s n' ++ v' → (n ≡ n') × (v ≡ v')
+same_affix : (s : Size) (n n' : ℕ) (v v' : List ℕ) → n < size_limit s → n' < size_limit s → minor_of s n ≡ minor_of s n'
+    → affix_of s n ++ v ≡ affix_of s n' ++ v' → (n ≡ n') × (v ≡ v')
 same_affix Small n n' v v' p p' m e = (m, e)
 same_affix One n n' v v' p p' m e =
     let g = same_front (to_be_bytes w8 n) (to_be_bytes w8 n') v v' refl e in
@@ -89,7 +90,8 @@ abbrev pub Same : List ℕ → List ℕ → Header → Header → List ℕ → L
 Same w w' h h' v v' = (w ≡ w') × (h ≡ h') × (v ≡ v')
 
 -- titles of numbers begin no other one
-same_number : (m m' : Major) (s s' : Size) (n n' : ℕ) (v v' : List ℕ) → n < size_limit s → n' < size_limit s' → numbered_title m s n ++ v ≡ numbered_title m' s' n' ++ v'
+same_number : (m m' : Major) (s s' : Size) (n n' : ℕ) (v v' : List ℕ) → n < size_limit s → n' < size_limit s'
+    → numbered_title m s n ++ v ≡ numbered_title m' s' n' ++ v'
     → Same (numbered_title m s n) (numbered_title m' s' n') (numbered_header m s n) (numbered_header m' s' n') v v'
 same_number m m' s s' n n' v v' p p' e =
     let b : minor_of s n < 28 = minor_below s n p in
@@ -98,7 +100,8 @@ same_number m m' s s' n n' v v' p p' e =
     let tails : affix_of s n ++ v ≡ affix_of s' n' ++ v' = ap (drop 1) e in
     let g = same_first m m' (minor_of s n) (minor_of s' n') (omega arith) (omega arith) heads in
     let ss : s ≡ s' = sym (size_back s n p) ∙ (ap size_of g.1 ∙ size_back s' n' p') in
-    let P : Size → Type 0 = λ z. n' < size_limit z → minor_of s n ≡ minor_of z n' → affix_of s n ++ v ≡ affix_of z n' ++ v' → (n ≡ n') × (v ≡ v') in
+    let P : Size → Type 0 = λ z. n' < size_limit z → minor_of s n ≡ minor_of z n' → affix_of s n ++ v ≡ affix_of z n' ++ v'
+    → (n ≡ n') × (v ≡ v') in
     let r = (subst P ss (λ q mm t. same_affix s n n' v v' p q mm t)) p' g.1 tails in
     let mm : m ≡ m' = g.0 in
     let nn : n ≡ n' = r.0 in
@@ -115,7 +118,8 @@ not_alone m m' s n v v' p e =
     omega arith
 
 -- titles of the minor 31 are of one header
-same_alone : (m m' : Major) (h h' : Header) (v v' : List ℕ) → open_header m ≡ Some h → open_header m' ≡ Some h' → first_byte m 31 ∷ v ≡ first_byte m' 31 ∷ v' → Same (first_byte m 31 ∷ []) (first_byte m' 31 ∷ []) h h' v v'
+same_alone : (m m' : Major) (h h' : Header) (v v' : List ℕ) → open_header m ≡ Some h → open_header m' ≡ Some h'
+    → first_byte m 31 ∷ v ≡ first_byte m' 31 ∷ v' → Same (first_byte m 31 ∷ []) (first_byte m' 31 ∷ []) h h' v v'
 same_alone m m' h h' v v' p p' e =
     let heads : first_byte m 31 ≡ first_byte m' 31 = cc in
     let g = same_first m m' 31 31 (omega arith) (omega arith) heads in
@@ -150,7 +154,8 @@ least_fits n p =
     ]
 
 -- the least size gives a title of a number
-pub least_is_title : (m : Major) (n : ℕ) (header : Header) → n < 2 ^ 64 → ((s : Size) → n < size_limit s → numbered_header m s n ≡ header) → IsTitle (shortest_numbered m n) header
+pub least_is_title : (m : Major) (n : ℕ) (header : Header) → n < 2 ^ 64 → ((s : Size) → n < size_limit s → numbered_header m s n ≡ header)
+    → IsTitle (shortest_numbered m n) header
 least_is_title m n header p f =
     let q = least_fits n p in
     subst (λ (x : Header). IsTitle (shortest_numbered m n) x) (f (least_size n) q) (numbered m (least_size n) n q)
@@ -241,7 +246,8 @@ least_shortest m s n p =
     ]
 
 -- a title of a number is the shortest one of its header, or longer
-number_shortest : (m : Major) (s : Size) (n : ℕ) → n < size_limit s → LeastOr (numbered_title m s n) (shortest_title (numbered_header m s n))
+number_shortest : (m : Major) (s : Size) (n : ℕ) → n < size_limit s
+    → LeastOr (numbered_title m s n) (shortest_title (numbered_header m s n))
 number_shortest Unsigned s n p = least_shortest Unsigned s n p
 number_shortest Negative s n p = least_shortest Negative s n p
 number_shortest ByteString s n p = least_shortest ByteString s n p

@@ -67,12 +67,15 @@ four a b c d = (a - 240) * 262144 + ((b - 128) * 4096 + ((c - 128) * 64 + (d - 1
 -- three bytes are what is written for their number
 written_3 : (a b c : ℕ) → IsFrom 0xe0 0xef a → IsTail b → IsTail c → 2048 ≤ three a b c → encode (three a b c) ≡ a ∷ b ∷ c ∷ []
 written_3 a b c p q r l =
-    encode_3 (three a b c) l (omega arith) ∙ same_3 (224 + three a b c / 4096) (next (three a b c / 64)) (next (three a b c)) a b c (omega arith) (omega arith) (omega arith)
+    encode_3 (three a b c) l (omega arith) ∙ same_3 (224 + three a b c / 4096) (next (three a b c / 64)) (next (three a b c)) a b c
+    (omega arith) (omega arith) (omega arith)
 
 -- four bytes are what is written for their number
-written_4 : (a b c d : ℕ) → IsFrom 0xf0 0xf4 a → IsTail b → IsTail c → IsTail d → 65536 ≤ four a b c d → encode (four a b c d) ≡ a ∷ b ∷ c ∷ d ∷ []
+written_4 : (a b c d : ℕ) → IsFrom 0xf0 0xf4 a → IsTail b → IsTail c → IsTail d → 65536 ≤ four a b c d
+    → encode (four a b c d) ≡ a ∷ b ∷ c ∷ d ∷ []
 written_4 a b c d p q r s l =
-    encode_4 (four a b c d) l ∙ same_4 (240 + four a b c d / 262144) (next (four a b c d / 4096)) (next (four a b c d / 64)) (next (four a b c d)) a b c d (omega arith) (omega arith) (omega arith) (omega arith)
+    encode_4 (four a b c d) l ∙ same_4 (240 + four a b c d / 262144) (next (four a b c d / 4096)) (next (four a b c d / 64))
+    (next (four a b c d)) a b c d (omega arith) (omega arith) (omega arith) (omega arith)
 
 -- each row is written for a character
 pub written : (bytes : List ℕ) → IsCharacter bytes → IsWritten bytes
@@ -82,13 +85,55 @@ written bytes (row2 {a} {b} p q) = record {
   ok = low_scalar (two a b) (omega arith);
   is = encode_2 (two a b) (omega arith) (omega arith) ∙ same_2 (192 + two a b / 64) (next (two a b)) a b (omega arith) (omega arith);
 }
-written bytes (row3 {a} {b} {c} p q r) = record { char = three a b c; ok = low_scalar (three a b c) (omega arith); is = written_3 a b c (omega arith, omega arith) (omega arith, omega arith) r (omega arith) }
-written bytes (row4 {a} {b} {c} p q r) = record { char = three a b c; ok = low_scalar (three a b c) (omega arith); is = written_3 a b c (omega arith, omega arith) q r (omega arith) }
-written bytes (row5 {a} {b} {c} p q r) = record { char = three a b c; ok = low_scalar (three a b c) (omega arith); is = written_3 a b c (omega arith, omega arith) (omega arith, omega arith) r (omega arith) }
-written bytes (row6 {a} {b} {c} p q r) = record { char = three a b c; ok = high_scalar (three a b c) (omega arith) (omega arith); is = written_3 a b c (omega arith, omega arith) q r (omega arith) }
-written bytes (row7 {a} {b} {c} {d} p q r s) = record { char = four a b c d; ok = high_scalar (four a b c d) (omega arith) (omega arith); is = written_4 a b c d (omega arith, omega arith) (omega arith, omega arith) r s (omega arith) }
-written bytes (row8 {a} {b} {c} {d} p q r s) = record { char = four a b c d; ok = high_scalar (four a b c d) (omega arith) (omega arith); is = written_4 a b c d (omega arith, omega arith) q r s (omega arith) }
-written bytes (row9 {a} {b} {c} {d} p q r s) = record { char = four a b c d; ok = high_scalar (four a b c d) (omega arith) (omega arith); is = written_4 a b c d (omega arith, omega arith) (omega arith, omega arith) r s (omega arith) }
+written bytes (row3 {a} {b} {c} p q r) =
+    record {
+      char = three a b c;
+      ok = low_scalar (three a b c) (omega arith);
+      is = written_3 a b c (omega arith, omega arith)
+          (omega arith, omega arith) r (omega arith);
+    }
+written bytes (row4 {a} {b} {c} p q r) =
+    record {
+      char = three a b c;
+      ok = low_scalar (three a b c) (omega arith);
+      is = written_3 a b c (omega arith, omega arith) q r
+          (omega arith);
+    }
+written bytes (row5 {a} {b} {c} p q r) =
+    record {
+      char = three a b c;
+      ok = low_scalar (three a b c) (omega arith);
+      is = written_3 a b c (omega arith, omega arith)
+          (omega arith, omega arith) r (omega arith);
+    }
+written bytes (row6 {a} {b} {c} p q r) =
+    record {
+      char = three a b c;
+      ok = high_scalar (three a b c) (omega arith) (omega arith);
+      is = written_3 a b c
+          (omega arith, omega arith) q r (omega arith);
+    }
+written bytes (row7 {a} {b} {c} {d} p q r s) =
+    record {
+      char = four a b c d;
+      ok = high_scalar (four a b c d) (omega arith) (omega arith);
+      is = written_4 a b c d
+          (omega arith, omega arith) (omega arith, omega arith) r s (omega arith);
+    }
+written bytes (row8 {a} {b} {c} {d} p q r s) =
+    record {
+      char = four a b c d;
+      ok = high_scalar (four a b c d) (omega arith) (omega arith);
+      is = written_4 a b c d
+          (omega arith, omega arith) q r s (omega arith);
+    }
+written bytes (row9 {a} {b} {c} {d} p q r s) =
+    record {
+      char = four a b c d;
+      ok = high_scalar (four a b c d) (omega arith) (omega arith);
+      is = written_4 a b c d
+          (omega arith, omega arith) (omega arith, omega arith) r s (omega arith);
+    }
 
 -- ---- what is written for each character is a row
 

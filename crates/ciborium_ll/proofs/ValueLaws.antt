@@ -31,14 +31,16 @@ record Filling (limit : ℕ) (member : List ℕ) (characters : List (List ℕ)) 
   filled : AreFilled limit (first ∷ others)
 
 -- the next member begins with a character that has no room in this one
-no_room : (limit : ℕ) (member character rest following : List ℕ) → IsCharacter character → following ≡ character ++ rest → limit < length member + length character
+no_room : (limit : ℕ) (member character rest following : List ℕ) → IsCharacter character → following ≡ character ++ rest
+    → limit < length member + length character
     → IsFilled limit member following
 no_room limit member character rest following p e l x r q f =
     let same = one_character x character r rest q p (sym f ∙ e) in
     omega (arith, ap length same)
 
 -- one member so far and the characters behind it give a full cut
-filling : (limit : ℕ) → 4 ≤ limit → (member : List ℕ) → IsMember limit member → IsNonempty member → (cs : List (List ℕ)) → AllByRecursion IsCharacter cs → Filling limit member cs
+filling : (limit : ℕ) → 4 ≤ limit → (member : List ℕ) → IsMember limit member → IsNonempty member → (cs : List (List ℕ))
+    → AllByRecursion IsCharacter cs → Filling limit member cs
 filling limit four member ok some [] all = record {
   first = member;
   others = [];
@@ -65,7 +67,9 @@ filling limit four member ok some (c ∷ cs) all =
             filled = (no_room limit member c f.more f.first all.0 f.begins l, f.filled);
           })
       | inr l ↦
-          (let f = filling limit four (member ++ c) (IsCharacters-append member c ok.0 (character_is_text c all.0), omega (arith, length-append member c)) (omega (arith, length-append member c)) cs all.1 in
+          (let f = filling limit four (member ++ c)
+          (IsCharacters-append member c ok.0 (character_is_text c all.0), omega (arith, length-append member c))
+          (omega (arith, length-append member c)) cs all.1 in
           record {
             first = f.first;
             others = f.others;
@@ -79,7 +83,8 @@ filling limit four member ok some (c ∷ cs) all =
     ]
 
 -- characters joined have a full cut
-full_cut_of : (limit : ℕ) → 4 ≤ limit → (cs : List (List ℕ)) → AllByRecursion IsCharacter cs → (members : List (List ℕ)) × IsFullCut (joined cs) limit members
+full_cut_of : (limit : ℕ) → 4 ≤ limit → (cs : List (List ℕ)) → AllByRecursion IsCharacter cs
+    → (members : List (List ℕ)) × IsFullCut (joined cs) limit members
 full_cut_of limit four [] all = ([], record { cut = record { whole = refl; each = tt }; nonempty = tt; filled = tt })
 full_cut_of limit four (c ∷ cs) all =
     let n = character_length c all.0 in
@@ -95,12 +100,14 @@ full_cut text limit u four =
 -- ---- bytes
 
 -- a piece as long as the limit, in front of pieces
-chunk_first : (limit : ℕ) (piece : List ℕ) (members : List (List ℕ)) → length piece ≡ limit → AreChunks limit members → AreChunks limit (piece ∷ members)
+chunk_first : (limit : ℕ) (piece : List ℕ) (members : List (List ℕ)) → length piece ≡ limit → AreChunks limit members
+    → AreChunks limit (piece ∷ members)
 chunk_first limit piece [] l c = absurd c
 chunk_first limit piece (following ∷ others) l c = (l, c)
 
 -- bytes have pieces, by their length
-chunks_of : (fuel limit : ℕ) (value : List ℕ) → length value < fuel → 0 < length value → 0 < limit → (members : List (List ℕ)) × AreBytePieces limit value members
+chunks_of : (fuel limit : ℕ) (value : List ℕ) → length value < fuel → 0 < length value → 0 < limit
+    → (members : List (List ℕ)) × AreBytePieces limit value members
 chunks_of zero limit value l some one = absurd (omega arith)
 chunks_of (suc fuel) limit value l some one =
     elim (cases_lt limit (length value)) [
@@ -118,13 +125,15 @@ chunks_of (suc fuel) limit value l some one =
     ]
 
 -- bytes have pieces for each limit of at least one
-pub byte_pieces : (value : List ℕ) (limit : ℕ) → 0 < length value → 0 < limit → (members : List (List ℕ)) × AreBytePieces limit value members
+pub byte_pieces : (value : List ℕ) (limit : ℕ) → 0 < length value → 0 < limit
+    → (members : List (List ℕ)) × AreBytePieces limit value members
 byte_pieces value limit some one = chunks_of (suc (length value)) limit value (omega arith) some one
 
 -- ---- one list of pieces
 
 -- pieces joined aren't empty
-chunk_some : (limit : ℕ) (piece : List ℕ) (members : List (List ℕ)) → AreChunks limit (piece ∷ members) → 0 < length (joined (piece ∷ members))
+chunk_some : (limit : ℕ) (piece : List ℕ) (members : List (List ℕ)) → AreChunks limit (piece ∷ members)
+    → 0 < length (joined (piece ∷ members))
 chunk_some limit piece [] c = let l = c.0 in omega (arith, length-append piece [])
 chunk_some limit piece (x ∷ xs) c = let l = chunk_some limit x xs c.1 in omega (arith, length-append piece (joined (x ∷ xs)))
 
@@ -149,26 +158,30 @@ same_chunks limit (c ∷ y ∷ cs) (d ∷ x ∷ ds) a b e =
     cc (heads, tails)
 
 -- a value has one list of pieces
-same_pieces : (k : Kind) (limit : ℕ) (value : List ℕ) (cs ds : List (List ℕ)) → ArePieces k limit value cs → ArePieces k limit value ds → cs ≡ ds
+same_pieces : (k : Kind) (limit : ℕ) (value : List ℕ) (cs ds : List (List ℕ)) → ArePieces k limit value cs → ArePieces k limit value ds
+    → cs ≡ ds
 same_pieces Bytes limit value cs ds p q = same_chunks limit cs ds p.1 q.1 (sym p.0 ∙ q.0)
 same_pieces Text limit value cs ds p q = one_full value limit cs ds p q
 
 -- ---- what is written
 
 -- a value is written in one way
-pub one_writing : (k : Kind) (limit : ℕ) (value : List ℕ) (ms ns : List Mark) → IsWritten k limit value ms → IsWritten k limit value ns → ms ≡ ns
+pub one_writing : (k : Kind) (limit : ℕ) (value : List ℕ) (ms ns : List Mark) → IsWritten k limit value ms → IsWritten k limit value ns
+    → ms ≡ ns
 one_writing k limit value ms ns (in_one l) (in_one m) = refl
 one_writing k limit value ms ns (in_one l) (in_pieces ds m q) = absurd (omega arith)
 one_writing k limit value ms ns (in_pieces cs l p) (in_one m) = absurd (omega arith)
 one_writing k limit value ms ns (in_pieces cs l p) (in_pieces ds m q) = ap (open_marks k) (same_pieces k limit value cs ds p q)
 
 -- a value longer than the limit has pieces
-pieces_exist : (k : Kind) (limit : ℕ) (value : List ℕ) → least_limit k ≤ limit → IsSound k (value ∷ []) → limit < length value → (members : List (List ℕ)) × ArePieces k limit value members
+pieces_exist : (k : Kind) (limit : ℕ) (value : List ℕ) → least_limit k ≤ limit → IsSound k (value ∷ []) → limit < length value
+    → (members : List (List ℕ)) × ArePieces k limit value members
 pieces_exist Bytes limit value l s m = byte_pieces value limit (omega arith) l
 pieces_exist Text limit value l s m = full_cut value limit s.0 l
 
 -- each value is written
-pub some_writing : (k : Kind) (limit : ℕ) (value : List ℕ) → least_limit k ≤ limit → IsSound k (value ∷ []) → (ms : List Mark) × IsWritten k limit value ms
+pub some_writing : (k : Kind) (limit : ℕ) (value : List ℕ) → least_limit k ≤ limit → IsSound k (value ∷ [])
+    → (ms : List Mark) × IsWritten k limit value ms
 some_writing k limit value l s =
     elim (cases_lt limit (length value)) [
       | inl longer ↦ (let p = pieces_exist k limit value l s longer in (open_marks k p.0, in_pieces p.0 longer p.1))
@@ -200,16 +213,20 @@ text_members limit [] all = tt
 text_members limit (x ∷ xs) all = (all.0.0, text_members limit xs all.1)
 
 -- pieces joined are the value, and they are sound
-sound_pieces : (k : Kind) (limit : ℕ) (value : List ℕ) (members : List (List ℕ)) → ArePieces k limit value members → (value ≡ joined members) × IsSound k members
+sound_pieces : (k : Kind) (limit : ℕ) (value : List ℕ) (members : List (List ℕ)) → ArePieces k limit value members
+    → (value ≡ joined members) × IsSound k members
 sound_pieces Bytes limit value members p = (p.0, tt)
 sound_pieces Text limit value members p = (p.cut.whole, text_members limit members p.cut.each)
 
 -- what is written is one element
-pub written_element : (k : Kind) (limit : ℕ) (value : List ℕ) (ms : List Mark) → IsWritten k limit value ms → IsSound k (value ∷ []) → length value < 2 ^ 64 → IsElement (spelling ms) ms
+pub written_element : (k : Kind) (limit : ℕ) (value : List ℕ) (ms : List Mark) → IsWritten k limit value ms → IsSound k (value ∷ [])
+    → length value < 2 ^ 64 → IsElement (spelling ms) ms
 written_element k limit value ms (in_one l) s n =
     let x = shortest_title (kind_header k (Some (length value))) in
-    subst (λ (z : List ℕ). IsElement z (Whole k value ∷ [])) (sym (append-nil (x ++ value))) (definite k (title_of_length k (length value) n) s)
+    subst (λ (z : List ℕ). IsElement z (Whole k value ∷ [])) (sym (append-nil (x ++ value)))
+    (definite k (title_of_length k (length value) n) s)
 written_element k limit value ms (in_pieces members l p) s n =
     let q = sound_pieces k limit value members p in
     let len = ap length q.0 in
-    subst (λ (z : List ℕ). IsElement z (open_marks k members)) (sym (open_spelled k members)) (indefinite k (open_title k) (piece_strings k members (omega arith)) q.1)
+    subst (λ (z : List ℕ). IsElement z (open_marks k members)) (sym (open_spelled k members))
+    (indefinite k (open_title k) (piece_strings k members (omega arith)) q.1)
