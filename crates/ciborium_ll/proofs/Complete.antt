@@ -151,7 +151,7 @@ body_faulty n v s ms k l p r lt = record {
   consumed = 0;
   reach = r;
   is = refl;
-  fault = CutBody [] s lt refl (part_nil k) (omega arith) (omega arith);
+  fault = CutBody [] s lt refl (part_nil k) (omega arith) (omega arith) (omega arith);
 }
 
 -- a body of a text is no text

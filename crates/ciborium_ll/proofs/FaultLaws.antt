@@ -63,7 +63,7 @@ stuck u ms at s a out c (NoTitle {place = In k} d f) = halt k (halt_refused f)
 stuck u ms at s a out c (NoTitle {place = Body k l p} d f) = absurd d
 stuck u ms at s a out c (OtherTitle {kind = k} x r p f e) = halt k (halt_misplaced r x p f e)
 stuck u ms at s a out c (DamagedText b r l f e g m) = bad_body (inr f)
-stuck u ms at s a out c (CutBody {kind = k} {len = l} b r f e g m m2) = bad_body (too_short k l s f)
+stuck u ms at s a out c (CutBody {kind = k} {len = l} b r f e g m m2 m3) = bad_body (too_short k l s f)
 stuck u ms at s a out c (CutDamagedText b r f g e p m) = bad_body (inl f)
 
 -- where a run of n elements stands in front, there is no fault

@@ -203,7 +203,7 @@ bad_of : (k : Kind) (l p : ℕ) (s u : List ℕ) (ms : List Mark) (a : Answer) (
 bad_of k l p s u ms a out c (CutTitle d f) = absurd d
 bad_of k l p s u ms a out c (NoTitle d f) = absurd d
 bad_of k l p s u ms a out c (DamagedText b r g f e z m) = inr f
-bad_of k l p s u ms a out c (CutBody b r f e g m m2) = too_short k l s f
+bad_of k l p s u ms a out c (CutBody b r f e g m m2 m3) = too_short k l s f
 bad_of k l p s u ms a out c (CutDamagedText b r f g e z m) = inl f
 
 -- a fault by the place where its title was due

@@ -94,7 +94,7 @@ pub data FirstFault (before : List ℕ) (marks : List Mark) : Place → List ℕ
       → FirstFault before marks (Body Text len start) ahead (Syntax start) (with_front marks Text len front) consumed
   -- the bytes end within a body
   CutBody : {kind : Kind} {len start consumed : ℕ} {ahead : List ℕ} (front rest : List ℕ) → length ahead < len → ahead ≡ front ++ rest
-      → IsWritable kind front → length front ≤ consumed → consumed ≤ length front + most_kept kind
+      → IsWritable kind front → length front ≤ consumed → consumed ≤ length front + most_kept kind → consumed ≤ length ahead
       → FirstFault before marks (Body kind len start) ahead Short (with_front marks kind len front) consumed
   -- the bytes end within the body of a text, and no text begins as they do
   CutDamagedText : {len start consumed : ℕ} {ahead : List ℕ} (front rest : List ℕ) → length ahead < len → BeginsNoText ahead
