@@ -1,3 +1,4 @@
+pub mod DecodingLaws
 pub mod Lists
 pub mod PartsLaws
 pub mod TitleLaws

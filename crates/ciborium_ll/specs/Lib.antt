@@ -1,3 +1,4 @@
+pub mod Decoding
 pub mod Parts
 pub mod Title
 pub mod Transfer

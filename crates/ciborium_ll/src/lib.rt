@@ -1,7 +1,9 @@
 //! Titles of CBOR items (RFC 7049, 2.1 to 2.3).
 #![tactic(auto)]
 
+mod dec;
 mod hdr;
 pub mod io;
 
+pub use self::dec::{Decoder, Error};
 pub use self::hdr::{Float, Header};
