@@ -1,4 +1,5 @@
 pub mod DecodingLaws
+pub mod EncodingLaws
 pub mod Lists
 pub mod PartsLaws
 pub mod TitleLaws

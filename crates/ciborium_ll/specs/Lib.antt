@@ -1,4 +1,5 @@
 pub mod Decoding
+pub mod Encoding
 pub mod Parts
 pub mod Title
 pub mod Transfer

@@ -2,8 +2,10 @@
 #![tactic(auto)]
 
 mod dec;
+mod enc;
 mod hdr;
 pub mod io;
 
 pub use self::dec::{Decoder, Error};
+pub use self::enc::Encoder;
 pub use self::hdr::{Float, Header};
