@@ -1,12 +1,12 @@
 -- A write behind a write.
-use Rattle.std.proofs.Common.{◌≡◌, ℕ, ◌+◌, ◌≤◌, List, ◌++◌, length, take, Option, Some, None, Result, Ok, Err, IfSome, IsOk, IsErr, arith, rules, sym, subst, length-append}
+use Rattle.std.proofs.Common.{◌≡◌, ℕ, ◌+◌, ◌≤◌, ◌<◌, List, ◌++◌, length, take, Option, Some, None, Result, Ok, Err, IfSome, IsErr, arith, sym, subst, length-append}
 use Rattle.std.proofs.Math.Seq.{take-append-add}
 use Rattle.std.proofs.lemmas.List.{take-append-le}
 use Rattle.std.proofs.KnownBytes.{Appends-trans}
 use Rattle.std.specs.Io.KnownBytes.{Appends}
 use Rattle.ciborium_ll.specs.declared.io.Write.{Ghosts}
 use Rattle.ciborium_ll.specs.Transfer.{Shrinks, AppendsFront}
-use Rattle.ciborium_ll.specs.Encoding.{WritesAll, WritesFront, WritesBytes, IsSureToWrite}
+use Rattle.ciborium_ll.specs.Encoding.{WritesAll, WritesFront, WritesBytes}
 
 pub Shrinks-trans : (a b c : Option ℕ) (m n : ℕ) → Shrinks a b m → Shrinks b c n → Shrinks a c (m + n)
 Shrinks-trans None b c m n p q = tt
@@ -38,22 +38,24 @@ AppendsFront-after w w' w'' r r' r'' xs ys p s f =
       ),
     )
 
--- a first write that failed had too little room for both
-sure_stopped : {F T U : Type 0} (room : Option ℕ) (first : Result U F) (result : Result T F) (xs ys : List ℕ) → IsErr first
-    → IfSome room (λ n. length xs ≤ n → IsOk first) → IfSome room (λ n. length (xs ++ ys) ≤ n → IsOk result)
-sure_stopped None first result xs ys e sure = tt
-sure_stopped (Some n) (Ok done) result xs ys e sure = absurd cc
-sure_stopped (Some n) (Err fault) result xs ys e sure = λ fits.
-    let less : length xs ≤ n = omega (arith, length-append xs ys) in
-    let ok = sure less in
-    absurd cc
+-- a room too small for xs is too small for xs and ys
+full_longer : (room : Option ℕ) (xs ys : List ℕ) → IfSome room (λ n. n < length xs) → IfSome room (λ n. n < length (xs ++ ys))
+full_longer None xs ys full = tt
+full_longer (Some n) xs ys full = omega (arith, length-append xs ys)
+
+-- a room that is too small for ys behind xs was too small for both
+full_after : (room room' : Option ℕ) (xs ys : List ℕ) → Shrinks room room' (length xs) → IfSome room' (λ n. n < length ys)
+    → IfSome room (λ n. n < length (xs ++ ys))
+full_after None room' xs ys shrunk full = tt
+full_after (Some n) None xs ys shrunk full = absurd shrunk
+full_after (Some n) (Some m) xs ys shrunk full = omega (arith, length-append xs ys)
 
 module _ {W F : Type 0} (sink : Ghosts W F) where
   -- a first write that failed
   pub WritesBytes-stopped : {T : Type 0} (old new : W) (result : Result T F) (xs ys : List ℕ) → IsErr result → WritesFront sink old xs new
       → WritesBytes sink old result (xs ++ ys) new
   WritesBytes-stopped old new (Ok done) xs ys e f = absurd cc
-  WritesBytes-stopped old new (Err fault) xs ys e f = record { front = AppendsFront-longer _ _ _ _ xs ys f.front; failures = f.failures }
+  WritesBytes-stopped old new (Err fault) xs ys e f = record { front = AppendsFront-longer _ _ _ _ xs ys f.front; full = full_longer _ xs ys f.full; failures = f.failures }
 
   -- a write that went through, and then another one
   pub WritesBytes-then : {T : Type 0} (old mid new : W) (result : Result T F) (xs ys : List ℕ) → WritesAll sink old xs mid → WritesBytes sink mid result ys new
@@ -65,9 +67,6 @@ module _ {W F : Type 0} (sink : Ghosts W F) where
   }
   WritesBytes-then old mid new (Err fault) xs ys all next = record {
     front = AppendsFront-after _ _ _ _ _ _ xs ys all.appended all.room next.front;
+    full = full_after _ _ xs ys all.room next.full;
     failures = cc (all.failures, next.failures);
   }
-
-  pub IsSureToWrite-stopped : {T U : Type 0} (old : W) (first : Result U F) (result : Result T F) (xs ys : List ℕ) → IsErr first
-      → IsSureToWrite sink old first xs → IsSureToWrite sink old result (xs ++ ys)
-  IsSureToWrite-stopped old first result xs ys e sure = sure_stopped (sink.room old) first result xs ys e sure

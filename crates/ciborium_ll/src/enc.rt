@@ -47,7 +47,7 @@ impl<W: Write> Encoder<W> {
     ghost use Rattle.std.specs.Prelude.{◌≡◌};
     ghost use Rattle.ciborium_ll.specs.Title.{shortest_title};
     ghost use Rattle.ciborium_ll.specs.Parts.{IsMinor, minor_affix};
-    ghost use Rattle.ciborium_ll.specs.Encoding.{IsSureToWrite, WritesBytes, writer_of};
+    ghost use Rattle.ciborium_ll.specs.Encoding.{WritesBytes, writer_of};
 
     /// The writer.
     pub fn into_inner(self) -> W
@@ -61,8 +61,7 @@ impl<W: Write> Encoder<W> {
     /// The error is the writer's. A beginning of the title was then written.
     #[inline(always)]
     pub fn push(&mut self, header: Header) -> Result<(), W::Error>
-        ensures title { WritesBytes W.Write (writer_of self.old) result (shortest_title header) (writer_of self.new) }
-        ensures fits { IsSureToWrite W.Write (writer_of self.old) result (shortest_title header) }
+        ensures { WritesBytes W.Write (writer_of self.old) result (shortest_title header) (writer_of self.new) }
     {
         let title = header.shortest();
         self.writer.write_all(&[title.first_byte()])?;
@@ -71,8 +70,7 @@ impl<W: Write> Encoder<W> {
 
     /// Writes the bytes behind a first byte.
     fn affix(&mut self, minor: Minor) -> Result<(), W::Error>
-        ensures affix { WritesBytes W.Write (writer_of self.old) result (minor_affix minor) (writer_of self.new) }
-        ensures fits { IsSureToWrite W.Write (writer_of self.old) result (minor_affix minor) }
+        ensures { WritesBytes W.Write (writer_of self.old) result (minor_affix minor) (writer_of self.new) }
     {
         match minor {
             Minor::Small(_) | Minor::Open => self.writer.write_all(&[]),
