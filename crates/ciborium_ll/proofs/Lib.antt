@@ -1,5 +1,13 @@
+pub mod AffixLaws
+pub mod CopyingLaws
+pub mod CutLaws
 pub mod DecodingLaws
+pub mod ElementLaws
 pub mod EncodingLaws
 pub mod Lists
 pub mod PartsLaws
+pub mod RefusedBytes
+pub mod StringLaws
+pub mod TextLaws
 pub mod TitleLaws
+pub mod Utf8Laws

@@ -46,7 +46,7 @@ size_back Two n p = refl
 size_back Four n p = refl
 size_back Eight n p = refl
 
-minor_below : (s : Size) (n : ℕ) → n < size_limit s → minor_of s n < 28
+pub minor_below : (s : Size) (n : ℕ) → n < size_limit s → minor_of s n < 28
 minor_below Small n p = omega arith
 minor_below One n p = omega arith
 minor_below Two n p = omega arith
@@ -268,3 +268,41 @@ refused_alone Other x o r = omega (arith, r)
 pub title_refused : (w v : List ℕ) (x : Header) → IsTitle w x → BeginsRefused (w ++ v) → ⊥
 title_refused w v x (numbered m s n p) r = refused_number m s n p r
 title_refused w v x (alone m x' o) r = refused_alone m x' o r
+
+-- ---- the numbers of a title's header are in range
+
+limit_below : (s : Size) (n : ℕ) → n < size_limit s → n < 2 ^ 64
+limit_below Small n p = omega arith
+limit_below One n p = omega arith
+limit_below Two n p = omega arith
+limit_below Four n p = omega arith
+limit_below Eight n p = p
+
+numbered_in_range : (m : Major) (s : Size) (n : ℕ) → n < size_limit s → IsInRange (numbered_header m s n)
+numbered_in_range Unsigned s n p = limit_below s n p
+numbered_in_range Negative s n p = limit_below s n p
+numbered_in_range ByteString s n p = limit_below s n p
+numbered_in_range TextString s n p = limit_below s n p
+numbered_in_range Array s n p = limit_below s n p
+numbered_in_range Map s n p = limit_below s n p
+numbered_in_range Tag s n p = limit_below s n p
+numbered_in_range Other Small n p = omega arith
+numbered_in_range Other One n p = p
+numbered_in_range Other Two n p = p
+numbered_in_range Other Four n p = p
+numbered_in_range Other Eight n p = p
+
+alone_in_range : (m : Major) (x : Header) → open_header m ≡ Some x → IsInRange x
+alone_in_range Unsigned x o = absurd cc
+alone_in_range Negative x o = absurd cc
+alone_in_range ByteString x o = let e : h.Bytes None ≡ x = cc in rw (← e) tt
+alone_in_range TextString x o = let e : h.Text None ≡ x = cc in rw (← e) tt
+alone_in_range Array x o = let e : h.Array None ≡ x = cc in rw (← e) tt
+alone_in_range Map x o = let e : h.Map None ≡ x = cc in rw (← e) tt
+alone_in_range Tag x o = absurd cc
+alone_in_range Other x o = let e : h.Break ≡ x = cc in rw (← e) tt
+
+-- a title's header is a value of its type
+pub title_in_range : (w : List ℕ) (x : Header) → IsTitle w x → IsInRange x
+title_in_range w x (numbered m s n p) = numbered_in_range m s n p
+title_in_range w x (alone m x' o) = alone_in_range m x' o

@@ -1,5 +1,10 @@
+pub mod Copying
+pub mod Cuts
 pub mod Decoding
+pub mod Elements
 pub mod Encoding
 pub mod Parts
+pub mod Strings
+pub mod Text
 pub mod Title
 pub mod Transfer

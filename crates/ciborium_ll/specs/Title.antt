@@ -1,7 +1,7 @@
 -- Titles: the first byte of an item and the number behind it (RFC 7049, 2.1 to 2.3), and the headers that they mean.
 --
 -- A number here has no range. `IsInRange header` says that a header's numbers are those of its Rust type.
-use Rattle.std.specs.Prelude.{◌≡◌, ℕ, ◌+◌, ◌*◌, ◌/◌, ◌%◌, ◌<◌, ◌≤◌, ◌^◌, ◌⊎◌, List, [], ◌∷◌, ◌++◌, length, Option, Some, None, IfSome, if◌then◌else◌, nat_lt, ◌==◌}
+use Rattle.std.specs.Prelude.{◌≡◌, ℕ, ◌+◌, ◌*◌, ◌/◌, ◌%◌, ◌<◌, ◌≤◌, ◌^◌, ◌⊎◌, List, [], ◌∷◌, ◌++◌, length, Option, Some, None, IfSome, if◌then◌else◌, nat_lt, ◌==◌, slice_index}
 use Rattle.std.specs.Int.{to_be_bytes, w8, w16, w32, w64}
 use Rattle.ciborium_ll.specs.declared.hdr.Header.{Header}
 use Rattle.ciborium_ll.specs.declared.hdr.Header.TheVariants as h
@@ -178,3 +178,12 @@ affix_len minor = if minor == 24 then 1 else (if minor == 25 then 2 else (if min
 abbrev pub IsCutTitle : List ℕ → Type 0
 IsCutTitle [] = Unit {0}
 IsCutTitle (byte ∷ rest) = length rest < affix_len (byte % 32)
+
+-- each element is a byte
+abbrev pub AreBytes : List ℕ → Type 0
+AreBytes bytes = (i : ℕ) → slice_index bytes i < 256
+
+-- the 27 refused bytes, in order
+abbrev pub refused_bytes : List ℕ
+refused_bytes =
+    0x1c ∷ 0x1d ∷ 0x1e ∷ 0x1f ∷ 0x3c ∷ 0x3d ∷ 0x3e ∷ 0x3f ∷ 0x5c ∷ 0x5d ∷ 0x5e ∷ 0x7c ∷ 0x7d ∷ 0x7e ∷ 0x9c ∷ 0x9d ∷ 0x9e ∷ 0xbc ∷ 0xbd ∷ 0xbe ∷ 0xdc ∷ 0xdd ∷ 0xde ∷ 0xdf ∷ 0xfc ∷ 0xfd ∷ 0xfe ∷ []

@@ -5,7 +5,10 @@ mod dec;
 mod enc;
 mod hdr;
 pub mod io;
+pub mod laws;
+pub mod recode;
 
 pub use self::dec::{Decoder, Error};
 pub use self::enc::Encoder;
 pub use self::hdr::{Float, Header};
+pub use self::recode::RecodeError;

@@ -1,0 +1,94 @@
+-- Texts joined and parted, and the longest beginning of a list that is text.
+use Rattle.std.proofs.Common.{◌≡◌, ℕ, ◌<◌, ◌≤◌, List, [], ◌∷◌, ◌++◌, length, take, drop, refl, sym, ap, ◌∙◌, subst, inl, inr, arith, append_assoc}
+use Rattle.std.proofs.lemmas.Bool.{cases_lt}
+use Rattle.std.proofs.lemmas.Str.{IsUtf8-append, IsUtf8-past_char}
+use Rattle.std.proofs.lemmas.List.{append-nil, length-append, take-append-drop, length-take, take_at}
+use Rattle.std.specs.Str.{IsUtf8, IsValidUpTo}
+use Rattle.std.specs.List.{AllByRecursion}
+use Rattle.std.proofs.Math.Utf8.{encode, encodes}
+use Rattle.ciborium_ll.specs.Text.{IsCharacter, row1, row2, row3, row4, row5, row6, row7, row8, row9, joined, IsCharacters, IsFront}
+use Rattle.ciborium_ll.proofs.Lists.{same_front}
+use Rattle.ciborium_ll.proofs.Utf8Laws.{to_std, from_std}
+
+pub IsCharacters-append : (a b : List ℕ) → IsCharacters a → IsCharacters b → IsCharacters (a ++ b)
+IsCharacters-append a b p q = from_std (a ++ b) (IsUtf8-append a b (to_std a p) (to_std b q))
+
+past : (cs : List ℕ) (b : List ℕ) → IsUtf8 (encodes cs ++ b) → IsUtf8 b
+past [] b u = u
+past (c ∷ cs) b u = past cs b (IsUtf8-past_char (encodes (c ∷ cs) ++ b) (encodes cs ++ b) c u (append_assoc (encode c) (encodes cs) b))
+
+pub IsCharacters-rest : (a b : List ℕ) → IsCharacters a → IsCharacters (a ++ b) → IsCharacters b
+IsCharacters-rest a b p q =
+    let u = to_std a p in
+    from_std b (past u.0 b (subst (λ (x : List ℕ). IsUtf8 (x ++ b)) (sym u.1.1) (to_std (a ++ b) q)))
+
+-- ---- fronts
+
+pub IsCharacters-nil : IsCharacters []
+IsCharacters-nil = record { characters = []; each = tt; whole = refl }
+
+-- the shorter of two fronts of a list begins the longer
+pub front_of_front : (a b r s : List ℕ) → a ++ r ≡ b ++ s → length a ≤ length b → (m : List ℕ) × (b ≡ a ++ m) × (r ≡ m ++ s)
+front_of_front [] b r s e l = (b, refl, e)
+front_of_front (x ∷ a) [] r s e l = absurd (omega arith)
+front_of_front (x ∷ a) (y ∷ b) r s e l =
+    let heads : x ≡ y = cc in
+    let tails : a ++ r ≡ b ++ s = cc in
+    let h = front_of_front a b r s tails (omega arith) in
+    let hb : b ≡ a ++ h.0 = h.1 in
+    (h.0, cc (heads, hb), h.2)
+
+pub one_front : (x a r b s : List ℕ) → IsFront x a r → IsFront x b s → (a ≡ b) × (r ≡ s)
+one_front x a r b s p q =
+    let l = p.longest b s q.parts q.text in
+    let k = q.longest a r p.parts p.text in
+    same_front a b r s (omega (arith, l, k)) (sym p.parts ∙ q.parts)
+
+character_length : (c : List ℕ) → IsCharacter c → (0 < length c) × (length c ≤ 4)
+character_length c (row1 p) = omega arith
+character_length c (row2 p q) = omega arith
+character_length c (row3 p q r) = omega arith
+character_length c (row4 p q r) = omega arith
+character_length c (row5 p q r) = omega arith
+character_length c (row6 p q r) = omega arith
+character_length c (row7 p q r s) = omega arith
+character_length c (row8 p q r s) = omega arith
+character_length c (row9 p q r s) = omega arith
+
+one_character : (c : List ℕ) → IsCharacter c → IsCharacters c
+one_character c p = record { characters = c ∷ []; each = (p, tt); whole = sym (append-nil c) }
+
+damned : (x a r y : List ℕ) (cs : List (List ℕ)) → IsFront x a r → 3 < length r → AllByRecursion IsCharacter cs → r ++ y ≡ joined cs → ⊥
+damned x a r y [] f l all e = let n = ap length e in omega (arith, length-append r y)
+damned x a r y (c ∷ cs) f l all e =
+    let k = character_length c all.0 in
+    let m = front_of_front c r (joined cs) y (sym e) (omega arith) in
+    let parts : x ≡ (a ++ c) ++ m.0 = f.parts ∙ (ap (λ (z : List ℕ). a ++ z) m.1 ∙ sym (append_assoc a c m.0)) in
+    let longer = f.longest (a ++ c) m.0 parts (IsCharacters-append a c f.text (one_character c all.0)) in
+    omega (arith, length-append a c)
+
+-- more than three bytes that no character begins: no text begins with the list
+pub no_text_begins : (x a r y : List ℕ) → IsFront x a r → 3 < length r → IsCharacters (x ++ y) → ⊥
+no_text_begins x a r y f l u =
+    let whole : IsCharacters (a ++ (r ++ y)) = subst IsCharacters (ap (λ (z : List ℕ). z ++ y) f.parts ∙ append_assoc a r y) u in
+    let rest = IsCharacters-rest a (r ++ y) f.text whole in
+    damned x a r y rest.characters f l rest.each rest.whole
+
+-- std's place of the fault
+pub front_of_valid : (x : List ℕ) (n : ℕ) → IsValidUpTo x n → IsFront x (take n x) (drop n x)
+front_of_valid x n v =
+    record {
+      parts = sym (take-append-drop n x);
+      text = from_std (take n x) v.front;
+      longest = λ b s e u. (elim (cases_lt n (length b)) [
+        | inl l ↦ absurd (v.longest (length b) l (subst IsUtf8 (sym (ap (take (length b)) e ∙ take_at b s (length b) refl)) (to_std b u)))
+        | inr l ↦ (let k = v.short in omega (arith, length-take n x))
+      ]);
+    }
+
+pub front_of_text : (x : List ℕ) → IsCharacters x → IsFront x x []
+front_of_text x u = record { parts = sym (append-nil x); text = u; longest = λ b s e h. omega (arith, length-append b s, ap length e) }
+
+-- what is kept at a text's end says that it is no text
+pub no_rest_of_text : (x a r : List ℕ) → IsFront x a r → IsCharacters x → r ≡ []
+no_rest_of_text x a r f u = (one_front x a r x [] f (front_of_text x u)).1

@@ -1,0 +1,50 @@
+use Rattle.std.proofs.Common.{[], ◌∷◌, ◌++◌, refl, arith, length-append}
+use Rattle.ciborium_ll.proofs.CopyingLaws.{Copies-none, Copies-push, AreTitles-shortest}
+use Rattle.ciborium_ll.proofs.laws.copy.copy_headers.Goals as goal
+
+pub headers-init : goal.headers-init
+headers-init g c = ([], refl, Copies-none g.R.Read g.W.Write c.args.decoder.now c.args.encoder.now.writer)
+
+pub headers-preserved : goal.headers-preserved
+headers-preserved g c =
+    let headers = c.headers.invariant.0 in
+    let pulled = c.in-Ok.ensures in (
+      headers ++ c.in-Ok.header ∷ [],
+      omega (arith, c.headers.invariant.1, length-append headers (c.in-Ok.header ∷ [])),
+      Copies-push g.R.Read g.W.Write headers c.in-Ok.header _ _ _ _ _ _ c.headers.invariant.2 pulled.header pulled.steady c.in_default.ensures,
+    )
+
+pub returns-in-Err : goal.returns-in-Err
+returns-in-Err g c = record {
+  copied = record {
+    headers = c.headers.invariant.0;
+    fewer = omega (arith, c.headers.invariant.1, c.headers-test.true);
+    between = c.headers.decoder;
+    copied = c.headers.invariant.2;
+    stopped = c.in-Err.ensures.header;
+  };
+}
+
+pub returns-in-Err-push : goal.returns-in-Err-push
+returns-in-Err-push g c = record {
+  copied = record {
+    headers = c.headers.invariant.0;
+    fewer = omega (arith, c.headers.invariant.1, c.headers-test.true);
+    between = c.headers.decoder;
+    writer-between = c.headers.encoder.writer;
+    copied = c.headers.invariant.2;
+    last = c.in-Ok.header;
+    pulled = c.in-Ok.ensures.header;
+    stopped = c.in-Err-push.ensures;
+  };
+}
+
+pub returns : goal.returns
+returns g c = record {
+  copied = record {
+    headers = c.headers.invariant.0;
+    all = omega (arith, c.headers.invariant.1, c.headers-test.false, c.headers.auto._copied-end);
+    copied = c.headers.invariant.2;
+    again = AreTitles-shortest _ _ c.headers.invariant.2.titles;
+  };
+}

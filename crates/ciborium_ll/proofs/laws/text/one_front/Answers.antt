@@ -1,0 +1,8 @@
+use Rattle.ciborium_ll.proofs.TextLaws.{one_front, front_of_valid}
+use Rattle.ciborium_ll.proofs.laws.text.one_front.Goals as goal
+
+pub returns-clause-one : goal.returns-clause-one
+returns-clause-one c = one_front
+
+pub returns-clause-valid : goal.returns-clause-valid
+returns-clause-valid c = front_of_valid

@@ -1,0 +1,21 @@
+//! Functions whose contracts tie the calls of the library together, and the laws of its definitions.
+//!
+//! The functions for laws are empty: their contracts are the laws.
+
+mod copy;
+mod cuts;
+mod elements;
+mod strings;
+mod text;
+mod titles;
+
+pub use self::copy::copy_headers;
+pub use self::cuts::full_cuts;
+pub use self::elements::{one_element, one_run, spelled_run};
+pub use self::strings::one_string;
+pub use self::text::{
+    joined_texts, no_rest_of_text, no_text_begins, one_front, rest_of_text, same_text,
+};
+pub use self::titles::{
+    cut_titles, one_title, refused_first_bytes, shortest_titles, title_header, title_length,
+};

@@ -1,0 +1,36 @@
+//! Laws of text.
+
+ghost use Rattle.std.specs.Prelude.{◌≡◌, ℕ, ◌<◌, ◌++◌, List, length, ◌↔◌, IsUtf8, [], take, drop};
+ghost use Rattle.std.specs.Str.{IsValidUpTo};
+ghost use Rattle.ciborium_ll.specs.Text.{IsCharacters, IsFront};
+
+/// Characters joined are what std has as UTF-8.
+pub fn same_text()
+    ensures { (bytes : List ℕ) → (IsCharacters bytes ↔ IsUtf8 bytes) }
+{}
+
+/// Texts joined are a text.
+pub fn joined_texts()
+    ensures { (a b : List ℕ) → IsCharacters a → IsCharacters b → IsCharacters (a ++ b) }
+{}
+
+/// What follows a text in a text is one.
+pub fn rest_of_text()
+    ensures { (a b : List ℕ) → IsCharacters a → IsCharacters (a ++ b) → IsCharacters b }
+{}
+
+/// Bytes have one longest front that is text, which is the one that std finds.
+pub fn one_front()
+    ensures one { (bytes a r b s : List ℕ) → IsFront bytes a r → IsFront bytes b s → (a ≡ b) × (r ≡ s) }
+    ensures valid { (bytes : List ℕ) (n : ℕ) → IsValidUpTo bytes n → IsFront bytes (take n bytes) (drop n bytes) }
+{}
+
+/// No text begins with a front and four bytes or more that no character begins.
+pub fn no_text_begins()
+    ensures { (bytes front rest more : List ℕ) → IsFront bytes front rest → 3 < length rest → IsCharacters (bytes ++ more) → ⊥ }
+{}
+
+/// Bytes with a rest behind their front are no text.
+pub fn no_rest_of_text()
+    ensures { (bytes front rest : List ℕ) → IsFront bytes front rest → IsCharacters bytes → rest ≡ [] }
+{}
