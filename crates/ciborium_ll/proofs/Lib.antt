@@ -1,5 +1,6 @@
 pub mod AffixLaws
 pub mod CopyingLaws
+pub mod CopyingTold
 pub mod CutLaws
 pub mod DecodingLaws
 pub mod ElementLaws

@@ -2,7 +2,7 @@
 --
 -- Bytes are spoken of where the reader tells them: `Consumes` says nothing of bytes that are not told. All else holds
 -- over any reader.
-use Rattle.std.specs.Prelude.{◌≡◌, ℕ, ◌+◌, ◌<◌, ◌≤◌, ◌^◌, List, [], ◌∷◌, ◌++◌, length, Option, Some, None, Result, Ok, Err, IfSome, IsSome, IsTrue, ◌%◌}
+use Rattle.std.specs.Prelude.{◌≡◌, ℕ, ◌+◌, ◌<◌, ◌≤◌, ◌^◌, List, [], ◌∷◌, ◌++◌, length, take, Option, Some, None, Result, Ok, Err, IfSome, IsSome, IsTrue, ◌%◌}
 use Rattle.std.specs.Io.KnownBytes.{Consumes, prepend_known}
 use Rattle.ciborium_ll.specs.declared.io.Read.{Ghosts}
 use Rattle.ciborium_ll.specs.declared.hdr.Header.{Header}
@@ -116,8 +116,8 @@ module _ {R E : Type 0} (source : Ghosts R E) where
     pub none_waited : old.waiting ≡ None
     pub none_waits : new.waiting ≡ None
     pub failures : failures_of new ≡ failures_of old + 1
-    -- a steady reader fails only inside a title, and keeps what it did not give
-    pub steady : IsSteady old → Consumes (view old) (view new) read × IfSome (view old) IsCutTitle
+    -- a steady reader fails only inside a title, of which the first byte was read where there is one
+    pub steady : IsSteady old → Consumes (view old) (view new) read × IfSome (view old) (λ due. IsCutTitle due × (read ≡ take 1 due))
 
   -- the offset can't take the read behind the bytes `read`, which are none or a first byte
   pub record PassesOffset (old new : Decoder R) : Type 0 where
