@@ -15,7 +15,7 @@ use Rattle.ciborium_ll.specs.Transfer.{Shrinks}
 use Rattle.ciborium_ll.specs.Decoding.{view, next_read, PullsHeader}
 use Rattle.ciborium_ll.specs.Encoding.{WritesAll}
 use Rattle.ciborium_ll.specs.Copying.{AreTitles, none, next, shortest_titles, TitlesInFront, Copies, CopiesAll, StopsReading, StopsWriting, CopiesHeaders, IsReady, CopiesFront, CopiesCount, MeetsCutTitle, MeetsNoTitle, CopiesTold}
-use Rattle.ciborium_ll.proofs.TitleLaws.{one_title, shortest_or_longer, title_refused}
+use Rattle.ciborium_ll.proofs.TitleLaws.{one_title, shortest_no_longer, title_refused}
 use Rattle.ciborium_ll.proofs.AffixLaws.{title_not_cut}
 
 -- ---- fewer titles in front of a fault, and more titles in front
@@ -59,9 +59,6 @@ next_read_small (byte ∷ more) =
     either_small (byte % 32 == 24) 1 _ (omega arith) (either_small (byte % 32 == 25) 2 _ (omega arith) (either_small (byte % 32 == 26) 4 _ (omega arith) (either_small (byte % 32 == 27) 8 0 (omega arith) (omega arith))))
 
 -- the shortest titles are no longer
-shortest_no_longer : (t : List ℕ) (h : Header) → IsTitle t h → length (shortest_title h) ≤ length t
-shortest_no_longer t h p = elim (shortest_or_longer h t p) [ inl e ↦ let l = ap length e in omega (arith, l) | inr l ↦ omega (arith, l) ]
-
 titles_no_longer : (ts : List ℕ) (hs : List Header) → AreTitles ts hs → length (shortest_titles hs) ≤ length ts
 titles_no_longer ts hs none = omega arith
 titles_no_longer ts hs (next {title = t} {rest = q} {header = h} {headers = gs} p ps) =

@@ -147,6 +147,24 @@ module _ {R E : Type 0} (source : Ghosts R E) where
     pub offset : new.offset + title_len header ≡ old.offset
     pub reader : new.reader ≡ old.reader
 
+  -- ---- pull, push of what it gave, and pull again
+
+  -- what the three calls left, one after the other
+  pub record PullsTwice (old : Decoder R) (header : Header) (new : Decoder R) : Type 0 where
+    pub pulled : Decoder R
+    pub pushed : Decoder R
+    pub first : PullsTitle old header pulled
+    pub back : TakesBack pulled header pushed
+    pub second : PullsTitle pushed header new
+    -- the second pull undid the push
+    pub reader : new.reader ≡ pulled.reader
+    pub offset : new.offset ≡ pulled.offset
+    pub none_waits : new.waiting ≡ None
+
+  abbrev pub PullsAgain : Decoder R → Result Header (Error E) → Decoder R → Type 0
+  PullsAgain old (Ok header) new = PullsTwice old header new
+  PullsAgain old (Err error) new = PullsHeader old (Err error) new
+
   -- ---- read_exact
 
   -- all bytes asked for were read

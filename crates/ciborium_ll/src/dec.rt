@@ -54,7 +54,7 @@ impl<R: Read> From<R> for Decoder<R> {
 }
 
 impl<R: Read> Decoder<R> {
-    ghost use Rattle.std.specs.Prelude.{◌<◌, ◌^◌, IsTrue, IsSome, ◌↔◌, None, Err};
+    ghost use Rattle.std.specs.Prelude.{◌<◌, ◌^◌, IsTrue, ◌↔◌, None, IsErrOf};
     ghost use Rattle.ciborium_ll.specs.Title.{title_len};
     ghost use Rattle.ciborium_ll.specs.Decoding.{IsFresh, IsSteady, IsWaiting, PullsHeader, ReadsBytes, ReadsMinor, TakesBack, offset_of, reader_of, refusals_of, waiting_of};
 
@@ -100,6 +100,7 @@ impl<R: Read> Decoder<R> {
     #[inline(always)]
     pub fn pull(&mut self) -> Result<Header, Error<R::Error>>
         ensures header { PullsHeader R.Read self.old result self.new }
+        ensures full { waiting_of self.old ≡ None → offset_of self.old ≡ usize.MAX → IsErrOf result Error.TooLong }
         ensures steady { IsSteady R.Read self.old → IsSteady R.Read self.new }
         ensures refusals { refusals_of self.new ≡ refusals_of self.old }
     {

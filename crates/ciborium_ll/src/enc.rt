@@ -44,9 +44,9 @@ impl<W: Write> Write for Encoder<W> {
 }
 
 impl<W: Write> Encoder<W> {
-    ghost use Rattle.std.specs.Prelude.{◌≡◌};
-    ghost use Rattle.ciborium_ll.specs.Title.{shortest_title};
-    ghost use Rattle.ciborium_ll.specs.Parts.{IsMinor, minor_affix};
+    ghost use Rattle.std.specs.Prelude.{◌≡◌, ◌<◌, ◌⊎◌, ℕ, List, length};
+    ghost use Rattle.ciborium_ll.specs.Title.{IsTitle, shortest_title};
+    ghost use Rattle.ciborium_ll.specs.Parts.{minor_affix};
     ghost use Rattle.ciborium_ll.specs.Encoding.{WritesBytes, writer_of};
 
     /// The writer.
@@ -61,7 +61,9 @@ impl<W: Write> Encoder<W> {
     /// The error is the writer's. A beginning of the title was then written.
     #[inline(always)]
     pub fn push(&mut self, header: Header) -> Result<(), W::Error>
-        ensures { WritesBytes W.Write (writer_of self.old) result (shortest_title header) (writer_of self.new) }
+        ensures title { WritesBytes W.Write (writer_of self.old) result (shortest_title header) (writer_of self.new) }
+        ensures shortest { (other : List ℕ) → IsTitle other header
+            → (other ≡ shortest_title header) ⊎ (length (shortest_title header) < length other) }
     {
         let title = header.shortest();
         self.writer.write_all(&[title.first_byte()])?;

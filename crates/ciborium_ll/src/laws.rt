@@ -5,6 +5,7 @@
 mod copy;
 mod cuts;
 mod elements;
+mod headers;
 mod strings;
 mod text;
 mod titles;
@@ -12,6 +13,7 @@ mod titles;
 pub use self::copy::copy_headers;
 pub use self::cuts::full_cuts;
 pub use self::elements::{one_element, one_run, spelled_run};
+pub use self::headers::{copied_float, copied_header, pull_again, same_float, same_header};
 pub use self::strings::one_string;
 pub use self::text::{
     joined_texts, no_rest_of_text, no_text_begins, one_front, rest_of_text, same_text,

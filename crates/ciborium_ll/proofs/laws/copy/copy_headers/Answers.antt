@@ -14,7 +14,7 @@ headers-preserved g c =
     let pulled = c.in-Ok.ensures in (
       headers ++ c.in-Ok.header ∷ [],
       omega (arith, c.headers.invariant.1, length-append headers (c.in-Ok.header ∷ [])),
-      Copies-push g.R.Read g.W.Write headers c.in-Ok.header _ _ _ _ _ _ c.headers.invariant.2 pulled.header pulled.steady c.in_default.ensures,
+      Copies-push g.R.Read g.W.Write headers c.in-Ok.header _ _ _ _ _ _ c.headers.invariant.2 pulled.header pulled.steady c.in_default.ensures.title,
     )
 
 pub returns-in-Err : goal.returns-in-Err
@@ -44,7 +44,7 @@ returns-in-Err-push g c =
       copied = c.headers.invariant.2;
       last = c.in-Ok.header;
       pulled = c.in-Ok.ensures.header;
-      stopped = c.in-Err-push.ensures;
+      stopped = c.in-Err-push.ensures.title;
     } in
     record {
       copied = copied;
