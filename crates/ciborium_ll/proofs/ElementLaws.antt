@@ -7,7 +7,7 @@ use Rattle.ciborium_ll.specs.Strings.{Kind, Bytes, Text, kind_header, IsString, 
 use Rattle.ciborium_ll.specs.Strings.IsString.{definite as definite_str, indefinite as indefinite_str}
 use Rattle.ciborium_ll.specs.Elements.{IsSound, Mark, Plain, Whole, Open, Piece, Close, IsPlain, mark_spelling, spelling, pieces, IsElement, plain, definite, indefinite, IsRun, done, next}
 use Rattle.ciborium_ll.proofs.Lists.{same_front}
-use Rattle.ciborium_ll.proofs.TitleLaws.{one_title, title_in_range, IsTitle-shortest, shortest_or_longer}
+use Rattle.ciborium_ll.proofs.TitleLaws.{one_title, title_in_range, IsTitle-shortest, shortest_no_longer}
 use Rattle.ciborium_ll.proofs.StringLaws.{some_is, mixed, fronts, one_strings_then}
 
 -- the same bytes, the same marks and the same rest
@@ -121,10 +121,7 @@ IsSound-append Text (b ∷ bs) cs p q = (p.0, IsSound-append Text bs cs p.1 q)
 
 -- ---- the spelling
 
--- a header's shortest title is no longer than any of its titles
-shorter : (w : List ℕ) (x : Header) → IsTitle w x → length (shortest_title x) ≤ length w
-shorter w x t = elim (shortest_or_longer x w t) [ inl e ↦ (let l = ap length e in omega arith) | inr l ↦ omega arith ]
-
+-- a header with a title has a shortest one
 IsTitle-shortest_of : (w : List ℕ) (x : Header) → IsTitle w x → IsTitle (shortest_title x) x
 IsTitle-shortest_of w x t = IsTitle-shortest x (title_in_range w x t)
 
@@ -158,7 +155,7 @@ mutual
   respell_one k w bs (definite_str {title = t} {body = b} p) =
       record {
         strings = more (definite_str (IsTitle-shortest_of t (kind_header k (Some (length b))) p)) none;
-        shorter = (let l = shorter t (kind_header k (Some (length b))) p in
+        shorter = (let l = shortest_no_longer t (kind_header k (Some (length b))) p in
             simp (length-append, append-nil) (omega arith));
       }
   respell_one k w bs (indefinite_str {title = t} {strings = x} {bodies = cs} p q) =
@@ -205,14 +202,14 @@ element_again w ms (plain x p q) =
     record {
       element = subst (λ (z : List ℕ). IsElement z (Plain x ∷ [])) (sym (append-nil (shortest_title x)))
           (plain x (IsTitle-shortest_of w x p) q);
-      shorter = (let l = shorter w x p in omega (arith, length-append (shortest_title x) []));
+      shorter = (let l = shortest_no_longer w x p in omega (arith, length-append (shortest_title x) []));
     }
 element_again w ms (definite {title = t} {body = b} k p s) =
     let x = kind_header k (Some (length b)) in
     record {
       element = subst (λ (z : List ℕ). IsElement z (Whole k b ∷ [])) (sym (append-nil (shortest_title x ++ b)))
           (definite k (IsTitle-shortest_of t x p) s);
-      shorter = (let l = shorter t x p in omega
+      shorter = (let l = shortest_no_longer t x p in omega
           (arith, length-append (shortest_title x ++ b) [], length-append (shortest_title x) b, length-append t b));
     }
 element_again w ms (indefinite {title = t} {strings = y} {bodies = bs} k p q s) =
@@ -221,7 +218,7 @@ element_again w ms (indefinite {title = t} {strings = y} {bodies = bs} k p q s) 
     record {
       element = subst (λ (z : List ℕ). IsElement z (Open k ∷ (pieces k bs ++ Close ∷ []))) (sym (open_spelled k bs))
           (indefinite k (IsTitle-shortest_of t x p) r.strings s);
-      shorter = (let l = shorter t x p in let m = r.shorter in
+      shorter = (let l = shortest_no_longer t x p in let m = r.shorter in
           omega (
             arith,
             ap length (open_spelled k bs),

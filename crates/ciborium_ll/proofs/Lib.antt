@@ -1,7 +1,11 @@
 pub mod AffixLaws
 pub mod Complete
+pub mod CopyingLaws
+pub mod CopyingTold
 pub mod CutLaws
+pub mod DecodingLaws
 pub mod ElementLaws
+pub mod EncodingLaws
 pub mod FaultLaws
 pub mod HaltLaws
 pub mod ItemLaws

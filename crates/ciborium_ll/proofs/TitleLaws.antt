@@ -1,5 +1,5 @@
 -- No title begins another one, and the shortest is strictly shorter.
-use Rattle.std.proofs.Common.{◌≡◌, ℕ, zero, suc, ◌%◌, ◌<◌, ◌^◌, ◌⊎◌, inl, inr, List, [], ◌∷◌, ◌++◌, length, get_or, drop, Some, None, refl, sym, ap, subst, ◌∙◌, arith}
+use Rattle.std.proofs.Common.{◌≡◌, ℕ, zero, suc, ◌%◌, ◌<◌, ◌≤◌, ◌^◌, ◌⊎◌, inl, inr, List, [], ◌∷◌, ◌++◌, length, get_or, drop, Some, None, refl, sym, ap, subst, ◌∙◌, arith}
 use Rattle.std.specs.Prelude.{if◌then◌else◌, nat_lt, ◌==◌}
 use Rattle.std.specs.Int.{w8, w16, w32, w64, to_be_bytes, from_be_bytes}
 use Rattle.std.proofs.lemmas.Nat.{from_be_bytes-to_be_bytes_2, from_be_bytes-to_be_bytes_4, from_be_bytes-to_be_bytes_8}
@@ -276,6 +276,10 @@ alone_shortest Other x o = let e : h.Break ≡ x = cc in inl (rw (← e) refl)
 pub shortest_or_longer : (header : Header) (w : List ℕ) → IsTitle w header → LeastOr w (shortest_title header)
 shortest_or_longer header w (numbered m s n p) = number_shortest m s n p
 shortest_or_longer header w (alone m x o) = alone_shortest m x o
+
+-- no title of a header is shorter than that
+pub shortest_no_longer : (t : List ℕ) (h : Header) → IsTitle t h → length (shortest_title h) ≤ length t
+shortest_no_longer t h p = elim (shortest_or_longer h t p) [ inl e ↦ let l = ap length e in omega (arith, l) | inr l ↦ omega (arith, l) ]
 
 -- ---- first bytes with no title
 

@@ -1,5 +1,8 @@
+pub mod Copying
 pub mod Cuts
+pub mod Decoding
 pub mod Elements
+pub mod Encoding
 pub mod Faults
 pub mod Items
 pub mod Parts

@@ -127,6 +127,11 @@ shortest_title (h.Map len) = shortest_with_length Map len
 abbrev pub title_len : Header → ℕ
 title_len header = length (shortest_title header)
 
+-- the length of the title of a waiting header
+abbrev pub waiting_len : Option Header → ℕ
+waiting_len None = 0
+waiting_len (Some header) = title_len header
+
 -- ---- the numbers of a header are in the ranges of their types
 
 abbrev pub IsFloatInRange : Float → Type 0

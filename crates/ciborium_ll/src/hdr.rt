@@ -1,7 +1,7 @@
 //! Headers, and the parts of a title.
 
 ghost use Rattle.std.specs.Prelude.{◌≡◌, ◌+◌, ◌*◌, ◌<◌, length, IfSome, IfNone, [], ◌∷◌};
-ghost use Rattle.ciborium_ll.specs.Title.{IsTitle, IsRefused, IsNeverOpen, Major, least_size, minor_of, affix_of, shortest_title, title_len, shortest_with_length, float_title, first_byte, major_code};
+ghost use Rattle.ciborium_ll.specs.Title.{IsInRange, IsTitle, IsNeverOpen, Major, least_size, minor_of, affix_of, shortest_title, title_len, shortest_with_length, major_code};
 ghost use Rattle.ciborium_ll.specs.Parts.{IsMinor, IsParts, minor_affix, minor_code, minor_number, parts_bytes, parts_first, title_bytes};
 
 /// A float by its width and its raw bits (RFC 7049, 2.3).
@@ -210,6 +210,7 @@ impl Header {
         ensures value { result ≡ title_len self.now }
         ensures least { 0 < result }
         ensures most { result < 10 }
+        ensures range { IsInRange self.now }
     {
         1 + self.shortest().minor.affix_len()
     }
@@ -218,6 +219,7 @@ impl Header {
     pub(crate) fn shortest(self) -> Title
         ensures parts { IsParts result }
         ensures bytes { title_bytes result ≡ shortest_title self }
+        ensures range { IsInRange self }
     {
         let (major, minor) = match self {
             Header::Positive(n) => (0, Minor::holding(n)),

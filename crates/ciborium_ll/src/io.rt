@@ -3,7 +3,7 @@
 //! A contract speaks of bytes where a reader or a writer tells them, and of failures always. What is told
 //! costs nothing at run time.
 
-ghost use Rattle.std.specs.Prelude.{◌≡◌, ℕ, ◌+◌, ◌≤◌, ◌<◌, List, Bool, length, IsTrue, IsSome, IfSome, IsOk, OnOk, OnErr};
+ghost use Rattle.std.specs.Prelude.{◌≡◌, ℕ, ◌+◌, ◌<◌, List, Bool, length, IsTrue, IsSome, IfSome, OnOk, OnErr};
 ghost use Rattle.std.specs.declared.option.Option.{Option};
 ghost use Rattle.std.specs.Io.KnownBytes.{Appends, Consumes};
 ghost use Rattle.ciborium_ll.specs.Transfer.{Shrinks, AppendsFront};
@@ -61,7 +61,8 @@ pub trait Write {
     /// How many calls failed so far.
     ghost failures: { Self → ℕ };
 
-    /// Appends the whole of `data`, or fails with a beginning of it appended.
+    /// Appends the whole of `data`, or fails with a beginning of it appended. It does not fail where the room is
+    /// told and covers `data`.
     fn write_all(&mut self, data: &[u8]) -> Result<(), Self::Error>
         ensures bytes { OnOk result (Appends (written self.old) (written self.new) «data».now) }
         ensures fills { OnOk result (Shrinks (room self.old) (room self.new) (length «data».now)) }
@@ -69,9 +70,8 @@ pub trait Write {
 
         ensures front { OnErr result (AppendsFront (written self.old) (written self.new)
             (room self.old) (room self.new) «data».now) }
-        ensures err { OnErr result (failures self.new ≡ failures self.old + 1) }
-
-        ensures fits { IfSome (room self.old) (λ n. length «data».now ≤ n → IsOk result) };
+        ensures full { OnErr result (IfSome (room self.old) (λ n. n < length «data».now)) }
+        ensures err { OnErr result (failures self.new ≡ failures self.old + 1) };
 
     /// Passes on what was kept back, if anything was. A writer that tells its room keeps nothing back.
     fn flush(&mut self) -> Result<(), Self::Error>

@@ -1,17 +1,23 @@
-//! Laws of the definitions. Each function is empty: its contract is the law.
+//! Functions whose contracts tie the calls of the library together, and the laws of its definitions.
+//!
+//! The functions for laws are empty: their contracts are the laws.
 
+mod copy;
 mod cuts;
 mod elements;
 mod faults;
+mod headers;
 mod items;
 mod strings;
 mod text;
 mod titles;
 mod values;
 
+pub use self::copy::copy_headers;
 pub use self::cuts::full_cuts;
 pub use self::elements::{one_element, one_run, spelled_run};
 pub use self::faults::{no_fault, one_fault, run_or_fault};
+pub use self::headers::{copied_float, copied_header, pull_again, same_float, same_header};
 pub use self::items::one_item;
 pub use self::strings::one_string;
 pub use self::text::{

@@ -1,0 +1,46 @@
+-- What the relations of the decoder's calls have in common.
+use Rattle.std.proofs.Common.{◌≡◌, ℕ, ◌+◌, List, length, Option, Some, None, Result, Ok, Err, refl, sym, ap, subst, ◌∙◌, arith}
+use Rattle.std.specs.Io.KnownBytes.{Consumes, prepend_known}
+use Rattle.ciborium_ll.specs.declared.hdr.Header.{Header}
+use Rattle.ciborium_ll.specs.declared.io.Read.{Ghosts}
+use Rattle.ciborium_ll.specs.declared.dec.Decoder.{Decoder}
+use Rattle.ciborium_ll.specs.declared.dec.Error.{Error}
+use Rattle.ciborium_ll.specs.declared.dec.Error.TheVariants as e
+use Rattle.ciborium_ll.specs.Title.{shortest_title, title_len}
+use Rattle.ciborium_ll.specs.Decoding.{behind_waiting, PullsTitle, PullsHeader, TakesBack, PullsAgain}
+
+-- bytes put in front are the next ones
+pub Consumes-prepended : (known : Option (List ℕ)) (front : List ℕ) → Consumes (prepend_known front known) known front
+Consumes-prepended None front = tt
+Consumes-prepended (Some bytes) front = refl
+
+-- a waiting header that is taken leaves what was behind it
+pub Consumes-waiting : (waiting waiting' : Option Header) (header : Header) (ahead : Option (List ℕ)) → waiting ≡ Some header → waiting' ≡ None
+    → Consumes (behind_waiting waiting ahead) (behind_waiting waiting' ahead) (shortest_title header)
+Consumes-waiting waiting waiting' header ahead e e' =
+    subst (λ (w : Option Header). Consumes (behind_waiting w ahead) (behind_waiting waiting' ahead) (shortest_title header)) (sym e)
+    (subst (λ (w : Option Header). Consumes (prepend_known (shortest_title header) ahead) (behind_waiting w ahead) (shortest_title header)) (sym e')
+    (Consumes-prepended ahead (shortest_title header)))
+
+-- a header that is given back is the next one
+pub pulls_again : {R E : Type 0} (source : Ghosts R E) (old pulled pushed new : Decoder R) (header : Header) (result : Result Header (Error E)) → PullsTitle source old header pulled
+    → TakesBack source pulled header pushed → PullsHeader source pushed result new → PullsAgain source old result new
+pulls_again source old pulled pushed new header (Ok again) first back second =
+    let waited = rw back.waits at second.waited in
+    let same : header ≡ again = waited.0 in
+    let counted = ap length waited.1 in
+    let taken = ap title_len same in
+    record {
+      pulled = pulled;
+      pushed = pushed;
+      first = subst (λ (h : Header). PullsTitle source old h pulled) same first;
+      back = subst (λ (h : Header). TakesBack source pulled h pushed) same back;
+      second = second;
+      reader = waited.2 ∙ back.reader;
+      offset = omega (arith, counted, taken, second.offset, back.offset);
+      none_waits = second.none_waits;
+    }
+pulls_again source old pulled pushed new header (Err (e.Io fault)) first back second = let a = back.waits in let b = second.none_waited in absurd cc
+pulls_again source old pulled pushed new header (Err (e.Syntax place)) first back second = let a = back.waits in let b = second.none_waited in absurd cc
+pulls_again source old pulled pushed new header (Err e.TooLong) first back second = let a = back.waits in let b = second.none_waited in absurd cc
+pulls_again source old pulled pushed new header (Err e.Waiting) first back second = absurd second

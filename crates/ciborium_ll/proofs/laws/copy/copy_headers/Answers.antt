@@ -1,0 +1,68 @@
+use Rattle.std.proofs.Common.{[], ◌∷◌, ◌++◌, Ok, Err, refl, arith, length-append}
+use Rattle.ciborium_ll.specs.declared.recode.RecodeError.TheVariants as r
+use Rattle.ciborium_ll.specs.Copying.{CopiesAll, StopsReading, StopsWriting}
+use Rattle.ciborium_ll.proofs.CopyingLaws.{Copies-none, Copies-push, AreTitles-shortest}
+use Rattle.ciborium_ll.proofs.CopyingTold.{told, exactly}
+use Rattle.ciborium_ll.proofs.laws.copy.copy_headers.Goals as goal
+
+pub headers-init : goal.headers-init
+headers-init g c = ([], refl, Copies-none g.R.Read g.W.Write c.args.decoder.now c.args.encoder.now.writer)
+
+pub headers-preserved : goal.headers-preserved
+headers-preserved g c =
+    let headers = c.headers.invariant.0 in
+    let pulled = c.in-Ok.ensures in (
+      headers ++ c.in-Ok.header ∷ [],
+      omega (arith, c.headers.invariant.1, length-append headers (c.in-Ok.header ∷ [])),
+      Copies-push g.R.Read g.W.Write headers c.in-Ok.header _ _ _ _ _ _ c.headers.invariant.2 pulled.header pulled.steady c.in_default.ensures.title,
+    )
+
+pub returns-in-Err : goal.returns-in-Err
+returns-in-Err g c =
+    let copied : StopsReading g.R.Read g.W.Write c.args.count c.args.decoder.now c.args.encoder.now.writer c.in-Err.error c.pull.new.self c.headers.encoder.writer =
+    record {
+      headers = c.headers.invariant.0;
+      fewer = omega (arith, c.headers.invariant.1, c.headers-test.true);
+      between = c.headers.decoder;
+      copied = c.headers.invariant.2;
+      stopped = c.in-Err.ensures.header;
+    } in
+    record {
+      copied = copied;
+      told = λ due written ready. told g.R.Read g.W.Write c.args.count _ _ _ _ due written (Err (r.Read c.in-Err.error)) ready copied;
+      exactly = λ due written ready. exactly g.R.Read g.W.Write c.args.count _ _ _ _ due written (Err (r.Read c.in-Err.error)) ready copied;
+    }
+
+pub returns-in-Err-push : goal.returns-in-Err-push
+returns-in-Err-push g c =
+    let copied : StopsWriting g.R.Read g.W.Write c.args.count c.args.decoder.now c.args.encoder.now.writer c.pull.new.self c.push.new.self.writer =
+    record {
+      headers = c.headers.invariant.0;
+      fewer = omega (arith, c.headers.invariant.1, c.headers-test.true);
+      between = c.headers.decoder;
+      writer-between = c.headers.encoder.writer;
+      copied = c.headers.invariant.2;
+      last = c.in-Ok.header;
+      pulled = c.in-Ok.ensures.header;
+      stopped = c.in-Err-push.ensures.title;
+    } in
+    record {
+      copied = copied;
+      told = λ due written ready. told g.R.Read g.W.Write c.args.count _ _ _ _ due written (Err (r.Write c.in-Err-push.fault)) ready copied;
+      exactly = λ due written ready. exactly g.R.Read g.W.Write c.args.count _ _ _ _ due written (Err (r.Write c.in-Err-push.fault)) ready copied;
+    }
+
+pub returns : goal.returns
+returns g c =
+    let copied : CopiesAll g.R.Read g.W.Write c.args.count c.args.decoder.now c.args.encoder.now.writer c.headers.decoder c.headers.encoder.writer =
+    record {
+      headers = c.headers.invariant.0;
+      all = omega (arith, c.headers.invariant.1, c.headers-test.false, c.headers.auto._copied-end);
+      copied = c.headers.invariant.2;
+      again = AreTitles-shortest _ _ c.headers.invariant.2.titles;
+    } in
+    record {
+      copied = copied;
+      told = λ due written ready. told g.R.Read g.W.Write c.args.count _ _ _ _ due written (Ok (tt {0})) ready copied;
+      exactly = λ due written ready. exactly g.R.Read g.W.Write c.args.count _ _ _ _ due written (Ok (tt {0})) ready copied;
+    }

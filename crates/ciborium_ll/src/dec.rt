@@ -1,0 +1,272 @@
+//! The decoder: headers out of a reader.
+
+ghost use Rattle.std.specs.Prelude.{◌≡◌, ◌+◌, ◌≤◌, ◌<◌, ◌^◌};
+ghost use Rattle.std.specs.Int.{to_be_bytes, w8, w16, w32, w64};
+ghost use Rattle.ciborium_ll.specs.Title.{waiting_len};
+
+use crate::hdr::{Header, Minor, Title};
+use crate::io::{Failures, Read};
+
+/// Why a decoder failed.
+#[derive(Debug, Drop)]
+pub enum Error<T> {
+    /// The reader failed, and this is its error.
+    Io(T),
+    /// The bytes at this offset are no CBOR that could stand there.
+    Syntax(usize),
+    /// The offset would pass `usize::MAX`.
+    TooLong,
+    /// A header waits, so the decoder gives no bytes as a reader.
+    Waiting,
+}
+
+impl<T> From<T> for Error<T> {
+    ghost use Rattle.ciborium_ll.specs.declared.dec.Error.TheVariants.{Io};
+
+    ghost from_gives = { λ fault error. error ≡ Io fault };
+
+    fn from(fault: T) -> Error<T> {
+        Error::Io(fault)
+    }
+}
+
+/// Reads headers, and counts the bytes that it consumed.
+///
+/// A header that was pulled may be pushed back. It then waits, and is the next one to be pulled.
+#[derive(Drop)]
+pub struct Decoder<R> {
+    reader: R,
+    offset: usize,
+    waiting: Option<Header>,
+    refusals: Failures,
+    ghost covered: { offset + waiting_len waiting < 2 ^ 64 },
+}
+
+impl<R: Read> From<R> for Decoder<R> {
+    ghost use Rattle.ciborium_ll.specs.Decoding.{IsFresh};
+
+    ghost from_gives = { λ reader decoder. IsFresh reader 0 decoder };
+
+    /// A decoder at the offset 0.
+    fn from(reader: R) -> Decoder<R> {
+        Decoder::with_offset(reader, 0)
+    }
+}
+
+impl<R: Read> Decoder<R> {
+    ghost use Rattle.std.specs.Prelude.{◌<◌, ◌^◌, IsTrue, ◌↔◌, None, IsErrOf};
+    ghost use Rattle.ciborium_ll.specs.Title.{title_len};
+    ghost use Rattle.ciborium_ll.specs.Decoding.{IsFresh, IsSteady, IsWaiting, PullsHeader, ReadsBytes, ReadsMinor, TakesBack, offset_of, reader_of, refusals_of, waiting_of};
+
+    /// A decoder that counts from this offset, in bytes.
+    pub fn with_offset(reader: R, offset: usize) -> Decoder<R>
+        ensures { IsFresh reader offset result }
+    {
+        Decoder {
+            reader,
+            offset,
+            waiting: None,
+            refusals: Failures::new(),
+        }
+    }
+
+    /// The reader. A waiting header is given up.
+    pub fn into_inner(self) -> R
+        ensures { result ≡ reader_of self }
+    {
+        self.reader
+    }
+
+    /// How many bytes were consumed, counted from the offset at the start. A waiting header is not consumed.
+    pub fn offset(&mut self) -> usize
+        ensures value { result ≡ offset_of self.old }
+        ensures same { self.new ≡ self.old }
+    {
+        self.offset
+    }
+
+    /// Whether a header waits.
+    pub fn is_waiting(&self) -> bool
+        ensures { IsTrue result ↔ IsWaiting self.now }
+    {
+        self.waiting.is_some()
+    }
+
+    /// Takes the next header (RFC 7049, 2.1 to 2.3): the waiting one, or else one title from the reader.
+    ///
+    /// The errors are `Syntax` with the offset of the title's start, for one of the 27 first bytes with which no
+    /// title begins, and that byte is consumed; `Io` where the reader failed; and `TooLong` where the offset
+    /// can't take the next read. After the last two a first byte that was read stays consumed.
+    #[inline(always)]
+    pub fn pull(&mut self) -> Result<Header, Error<R::Error>>
+        ensures header { PullsHeader R.Read self.old result self.new }
+        ensures full { waiting_of self.old ≡ None → offset_of self.old ≡ usize.MAX → IsErrOf result Error.TooLong }
+        ensures steady { IsSteady R.Read self.old → IsSteady R.Read self.new }
+        ensures refusals { refusals_of self.new ≡ refusals_of self.old }
+    {
+        if let Some(header) = self.waiting.take() {
+            self.offset += header.title_len();
+            return Ok(header);
+        }
+        let start = self.offset;
+        let mut first = [0; 1];
+        self.read(&mut first)?;
+        let Some(minor) = self.minor(first[0] % 32)? else {
+            return Err(Error::Syntax(start));
+        };
+        let title = Title {
+            major: first[0] / 32,
+            minor,
+        };
+        match title.header() {
+            Some(header) => Ok(header),
+            None => Err(Error::Syntax(start)),
+        }
+    }
+
+    /// Gives a header back, to be pulled next. The offset falls by the length of its shortest title.
+    pub fn push(&mut self, item: Header)
+        requires none_waits { waiting_of self.old ≡ None }
+        requires covered { title_len item ≤ offset_of self.old }
+        ensures back { TakesBack R.Read self.old item self.new }
+        ensures refusals { refusals_of self.new ≡ refusals_of self.old }
+    {
+        self.offset -= item.title_len();
+        self.waiting = Some(item);
+    }
+
+    /// Reads the affix that a minor announces, or nothing for a reserved one.
+    fn minor(&mut self, bits: u8) -> Result<Option<Minor>, Error<R::Error>>
+        requires bits { bits < 32 }
+        requires none_waits { waiting_of self.old ≡ None }
+        ensures minor { ReadsMinor R.Read bits self.old result self.new }
+        ensures steady { IsSteady R.Read self.old → IsSteady R.Read self.new }
+        ensures refusals { refusals_of self.new ≡ refusals_of self.old }
+    {
+        Ok(Some(match bits {
+            0..=23 => {
+                self.read(&mut [])?;
+                Minor::Small(bits)
+            }
+            24 => {
+                let mut affix = [0; 1];
+                self.read(&mut affix)?;
+                Minor::One(one(affix))
+            }
+            25 => {
+                let mut affix = [0; 2];
+                self.read(&mut affix)?;
+                Minor::Two(two(affix))
+            }
+            26 => {
+                let mut affix = [0; 4];
+                self.read(&mut affix)?;
+                Minor::Four(four(affix))
+            }
+            27 => {
+                let mut affix = [0; 8];
+                self.read(&mut affix)?;
+                Minor::Eight(eight(affix))
+            }
+            31 => {
+                self.read(&mut [])?;
+                Minor::Open
+            }
+            _ => return Ok(None),
+        }))
+    }
+
+    /// Reads bytes while no header waits.
+    fn read(&mut self, data: &mut [u8]) -> Result<(), Error<R::Error>>
+        requires { waiting_of self.old ≡ None }
+        ensures bytes { ReadsBytes R.Read self.old result «data».new self.new }
+        ensures steady { IsSteady R.Read self.old → IsSteady R.Read self.new }
+        ensures refusals { refusals_of self.new ≡ refusals_of self.old }
+    {
+        if data.len() > usize::MAX - self.offset {
+            return Err(Error::TooLong);
+        }
+        self.reader.read_exact(data)?;
+        self.offset += data.len();
+        Ok(())
+    }
+}
+
+impl<R: Read> Read for Decoder<R> {
+    ghost use Rattle.std.specs.Prelude.{false, IsTrue, OnOk, OnErr, length, MatchResult};
+    ghost use Rattle.std.specs.Io.KnownBytes.{Consumes};
+    ghost use Rattle.std.proofs.Common.{rules};
+    ghost use Rattle.ciborium_ll.specs.Decoding.{CountsRefusal, IsSteady, ReadsBytes, refusals_of, told_unless_waiting};
+
+    type Error = Error<R::Error>;
+
+    ghost ahead = { λ d. told_unless_waiting d.waiting (R.ahead d.reader) };
+
+    ghost steady = { λ _. false };
+
+    ghost failures = { λ d. d.refusals.count + R.failures d.reader };
+
+    ghost steady_is_told = { λ _ h. Prim.search rules };
+
+    /// Reads the bytes of a body, behind the header that was pulled. The offset rises by their number.
+    ///
+    /// The errors are `Waiting` where a header waits, then `TooLong` where the offset would pass `usize::MAX`, and
+    /// `Io` where the reader failed. None of them moves the offset.
+    fn read_exact(&mut self, data: &mut [u8]) -> Result<(), Error<R::Error>>
+        // The trait's.
+        ensures bytes { OnOk result (Consumes (told_unless_waiting self.old.waiting (R.ahead self.old.reader))
+            (told_unless_waiting self.new.waiting (R.ahead self.new.reader)) «data».new) }
+        ensures ok { OnOk result (refusals_of self.new + R.failures self.new.reader
+            ≡ refusals_of self.old + R.failures self.old.reader) }
+        ensures err { OnErr result (refusals_of self.new + R.failures self.new.reader
+            ≡ refusals_of self.old + R.failures self.old.reader + 1) }
+
+        // The decoder's own.
+        ensures read { ReadsBytes R.Read self.old result «data».new self.new }
+        ensures steady { IsSteady R.Read self.old → IsSteady R.Read self.new }
+        ensures refusals { MatchResult result (λ _. refusals_of self.new ≡ refusals_of self.old)
+            (λ error. CountsRefusal error (refusals_of self.old) (refusals_of self.new)) }
+    {
+        let outcome = if self.waiting.is_some() {
+            Err(Error::Waiting)
+        } else {
+            self.read(data)
+        };
+        if matches!(outcome, Err(Error::Waiting | Error::TooLong)) {
+            self.refusals.raise();
+        }
+        outcome
+    }
+}
+
+/// The number in one byte.
+fn one(bytes: [u8; 1]) -> u8
+    ensures below { result < 2 ^ 8 }
+    ensures bytes { bytes ≡ to_be_bytes w8 result }
+{
+    u8::from_be_bytes(bytes)
+}
+
+/// The number in two bytes.
+fn two(bytes: [u8; 2]) -> u16
+    ensures below { result < 2 ^ 16 }
+    ensures bytes { bytes ≡ to_be_bytes w16 result }
+{
+    u16::from_be_bytes(bytes)
+}
+
+/// The number in four bytes.
+fn four(bytes: [u8; 4]) -> u32
+    ensures below { result < 2 ^ 32 }
+    ensures bytes { bytes ≡ to_be_bytes w32 result }
+{
+    u32::from_be_bytes(bytes)
+}
+
+/// The number in eight bytes.
+fn eight(bytes: [u8; 8]) -> u64
+    ensures below { result < 2 ^ 64 }
+    ensures bytes { bytes ≡ to_be_bytes w64 result }
+{
+    u64::from_be_bytes(bytes)
+}

@@ -1,0 +1,85 @@
+//! The encoder: headers into a writer.
+
+use crate::hdr::{Header, Minor};
+use crate::io::Write;
+
+/// Writes headers, each as its shortest title.
+///
+/// As a writer it passes on to the writer that it holds, which takes the bytes of bodies.
+#[derive(Drop)]
+pub struct Encoder<W> {
+    writer: W,
+}
+
+impl<W: Write> From<W> for Encoder<W> {
+    ghost use Rattle.std.specs.Prelude.{◌≡◌};
+    ghost use Rattle.ciborium_ll.specs.Encoding.{writer_of};
+
+    ghost from_gives = { λ writer encoder. writer_of encoder ≡ writer };
+
+    /// An encoder that appends to what was written.
+    fn from(writer: W) -> Encoder<W> {
+        Encoder { writer }
+    }
+}
+
+impl<W: Write> Write for Encoder<W> {
+    type Error = W::Error;
+
+    ghost written = { λ encoder. W.written encoder.writer };
+
+    ghost room = { λ encoder. W.room encoder.writer };
+
+    ghost failures = { λ encoder. W.failures encoder.writer };
+
+    /// Appends the bytes of a body. The error is the writer's.
+    fn write_all(&mut self, data: &[u8]) -> Result<(), W::Error> {
+        self.writer.write_all(data)
+    }
+
+    /// Flushes the writer. The error is the writer's.
+    fn flush(&mut self) -> Result<(), W::Error> {
+        self.writer.flush()
+    }
+}
+
+impl<W: Write> Encoder<W> {
+    ghost use Rattle.std.specs.Prelude.{◌≡◌, ◌<◌, ◌⊎◌, ℕ, List, length};
+    ghost use Rattle.ciborium_ll.specs.Title.{IsTitle, shortest_title};
+    ghost use Rattle.ciborium_ll.specs.Parts.{minor_affix};
+    ghost use Rattle.ciborium_ll.specs.Encoding.{WritesBytes, writer_of};
+
+    /// The writer.
+    pub fn into_inner(self) -> W
+        ensures { result ≡ writer_of self }
+    {
+        self.writer
+    }
+
+    /// Writes the shortest title of a header (RFC 7049, 3.9), as its first byte and its affix.
+    ///
+    /// The error is the writer's. A beginning of the title was then written.
+    #[inline(always)]
+    pub fn push(&mut self, header: Header) -> Result<(), W::Error>
+        ensures title { WritesBytes W.Write (writer_of self.old) result (shortest_title header) (writer_of self.new) }
+        ensures shortest { (other : List ℕ) → IsTitle other header
+            → (other ≡ shortest_title header) ⊎ (length (shortest_title header) < length other) }
+    {
+        let title = header.shortest();
+        self.writer.write_all(&[title.first_byte()])?;
+        self.affix(title.minor)
+    }
+
+    /// Writes the bytes behind a first byte.
+    fn affix(&mut self, minor: Minor) -> Result<(), W::Error>
+        ensures { WritesBytes W.Write (writer_of self.old) result (minor_affix minor) (writer_of self.new) }
+    {
+        match minor {
+            Minor::Small(_) | Minor::Open => self.writer.write_all(&[]),
+            Minor::One(n) => self.writer.write_all(&n.to_be_bytes()),
+            Minor::Two(n) => self.writer.write_all(&n.to_be_bytes()),
+            Minor::Four(n) => self.writer.write_all(&n.to_be_bytes()),
+            Minor::Eight(n) => self.writer.write_all(&n.to_be_bytes()),
+        }
+    }
+}

@@ -1,0 +1,42 @@
+//! Headers copied from a decoder to an encoder.
+
+ghost use Rattle.std.specs.Prelude.{ℕ, List, ◌↔◌, IsOk};
+ghost use Rattle.ciborium_ll.specs.Encoding.{writer_of};
+ghost use Rattle.ciborium_ll.specs.Copying.{CopiesHeaders, CopiesTold, IsReady, TitlesInFront};
+
+use crate::dec::Decoder;
+use crate::enc::Encoder;
+use crate::io::{Read, Write};
+use crate::recode::RecodeError;
+
+/// Pulls `count` headers, and pushes each as soon as it has it. Bodies are not followed.
+///
+/// The errors are `RecodeError::Read` with the answer of the `pull` that failed, behind headers that were all
+/// written, and `RecodeError::Write` with the error of the `push` that failed.
+///
+/// Where the reader is steady, the writer's room covers what is due and the offset fits, the copy succeeds exactly
+/// where that many titles are next. What it wrote is then their shortest spelling, which it would copy unchanged,
+/// and what follows them is left. Else it names the place of the first title that is cut or is none.
+pub fn copy_headers<R: Read, W: Write>(
+    decoder: &mut Decoder<R>,
+    encoder: &mut Encoder<W>,
+    count: usize,
+) -> Result<(), RecodeError<R::Error, W::Error>>
+    ensures copied { CopiesHeaders R.Read W.Write count decoder.old (writer_of encoder.old) result
+        decoder.new (writer_of encoder.new) }
+    ensures told { (due written : List ℕ) → IsReady R.Read W.Write decoder.old (writer_of encoder.old) due written
+        → CopiesTold R.Read W.Write count due written decoder.old result decoder.new (writer_of encoder.new) }
+    ensures exactly { (due written : List ℕ) → IsReady R.Read W.Write decoder.old (writer_of encoder.old) due written
+        → (IsOk result ↔ TitlesInFront count due) }
+{
+    'headers: for _copied in 0..count {
+        let header = match decoder.pull() {
+            Ok(header) => header,
+            Err(error) => return Err(RecodeError::Read(error)),
+        };
+        if let Err(fault) = encoder.push(header) {
+            return Err(RecodeError::Write(fault));
+        }
+    }
+    Ok(())
+}

@@ -1,0 +1,48 @@
+//! Laws of headers, and of a header that is given back.
+
+ghost use Rattle.std.specs.Prelude.{◌≡◌, ◌↔◌, IsTrue};
+ghost use Rattle.ciborium_ll.specs.Decoding.{PullsAgain};
+
+use crate::dec::{Decoder, Error};
+use crate::hdr::{Float, Header};
+use crate::io::Read;
+
+/// Headers are equal where their variants and numbers are.
+pub fn same_header(one: Header, other: Header) -> bool
+    ensures { IsTrue result ↔ (one ≡ other) }
+{
+    one == other
+}
+
+/// Floats are equal where their widths and bits are.
+pub fn same_float(one: Float, other: Float) -> bool
+    ensures { IsTrue result ↔ (one ≡ other) }
+{
+    one == other
+}
+
+/// A copy of a header equals it.
+pub fn copied_header(header: &Header) -> Header
+    ensures { result ≡ header.now }
+{
+    *header
+}
+
+/// A copy of a float equals it.
+pub fn copied_float(float: &Float) -> Float
+    ensures { result ≡ float.now }
+{
+    *float
+}
+
+/// Pulls a header, gives it back and pulls it again: the same header, with the reader and the offset as they were
+/// after the first time.
+///
+/// The errors are those of the first `pull`, and the second one never fails.
+pub fn pull_again<R: Read>(decoder: &mut Decoder<R>) -> Result<Header, Error<R::Error>>
+    ensures { PullsAgain R.Read decoder.old result decoder.new }
+{
+    let header = decoder.pull()?;
+    decoder.push(header);
+    decoder.pull()
+}
