@@ -1,3 +1,4 @@
+pub mod AdvanceLaws
 pub mod AffixLaws
 pub mod Complete
 pub mod CopyingLaws

@@ -6,6 +6,7 @@ pub mod Encoding
 pub mod Faults
 pub mod Items
 pub mod Parts
+pub mod Segments
 pub mod Steps
 pub mod Strings
 pub mod Text

@@ -7,8 +7,10 @@ mod hdr;
 pub mod io;
 pub mod laws;
 pub mod recode;
+mod seg;
 
 pub use self::dec::{Decoder, Error};
 pub use self::enc::Encoder;
 pub use self::hdr::{Float, Header};
 pub use self::recode::RecodeError;
+pub use self::seg::{Body, Bytes, Segment, Segments};

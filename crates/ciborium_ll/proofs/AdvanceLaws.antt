@@ -1,0 +1,128 @@
+-- How the titles of a string lead on, one after the other.
+use Rattle.std.proofs.Common.{◌≡◌, ℕ, suc, ◌+◌, ◌-◌, ◌<◌, ◌⊎◌, List, ◌++◌, length, Option, Some, None, Result, Ok, Err, refl, ap, subst, ◌∙◌, inl, inr, arith, add-one}
+use Rattle.ciborium_ll.specs.declared.io.Read.{Ghosts}
+use Rattle.ciborium_ll.specs.declared.dec.Decoder.{Decoder}
+use Rattle.ciborium_ll.specs.declared.dec.Error.{Error}
+use Rattle.ciborium_ll.specs.declared.dec.Error.TheVariants as e
+use Rattle.ciborium_ll.specs.declared.seg.Body.{Body}
+use Rattle.ciborium_ll.specs.declared.seg.Progress.{Progress}
+use Rattle.ciborium_ll.specs.declared.seg.Progress.TheVariants as p
+use Rattle.ciborium_ll.specs.Strings.{Kind}
+use Rattle.ciborium_ll.specs.Decoding.{IsSteady, Passes}
+use Rattle.ciborium_ll.specs.Segments.{Nests, in_place, deeper, back, AdvancesFrom, AdvancesTo, EndsAdvance, StepsOver, ClosesString, Deepens, ClosesInner}
+use Rattle.ciborium_ll.proofs.DecodingLaws.{Passes-none, Passes-pull}
+
+two_or_more : (n : ℕ) → 1 < n → (m : ℕ) × (n ≡ suc (suc m))
+two_or_more n l = (n - 2, omega arith)
+
+module _ {R E : Type 0} (source : Ghosts R E) (kind : Kind) where
+  -- titles that led on were pulled, and so many opens aren't closed
+  pub record LeadsTo (opens : ℕ) (old : Decoder R) (progress : Progress) (now : Decoder R) : Type 0 where
+    pub nest : List ℕ
+    pub left : ℕ
+    pub nests : Nests kind opens nest left
+    pub passed : Passes source old nest now
+    pub is : progress ≡ p.Open left
+
+  -- what the loop over titles keeps: they lead on or ended the string; and where it has an answer that stays, it is as before
+  abbrev pub Reached : Progress → Decoder R → Progress → Decoder R → Type 0
+  Reached (p.Open opens) old progress now = LeadsTo opens old progress now ⊎ AdvancesFrom source kind opens old (Ok None) progress now
+  Reached p.Ended old progress now = (progress ≡ p.Ended) × (now ≡ old)
+  Reached (p.Damaged place) old progress now = (progress ≡ p.Damaged place) × (now ≡ old)
+  Reached p.TooDeep old progress now = (progress ≡ p.TooDeep) × (now ≡ old)
+
+  pub Reached-start : (progress : Progress) (decoder : Decoder R) → Reached progress decoder progress decoder
+  Reached-start (p.Open opens) decoder = inl (record { nest = _; left = opens; nests = in_place; passed = Passes-none source decoder; is = refl })
+  Reached-start p.Ended decoder = (refl, refl)
+  Reached-start (p.Damaged place) decoder = (refl, refl)
+  Reached-start p.TooDeep decoder = (refl, refl)
+
+  -- the nest so far, with a title that leads on
+  leads_deeper : (opens left : ℕ) (old now new : Decoder R) (after : Progress) (led : LeadsTo opens old (p.Open left) now) → (IsSteady source now → IsSteady source new)
+      → Deepens source kind left now after new → LeadsTo opens old after new
+  leads_deeper opens left old now new after led steady step =
+      let f = led.is in
+      let same : led.left ≡ left = cc in
+      record {
+        nest = led.nest ++ step.pulled.title;
+        left = suc left;
+        nests = deeper (subst (λ (z : ℕ). Nests kind opens led.nest z) same led.nests) step.pulled.is_title;
+        passed = Passes-pull source old now new led.nest _ step.pulled led.passed steady;
+        is = rw (← add-one) step.after;
+      }
+
+  leads_back : (opens left : ℕ) (old now new : Decoder R) (after : Progress) (led : LeadsTo opens old (p.Open left) now) → (IsSteady source now → IsSteady source new)
+      → ClosesInner source kind left now after new → LeadsTo opens old after new
+  leads_back opens left old now new after led steady step =
+      let f = led.is in
+      let same : led.left ≡ left = cc in
+      let two = two_or_more left step.inner in
+      let one : left - 1 ≡ suc two.0 = omega (arith, two.1) in
+      record {
+        nest = led.nest ++ step.pulled.title;
+        left = suc two.0;
+        nests = back (subst (λ (z : ℕ). Nests kind opens led.nest z) (same ∙ two.1) led.nests) step.pulled.is_title;
+        passed = Passes-pull source old now new led.nest _ step.pulled led.passed steady;
+        is = step.after ∙ ap p.Open one;
+      }
+
+  -- the nest so far, and the title that decides
+  ends_from : (opens left : ℕ) (old now new : Decoder R) (result : Result (Option Body) (Error E)) (after : Progress) → LeadsTo opens old (p.Open left) now
+      → EndsAdvance source kind left now result after new → AdvancesFrom source kind opens old result after new
+  ends_from opens left old now new result after led ends =
+      let f = led.is in
+      let same : led.left ≡ left = cc in
+      record {
+        nest = led.nest;
+        left = left;
+        nests = subst (λ (z : ℕ). Nests kind opens led.nest z) same led.nests;
+        between = now;
+        passed = led.passed;
+        ends = ends;
+      }
+
+  -- a string that has ended has no open left
+  not_ended : (opens left : ℕ) (old now : Decoder R) → AdvancesFrom source kind opens old (Ok None) (p.Open left) now → ⊥
+  not_ended opens left old now all = let f = all.ends.after in cc
+
+  pub Reached-step : (first : Progress) (left : ℕ) (old now new : Decoder R) (after : Progress) → Reached first old (p.Open left) now → (IsSteady source now → IsSteady source new)
+      → StepsOver source kind left now (Ok None) after new → Reached first old after new
+  Reached-step (p.Open opens) left old now new after (inl led) steady (inl closes) = inr (ends_from opens left old now new (Ok None) after led closes)
+  Reached-step (p.Open opens) left old now new after (inl led) steady (inr (inl deepens)) = inl (leads_deeper opens left old now new after led steady deepens)
+  Reached-step (p.Open opens) left old now new after (inl led) steady (inr (inr inner)) = inl (leads_back opens left old now new after led steady inner)
+  Reached-step (p.Open opens) left old now new after (inr ended) steady step = absurd (not_ended opens left old now ended)
+  Reached-step p.Ended left old now new after r steady step = let f = r.0 in cc
+  Reached-step (p.Damaged place) left old now new after r steady step = let f = r.0 in cc
+  Reached-step p.TooDeep left old now new after r steady step = let f = r.0 in cc
+
+  -- a title that decides gives the answer
+  pub Reached-ends : (first : Progress) (left : ℕ) (old now new : Decoder R) (result : Result (Option Body) (Error E)) (after : Progress) → Reached first old (p.Open left) now
+      → EndsAdvance source kind left now result after new → AdvancesTo source kind first old result after new
+  Reached-ends (p.Open opens) left old now new result after (inl led) ends = ends_from opens left old now new result after led ends
+  Reached-ends (p.Open opens) left old now new result after (inr ended) ends = absurd (not_ended opens left old now ended)
+  Reached-ends p.Ended left old now new result after r ends = let f = r.0 in cc
+  Reached-ends (p.Damaged place) left old now new result after r ends = let f = r.0 in cc
+  Reached-ends p.TooDeep left old now new result after r ends = let f = r.0 in cc
+
+  -- without a title that is due, the answer is the one that stays
+  pub Reached-ended : (first : Progress) (old now : Decoder R) → Reached first old p.Ended now → AdvancesTo source kind first old (Ok None) p.Ended now
+  Reached-ended (p.Open opens) old now (inl led) = let f = led.is in cc
+  Reached-ended (p.Open opens) old now (inr ended) = ended
+  Reached-ended p.Ended old now r = (refl, refl, r.1)
+  Reached-ended (p.Damaged place) old now r = let f = r.0 in cc
+  Reached-ended p.TooDeep old now r = let f = r.0 in cc
+
+  pub Reached-damaged : (first : Progress) (old now : Decoder R) (place : ℕ) → Reached first old (p.Damaged place) now
+      → AdvancesTo source kind first old (Err (e.Syntax place)) (p.Damaged place) now
+  Reached-damaged (p.Open opens) old now place (inl led) = let f = led.is in cc
+  Reached-damaged (p.Open opens) old now place (inr ended) = let f = ended.ends.after in cc
+  Reached-damaged p.Ended old now place r = let f = r.0 in cc
+  Reached-damaged (p.Damaged at) old now place r = let f = r.0 in let same : place ≡ at = cc in (ap (λ (z : ℕ). Err (e.Syntax z)) same, f, r.1)
+  Reached-damaged p.TooDeep old now place r = let f = r.0 in cc
+
+  pub Reached-too_deep : (first : Progress) (old now : Decoder R) → Reached first old p.TooDeep now → AdvancesTo source kind first old (Err e.TooLong) p.TooDeep now
+  Reached-too_deep (p.Open opens) old now (inl led) = let f = led.is in cc
+  Reached-too_deep (p.Open opens) old now (inr ended) = let f = ended.ends.after in cc
+  Reached-too_deep p.Ended old now r = let f = r.0 in cc
+  Reached-too_deep (p.Damaged place) old now r = let f = r.0 in cc
+  Reached-too_deep p.TooDeep old now r = (refl, refl, r.1)

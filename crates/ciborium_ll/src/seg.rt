@@ -1,0 +1,188 @@
+//! Strings, lent piece by piece (RFC 7049, 2.2.2).
+
+ghost use Rattle.std.specs.Prelude.{◌≡◌, ◌≤◌, ◌<◌, ◌+◌, ◌^◌, ◌⊎◌, length, IfSome, IfNone, [], None, Some};
+ghost use Rattle.ciborium_ll.specs.declared.hdr.Header.TheVariants.{Break};
+ghost use Rattle.ciborium_ll.specs.Strings.{Kind, kind_header};
+ghost use Rattle.ciborium_ll.specs.Faults.{IsMisplaced};
+
+use crate::dec::{Decoder, Error};
+use crate::hdr::Header;
+use crate::io::Read;
+use std::marker::PhantomData;
+
+/// A kind of string: which headers begin one.
+pub trait Parser {
+    ghost kind: { Kind };
+
+    /// The length in a header of the kind, or `Some(None)` for the indefinite form.
+    fn length(header: Header) -> Option<Option<usize>>
+        ensures of_kind { IfSome result (λ length. header ≡ kind_header kind length) }
+        ensures other { IfNone result ((header ≡ Break) ⊎ IsMisplaced kind header) };
+}
+
+/// The kind of byte strings.
+#[derive(Default, Drop)]
+pub struct Bytes(());
+
+impl Parser for Bytes {
+    ghost use Rattle.ciborium_ll.specs.Strings.{Bytes as byte_strings};
+
+    ghost kind = { byte_strings };
+
+    fn length(header: Header) -> Option<Option<usize>> {
+        match header {
+            Header::Bytes(length) => Some(length),
+            _ => None,
+        }
+    }
+}
+
+/// The body of the next segment: its length in bytes, and the offset of its title.
+#[derive(Clone, Copy)]
+pub struct Body {
+    /// How many bytes the body has.
+    pub length: usize,
+    /// The offset before the title was pulled, which a damage of the body names.
+    pub place: usize,
+}
+
+/// How far the titles of a string were read.
+#[derive(Clone, Copy)]
+pub(crate) enum Progress {
+    /// A title is due, and so many opens aren't closed.
+    Open(usize),
+    /// The string has ended.
+    Ended,
+    /// The bytes at this offset are no part of a string.
+    Damaged(usize),
+    /// There are more opens than can be counted.
+    TooDeep,
+}
+
+/// The segments of a string: its one body, or the bodies between an open and its break, to any depth.
+#[derive(Drop)]
+pub struct Segments<'r, R, P> {
+    reader: &'r mut Decoder<R>,
+    progress: Progress,
+    parser: PhantomData<P>,
+}
+
+impl<'r, R: Read, P: Parser> Segments<'r, R, P> {
+    ghost use Rattle.std.specs.Prelude.{OnOk};
+    ghost use Rattle.ciborium_ll.specs.declared.seg.Progress.TheVariants.{Open};
+    ghost use Rattle.ciborium_ll.specs.Decoding.{IsSteady, offset_of, refusals_of};
+    ghost use Rattle.ciborium_ll.specs.Segments.{AdvancesTo, StepsOver, opens_of};
+
+    /// The segments of the string whose header waits.
+    pub(crate) fn new(reader: &'r mut Decoder<R>) -> Segments<'r, R, P>
+        ensures same_reference { result.reader.ghost_name ≡ reader.entry.ghost_name }
+        ensures lent { result.reader.now ≡ reader.old }
+        ensures fresh { result.progress ≡ Open 0 }
+    {
+        Segments {
+            reader,
+            progress: Progress::Open(0),
+            parser: PhantomData,
+        }
+    }
+
+    /// Goes on to the next segment, past opens and breaks, and gives its body's length and place.
+    ///
+    /// `None` says that the string has ended, and stays. The errors are `Syntax` with the offset of a title that may
+    /// not stand there or is none, which stays; `Io` where the reader failed, and `TooLong` where the offset can't
+    /// take the next read: the opens so far stay counted, and the next call reads on; and `TooLong` for an open that
+    /// can't be counted, which stays. An answer that stays reads nothing.
+    pub fn advance(&mut self) -> Result<Option<Body>, Error<R::Error>>
+        ensures same_reference { self.new.reader.ghost_name ≡ self.old.reader.ghost_name }
+        ensures advances { AdvancesTo R.Read P.kind self.old.progress self.old.reader.now result
+            self.new.progress self.new.reader.now }
+        ensures rises { offset_of self.old.reader.now ≤ offset_of self.new.reader.now }
+        ensures opens { opens_of self.new.progress + offset_of self.old.reader.now
+            ≤ opens_of self.old.progress + offset_of self.new.reader.now }
+        ensures steady { IsSteady R.Read self.old.reader.now → IsSteady R.Read self.new.reader.now }
+        ensures refusals { refusals_of self.new.reader.now ≡ refusals_of self.old.reader.now }
+    {
+        'titles: while let Progress::Open(opens) = self.progress {
+            if let Some(body) = self.step(opens)? {
+                return Ok(Some(body));
+            }
+        }
+        match self.progress {
+            Progress::Damaged(place) => Err(Error::Syntax(place)),
+            Progress::TooDeep => Err(Error::TooLong),
+            Progress::Open(_) | Progress::Ended => Ok(None),
+        }
+    }
+
+    /// Pulls one title, with so many opens that aren't closed.
+    fn step(&mut self, opens: usize) -> Result<Option<Body>, Error<R::Error>>
+        requires { self.old.progress ≡ Open opens }
+        ensures same_reference { self.new.reader.ghost_name ≡ self.old.reader.ghost_name }
+        ensures steps { StepsOver R.Read P.kind opens self.old.reader.now result self.new.progress self.new.reader.now }
+        ensures rises { offset_of self.old.reader.now ≤ offset_of self.new.reader.now }
+        ensures goes_on { OnOk result (offset_of self.old.reader.now < offset_of self.new.reader.now) }
+        ensures opens { opens_of self.new.progress + offset_of self.old.reader.now
+            ≤ opens + offset_of self.new.reader.now }
+        ensures steady { IsSteady R.Read self.old.reader.now → IsSteady R.Read self.new.reader.now }
+        ensures refusals { refusals_of self.new.reader.now ≡ refusals_of self.old.reader.now }
+    {
+        let place = self.reader.offset();
+        let header = match self.reader.pull() {
+            Ok(header) => header,
+            Err(error) => {
+                if let Error::Syntax(refused) = &error {
+                    self.progress = Progress::Damaged(*refused);
+                }
+                return Err(error);
+            }
+        };
+        match P::length(header) {
+            Some(Some(length)) => {
+                if opens == 0 {
+                    self.progress = Progress::Ended;
+                }
+                Ok(Some(Body { length, place }))
+            }
+            Some(None) if opens == usize::MAX => {
+                self.progress = Progress::TooDeep;
+                Err(Error::TooLong)
+            }
+            Some(None) => {
+                self.progress = Progress::Open(opens + 1);
+                Ok(None)
+            }
+            None if header == Header::Break && opens > 0 => {
+                self.progress = if opens == 1 {
+                    Progress::Ended
+                } else {
+                    Progress::Open(opens - 1)
+                };
+                Ok(None)
+            }
+            None => {
+                self.progress = Progress::Damaged(place);
+                Err(Error::Syntax(place))
+            }
+        }
+    }
+}
+
+/// Up to three bytes of a text that may begin a character.
+#[derive(Clone, Copy)]
+pub(crate) enum Kept {
+    Nothing,
+    One(u8),
+    Two(u8, u8),
+    Three(u8, u8, u8),
+}
+
+/// One segment of a string, which lends the decoder until it is dropped.
+#[derive(Drop)]
+pub struct Segment<'r, R, P> {
+    reader: &'r mut Decoder<R>,
+    unread: usize,
+    place: usize,
+    kept: Kept,
+    damaged: bool,
+    parser: PhantomData<P>,
+}
