@@ -1,6 +1,7 @@
 pub mod AdvanceLaws
 pub mod AffixLaws
 pub mod Complete
+pub mod ChunkLaws
 pub mod CopyingLaws
 pub mod CopyingTold
 pub mod CutLaws

@@ -47,6 +47,12 @@ module _ {R : Type 0} where
   abbrev pub refusals_of : Decoder R → ℕ
   refusals_of d = d.refusals.count
 
+  -- the decoder refused the read, and nothing changed but its count of refusals
+  pub record IsUntouched (old new : Decoder R) : Type 0 where
+    pub reader : new.reader ≡ old.reader
+    pub offset : new.offset ≡ old.offset
+    pub waiting : new.waiting ≡ old.waiting
+
   -- nothing was pulled yet
   pub record IsFresh (r : R) (start : ℕ) (d : Decoder R) : Type 0 where
     pub reader : d.reader ≡ r
@@ -193,12 +199,6 @@ module _ {R E : Type 0} (source : Ghosts R E) where
     pub failures : failures_of new ≡ failures_of old + 1
     -- a steady reader fails only where bytes are missing, and keeps what there is
     pub steady : IsSteady old → (source.ahead new.reader ≡ source.ahead old.reader) × IfSome (source.ahead old.reader) (λ bytes. length bytes < count)
-
-  -- the decoder refused the read, and nothing changed but its count of refusals
-  pub record IsUntouched (old new : Decoder R) : Type 0 where
-    pub reader : new.reader ≡ old.reader
-    pub offset : new.offset ≡ old.offset
-    pub waiting : new.waiting ≡ old.waiting
 
   -- a read of as many bytes as the list has, which holds them where the answer is Ok
   abbrev pub ReadsBytes : Decoder R → Result (Unit {0}) (Error E) → List ℕ → Decoder R → Type 0

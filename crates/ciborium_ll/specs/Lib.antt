@@ -1,3 +1,4 @@
+pub mod Chunks
 pub mod Copying
 pub mod Cuts
 pub mod Decoding
@@ -5,6 +6,7 @@ pub mod Elements
 pub mod Encoding
 pub mod Faults
 pub mod Items
+pub mod Kept
 pub mod Parts
 pub mod Segments
 pub mod Steps

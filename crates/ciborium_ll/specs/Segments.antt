@@ -1,8 +1,5 @@
 -- What the calls on strings do, which lend a decoder piece by piece.
-use Rattle.std.specs.Prelude.{◌≡◌, ℕ, suc, ◌+◌, ◌-◌, ◌<◌, ◌≤◌, ◌^◌, ◌⊎◌, min, Bool, true, false, List, [], ◌∷◌, ◌++◌, length, take, Option, Some, None, Result, Ok, Err}
-use Rattle.std.specs.Borrow.{Bor}
-use Rattle.std.specs.Io.KnownBytes.{prepend_known}
-use Rattle.std.specs.Option.{option_map}
+use Rattle.std.specs.Prelude.{◌≡◌, ℕ, suc, ◌+◌, ◌-◌, ◌<◌, ◌^◌, ◌⊎◌, List, [], ◌++◌, Option, Some, None, Result, Ok, Err}
 use Rattle.ciborium_ll.specs.declared.io.Read.{Ghosts}
 use Rattle.ciborium_ll.specs.declared.hdr.Header.{Header}
 use Rattle.ciborium_ll.specs.declared.hdr.Header.TheVariants as h
@@ -10,16 +7,12 @@ use Rattle.ciborium_ll.specs.declared.dec.Decoder.{Decoder}
 use Rattle.ciborium_ll.specs.declared.dec.Error.{Error}
 use Rattle.ciborium_ll.specs.declared.dec.Error.TheVariants as e
 use Rattle.ciborium_ll.specs.declared.seg.Body.{Body}
-use Rattle.ciborium_ll.specs.declared.seg.Kept.{Kept}
-use Rattle.ciborium_ll.specs.declared.seg.Kept.TheVariants as k
 use Rattle.ciborium_ll.specs.declared.seg.Progress.{Progress}
 use Rattle.ciborium_ll.specs.declared.seg.Progress.TheVariants as p
-use Rattle.ciborium_ll.specs.declared.seg.Segment.{Segment}
 use Rattle.ciborium_ll.specs.Title.{IsTitle}
-use Rattle.ciborium_ll.specs.Strings.{Kind, Bytes, Text, kind_header}
-use Rattle.ciborium_ll.specs.Text.{IsCharacters, IsFront}
+use Rattle.ciborium_ll.specs.Strings.{Kind, kind_header}
 use Rattle.ciborium_ll.specs.Faults.{IsMisplaced}
-use Rattle.ciborium_ll.specs.Decoding.{offset_limit, Passes, PullsHeader, PullsTitle, ReadsAll, ReadFails, IsUntouched}
+use Rattle.ciborium_ll.specs.Decoding.{Passes, PullsHeader, PullsTitle}
 
 -- ---- opens and breaks in a row
 
@@ -112,20 +105,3 @@ module _ {R E : Type 0} (source : Ghosts R E) (kind : Kind) where
   AdvancesTo p.Ended old result progress new = (result ≡ Ok None) × (progress ≡ p.Ended) × (new ≡ old)
   AdvancesTo (p.Damaged place) old result progress new = (result ≡ Err (e.Syntax place)) × (progress ≡ p.Damaged place) × (new ≡ old)
   AdvancesTo p.TooDeep old result progress new = (result ≡ Err e.TooLong) × (progress ≡ p.TooDeep) × (new ≡ old)
-
--- ---- one segment
-
-abbrev pub kept_bytes : Kept → List ℕ
-kept_bytes k.Nothing = []
-kept_bytes (k.One first) = first ∷ []
-kept_bytes (k.Two first second) = first ∷ second ∷ []
-kept_bytes (k.Three first second third) = first ∷ second ∷ third ∷ []
-
--- no beginning of the bytes is text, but for the empty one
-abbrev pub IsStuck : List ℕ → Type 0
-IsStuck bytes = (front rest : List ℕ) → bytes ≡ front ++ rest → IsCharacters front → front ≡ []
-
--- of a text the longest front that is text is handed out, of bytes all
-abbrev pub IsSplit : Kind → List ℕ → List ℕ → List ℕ → Type 0
-IsSplit Bytes bytes front rest = (front ≡ bytes) × (rest ≡ [])
-IsSplit Text bytes front rest = IsFront bytes front rest

@@ -177,7 +177,7 @@ impl<R: Read> Decoder<R> {
     }
 
     /// Reads bytes while no header waits.
-    fn read(&mut self, data: &mut [u8]) -> Result<(), Error<R::Error>>
+    pub(crate) fn read(&mut self, data: &mut [u8]) -> Result<(), Error<R::Error>>
         requires { waiting_of self.old ≡ None }
         ensures bytes { ReadsBytes R.Read self.old result «data».new self.new }
         ensures steady { IsSteady R.Read self.old → IsSteady R.Read self.new }

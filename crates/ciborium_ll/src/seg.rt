@@ -2,7 +2,8 @@
 
 ghost use Rattle.std.specs.Prelude.{◌≡◌, ◌≤◌, ◌<◌, ◌+◌, ◌^◌, ◌⊎◌, length, IfSome, IfNone, [], None, Some};
 ghost use Rattle.ciborium_ll.specs.declared.hdr.Header.TheVariants.{Break};
-ghost use Rattle.ciborium_ll.specs.Strings.{Kind, kind_header};
+ghost use Rattle.ciborium_ll.specs.Strings.{Kind, kind_header, Bytes as byte_strings};
+ghost use Rattle.ciborium_ll.specs.Kept.{IsStuck, kept_bytes, kept_len};
 ghost use Rattle.ciborium_ll.specs.Faults.{IsMisplaced};
 
 use crate::dec::{Decoder, Error};
@@ -25,8 +26,6 @@ pub trait Parser {
 pub struct Bytes(());
 
 impl Parser for Bytes {
-    ghost use Rattle.ciborium_ll.specs.Strings.{Bytes as byte_strings};
-
     ghost kind = { byte_strings };
 
     fn length(header: Header) -> Option<Option<usize>> {
@@ -61,7 +60,7 @@ pub(crate) enum Progress {
 
 /// The segments of a string: its one body, or the bodies between an open and its break, to any depth.
 #[derive(Drop)]
-pub struct Segments<'r, R, P> {
+pub struct Segments<'r, R, P: Parser> {
     reader: &'r mut Decoder<R>,
     progress: Progress,
     parser: PhantomData<P>,
@@ -176,13 +175,95 @@ pub(crate) enum Kept {
     Three(u8, u8, u8),
 }
 
+impl Kept {
+    ghost use Rattle.ciborium_ll.specs.Kept.{kept_bytes};
+
+    /// How many bytes are kept.
+    fn len(self) -> usize
+        ensures { result ≡ length (kept_bytes self) }
+    {
+        match self {
+            Kept::Nothing => 0,
+            Kept::One(..) => 1,
+            Kept::Two(..) => 2,
+            Kept::Three(..) => 3,
+        }
+    }
+}
+
 /// One segment of a string, which lends the decoder until it is dropped.
+///
+/// It holds the bytes of its body that were not read yet, and of a text up to three that were read and may begin a
+/// character.
 #[derive(Drop)]
-pub struct Segment<'r, R, P> {
+pub struct Segment<'r, R, P: Parser> {
     reader: &'r mut Decoder<R>,
     unread: usize,
     place: usize,
     kept: Kept,
     damaged: bool,
     parser: PhantomData<P>,
+    ghost counted: { unread + kept_len kept < 2 ^ 64 },
+    ghost none_waits: { reader.now.waiting ≡ None },
+    ghost stuck: { IsStuck (kept_bytes kept) },
+    ghost text_alone: { P.kind ≡ byte_strings → kept_bytes kept ≡ [] },
+}
+
+impl<'r, R: Read, P: Parser> Segment<'r, R, P> {
+    ghost use Rattle.ciborium_ll.specs.Chunks.{IsWhole, left_of};
+    ghost use Rattle.ciborium_ll.specs.Decoding.{waiting_of};
+
+    /// The segment of a body that is next in the decoder's reader.
+    pub(crate) fn new(reader: &'r mut Decoder<R>, body: Body) -> Segment<'r, R, P>
+        requires { waiting_of reader.old ≡ None }
+        ensures same_reference { result.reader.ghost_name ≡ reader.entry.ghost_name }
+        ensures lent { result.reader.now ≡ reader.old }
+        ensures whole { IsWhole body result }
+    {
+        Segment {
+            reader,
+            unread: body.length,
+            place: body.place,
+            kept: Kept::Nothing,
+            damaged: false,
+            parser: PhantomData,
+        }
+    }
+
+    /// How many bytes of the body were not handed out: those that were not read, and those that are kept. After a
+    /// damage those that were not read alone.
+    pub fn left(&self) -> usize
+        ensures { result ≡ left_of self.now }
+    {
+        self.unread + self.kept.len()
+    }
+}
+
+impl<'r, R: Read> Segment<'r, R, Bytes> {
+    ghost use Rattle.ciborium_ll.specs.Decoding.{IsSteady, refusals_of};
+    ghost use Rattle.ciborium_ll.specs.Chunks.{PullsChunk};
+
+    /// Reads the next bytes of the body, as many as there are and the buffer holds.
+    ///
+    /// `None` says that the body has ended. An empty buffer gives an empty chunk while bytes are left. The errors are
+    /// `Io` where the reader failed, and `TooLong` where the offset would pass `usize::MAX`; both leave the segment as
+    /// it was.
+    pub fn pull<'a>(&mut self, buffer: &'a mut [u8]) -> Result<Option<&'a [u8]>, Error<R::Error>>
+        ensures same_reference { self.new.reader.ghost_name ≡ self.old.reader.ghost_name }
+        ensures chunk { PullsChunk R.Read (length buffer.old) self.old result self.new }
+        ensures steady { IsSteady R.Read self.old.reader.now → IsSteady R.Read self.new.reader.now }
+        ensures refusals { refusals_of self.new.reader.now ≡ refusals_of self.old.reader.now }
+    {
+        if self.damaged {
+            return Err(Error::Syntax(self.place));
+        }
+        if self.unread == 0 {
+            return Ok(None);
+        }
+        let size = buffer.len().min(self.unread);
+        let chunk = &mut buffer[..size];
+        self.reader.read(chunk)?;
+        self.unread -= size;
+        Ok(Some(chunk))
+    }
 }

@@ -1,0 +1,148 @@
+-- What the calls on a segment do, which gives its body chunk by chunk.
+use Rattle.std.specs.Prelude.{◌≡◌, ℕ, ◌+◌, ◌-◌, ◌<◌, ◌≤◌, ◌⊎◌, min, true, false, List, [], ◌++◌, length, take, Option, Some, None, Result, Ok, Err}
+use Rattle.std.specs.Borrow.{Bor}
+use Rattle.std.specs.Io.KnownBytes.{prepend_known}
+use Rattle.std.specs.Option.{option_map}
+use Rattle.ciborium_ll.specs.declared.io.Read.{Ghosts}
+use Rattle.ciborium_ll.specs.declared.dec.Decoder.{Decoder}
+use Rattle.ciborium_ll.specs.declared.dec.Error.{Error}
+use Rattle.ciborium_ll.specs.declared.dec.Error.TheVariants as e
+use Rattle.ciborium_ll.specs.declared.seg.Body.{Body}
+use Rattle.ciborium_ll.specs.declared.seg.Parser.{Ghosts as Parser}
+use Rattle.ciborium_ll.specs.declared.seg.Segment.{Segment}
+use Rattle.ciborium_ll.specs.Strings.{Kind, Bytes, Text}
+use Rattle.ciborium_ll.specs.Text.{IsFront}
+use Rattle.ciborium_ll.specs.Decoding.{offset_limit, ReadsAll, ReadFails, IsUntouched}
+use Rattle.ciborium_ll.specs.Kept.{kept_bytes}
+
+-- of a text the longest front that is text is handed out, of bytes all
+abbrev pub IsSplit : Kind → List ℕ → List ℕ → List ℕ → Type 0
+IsSplit Bytes bytes front rest = (front ≡ bytes) × (rest ≡ [])
+IsSplit Text bytes front rest = IsFront bytes front rest
+
+-- ---- what a segment is to its callers
+
+module _ {R P : Type 0} {parser : Parser P} where
+  -- the decoder, as it is now
+  abbrev pub decoder_of : Segment R P parser → Decoder R
+  decoder_of s = s.reader.now
+
+  -- how many bytes of the body were not read yet
+  abbrev pub unread_of : Segment R P parser → ℕ
+  unread_of s = s.unread
+
+  -- bytes that were read and not handed out, since they may begin a character
+  abbrev pub kept_of : Segment R P parser → List ℕ
+  kept_of s = kept_bytes s.kept
+
+  abbrev pub place_of : Segment R P parser → ℕ
+  place_of s = s.place
+
+  -- the body was found to be no text
+  abbrev pub IsDamaged : Segment R P parser → Type 0
+  IsDamaged s = s.damaged ≡ true
+
+  abbrev pub left_of : Segment R P parser → ℕ
+  left_of s = s.unread + length (kept_bytes s.kept)
+
+  -- nothing of the body was read
+  pub record IsWhole (body : Body) (s : Segment R P parser) : Type 0 where
+    pub unread : s.unread ≡ body.length
+    pub place : s.place ≡ body.place
+    pub kept : kept_bytes s.kept ≡ []
+    pub sound : s.damaged ≡ false
+
+  -- the segment is as it was, but for its decoder
+  pub record IsSame (old new : Segment R P parser) : Type 0 where
+    pub unread : new.unread ≡ old.unread
+    pub place : new.place ≡ old.place
+    pub kept : new.kept ≡ old.kept
+    pub damaged : new.damaged ≡ old.damaged
+
+  -- how many bytes are read into so much room: kept ones come first, and of the rest as many as there are
+  abbrev pub read_count : ℕ → Segment R P parser → ℕ
+  read_count room s = let size = min room (left_of s) in size - min size (length (kept_bytes s.kept))
+
+module _ {R E P : Type 0} {parser : Parser P} (source : Ghosts R E) where
+  -- the kept bytes, and as much of the body as is told
+  abbrev pub rest : Segment R P parser → Option (List ℕ)
+  rest s = prepend_known (kept_bytes s.kept) (option_map (take s.unread) (source.ahead s.reader.now.reader))
+
+  -- the body has ended
+  pub record SegmentEnds (old new : Segment R P parser) : Type 0 where
+    pub none_unread : old.unread ≡ 0
+    pub none_kept : kept_bytes old.kept ≡ []
+    pub sound : old.damaged ≡ false
+    pub same : IsSame old new
+    pub decoder : new.reader.now ≡ old.reader.now
+
+  -- a read of the count of bytes
+  pub record ReadsOn (room : ℕ) (old : Segment R P parser) (read : List ℕ) (new : Segment R P parser) : Type 0 where
+    pub some_unread : 0 < old.unread
+    pub sound : old.damaged ≡ false
+    pub count : length read ≡ read_count room old
+    pub reads : ReadsAll source old.reader.now read new.reader.now
+    pub unread : new.unread + length read ≡ old.unread
+    pub place : new.place ≡ old.place
+
+  -- a chunk: of the bytes kept and read what can be handed out, and what can't is kept
+  pub record GivesChunk (room : ℕ) (old : Segment R P parser) (chunk : List ℕ) (new : Segment R P parser) : Type 0 where
+    pub read : List ℕ
+    pub reads : ReadsOn room old read new
+    pub split : IsSplit parser.kind (kept_bytes old.kept ++ read) chunk (kept_bytes new.kept)
+    pub still_sound : new.damaged ≡ false
+
+  -- bytes were kept, and the body has ended
+  pub record EndsInCharacter (old new : Segment R P parser) : Type 0 where
+    pub none_unread : old.unread ≡ 0
+    pub some_kept : 0 < length (kept_bytes old.kept)
+    pub sound : old.damaged ≡ false
+    pub unread : new.unread ≡ old.unread
+    pub decoder : new.reader.now ≡ old.reader.now
+
+  -- more than three bytes would have to be kept
+  pub record KeepsTooMuch (room : ℕ) (old new : Segment R P parser) : Type 0 where
+    pub read : List ℕ
+    pub reads : ReadsOn room old read new
+    pub front : List ℕ
+    pub left : List ℕ
+    pub split : IsSplit parser.kind (kept_bytes old.kept ++ read) front left
+    pub too_much : 3 < length left
+
+  -- the damage was found before
+  pub record StaysDamaged (old new : Segment R P parser) : Type 0 where
+    pub damaged-before : old.damaged ≡ true
+    pub same : IsSame old new
+    pub decoder : new.reader.now ≡ old.reader.now
+
+  -- the body is no text; the place is the segment's, and nothing is kept
+  pub record FindsDamage (room : ℕ) (old : Segment R P parser) (at : ℕ) (new : Segment R P parser) : Type 0 where
+    pub place : at ≡ old.place
+    pub same_place : new.place ≡ old.place
+    pub damaged : new.damaged ≡ true
+    pub cause : StaysDamaged old new ⊎ (EndsInCharacter old new ⊎ KeepsTooMuch room old new)
+    pub none_kept : StaysDamaged old new ⊎ (kept_bytes new.kept ≡ [])
+
+  -- the reader failed
+  pub record ChunkFails (room : ℕ) (old new : Segment R P parser) : Type 0 where
+    pub some_unread : 0 < old.unread
+    pub sound : old.damaged ≡ false
+    pub fails : ReadFails source old.reader.now (read_count room old) new.reader.now
+    pub same : IsSame old new
+
+  -- the offset can't take the read
+  pub record ChunkPasses (room : ℕ) (old new : Segment R P parser) : Type 0 where
+    pub some_unread : 0 < old.unread
+    pub sound : old.damaged ≡ false
+    pub full : offset_limit ≤ old.reader.now.offset + read_count room old
+    pub untouched : IsUntouched old.reader.now new.reader.now
+    pub same : IsSame old new
+
+  -- a pull into so much room
+  abbrev pub PullsChunk : ℕ → Segment R P parser → Result (Option (Bor (List ℕ))) (Error E) → Segment R P parser → Type 0
+  PullsChunk room old (Ok None) new = SegmentEnds old new
+  PullsChunk room old (Ok (Some chunk)) new = GivesChunk room old chunk.now new
+  PullsChunk room old (Err (e.Io fault)) new = ChunkFails room old new
+  PullsChunk room old (Err (e.Syntax place)) new = FindsDamage room old place new
+  PullsChunk room old (Err e.TooLong) new = ChunkPasses room old new
+  PullsChunk room old (Err e.Waiting) new = ⊥

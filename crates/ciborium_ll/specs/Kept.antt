@@ -1,0 +1,21 @@
+-- The bytes of a text that may begin a character, which a segment keeps.
+use Rattle.std.specs.Prelude.{◌≡◌, ℕ, List, [], ◌∷◌, ◌++◌}
+use Rattle.ciborium_ll.specs.declared.seg.Kept.{Kept}
+use Rattle.ciborium_ll.specs.declared.seg.Kept.TheVariants as k
+use Rattle.ciborium_ll.specs.Text.{IsCharacters}
+
+abbrev pub kept_bytes : Kept → List ℕ
+kept_bytes k.Nothing = []
+kept_bytes (k.One first) = first ∷ []
+kept_bytes (k.Two first second) = first ∷ second ∷ []
+kept_bytes (k.Three first second third) = first ∷ second ∷ third ∷ []
+
+abbrev pub kept_len : Kept → ℕ
+kept_len k.Nothing = 0
+kept_len (k.One first) = 1
+kept_len (k.Two first second) = 2
+kept_len (k.Three first second third) = 3
+
+-- no beginning of the bytes is text, but for the empty one
+abbrev pub IsStuck : List ℕ → Type 0
+IsStuck bytes = (front rest : List ℕ) → bytes ≡ front ++ rest → IsCharacters front → front ≡ []
