@@ -60,50 +60,29 @@ data View (x : Header) : Type 0 where
 
 -- each header begins one of the three
 view_of : (x : Header) → View x
-view_of (h.Positive n) = is_plain tt
-view_of (h.Negative n) = is_plain tt
-view_of (h.Float x) = is_plain tt
-view_of (h.Simple n) = is_plain tt
-view_of (h.Tag n) = is_plain tt
-view_of h.Break = is_plain tt
 view_of (h.Bytes None) = is_open Bytes refl
 view_of (h.Bytes (Some l)) = is_definite Bytes l refl
 view_of (h.Text None) = is_open Text refl
 view_of (h.Text (Some l)) = is_definite Text l refl
-view_of (h.Array len) = is_plain tt
-view_of (h.Map len) = is_plain tt
+view_of x = is_plain tt
 
 -- a header by what it is within a string of the kind
 data ViewIn (k : Kind) (x : Header) : Type 0 where
   in_break : x ≡ h.Break → ViewIn k x
   in_definite : (l : ℕ) → x ≡ kind_header k (Some l) → ViewIn k x
   in_open : x ≡ kind_header k None → ViewIn k x
-  in_foreign : IsMisplaced k x → ViewIn k x
+  in_misplaced : IsMisplaced k x → ViewIn k x
 
 -- each header is one of the four
 view_in : (k : Kind) (x : Header) → ViewIn k x
 view_in Bytes (h.Bytes None) = in_open refl
 view_in Bytes (h.Bytes (Some l)) = in_definite l refl
-view_in Text (h.Bytes len) = in_foreign tt
+view_in Bytes h.Break = in_break refl
+view_in Bytes x = in_misplaced tt
 view_in Text (h.Text None) = in_open refl
 view_in Text (h.Text (Some l)) = in_definite l refl
-view_in Bytes (h.Text len) = in_foreign tt
-view_in Bytes h.Break = in_break refl
 view_in Text h.Break = in_break refl
-view_in Bytes (h.Positive n) = in_foreign tt
-view_in Text (h.Positive n) = in_foreign tt
-view_in Bytes (h.Negative n) = in_foreign tt
-view_in Text (h.Negative n) = in_foreign tt
-view_in Bytes (h.Float n) = in_foreign tt
-view_in Text (h.Float n) = in_foreign tt
-view_in Bytes (h.Simple n) = in_foreign tt
-view_in Text (h.Simple n) = in_foreign tt
-view_in Bytes (h.Tag n) = in_foreign tt
-view_in Text (h.Tag n) = in_foreign tt
-view_in Bytes (h.Array n) = in_foreign tt
-view_in Text (h.Array n) = in_foreign tt
-view_in Bytes (h.Map n) = in_foreign tt
-view_in Text (h.Map n) = in_foreign tt
+view_in Text x = in_misplaced tt
 
 -- no title is empty
 title_length : (t : List ℕ) (x : Header) → IsTitle t x → 0 < length t
@@ -242,29 +221,13 @@ due_step n i left u s ms e r (titled t rest x p q) =
 
 -- no number is a break
 not_break_number : (m : Major) (s : Size) (n : ℕ) → numbered_header m s n ≡ h.Break → ⊥
-not_break_number Unsigned s n e = cc
-not_break_number Negative s n e = cc
-not_break_number ByteString s n e = cc
-not_break_number TextString s n e = cc
-not_break_number Array s n e = cc
-not_break_number Map s n e = cc
-not_break_number Tag s n e = cc
 not_break_number Other Small n e = cc
-not_break_number Other One n e = cc
-not_break_number Other Two n e = cc
-not_break_number Other Four n e = cc
-not_break_number Other Eight n e = cc
+not_break_number m s n e = cc
 
 -- the break of the minor 31 is ff
 break_alone : (m : Major) (x : Header) → open_header m ≡ Some x → x ≡ h.Break → first_byte m 31 ∷ [] ≡ 0xff ∷ []
-break_alone Unsigned x o e = absurd cc
-break_alone Negative x o e = absurd cc
-break_alone ByteString x o e = absurd cc
-break_alone TextString x o e = absurd cc
-break_alone Array x o e = absurd cc
-break_alone Map x o e = absurd cc
-break_alone Tag x o e = absurd cc
 break_alone Other x o e = refl
+break_alone m x o e = absurd cc
 
 -- the title of a break is ff
 break_is : (t : List ℕ) (x : Header) → IsTitle t x → x ≡ h.Break → t ≡ 0xff ∷ []
@@ -319,7 +282,7 @@ in_step n i left j u v s ms bs k e r ia ok (refuses c) =
 in_step n i left j u v s ms bs k e r ia ok (titled t rest x p q) =
     let reach : Reaches n (u ++ v) (ms ++ Open k ∷ pieces k bs) (In k) = inside (omega arith) r (counted k (suc j) v bs ia) ok in
     elim (view_in k x) [
-      | in_foreign f ↦ fails (record {
+      | in_misplaced f ↦ fails (record {
         before = u ++ v;
         marks = ms ++ Open k ∷ pieces k bs;
         place = In k;
