@@ -217,7 +217,7 @@ AreBytes-take (suc n) (x ∷ a) f zero = f zero
 AreBytes-take (suc n) (x ∷ a) f (suc i) = AreBytes-take n a (λ j. f (suc j)) i
 
 -- a refused byte announces no bytes
-refused_affix : (b : ℕ) → IsRefused b → affix_len (b % 32) ≡ 0
+pub refused_affix : (b : ℕ) → IsRefused b → affix_len (b % 32) ≡ 0
 refused_affix b r = no_affix (b % 32) (inr (omega (arith, r)))
 
 -- a title that goes on behind s

@@ -1,12 +1,10 @@
 -- Either n elements stand in front, or a fault stops them.
-use Rattle.std.proofs.Common.{◌≡◌, ℕ, zero, suc, ◌+◌, ◌-◌, ◌%◌, ◌<◌, ◌≤◌, ◌⊎◌, Bool, true, false, min, List, [], ◌∷◌, ◌++◌, length, take, drop, Some, None, refl, sym, ap, subst, ◌∙◌, append_assoc, arith, inl, inr}
-use Rattle.std.specs.Str.{is_utf8}
+use Rattle.std.proofs.Common.{◌≡◌, ℕ, zero, suc, ◌+◌, ◌-◌, ◌%◌, ◌<◌, ◌≤◌, ◌⊎◌, min, List, [], ◌∷◌, ◌++◌, length, take, drop, Some, None, refl, sym, ap, subst, ◌∙◌, append_assoc, arith, inl, inr}
 use Rattle.std.proofs.lemmas.Bool.{cases_lt}
-use Rattle.std.proofs.lemmas.Str.{IsUtf8-from_is_utf8, is_utf8-from_IsUtf8}
 use Rattle.std.proofs.lemmas.List.{append-nil, length-append, take-append-drop, length-take, length-take-le}
 use Rattle.ciborium_ll.specs.declared.hdr.Header.{Header}
 use Rattle.ciborium_ll.specs.declared.hdr.Header.TheVariants as h
-use Rattle.ciborium_ll.specs.Title.{Major, Unsigned, Negative, ByteString, TextString, Array, Map, Tag, Other, first_byte, Size, Small, One, Two, Four, Eight, numbered_header, open_header, IsTitle, numbered, alone, affix_len, IsCutTitle, BeginsRefused, AreBytes, title_len, shortest_title}
+use Rattle.ciborium_ll.specs.Title.{Major, Other, first_byte, Size, Small, numbered_header, open_header, IsTitle, numbered, alone, affix_len, IsCutTitle, BeginsRefused, AreBytes, title_len, shortest_title}
 use Rattle.ciborium_ll.specs.Strings.{Kind, Bytes, Text, kind_header, none}
 use Rattle.ciborium_ll.specs.Strings.IsString.{definite as definite_str}
 use Rattle.ciborium_ll.specs.Text.{IsCharacters}
@@ -16,7 +14,7 @@ use Rattle.ciborium_ll.specs.Steps.{IsInsideAt, one_open}
 use Rattle.ciborium_ll.proofs.AffixLaws.{AreBytes-take, title_or_refused}
 use Rattle.ciborium_ll.proofs.ElementLaws.{IsSound-append}
 use Rattle.ciborium_ll.proofs.TextLaws.{IsCharacters-nil}
-use Rattle.ciborium_ll.proofs.Utf8Laws.{to_std, from_std}
+use Rattle.ciborium_ll.proofs.Utf8Laws.{text_or_none}
 use Rattle.ciborium_ll.proofs.StepLaws.{add_string, add_open, close_inner, close_last, counted, add_element}
 
 -- what stands in front
@@ -96,11 +94,12 @@ data Bodied (k : Kind) (l : ℕ) (s : List ℕ) : Type 0 where
   is_good : (b rest : List ℕ) → s ≡ b ++ rest → length b ≡ l → IsSound k (b ∷ []) → Bodied k l s
 
 -- a body of a text that is long enough is a text or none
-bodied_text : (l : ℕ) (s : List ℕ) → l ≤ length s → (v : Bool) → is_utf8 (take l s) ≡ v → Bodied Text l s
-bodied_text l s le true e =
-    is_good (take l s) (drop l s) (sym (take-append-drop l s)) (omega (arith, length-take l s))
-    (from_std (take l s) (IsUtf8-from_is_utf8 (take l s) e), tt)
-bodied_text l s le false e = is_bad refl le (λ u. (let w = is_utf8-from_IsUtf8 (take l s) (to_std (take l s) u) in absurd (cc (e, w))))
+bodied_text : (l : ℕ) (s : List ℕ) → l ≤ length s → Bodied Text l s
+bodied_text l s le =
+    elim (text_or_none (take l s)) [
+      | inl u ↦ is_good (take l s) (drop l s) (sym (take-append-drop l s)) (omega (arith, length-take l s)) (u, tt)
+      | inr n ↦ is_bad refl le n
+    ]
 
 -- each body is one of the three
 bodied : (k : Kind) (l : ℕ) (s : List ℕ) → Bodied k l s
@@ -110,7 +109,7 @@ bodied Bytes l s =
       | inr a ↦ is_good (take l s) (drop l s) (sym (take-append-drop l s))
           (omega (arith, length-take l s)) tt
     ]
-bodied Text l s = elim (cases_lt (length s) l) [ inl a ↦ too_few a | inr a ↦ bodied_text l s a (is_utf8 (take l s)) refl ]
+bodied Text l s = elim (cases_lt (length s) l) [ inl a ↦ too_few a | inr a ↦ bodied_text l s a ]
 
 -- no bytes may be written of any body
 part_nil : (k : Kind) → IsWritable k []

@@ -19,8 +19,9 @@ pub fn rest_of_text()
     ensures { (a b : List ℕ) → IsCharacters a → IsCharacters (a ++ b) → IsCharacters b }
 {}
 
-/// Bytes have one longest front that is text, which is the one that std finds.
+/// Bytes have just one longest front that is text, which is the one that std finds.
 pub fn one_front()
+    ensures exists { (bytes : List ℕ) → (front : List ℕ) × (rest : List ℕ) × IsFront bytes front rest }
     ensures one { (bytes a r b s : List ℕ) → IsFront bytes a r → IsFront bytes b s → (a ≡ b) × (r ≡ s) }
     ensures valid { (bytes : List ℕ) (n : ℕ) → IsValidUpTo bytes n → IsFront bytes (take n bytes) (drop n bytes) }
 {}
