@@ -9,11 +9,13 @@ pub fn no_fault()
     ensures { (count : ℕ) (bytes : List ℕ) → RunInFront count bytes → HasFault count bytes → ⊥ }
 {}
 
-/// The faults of one list of bytes are all at one place, and have one answer unless the bytes end within a text that is none.
+/// The faults of one list of bytes are all at one place, and have one answer unless the bytes end within a body with
+/// which no text begins.
 pub fn one_fault()
-    ensures place { (count : ℕ) (bytes : List ℕ) (f g : HasFault count bytes)
-        → (f.before ≡ g.before) × (f.marks ≡ g.marks) × (f.place ≡ g.place) × (f.ahead ≡ g.ahead) }
-    ensures answer { (count : ℕ) (bytes : List ℕ) (f g : HasFault count bytes) → (f.answer ≡ g.answer) ⊎ BeginsNoText f.ahead }
+    ensures place { (count : ℕ) (bytes : List ℕ) (fault other : HasFault count bytes)
+        → (fault.before ≡ other.before) × (fault.marks ≡ other.marks) × (fault.place ≡ other.place) × (fault.ahead ≡ other.ahead) }
+    ensures answer { (count : ℕ) (bytes : List ℕ) (fault other : HasFault count bytes)
+        → (fault.answer ≡ other.answer) ⊎ BeginsNoText fault.ahead }
 {}
 
 /// In any bytes either a run of so many elements stands in front, or a fault stops it.
