@@ -1,17 +1,17 @@
 -- Titles joined, and the copy of one header more.
-use Rattle.std.proofs.Common.{◌≡◌, ℕ, ◌+◌, List, [], ◌∷◌, ◌++◌, length, Option, Some, None, Ok, refl, sym, ap, subst, ◌∙◌, inl, inr, arith, append_assoc, append-nil, length-append}
-use Rattle.std.proofs.KnownBytes.{Consumes-trans, Consumes-nil, Appends-nil}
-use Rattle.std.specs.Io.KnownBytes.{Consumes}
+use Rattle.std.proofs.Common.{◌≡◌, ℕ, List, [], ◌∷◌, ◌++◌, Option, Some, None, Ok, refl, sym, ap, subst, ◌∙◌, arith, append_assoc, append-nil}
+use Rattle.std.proofs.KnownBytes.{Appends-nil}
 use Rattle.ciborium_ll.specs.declared.io.Read.{Ghosts as Reader}
 use Rattle.ciborium_ll.specs.declared.io.Write.{Ghosts as Writer}
 use Rattle.ciborium_ll.specs.declared.hdr.Header.{Header}
 use Rattle.ciborium_ll.specs.declared.dec.Decoder.{Decoder}
 use Rattle.ciborium_ll.specs.Title.{IsTitle, shortest_title}
 use Rattle.ciborium_ll.specs.Transfer.{Shrinks}
-use Rattle.ciborium_ll.specs.Decoding.{view, failures_of, IsSteady, PullsTitle}
+use Rattle.ciborium_ll.specs.Decoding.{IsSteady, PullsTitle}
 use Rattle.ciborium_ll.specs.Encoding.{WritesAll}
 use Rattle.ciborium_ll.specs.Copying.{AreTitles, none, next, shortest_titles, Copies}
 use Rattle.ciborium_ll.proofs.TitleLaws.{IsTitle-shortest, title_in_range}
+use Rattle.ciborium_ll.proofs.DecodingLaws.{Passes-none, Passes-pull}
 use Rattle.ciborium_ll.proofs.EncodingLaws.{WritesBytes-then}
 
 -- one title more
@@ -40,11 +40,7 @@ module _ {R E W F : Type 0} (source : Reader R E) (sink : Writer W F) where
   Copies-none decoder writer = record {
     bytes = [];
     titles = none;
-    consumed = Consumes-nil (view source decoder);
-    offset = omega arith;
-    waiting = inl (refl, refl);
-    failures = refl;
-    steady = λ s. s;
+    passed = Passes-none source decoder;
     written = record { appended = Appends-nil (sink.written writer); room = Shrinks-zero (sink.room writer); failures = refl };
   }
 
@@ -55,11 +51,7 @@ module _ {R E W F : Type 0} (source : Reader R E) (sink : Writer W F) where
   Copies-push headers header old between new writer writer-between writer' copied pulled steady written = record {
     bytes = copied.bytes ++ pulled.title;
     titles = AreTitles-push copied.bytes pulled.title headers header copied.titles pulled.is_title;
-    consumed = Consumes-trans _ _ _ copied.bytes pulled.title copied.consumed pulled.bytes;
-    offset = omega (arith, copied.offset, pulled.offset, length-append copied.bytes pulled.title);
-    waiting = inr pulled.none_waits;
-    failures = cc (copied.failures, pulled.failures);
-    steady = λ s. steady (copied.steady s);
+    passed = Passes-pull source old between new copied.bytes header pulled copied.passed steady;
     written = subst (λ (z : List ℕ). WritesAll sink writer z writer') (sym (shortest_titles-push headers header))
         (WritesBytes-then sink {T = Unit {0}} writer writer-between writer' (Ok (tt {0})) (shortest_titles headers) (shortest_title header) copied.written written);
   }

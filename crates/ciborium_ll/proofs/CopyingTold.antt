@@ -12,9 +12,8 @@ use Rattle.ciborium_ll.specs.declared.recode.RecodeError.{RecodeError}
 use Rattle.ciborium_ll.specs.declared.recode.RecodeError.TheVariants as r
 use Rattle.ciborium_ll.specs.Title.{IsTitle, shortest_title, BeginsRefused, IsCutTitle}
 use Rattle.ciborium_ll.specs.Transfer.{Shrinks}
-use Rattle.ciborium_ll.specs.Decoding.{view, next_read, PullsHeader}
-use Rattle.ciborium_ll.specs.Encoding.{WritesAll}
-use Rattle.ciborium_ll.specs.Copying.{AreTitles, none, next, shortest_titles, TitlesInFront, Copies, CopiesAll, StopsReading, StopsWriting, CopiesHeaders, IsReady, CopiesFront, CopiesCount, MeetsCutTitle, MeetsNoTitle, CopiesTold}
+use Rattle.ciborium_ll.specs.Decoding.{view, next_read}
+use Rattle.ciborium_ll.specs.Copying.{AreTitles, none, next, shortest_titles, TitlesInFront, Copies, CopiesAll, StopsReading, StopsWriting, CopiesHeaders, IsReady, CopiesFront, CopiesCount, CopiesTold}
 use Rattle.ciborium_ll.proofs.TitleLaws.{one_title, shortest_no_longer, title_refused}
 use Rattle.ciborium_ll.proofs.AffixLaws.{title_not_cut}
 
@@ -90,7 +89,7 @@ module _ {R E W F : Type 0} (source : Reader R E) (sink : Writer W F) where
   abbrev copies_front : (headers : List Header) (old between : Decoder R) (writer writer' : W) (due written : List ℕ) → IsReady source sink old writer due written
       → Copies source sink headers old writer between writer' → (front : CopiesFront source sink headers due written writer') × (view source between ≡ Some front.rest)
   copies_front headers old between writer writer' due written ready copied =
-      let p = passed headers due copied.bytes (view source old) (view source between) ready.due-told copied.consumed in (
+      let p = passed headers due copied.bytes (view source old) (view source between) ready.due-told copied.passed.consumed in (
         record {
           front = copied.bytes;
           rest = p.rest;
@@ -105,13 +104,13 @@ module _ {R E W F : Type 0} (source : Reader R E) (sink : Writer W F) where
       → CopiesAll source sink count old writer new writer' → CopiesCount source sink count due written old new writer'
   told_all count old new writer writer' due written ready all =
       let f = copies_front all.headers old new writer writer' due written ready all.copied in
-      record { headers = all.headers; all = all.all; copied = f.0; again = all.again; left = f.1; offset = all.copied.offset }
+      record { headers = all.headers; all = all.all; copied = f.0; again = all.again; left = f.1; offset = all.copied.passed.offset }
 
   told_stop : (count : ℕ) (old new : Decoder R) (writer writer' : W) (due written : List ℕ) (error : Error E) → IsReady source sink old writer due written
       → StopsReading source sink count old writer error new writer' → CopiesTold source sink count due written old (Err (r.Read error)) new writer'
   told_stop count old new writer writer' due written (e.Io fault) ready stops =
       let f = copies_front stops.headers old stops.between writer writer' due written ready stops.copied in
-      let cut = stops.stopped.steady (stops.copied.steady ready.steady) in
+      let cut = stops.stopped.steady (stops.copied.passed.steady ready.steady) in
       let gone = consumes_told _ _ f.0.rest stops.stopped.read f.1 cut.0 in
       let ends = rw f.1 at cut.1 in
       record {
@@ -120,7 +119,7 @@ module _ {R E W F : Type 0} (source : Reader R E) (sink : Writer W F) where
         copied = f.0;
         cut = ends.0;
         left = gone.1 ∙ ap Some (first_gone f.0.rest stops.stopped.read gone.0 gone.2 ends.1);
-        offset = let counted = ap length ends.1 in omega (arith, counted, stops.stopped.offset, stops.copied.offset);
+        offset = let counted = ap length ends.1 in omega (arith, counted, stops.stopped.offset, stops.copied.passed.offset);
       }
   told_stop count old new writer writer' due written (e.Syntax place) ready stops =
       let f = copies_front stops.headers old stops.between writer writer' due written ready stops.copied in
@@ -131,7 +130,7 @@ module _ {R E W F : Type 0} (source : Reader R E) (sink : Writer W F) where
         fewer = stops.fewer;
         copied = f.0;
         refused = subst BeginsRefused (sym gone.2) stops.stopped.refused;
-        at = stops.stopped.place ∙ stops.copied.offset;
+        at = stops.stopped.place ∙ stops.copied.passed.offset;
         left = gone.1 ∙ ap Some (refused_byte f.0.rest gone.0 byte gone.2);
         offset = omega (arith, stops.stopped.place, stops.stopped.offset);
       }
@@ -143,7 +142,7 @@ module _ {R E W F : Type 0} (source : Reader R E) (sink : Writer W F) where
       let whole = ap length f.0.parts in
       let fits : old.offset + length due + 8 < 2 ^ 64 = ready.fits in
       let full : 2 ^ 64 ≤ new.offset + next_read read = stops.stopped.full in
-      absurd (omega (arith, behind, whole, fits, full, next_read_small read, stops.stopped.offset, stops.copied.offset, length-append read gone.0, length-append f.0.front f.0.rest))
+      absurd (omega (arith, behind, whole, fits, full, next_read_small read, stops.stopped.offset, stops.copied.passed.offset, length-append read gone.0, length-append f.0.front f.0.rest))
   told_stop count old new writer writer' due written e.Waiting ready stops = absurd stops.stopped
 
   never_full : (count : ℕ) (old new : Decoder R) (writer writer' : W) (due written : List ℕ) → IsReady source sink old writer due written

@@ -1,5 +1,6 @@
 -- What the relations of the decoder's calls have in common.
-use Rattle.std.proofs.Common.{◌≡◌, ℕ, ◌+◌, List, length, Option, Some, None, Result, Ok, Err, refl, sym, ap, subst, ◌∙◌, arith}
+use Rattle.std.proofs.Common.{◌≡◌, ℕ, List, [], ◌++◌, length, Option, Some, None, Result, Ok, Err, refl, sym, ap, subst, ◌∙◌, inl, inr, arith, length-append}
+use Rattle.std.proofs.KnownBytes.{Consumes-nil, Consumes-trans}
 use Rattle.std.specs.Io.KnownBytes.{Consumes, prepend_known}
 use Rattle.ciborium_ll.specs.declared.hdr.Header.{Header}
 use Rattle.ciborium_ll.specs.declared.io.Read.{Ghosts}
@@ -7,7 +8,7 @@ use Rattle.ciborium_ll.specs.declared.dec.Decoder.{Decoder}
 use Rattle.ciborium_ll.specs.declared.dec.Error.{Error}
 use Rattle.ciborium_ll.specs.declared.dec.Error.TheVariants as e
 use Rattle.ciborium_ll.specs.Title.{shortest_title, title_len}
-use Rattle.ciborium_ll.specs.Decoding.{behind_waiting, PullsTitle, PullsHeader, TakesBack, PullsAgain}
+use Rattle.ciborium_ll.specs.Decoding.{behind_waiting, view, IsSteady, Passes, PullsTitle, PullsHeader, TakesBack, PullsAgain}
 
 -- bytes put in front are the next ones
 pub Consumes-prepended : (known : Option (List ℕ)) (front : List ℕ) → Consumes (prepend_known front known) known front
@@ -44,3 +45,19 @@ pulls_again source old pulled pushed new header (Err (e.Io fault)) first back se
 pulls_again source old pulled pushed new header (Err (e.Syntax place)) first back second = let a = back.waits in let b = second.none_waited in absurd cc
 pulls_again source old pulled pushed new header (Err e.TooLong) first back second = let a = back.waits in let b = second.none_waited in absurd cc
 pulls_again source old pulled pushed new header (Err e.Waiting) first back second = absurd second
+
+module _ {R E : Type 0} (source : Ghosts R E) where
+  -- no bytes
+  pub Passes-none : (decoder : Decoder R) → Passes source decoder [] decoder
+  Passes-none decoder = record { consumed = Consumes-nil (view source decoder); offset = omega arith; waiting = inl (refl, refl); failures = refl; steady = λ s. s }
+
+  -- one title more
+  pub Passes-pull : (old between new : Decoder R) (bytes : List ℕ) (header : Header) (title : PullsTitle source between header new) → Passes source old bytes between
+      → (IsSteady source between → IsSteady source new) → Passes source old (bytes ++ title.title) new
+  Passes-pull old between new bytes header title passed steady = record {
+    consumed = Consumes-trans _ _ _ bytes title.title passed.consumed title.bytes;
+    offset = omega (arith, passed.offset, title.offset, length-append bytes title.title);
+    waiting = inr title.none_waits;
+    failures = cc (passed.failures, title.failures);
+    steady = λ s. steady (passed.steady s);
+  }

@@ -1,5 +1,5 @@
 -- What the code reads as the parts of a title is a title.
-use Rattle.std.proofs.Common.{◌≡◌, ℕ, Some, Option, refl, subst, ◌∙◌}
+use Rattle.std.proofs.Common.{◌≡◌, ℕ, Some, refl, subst, ◌∙◌}
 use Rattle.ciborium_ll.specs.declared.hdr.Header.{Header}
 use Rattle.ciborium_ll.specs.declared.hdr.Minor.{Minor}
 use Rattle.ciborium_ll.specs.declared.hdr.Minor.TheVariants as m

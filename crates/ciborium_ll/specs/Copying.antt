@@ -1,6 +1,5 @@
 -- Headers copied from a decoder to a writer.
-use Rattle.std.specs.Prelude.{◌≡◌, ℕ, ◌+◌, ◌<◌, ◌≤◌, List, [], ◌∷◌, ◌++◌, length, take, drop, Option, Some, None, Result, Ok, Err, ◌⊎◌}
-use Rattle.std.specs.Io.KnownBytes.{Consumes}
+use Rattle.std.specs.Prelude.{◌≡◌, ℕ, ◌+◌, ◌<◌, ◌≤◌, List, [], ◌∷◌, ◌++◌, length, take, drop, Some, Result, Ok, Err}
 use Rattle.ciborium_ll.specs.declared.io.Read.{Ghosts as Reader}
 use Rattle.ciborium_ll.specs.declared.io.Write.{Ghosts as Writer}
 use Rattle.ciborium_ll.specs.declared.hdr.Header.{Header}
@@ -10,7 +9,7 @@ use Rattle.ciborium_ll.specs.declared.recode.RecodeError.{RecodeError}
 use Rattle.ciborium_ll.specs.declared.recode.RecodeError.TheVariants as r
 use Rattle.ciborium_ll.specs.declared.dec.Error.TheVariants as e
 use Rattle.ciborium_ll.specs.Title.{IsTitle, shortest_title, BeginsRefused, IsCutTitle}
-use Rattle.ciborium_ll.specs.Decoding.{offset_limit, view, failures_of, IsSteady, PullsHeader}
+use Rattle.ciborium_ll.specs.Decoding.{offset_limit, view, IsSteady, Passes, PullsHeader}
 use Rattle.ciborium_ll.specs.Encoding.{WritesAll, WritesFront}
 
 -- the bytes are titles of the headers, joined
@@ -38,12 +37,7 @@ module _ {R E W F : Type 0} (source : Reader R E) (sink : Writer W F) where
   pub record Copies (headers : List Header) (old : Decoder R) (writer : W) (new : Decoder R) (writer' : W) : Type 0 where
     pub bytes : List ℕ
     pub titles : AreTitles bytes headers
-    pub consumed : Consumes (view source old) (view source new) bytes
-    pub offset : new.offset ≡ old.offset + length bytes
-    -- where nothing was read, nothing changed; else no header waits
-    pub waiting : ((headers ≡ []) × (new ≡ old)) ⊎ (new.waiting ≡ None)
-    pub failures : failures_of source new ≡ failures_of source old
-    pub steady : IsSteady source old → IsSteady source new
+    pub passed : Passes source old bytes new
     pub written : WritesAll sink writer (shortest_titles headers) writer'
 
   -- all headers were copied; what was written are titles of just these headers again

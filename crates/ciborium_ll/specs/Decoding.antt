@@ -2,7 +2,7 @@
 --
 -- Bytes are spoken of where the reader tells them: `Consumes` says nothing of bytes that are not told. All else holds
 -- over any reader.
-use Rattle.std.specs.Prelude.{◌≡◌, ℕ, ◌+◌, ◌<◌, ◌≤◌, ◌^◌, List, [], ◌∷◌, ◌++◌, length, take, Option, Some, None, Result, Ok, Err, IfSome, IsSome, IsTrue, ◌%◌}
+use Rattle.std.specs.Prelude.{◌≡◌, ℕ, ◌+◌, ◌<◌, ◌≤◌, ◌^◌, List, [], ◌∷◌, ◌++◌, length, take, Option, Some, None, Result, Ok, Err, ◌⊎◌, IfSome, IsSome, IsTrue, ◌%◌}
 use Rattle.std.specs.Io.KnownBytes.{Consumes, prepend_known}
 use Rattle.ciborium_ll.specs.declared.io.Read.{Ghosts}
 use Rattle.ciborium_ll.specs.declared.hdr.Header.{Header}
@@ -137,6 +137,15 @@ module _ {R E : Type 0} (source : Ghosts R E) where
   PullsHeader old (Err (e.Syntax place)) new = RefusesTitle old place new
   PullsHeader old (Err e.TooLong) new = PassesOffset old new
   PullsHeader old (Err e.Waiting) new = ⊥
+
+  -- these bytes were consumed, by calls that all succeeded
+  pub record Passes (old : Decoder R) (bytes : List ℕ) (new : Decoder R) : Type 0 where
+    pub consumed : Consumes (view old) (view new) bytes
+    pub offset : new.offset ≡ old.offset + length bytes
+    -- without a call nothing changed; behind one no header waits
+    pub waiting : ((bytes ≡ []) × (new ≡ old)) ⊎ (new.waiting ≡ None)
+    pub failures : failures_of new ≡ failures_of old
+    pub steady : IsSteady old → IsSteady new
 
   -- ---- push
 

@@ -1,5 +1,4 @@
-use Rattle.std.proofs.Common.{rules, sym, refl, ◌∙◌, ◌≡◌, Option, Some, IfSome}
-use Rattle.ciborium_ll.specs.declared.hdr.Header.{Header}
+use Rattle.std.proofs.Common.{rules, sym, refl, ◌∙◌}
 use Rattle.ciborium_ll.specs.Title.{shortest_title}
 use Rattle.ciborium_ll.proofs.TitleLaws.{IsTitle-shortest}
 use Rattle.ciborium_ll.proofs.DecodingLaws.{Consumes-waiting}

@@ -2,7 +2,6 @@
 use Rattle.std.proofs.Common.{[], ◌∷◌, refl}
 use Rattle.std.proofs.raw_atomic.Walks.{proved}
 use mir.Val.{Val, vstruct, vcons, vnil}
-use contract.Running.{tables}
 use base.Fml.{ftrue}
 use types.Kit.{‵, raw, ◌$◌, ◌∵◌, !, qed, done, keep, join, suffices}
 use types.Run.{no_more, and_then, returns, enter}

@@ -4,7 +4,6 @@ use Rattle.std.proofs.Common.{◌+◌, [], ◌∷◌, refl}
 use Rattle.std.proofs.raw_atomic.Walks.{proved}
 use mir.Syntax.{named}
 use mir.Val.{vunit}
-use contract.Running.{tables}
 use base.Fml.{ftrue, flft}
 use base.Logic.{id⊢}
 use types.Kit.{‵, ◌⊛◌, ◌$◌, ◌∵◌, !, qed, done, move, keep, use1, split, join, fsplit3, feq_i, suffices, frame, group}
