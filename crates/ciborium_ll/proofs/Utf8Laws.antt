@@ -142,11 +142,11 @@ written bytes (row9 {a} {b} {c} {d} p q r s) =
 tail_of : (n : ℕ) → IsTail (next n)
 tail_of n = (omega arith, omega arith)
 
--- two bytes are of row 2
+-- two bytes are a character of the second row
 is_2 : (c : ℕ) → 128 ≤ c → c < 2048 → IsCharacter ((192 + c / 64) ∷ next c ∷ [])
 is_2 c p q = row2 (omega arith, omega arith) (tail_of c)
 
--- three bytes are of the rows 3 to 6
+-- three bytes are a character of the third to the sixth row
 is_3 : (c : ℕ) → 2048 ≤ c → c < 65536 → (c < 55296) ⊎ (57344 ≤ c) → IsCharacter ((224 + c / 4096) ∷ next (c / 64) ∷ next c ∷ [])
 is_3 c p q s =
     elim (cases_lt c 4096) [
@@ -160,7 +160,7 @@ is_3 c p q s =
       ]
     ]
 
--- four bytes are of the rows 7 to 9
+-- four bytes are a character of the seventh to the ninth row
 is_4 : (c : ℕ) → 65536 ≤ c → c < 1114112 → IsCharacter ((240 + c / 262144) ∷ next (c / 4096) ∷ next (c / 64) ∷ next c ∷ [])
 is_4 c p q =
     elim (cases_lt c 262144) [
