@@ -1,5 +1,5 @@
 -- Titles by their first byte: how many bytes follow it, and that any bytes of that number make a title.
-use Rattle.std.proofs.Common.{◌≡◌, ℕ, zero, suc, ◌-◌, ◌/◌, ◌%◌, ◌<◌, ◌⊎◌, List, [], ◌∷◌, ◌++◌, length, take, Some, None, refl, sym, ap, subst, ◌∙◌, arith, inl, inr}
+use Rattle.std.proofs.Common.{◌≡◌, ℕ, zero, suc, ◌-◌, ◌/◌, ◌%◌, ◌<◌, ◌≤◌, ◌⊎◌, List, [], ◌∷◌, ◌++◌, length, take, Some, None, refl, sym, ap, subst, ◌∙◌, arith, inl, inr}
 use Rattle.std.specs.Int.{w16, w32, w64, from_be_bytes}
 use Rattle.std.proofs.Math.ListN.{replicate}
 use Rattle.std.proofs.lemmas.Bool.{cases_lt, ne_eqb}
@@ -12,15 +12,20 @@ use Rattle.ciborium_ll.proofs.TitleLaws.{minor_below, title_refused}
 
 -- ---- a title has as many bytes behind the first one as that announces
 
+-- a minor below 24 or above 27 announces no bytes
+no_affix : (a : ℕ) → (a < 24) ⊎ (27 < a) → affix_len a ≡ 0
+no_affix a o =
+    let apart : (b : ℕ) → 24 ≤ b → b ≤ 27 → a ≡ b → ⊥ = λ b l m e. omega (arith, e, o) in
+    rw (
+      ne_eqb a 24 (apart 24 (omega arith) (omega arith)),
+      ne_eqb a 25 (apart 25 (omega arith) (omega arith)),
+      ne_eqb a 26 (apart 26 (omega arith) (omega arith)),
+      ne_eqb a 27 (apart 27 (omega arith) (omega arith)),
+    ) refl
+
 -- an affix is as long as its minor announces
 affix_length : (s : Size) (n : ℕ) → n < size_limit s → length (affix_of s n) ≡ affix_len (minor_of s n)
-affix_length Small n p =
-    rw (
-      ne_eqb n 24 (λ e. omega (arith, e)),
-      ne_eqb n 25 (λ e. omega (arith, e)),
-      ne_eqb n 26 (λ e. omega (arith, e)),
-      ne_eqb n 27 (λ e. omega (arith, e)),
-    ) refl
+affix_length Small n p = sym (no_affix n (inl p))
 affix_length One n p = refl
 affix_length Two n p = refl
 affix_length Four n p = refl
@@ -158,23 +163,6 @@ open_or_refused b Map e c = inr (open_title b Map (h.Map None) refl (omega arith
 open_or_refused b Tag e c = inl (inr (e, inr (inr (omega arith))))
 open_or_refused b Other e c = inr (open_title b Other h.Break refl (omega arith))
 
--- a minor below 24 or above 27 announces no bytes
-no_affix : (a : ℕ) → (a < 24) ⊎ (27 < a) → affix_len a ≡ 0
-no_affix a (inl p) =
-    rw (
-      ne_eqb a 24 (λ e. omega (arith, e)),
-      ne_eqb a 25 (λ e. omega (arith, e)),
-      ne_eqb a 26 (λ e. omega (arith, e)),
-      ne_eqb a 27 (λ e. omega (arith, e)),
-    ) refl
-no_affix a (inr p) =
-    rw (
-      ne_eqb a 24 (λ e. omega (arith, e)),
-      ne_eqb a 25 (λ e. omega (arith, e)),
-      ne_eqb a 26 (λ e. omega (arith, e)),
-      ne_eqb a 27 (λ e. omega (arith, e)),
-    ) refl
-
 -- a byte that isn't refused and as many behind it as it announces are a title
 pub title_or_refused : (b : ℕ) (bytes : List ℕ) → b < 256 → AreBytes bytes → length bytes ≡ affix_len (b % 32)
     → IsRefused b ⊎ Titled b bytes
@@ -229,7 +217,7 @@ AreBytes-take (suc n) (x ∷ a) f zero = f zero
 AreBytes-take (suc n) (x ∷ a) f (suc i) = AreBytes-take n a (λ j. f (suc j)) i
 
 -- a refused byte announces no bytes
-refused_affix : (b : ℕ) → IsRefused b → affix_len (b % 32) ≡ 0
+pub refused_affix : (b : ℕ) → IsRefused b → affix_len (b % 32) ≡ 0
 refused_affix b r = no_affix (b % 32) (inr (omega (arith, r)))
 
 -- a title that goes on behind s

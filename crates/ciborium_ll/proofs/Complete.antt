@@ -1,12 +1,10 @@
 -- Either n elements stand in front, or a fault stops them.
-use Rattle.std.proofs.Common.{◌≡◌, ℕ, zero, suc, ◌+◌, ◌-◌, ◌%◌, ◌<◌, ◌≤◌, ◌⊎◌, Bool, true, false, min, List, [], ◌∷◌, ◌++◌, length, take, drop, Some, None, refl, sym, ap, subst, ◌∙◌, append_assoc, arith, inl, inr}
-use Rattle.std.specs.Str.{is_utf8}
+use Rattle.std.proofs.Common.{◌≡◌, ℕ, zero, suc, ◌+◌, ◌-◌, ◌%◌, ◌<◌, ◌≤◌, ◌⊎◌, min, List, [], ◌∷◌, ◌++◌, length, take, drop, Some, None, refl, sym, ap, subst, ◌∙◌, append_assoc, arith, inl, inr}
 use Rattle.std.proofs.lemmas.Bool.{cases_lt}
-use Rattle.std.proofs.lemmas.Str.{IsUtf8-from_is_utf8, is_utf8-from_IsUtf8}
 use Rattle.std.proofs.lemmas.List.{append-nil, length-append, take-append-drop, length-take, length-take-le}
 use Rattle.ciborium_ll.specs.declared.hdr.Header.{Header}
 use Rattle.ciborium_ll.specs.declared.hdr.Header.TheVariants as h
-use Rattle.ciborium_ll.specs.Title.{Major, Unsigned, Negative, ByteString, TextString, Array, Map, Tag, Other, first_byte, Size, Small, One, Two, Four, Eight, numbered_header, open_header, IsTitle, numbered, alone, affix_len, IsCutTitle, BeginsRefused, AreBytes, title_len, shortest_title}
+use Rattle.ciborium_ll.specs.Title.{Major, Other, first_byte, Size, Small, numbered_header, open_header, IsTitle, numbered, alone, affix_len, IsCutTitle, BeginsRefused, AreBytes, title_len, shortest_title}
 use Rattle.ciborium_ll.specs.Strings.{Kind, Bytes, Text, kind_header, none}
 use Rattle.ciborium_ll.specs.Strings.IsString.{definite as definite_str}
 use Rattle.ciborium_ll.specs.Text.{IsCharacters}
@@ -16,7 +14,7 @@ use Rattle.ciborium_ll.specs.Steps.{IsInsideAt, one_open}
 use Rattle.ciborium_ll.proofs.AffixLaws.{AreBytes-take, title_or_refused}
 use Rattle.ciborium_ll.proofs.ElementLaws.{IsSound-append}
 use Rattle.ciborium_ll.proofs.TextLaws.{IsCharacters-nil}
-use Rattle.ciborium_ll.proofs.Utf8Laws.{to_std, from_std}
+use Rattle.ciborium_ll.proofs.Utf8Laws.{text_or_none}
 use Rattle.ciborium_ll.proofs.StepLaws.{add_string, add_open, close_inner, close_last, counted, add_element}
 
 -- what stands in front
@@ -60,50 +58,29 @@ data View (x : Header) : Type 0 where
 
 -- each header begins one of the three
 view_of : (x : Header) → View x
-view_of (h.Positive n) = is_plain tt
-view_of (h.Negative n) = is_plain tt
-view_of (h.Float x) = is_plain tt
-view_of (h.Simple n) = is_plain tt
-view_of (h.Tag n) = is_plain tt
-view_of h.Break = is_plain tt
 view_of (h.Bytes None) = is_open Bytes refl
 view_of (h.Bytes (Some l)) = is_definite Bytes l refl
 view_of (h.Text None) = is_open Text refl
 view_of (h.Text (Some l)) = is_definite Text l refl
-view_of (h.Array len) = is_plain tt
-view_of (h.Map len) = is_plain tt
+view_of x = is_plain tt
 
 -- a header by what it is within a string of the kind
 data ViewIn (k : Kind) (x : Header) : Type 0 where
   in_break : x ≡ h.Break → ViewIn k x
   in_definite : (l : ℕ) → x ≡ kind_header k (Some l) → ViewIn k x
   in_open : x ≡ kind_header k None → ViewIn k x
-  in_foreign : IsMisplaced k x → ViewIn k x
+  in_misplaced : IsMisplaced k x → ViewIn k x
 
 -- each header is one of the four
 view_in : (k : Kind) (x : Header) → ViewIn k x
 view_in Bytes (h.Bytes None) = in_open refl
 view_in Bytes (h.Bytes (Some l)) = in_definite l refl
-view_in Text (h.Bytes len) = in_foreign tt
+view_in Bytes h.Break = in_break refl
+view_in Bytes x = in_misplaced tt
 view_in Text (h.Text None) = in_open refl
 view_in Text (h.Text (Some l)) = in_definite l refl
-view_in Bytes (h.Text len) = in_foreign tt
-view_in Bytes h.Break = in_break refl
 view_in Text h.Break = in_break refl
-view_in Bytes (h.Positive n) = in_foreign tt
-view_in Text (h.Positive n) = in_foreign tt
-view_in Bytes (h.Negative n) = in_foreign tt
-view_in Text (h.Negative n) = in_foreign tt
-view_in Bytes (h.Float n) = in_foreign tt
-view_in Text (h.Float n) = in_foreign tt
-view_in Bytes (h.Simple n) = in_foreign tt
-view_in Text (h.Simple n) = in_foreign tt
-view_in Bytes (h.Tag n) = in_foreign tt
-view_in Text (h.Tag n) = in_foreign tt
-view_in Bytes (h.Array n) = in_foreign tt
-view_in Text (h.Array n) = in_foreign tt
-view_in Bytes (h.Map n) = in_foreign tt
-view_in Text (h.Map n) = in_foreign tt
+view_in Text x = in_misplaced tt
 
 -- no title is empty
 title_length : (t : List ℕ) (x : Header) → IsTitle t x → 0 < length t
@@ -117,11 +94,12 @@ data Bodied (k : Kind) (l : ℕ) (s : List ℕ) : Type 0 where
   is_good : (b rest : List ℕ) → s ≡ b ++ rest → length b ≡ l → IsSound k (b ∷ []) → Bodied k l s
 
 -- a body of a text that is long enough is a text or none
-bodied_text : (l : ℕ) (s : List ℕ) → l ≤ length s → (v : Bool) → is_utf8 (take l s) ≡ v → Bodied Text l s
-bodied_text l s le true e =
-    is_good (take l s) (drop l s) (sym (take-append-drop l s)) (omega (arith, length-take l s))
-    (from_std (take l s) (IsUtf8-from_is_utf8 (take l s) e), tt)
-bodied_text l s le false e = is_bad refl le (λ u. (let w = is_utf8-from_IsUtf8 (take l s) (to_std (take l s) u) in absurd (cc (e, w))))
+bodied_text : (l : ℕ) (s : List ℕ) → l ≤ length s → Bodied Text l s
+bodied_text l s le =
+    elim (text_or_none (take l s)) [
+      | inl u ↦ is_good (take l s) (drop l s) (sym (take-append-drop l s)) (omega (arith, length-take l s)) (u, tt)
+      | inr n ↦ is_bad refl le n
+    ]
 
 -- each body is one of the three
 bodied : (k : Kind) (l : ℕ) (s : List ℕ) → Bodied k l s
@@ -131,7 +109,7 @@ bodied Bytes l s =
       | inr a ↦ is_good (take l s) (drop l s) (sym (take-append-drop l s))
           (omega (arith, length-take l s)) tt
     ]
-bodied Text l s = elim (cases_lt (length s) l) [ inl a ↦ too_few a | inr a ↦ bodied_text l s a (is_utf8 (take l s)) refl ]
+bodied Text l s = elim (cases_lt (length s) l) [ inl a ↦ too_few a | inr a ↦ bodied_text l s a ]
 
 -- no bytes may be written of any body
 part_nil : (k : Kind) → IsWritable k []
@@ -242,29 +220,13 @@ due_step n i left u s ms e r (titled t rest x p q) =
 
 -- no number is a break
 not_break_number : (m : Major) (s : Size) (n : ℕ) → numbered_header m s n ≡ h.Break → ⊥
-not_break_number Unsigned s n e = cc
-not_break_number Negative s n e = cc
-not_break_number ByteString s n e = cc
-not_break_number TextString s n e = cc
-not_break_number Array s n e = cc
-not_break_number Map s n e = cc
-not_break_number Tag s n e = cc
 not_break_number Other Small n e = cc
-not_break_number Other One n e = cc
-not_break_number Other Two n e = cc
-not_break_number Other Four n e = cc
-not_break_number Other Eight n e = cc
+not_break_number m s n e = cc
 
 -- the break of the minor 31 is ff
 break_alone : (m : Major) (x : Header) → open_header m ≡ Some x → x ≡ h.Break → first_byte m 31 ∷ [] ≡ 0xff ∷ []
-break_alone Unsigned x o e = absurd cc
-break_alone Negative x o e = absurd cc
-break_alone ByteString x o e = absurd cc
-break_alone TextString x o e = absurd cc
-break_alone Array x o e = absurd cc
-break_alone Map x o e = absurd cc
-break_alone Tag x o e = absurd cc
 break_alone Other x o e = refl
+break_alone m x o e = absurd cc
 
 -- the title of a break is ff
 break_is : (t : List ℕ) (x : Header) → IsTitle t x → x ≡ h.Break → t ≡ 0xff ∷ []
@@ -319,7 +281,7 @@ in_step n i left j u v s ms bs k e r ia ok (refuses c) =
 in_step n i left j u v s ms bs k e r ia ok (titled t rest x p q) =
     let reach : Reaches n (u ++ v) (ms ++ Open k ∷ pieces k bs) (In k) = inside (omega arith) r (counted k (suc j) v bs ia) ok in
     elim (view_in k x) [
-      | in_foreign f ↦ fails (record {
+      | in_misplaced f ↦ fails (record {
         before = u ++ v;
         marks = ms ++ Open k ∷ pieces k bs;
         place = In k;

@@ -15,7 +15,7 @@ abbrev pub SameElement : List ℕ → List ℕ → List Mark → List Mark → L
 SameElement w w' ms ms' v v' = (w ≡ w') × (ms ≡ ms') × (v ≡ v')
 
 -- a string's header is no plain one
-not_plain : (k : Kind) (o : Option ℕ) → IsPlain (kind_header k o) → ⊥
+pub not_plain : (k : Kind) (o : Option ℕ) → IsPlain (kind_header k o) → ⊥
 not_plain Bytes o p = p
 not_plain Text o p = p
 
@@ -181,10 +181,6 @@ mutual
             (arith, ap length e, length-append (spelling (pieces k ds)) (spelling (pieces k es)), length-append x y));
       }
 
--- strings are spelled again as their pieces, no longer
-pub respell : (k : Kind) (w : List ℕ) (bs : List (List ℕ)) → AreStrings k w bs → Respelled k w bs
-respell k w bs s = respell_all k w bs s
-
 -- the spelling of a string of indefinite length: its open, its pieces and a break
 pub open_spelled : (k : Kind) (bs : List (List ℕ))
     → spelling (Open k ∷ (pieces k bs ++ Close ∷ [])) ≡ shortest_title (kind_header k None) ++ (spelling (pieces k bs) ++ 0xff ∷ [])
@@ -214,7 +210,7 @@ element_again w ms (definite {title = t} {body = b} k p s) =
     }
 element_again w ms (indefinite {title = t} {strings = y} {bodies = bs} k p q s) =
     let x = kind_header k None in
-    let r = respell k y bs q in
+    let r = respell_all k y bs q in
     record {
       element = subst (λ (z : List ℕ). IsElement z (Open k ∷ (pieces k bs ++ Close ∷ []))) (sym (open_spelled k bs))
           (indefinite k (IsTitle-shortest_of t x p) r.strings s);

@@ -12,7 +12,7 @@ use Rattle.ciborium_ll.specs.Faults.{IsInside, opened, deeper, IsMisplaced}
 use Rattle.ciborium_ll.proofs.TitleLaws.{one_title, title_refused}
 use Rattle.ciborium_ll.proofs.AffixLaws.{title_not_cut}
 use Rattle.ciborium_ll.proofs.StringLaws.{some_is, mixed, fronts, not_break, break_title, string_not_break, one_string}
-use Rattle.ciborium_ll.proofs.ElementLaws.{string_fronts, IsSound-left, IsSound-right}
+use Rattle.ciborium_ll.proofs.ElementLaws.{not_plain, string_fronts, IsSound-left, IsSound-right}
 
 -- ---- where strings of the kind can't go on
 
@@ -193,11 +193,6 @@ pub data Stop : List ℕ → Type 0 where
   stop_refused : {y : List ℕ} → BeginsRefused y → Stop y
   stop_bad : {y t : List ℕ} (s : List ℕ) (k : Kind) (l : ℕ) → IsTitle t (kind_header k (Some l)) → IsBad k l s → y ≡ t ++ s → Stop y
 
--- a string's header is no plain one
-plain_kind : (k : Kind) (o : Option ℕ) → IsPlain (kind_header k o) → ⊥
-plain_kind Bytes o p = p
-plain_kind Text o p = p
-
 -- where no string goes on, the same without a kind
 pub halt_of : (y : List ℕ) → Stop y → (k : Kind)
     → ((t s : List ℕ) (j : Kind) (l : ℕ) → IsTitle t (kind_header j (Some l)) → y ≡ t ++ s → j ≡ k) → Halt k y
@@ -224,7 +219,7 @@ element_stops w ms (plain x p q) v y (stop_cut c) e = title_not_cut w v x p (sub
 element_stops w ms (plain x p q) v y (stop_refused r) e = title_refused w v x p (subst BeginsRefused e r)
 element_stops w ms (plain x p q) v y (stop_bad {t} s k l r b z) e =
     let o = one_title w t v s x (kind_header k (Some l)) p r (sym e ∙ z) in
-    plain_kind k (Some l) (subst IsPlain o.1 q)
+    not_plain k (Some l) (subst IsPlain o.1 q)
 
 -- no element begins with opens that halt
 pub element_inside : (w : List ℕ) (ms : List Mark) → IsElement w ms → (k : Kind) (u y v : List ℕ) {os : List (List ℕ)} → Opens k u os
@@ -233,7 +228,7 @@ element_inside w ms (plain x p q) k u y v c f e =
     let z = opens_title k u c in
     let o = one_title w z.0 v (z.1 ++ y) x (kind_header k None) p z.2
     (sym e ∙ (ap (λ (x : List ℕ). x ++ y) z.3 ∙ append_assoc z.0 z.1 y)) in
-    plain_kind k None (subst IsPlain o.1 q)
+    not_plain k None (subst IsPlain o.1 q)
 element_inside w ms (definite {title = t} {body = b} j p s) k u y v c f e =
     let z = opens_title k u c in
     let o = string_fronts j k t z.0 (b ++ v) (z.1 ++ y) (Some (length b)) None p z.2

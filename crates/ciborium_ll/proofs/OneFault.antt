@@ -1,13 +1,13 @@
 -- The faults in one list of bytes are all at one place.
-use Rattle.std.proofs.Common.{◌≡◌, ℕ, ◌-◌, ◌<◌, ◌⊎◌, List, ◌∷◌, ◌++◌, length, Some, None, refl, sym, ap, subst, ◌∙◌, append_assoc, inl, inr}
+use Rattle.std.proofs.Common.{arith, [], ◌≡◌, ℕ, ◌-◌, ◌<◌, ◌⊎◌, List, ◌∷◌, ◌++◌, length, Some, None, refl, sym, ap, subst, ◌∙◌, append_assoc, inl, inr}
 use Rattle.std.proofs.lemmas.Bool.{cases_order}
 use Rattle.ciborium_ll.specs.declared.hdr.Header.{Header}
 use Rattle.ciborium_ll.specs.Title.{IsTitle, IsCutTitle, BeginsRefused, title_len}
 use Rattle.ciborium_ll.specs.Strings.{Kind, kind_header, IsString, AreStrings, none, more}
 use Rattle.ciborium_ll.specs.Elements.{IsSound, Mark, Open, pieces, IsElement, IsRun}
-use Rattle.ciborium_ll.specs.Faults.{IsInside, Place, Due, In, Body, Reaches, due, inside, body, body_inside, IsMisplaced, Answer, FirstFault, CutTitle, NoTitle, OtherTitle, DamagedText, CutBody, CutDamagedText}
+use Rattle.ciborium_ll.specs.Faults.{IsInside, Place, Due, In, Body, Reaches, due, inside, body, body_inside, IsMisplaced, Answer, FirstFault, HasFault, BeginsNoText, CutTitle, NoTitle, OtherTitle, DamagedText, CutBody, CutDamagedText}
 use Rattle.ciborium_ll.proofs.TitleLaws.{one_title, title_refused}
-use Rattle.ciborium_ll.proofs.AffixLaws.{title_not_cut}
+use Rattle.ciborium_ll.proofs.AffixLaws.{title_not_cut, refused_affix}
 use Rattle.ciborium_ll.proofs.StringLaws.{some_is, fronts, one_string, SameString}
 use Rattle.ciborium_ll.proofs.ElementLaws.{one_run, string_fronts, IsSound-left, IsSound-right}
 use Rattle.ciborium_ll.proofs.HaltLaws.{IsBad, Halt, halt_cut, halt_refused, halt_misplaced, halt_bad, Opens, last, link, opens_of, opens_title, opens_string, opens_halt, string_halts, open_halts, Stop, stop_cut, stop_refused, stop_bad, halt_of, same_kind, element_stops, element_inside, kind_not_misplaced}
@@ -247,9 +247,68 @@ one_seen n u ms at s (seen_deep {u = v} {t} {at = p} k l b o q) u' ms' at' s' (s
     let ll : l ≡ l' = some_is l l' g.2 in
     (rw (vv, tt') refl, z.1, rw (pp, kk, ll, vv, tt') refl, g.3)
 
--- all faults behind parts of n elements are at one place
-pub one_fault : (n : ℕ) (x u s u' s' : List ℕ) (ms ms' : List Mark) (at at' : Place) (a a' : Answer) (out out' : List ℕ) (c c' : ℕ)
-    → Reaches n u ms at → x ≡ u ++ s → FirstFault u ms at s a out c → Reaches n u' ms' at' → x ≡ u' ++ s'
-    → FirstFault u' ms' at' s' a' out' c' → SameBase u u' ms ms' at at' s s'
-one_fault n x u s u' s' ms ms' at at' a a' out out' c c' r e f r' e' f' =
-    one_seen n u ms at s (seen n u ms at r s a out c f) u' ms' at' s' (seen n u' ms' at' r' s' a' out' c' f') (sym e ∙ e')
+-- all faults of one list are at one place
+pub one_fault : (n : ℕ) (x : List ℕ) (f g : HasFault n x) → SameBase f.before g.before f.marks g.marks f.place g.place f.ahead g.ahead
+one_fault n x f g =
+    one_seen n f.before f.marks f.place f.ahead (seen n f.before f.marks f.place f.reach f.ahead f.answer f.written f.consumed f.fault)
+    g.before g.marks g.place g.ahead (seen n g.before g.marks g.place g.reach g.ahead g.answer g.written g.consumed g.fault)
+    (sym f.is ∙ g.is)
+
+-- ---- its answer
+
+-- no refused byte begins a cut title
+cut_not_refused : (s : List ℕ) → IsCutTitle s → BeginsRefused s → ⊥
+cut_not_refused [] c r = r
+cut_not_refused (b ∷ s) c r = omega (arith, refused_affix b r, c)
+
+-- faults at one place have one answer, unless the bytes end within a text that is none
+same_answer : (u : List ℕ) (ms : List Mark) (at : Place) (s : List ℕ) (a : Answer) (out : List ℕ) (c : ℕ) → FirstFault u ms at s a out c
+    → (a' : Answer) (out' : List ℕ) (c' : ℕ) → FirstFault u ms at s a' out' c' → (a ≡ a') ⊎ BeginsNoText s
+same_answer u ms at s a out c (CutTitle d f) a' out' c' (CutTitle d' f') = inl refl
+same_answer u ms at s a out c (CutTitle d f) a' out' c' (NoTitle d' f') = absurd (cut_not_refused s f f')
+same_answer u ms at s a out c (CutTitle d f) a' out' c' (OtherTitle {title = t} x r p m e) =
+    absurd (title_not_cut t r x p (subst IsCutTitle e f))
+same_answer u ms at s a out c (CutTitle d f) a' out' c' (DamagedText b r l n e z m) = absurd d
+same_answer u ms at s a out c (CutTitle d f) a' out' c' (CutBody b r l e z m m2 m3) = absurd d
+same_answer u ms at s a out c (CutTitle d f) a' out' c' (CutDamagedText b r l n e z m) = absurd d
+same_answer u ms at s a out c (NoTitle d f) a' out' c' (CutTitle d' f') = absurd (cut_not_refused s f' f)
+same_answer u ms at s a out c (NoTitle d f) a' out' c' (NoTitle d' f') = inl refl
+same_answer u ms at s a out c (NoTitle d f) a' out' c' (OtherTitle x r p m e) = inl refl
+same_answer u ms at s a out c (NoTitle d f) a' out' c' (DamagedText b r l n e z m) = absurd d
+same_answer u ms at s a out c (NoTitle d f) a' out' c' (CutBody b r l e z m m2 m3) = absurd d
+same_answer u ms at s a out c (NoTitle d f) a' out' c' (CutDamagedText b r l n e z m) = absurd d
+same_answer u ms at s a out c (OtherTitle {title = t} x r p m e) a' out' c' (CutTitle d' f') =
+    absurd (title_not_cut t r x p (subst IsCutTitle e f'))
+same_answer u ms at s a out c (OtherTitle x r p m e) a' out' c' (NoTitle d' f') = inl refl
+same_answer u ms at s a out c (OtherTitle x r p m e) a' out' c' (OtherTitle x' r' p' m' e') = inl refl
+same_answer u ms at s a out c (DamagedText b r l n e z m) a' out' c' (CutTitle d' f') = absurd d'
+same_answer u ms at s a out c (DamagedText b r l n e z m) a' out' c' (NoTitle d' f') = absurd d'
+same_answer u ms at s a out c (DamagedText b r l n e z m) a' out' c' (DamagedText b' r' l' n' e' z' m') = inl refl
+same_answer u ms at s a out c (DamagedText b r l n e z m) a' out' c' (CutBody b' r' l' e' z' m' m2 m3) = absurd (omega (arith, l, l'))
+same_answer u ms at s a out c (DamagedText b r l n e z m) a' out' c' (CutDamagedText b' r' l' n' e' z' m') = inl refl
+same_answer u ms at s a out c (CutBody b r l e z m m2 m3) a' out' c' (CutTitle d' f') = absurd d'
+same_answer u ms at s a out c (CutBody b r l e z m m2 m3) a' out' c' (NoTitle d' f') = absurd d'
+same_answer u ms at s a out c (CutBody b r l e z m m2 m3) a' out' c' (DamagedText b' r' l' n' e' z' m') = absurd (omega (arith, l, l'))
+same_answer u ms at s a out c (CutBody b r l e z m m2 m3) a' out' c' (CutBody b' r' l' e' z' m' m2' m3') = inl refl
+same_answer u ms at s a out c (CutBody b r l e z m m2 m3) a' out' c' (CutDamagedText b' r' l' n' e' z' m') = inr n'
+same_answer u ms at s a out c (CutDamagedText b r l n e z m) a' out' c' (CutTitle d' f') = absurd d'
+same_answer u ms at s a out c (CutDamagedText b r l n e z m) a' out' c' (NoTitle d' f') = absurd d'
+same_answer u ms at s a out c (CutDamagedText b r l n e z m) a' out' c' (DamagedText b' r' l' n' e' z' m') = inl refl
+same_answer u ms at s a out c (CutDamagedText b r l n e z m) a' out' c' (CutBody b' r' l' e' z' m' m2 m3) = inr n
+same_answer u ms at s a out c (CutDamagedText b r l n e z m) a' out' c' (CutDamagedText b' r' l' n' e' z' m') = inl refl
+
+-- a fault at the same place
+same_place : (u u' : List ℕ) (ms ms' : List Mark) (at at' : Place) (s s' : List ℕ) (a : Answer) (out : List ℕ) (c : ℕ)
+    → SameBase u u' ms ms' at at' s s' → FirstFault u' ms' at' s' a out c → FirstFault u ms at s a out c
+same_place u u' ms ms' at at' s s' a out c e f =
+    let uu : u ≡ u' = e.0 in
+    let mm : ms ≡ ms' = e.1 in
+    let pp : at ≡ at' = e.2 in
+    let ss : s ≡ s' = e.3 in
+    rw (uu, mm, pp, ss) f
+
+-- the faults of one list have one answer, unless the bytes end within a text that is none
+pub one_answer : (n : ℕ) (x : List ℕ) (f g : HasFault n x) → (f.answer ≡ g.answer) ⊎ BeginsNoText f.ahead
+one_answer n x f g =
+    same_answer f.before f.marks f.place f.ahead f.answer f.written f.consumed f.fault g.answer g.written g.consumed
+    (same_place f.before g.before f.marks g.marks f.place g.place f.ahead g.ahead g.answer g.written g.consumed (one_fault n x f g) g.fault)

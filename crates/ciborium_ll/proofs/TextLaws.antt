@@ -1,5 +1,5 @@
 -- Texts joined and parted, and the longest beginning of a list that is text.
-use Rattle.std.proofs.Common.{◌≡◌, ℕ, ◌<◌, ◌≤◌, List, [], ◌∷◌, ◌++◌, length, take, drop, refl, sym, ap, ◌∙◌, subst, inl, inr, arith, append_assoc}
+use Rattle.std.proofs.Common.{◌≡◌, ℕ, zero, suc, ◌<◌, ◌≤◌, List, [], ◌∷◌, ◌++◌, length, take, drop, refl, sym, ap, ◌∙◌, subst, inl, inr, arith, append_assoc}
 use Rattle.std.proofs.lemmas.Bool.{cases_lt}
 use Rattle.std.proofs.lemmas.Str.{IsUtf8-append, IsUtf8-past_char}
 use Rattle.std.proofs.lemmas.List.{append-nil, length-append, take-append-drop, length-take, take_at}
@@ -8,7 +8,7 @@ use Rattle.std.specs.List.{AllByRecursion}
 use Rattle.std.proofs.Math.Utf8.{encode, encodes}
 use Rattle.ciborium_ll.specs.Text.{IsCharacter, row1, row2, row3, row4, row5, row6, row7, row8, row9, joined, IsCharacters, IsFront}
 use Rattle.ciborium_ll.proofs.Lists.{same_front, front_of_front}
-use Rattle.ciborium_ll.proofs.Utf8Laws.{to_std, from_std}
+use Rattle.ciborium_ll.proofs.Utf8Laws.{to_std, from_std, text_or_none}
 
 -- texts joined are a text
 pub IsCharacters-append : (a b : List ℕ) → IsCharacters a → IsCharacters b → IsCharacters (a ++ b)
@@ -71,17 +71,42 @@ no_text_begins x a r y f l u =
     let rest = IsCharacters-rest a (r ++ y) f.text whole in
     damned x a r y rest.characters f l rest.each rest.whole
 
--- std's place of the fault
-pub front_of_valid : (x : List ℕ) (n : ℕ) → IsValidUpTo x n → IsFront x (take n x) (drop n x)
-front_of_valid x n v =
+-- a text that none of those longer goes on from is the front
+front_at : (x : List ℕ) (n : ℕ) → n ≤ length x → IsCharacters (take n x) → ((m : ℕ) → n < m → m ≤ length x → IsCharacters (take m x) → ⊥)
+    → IsFront x (take n x) (drop n x)
+front_at x n l u none =
     record {
       parts = sym (take-append-drop n x);
-      text = from_std (take n x) v.front;
-      longest = λ b s e u. (elim (cases_lt n (length b)) [
-        | inl l ↦ absurd (v.longest (length b) l (subst IsUtf8 (sym (ap (take (length b)) e ∙ take_at b s (length b) refl)) (to_std b u)))
-        | inr l ↦ (let k = v.short in omega (arith, length-take n x))
+      text = u;
+      longest = λ b s e v. (elim (cases_lt n (length b)) [
+        | inl k ↦ absurd (none (length b) k (omega (arith, ap length e, length-append b s))
+            (subst IsCharacters (sym (ap (take (length b)) e ∙ take_at b s (length b) refl)) v))
+        | inr k ↦ omega (arith, length-take n x)
       ]);
     }
+
+-- the front ends where std finds the fault
+pub front_of_valid : (x : List ℕ) (n : ℕ) → IsValidUpTo x n → IsFront x (take n x) (drop n x)
+front_of_valid x n v =
+    let k = v.short in
+    front_at x n (omega arith) (from_std (take n x) v.front) (λ m l r u. v.longest m l (to_std (take m x) u))
+
+-- a list has a front, at most as long as n where no longer beginning is a text
+front_from : (n : ℕ) (x : List ℕ) → n ≤ length x → ((m : ℕ) → n < m → m ≤ length x → IsCharacters (take m x) → ⊥)
+    → (a : List ℕ) × (r : List ℕ) × IsFront x a r
+front_from zero x l none = (take 0 x, drop 0 x, front_at x 0 l IsCharacters-nil none)
+front_from (suc n) x l none =
+    elim (text_or_none (take (suc n) x)) [
+      | inl u ↦ (take (suc n) x, drop (suc n) x, front_at x (suc n) l u none)
+      | inr v ↦ front_from n x (omega arith) (λ m k r u. (elim (cases_lt (suc n) m) [
+        | inl j ↦ none m j r u
+        | inr j ↦ (let e : m ≡ suc n = omega arith in v (subst (λ (z : ℕ). IsCharacters (take z x)) e u))
+      ]))
+    ]
+
+-- a list has a front
+pub some_front : (x : List ℕ) → (a : List ℕ) × (r : List ℕ) × IsFront x a r
+some_front x = front_from (length x) x (omega arith) (λ m k r u. absurd (omega arith))
 
 -- the front of a text is the whole
 pub front_of_text : (x : List ℕ) → IsCharacters x → IsFront x x []

@@ -248,18 +248,10 @@ least_shortest m s n p =
 -- a title of a number is the shortest one of its header, or longer
 number_shortest : (m : Major) (s : Size) (n : ℕ) → n < size_limit s
     → LeastOr (numbered_title m s n) (shortest_title (numbered_header m s n))
-number_shortest Unsigned s n p = least_shortest Unsigned s n p
-number_shortest Negative s n p = least_shortest Negative s n p
-number_shortest ByteString s n p = least_shortest ByteString s n p
-number_shortest TextString s n p = least_shortest TextString s n p
-number_shortest Array s n p = least_shortest Array s n p
-number_shortest Map s n p = least_shortest Map s n p
-number_shortest Tag s n p = least_shortest Tag s n p
-number_shortest Other Small n p = least_shortest Other Small n p
-number_shortest Other One n p = least_shortest Other One n p
 number_shortest Other Two n p = inl refl
 number_shortest Other Four n p = inl refl
 number_shortest Other Eight n p = inl refl
+number_shortest m s n p = least_shortest m s n p
 
 -- a title of the minor 31 is the shortest one
 alone_shortest : (m : Major) (x : Header) → open_header m ≡ Some x → LeastOr (first_byte m 31 ∷ []) (shortest_title x)
@@ -318,18 +310,12 @@ limit_below Eight n p = p
 
 -- the header of a number is in range
 numbered_in_range : (m : Major) (s : Size) (n : ℕ) → n < size_limit s → IsInRange (numbered_header m s n)
-numbered_in_range Unsigned s n p = limit_below s n p
-numbered_in_range Negative s n p = limit_below s n p
-numbered_in_range ByteString s n p = limit_below s n p
-numbered_in_range TextString s n p = limit_below s n p
-numbered_in_range Array s n p = limit_below s n p
-numbered_in_range Map s n p = limit_below s n p
-numbered_in_range Tag s n p = limit_below s n p
 numbered_in_range Other Small n p = omega arith
 numbered_in_range Other One n p = p
 numbered_in_range Other Two n p = p
 numbered_in_range Other Four n p = p
 numbered_in_range Other Eight n p = p
+numbered_in_range m s n p = limit_below s n p
 
 -- the header of the minor 31 is in range
 alone_in_range : (m : Major) (x : Header) → open_header m ≡ Some x → IsInRange x

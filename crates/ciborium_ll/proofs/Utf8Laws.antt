@@ -1,8 +1,9 @@
 -- The texts of Table 3-7 are those of std: a row is what std writes for a character.
-use Rattle.std.proofs.Common.{◌≡◌, ℕ, ◌+◌, ◌-◌, ◌*◌, ◌/◌, ◌<◌, ◌≤◌, ◌⊎◌, true, List, [], ◌∷◌, ◌++◌, refl, sym, ap, ◌∙◌, subst, inl, inr, arith, lt-ltb, le-ltb, le-leb}
+use Rattle.std.proofs.Common.{◌≡◌, ℕ, ◌+◌, ◌-◌, ◌*◌, ◌/◌, ◌<◌, ◌≤◌, ◌⊎◌, true, List, [], ◌∷◌, ◌++◌, refl, sym, ap, ◌∙◌, subst, inl, inr, arith, lt-ltb, le-ltb, le-leb, Bool, false}
 use Rattle.std.proofs.lemmas.Bool.{cases_lt, and_parts}
 use Rattle.std.proofs.Math.Utf8.{scalar, scalars, encode, encodes, next, low_scalar, scalar_cases}
-use Rattle.std.specs.Str.{IsUtf8}
+use Rattle.std.specs.Str.{IsUtf8, is_utf8}
+use Rattle.std.proofs.lemmas.Str.{IsUtf8-from_is_utf8, is_utf8-from_IsUtf8}
 use Rattle.std.specs.List.{AllByRecursion}
 use Rattle.ciborium_ll.specs.Text.{IsFrom, IsTail, IsCharacter, row1, row2, row3, row4, row5, row6, row7, row8, row9, joined, IsCharacters}
 
@@ -141,11 +142,11 @@ written bytes (row9 {a} {b} {c} {d} p q r s) =
 tail_of : (n : ℕ) → IsTail (next n)
 tail_of n = (omega arith, omega arith)
 
--- two bytes are of row 2
+-- two bytes are a character of the second row
 is_2 : (c : ℕ) → 128 ≤ c → c < 2048 → IsCharacter ((192 + c / 64) ∷ next c ∷ [])
 is_2 c p q = row2 (omega arith, omega arith) (tail_of c)
 
--- three bytes are of the rows 3 to 6
+-- three bytes are a character of the third to the sixth row
 is_3 : (c : ℕ) → 2048 ≤ c → c < 65536 → (c < 55296) ⊎ (57344 ≤ c) → IsCharacter ((224 + c / 4096) ∷ next (c / 64) ∷ next c ∷ [])
 is_3 c p q s =
     elim (cases_lt c 4096) [
@@ -159,7 +160,7 @@ is_3 c p q s =
       ]
     ]
 
--- four bytes are of the rows 7 to 9
+-- four bytes are a character of the seventh to the ninth row
 is_4 : (c : ℕ) → 65536 ≤ c → c < 1114112 → IsCharacter ((240 + c / 262144) ∷ next (c / 4096) ∷ next (c / 64) ∷ next c ∷ [])
 is_4 c p q =
     elim (cases_lt c 262144) [
@@ -217,3 +218,12 @@ to_std t u = subst IsUtf8 (sym u.whole) (all_written u.characters u.each)
 -- what is UTF-8 for std is a text
 pub from_std : (t : List ℕ) → IsUtf8 t → IsCharacters t
 from_std t u = subst IsCharacters u.1.1 (all_characters u.0 u.1.0)
+
+-- std's test tells a text
+tested : (t : List ℕ) (v : Bool) → is_utf8 t ≡ v → IsCharacters t ⊎ (IsCharacters t → ⊥)
+tested t true e = inl (from_std t (IsUtf8-from_is_utf8 t e))
+tested t false e = inr (λ u. (let w = is_utf8-from_IsUtf8 t (to_std t u) in absurd (cc (e, w))))
+
+-- bytes are a text or none
+pub text_or_none : (t : List ℕ) → IsCharacters t ⊎ (IsCharacters t → ⊥)
+text_or_none t = tested t (is_utf8 t) refl

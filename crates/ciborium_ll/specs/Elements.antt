@@ -12,7 +12,7 @@ abbrev pub IsSound : Kind → List (List ℕ) → Type 0
 IsSound Bytes bodies = Unit {0}
 IsSound Text bodies = AllByRecursion IsCharacters bodies
 
--- a header that begins no string
+-- a header that begins no string (RFC 7049, 2.1)
 abbrev pub IsPlain : Header → Type 0
 IsPlain (h.Bytes len) = ⊥
 IsPlain (h.Text len) = ⊥
@@ -53,8 +53,8 @@ pieces kind (body ∷ bodies) = Piece kind body ∷ pieces kind bodies
 abbrev pub open_marks : Kind → List (List ℕ) → List Mark
 open_marks kind bodies = Open kind ∷ (pieces kind bodies ++ Close ∷ [])
 
--- the bytes are an element, and leave these marks: a title that begins no string, or a sound string. Opens inside a
--- string leave no mark
+-- the bytes are an element, and leave these marks: a title that begins no string, or a sound string (RFC 7049, 2.1 and
+-- 2.2.2). Opens inside a string leave no mark
 pub data IsElement : List ℕ → List Mark → Type 0 where
   plain : {title : List ℕ} (header : Header) → IsTitle title header → IsPlain header → IsElement title (Plain header ∷ [])
   definite : {title body : List ℕ} (kind : Kind) → IsTitle title (kind_header kind (Some (length body))) → IsSound kind (body ∷ [])

@@ -29,6 +29,7 @@ AreBytePieces limit value members = (value ≡ joined members) × AreChunks limi
 abbrev pub AreTextPieces : ℕ → List ℕ → List (List ℕ) → Type 0
 AreTextPieces limit value members = IsFullCut value limit members
 
+-- the pieces of a value of the kind that is longer than the limit
 abbrev pub ArePieces : Kind → ℕ → List ℕ → List (List ℕ) → Type 0
 ArePieces Bytes limit value members = AreBytePieces limit value members
 ArePieces Text limit value members = AreTextPieces limit value members

@@ -6,7 +6,10 @@ ghost use Rattle.ciborium_ll.specs.Cuts.{IsCut, IsFullCut};
 
 /// A text has just one full cut for a limit of at least 4, and no cut has fewer members.
 pub fn full_cuts()
-    ensures exists { (text : List ℕ) (limit : ℕ) → IsCharacters text → 4 ≤ limit → (members : List (List ℕ)) × IsFullCut text limit members }
-    ensures one { (text : List ℕ) (limit : ℕ) (cut other : List (List ℕ)) → IsFullCut text limit cut → IsFullCut text limit other → cut ≡ other }
-    ensures fewest { (text : List ℕ) (limit : ℕ) (cut other : List (List ℕ)) → IsFullCut text limit cut → IsCut text limit other → length cut ≤ length other }
+    ensures exists { (text : List ℕ) (limit : ℕ) → IsCharacters text → 4 ≤ limit
+        → (members : List (List ℕ)) × IsFullCut text limit members }
+    ensures one { (text : List ℕ) (limit : ℕ) (cut other : List (List ℕ)) → IsFullCut text limit cut
+        → IsFullCut text limit other → cut ≡ other }
+    ensures fewest { (text : List ℕ) (limit : ℕ) (cut other : List (List ℕ)) → IsFullCut text limit cut
+        → IsCut text limit other → length cut ≤ length other }
 {}

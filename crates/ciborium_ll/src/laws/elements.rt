@@ -5,18 +5,18 @@ ghost use Rattle.ciborium_ll.specs.Elements.{Mark, IsElement, IsRun, spelling};
 
 /// No element begins another one, nor has two lists of marks.
 pub fn one_element()
-    ensures { (w w' v v' : List ℕ) (marks marks' : List Mark) → IsElement w marks → IsElement w' marks' → w ++ v ≡ w' ++ v'
-        → (w ≡ w') × (marks ≡ marks') × (v ≡ v') }
+    ensures { (element other rest more : List ℕ) (marks others : List Mark) → IsElement element marks → IsElement other others
+        → element ++ rest ≡ other ++ more → (element ≡ other) × (marks ≡ others) × (rest ≡ more) }
 {}
 
 /// At most one run of as many elements stands in front, with one list of marks.
 pub fn one_run()
-    ensures { (count : ℕ) (w w' v v' : List ℕ) (marks marks' : List Mark) → IsRun count w marks → IsRun count w' marks' → w ++ v ≡ w' ++ v'
-        → (w ≡ w') × (marks ≡ marks') × (v ≡ v') }
+    ensures { (count : ℕ) (run other rest more : List ℕ) (marks others : List Mark) → IsRun count run marks → IsRun count other others
+        → run ++ rest ≡ other ++ more → (run ≡ other) × (marks ≡ others) × (rest ≡ more) }
 {}
 
 /// The spelling of a run's marks is a run of the same marks, and is no longer.
 pub fn spelled_run()
-    ensures again { (count : ℕ) (w : List ℕ) (marks : List Mark) → IsRun count w marks → IsRun count (spelling marks) marks }
-    ensures no_longer { (count : ℕ) (w : List ℕ) (marks : List Mark) → IsRun count w marks → length (spelling marks) ≤ length w }
+    ensures again { (count : ℕ) (run : List ℕ) (marks : List Mark) → IsRun count run marks → IsRun count (spelling marks) marks }
+    ensures no_longer { (count : ℕ) (run : List ℕ) (marks : List Mark) → IsRun count run marks → length (spelling marks) ≤ length run }
 {}

@@ -1,22 +1,21 @@
 //! Laws of runs and faults.
 
-ghost use Rattle.std.specs.Prelude.{◌≡◌, ℕ, ◌⊎◌, ◌++◌, List};
+ghost use Rattle.std.specs.Prelude.{◌≡◌, ℕ, ◌⊎◌, List};
 ghost use Rattle.ciborium_ll.specs.Title.{AreBytes};
-ghost use Rattle.ciborium_ll.specs.Elements.{Mark, IsRun};
-ghost use Rattle.ciborium_ll.specs.Faults.{Place, Reaches, Answer, FirstFault, RunInFront, HasFault};
+ghost use Rattle.ciborium_ll.specs.Faults.{BeginsNoText, RunInFront, HasFault};
 
 /// Where a run of as many elements stands in front, there is no fault.
 pub fn no_fault()
     ensures { (count : ℕ) (bytes : List ℕ) → RunInFront count bytes → HasFault count bytes → ⊥ }
 {}
 
-/// The faults in one list of bytes are all at one place, with the same marks.
+/// The faults of one list of bytes are all at one place, and have one answer unless the bytes end within a body with
+/// which no text begins.
 pub fn one_fault()
-    ensures { (count : ℕ) (bytes u s u' s' : List ℕ) (marks marks' : List Mark) (place place' : Place) (answer answer' : Answer)
-        (written written' : List ℕ) (consumed consumed' : ℕ)
-        → Reaches count u marks place → bytes ≡ u ++ s → FirstFault u marks place s answer written consumed
-        → Reaches count u' marks' place' → bytes ≡ u' ++ s' → FirstFault u' marks' place' s' answer' written' consumed'
-        → (u ≡ u') × (marks ≡ marks') × (place ≡ place') × (s ≡ s') }
+    ensures place { (count : ℕ) (bytes : List ℕ) (fault other : HasFault count bytes)
+        → (fault.before ≡ other.before) × (fault.marks ≡ other.marks) × (fault.place ≡ other.place) × (fault.ahead ≡ other.ahead) }
+    ensures answer { (count : ℕ) (bytes : List ℕ) (fault other : HasFault count bytes)
+        → (fault.answer ≡ other.answer) ⊎ BeginsNoText fault.ahead }
 {}
 
 /// In any bytes either a run of so many elements stands in front, or a fault stops it.

@@ -5,5 +5,6 @@ ghost use Rattle.ciborium_ll.specs.Items.{IsItem};
 
 /// No item begins another one, whatever their depths.
 pub fn one_item()
-    ensures { (depth depth' : ℕ) (w w' v v' : List ℕ) → IsItem depth w → IsItem depth' w' → w ++ v ≡ w' ++ v' → (w ≡ w') × (v ≡ v') }
+    ensures { (depth limit : ℕ) (item other rest more : List ℕ) → IsItem depth item → IsItem limit other → item ++ rest ≡ other ++ more
+        → (item ≡ other) × (rest ≡ more) }
 {}

@@ -5,6 +5,6 @@ ghost use Rattle.ciborium_ll.specs.Strings.{Kind, IsString};
 
 /// No string begins another one of its kind, and each has one list of bodies.
 pub fn one_string()
-    ensures { (kind : Kind) (w w' v v' : List ℕ) (bodies bodies' : List (List ℕ)) → IsString kind w bodies → IsString kind w' bodies'
-        → w ++ v ≡ w' ++ v' → (w ≡ w') × (bodies ≡ bodies') × (v ≡ v') }
+    ensures { (kind : Kind) (string other rest more : List ℕ) (bodies others : List (List ℕ)) → IsString kind string bodies
+        → IsString kind other others → string ++ rest ≡ other ++ more → (string ≡ other) × (bodies ≡ others) × (rest ≡ more) }
 {}

@@ -11,23 +11,26 @@ pub fn same_text()
 
 /// Texts joined are a text.
 pub fn joined_texts()
-    ensures { (a b : List ℕ) → IsCharacters a → IsCharacters b → IsCharacters (a ++ b) }
+    ensures { (text other : List ℕ) → IsCharacters text → IsCharacters other → IsCharacters (text ++ other) }
 {}
 
 /// What follows a text in a text is one.
 pub fn rest_of_text()
-    ensures { (a b : List ℕ) → IsCharacters a → IsCharacters (a ++ b) → IsCharacters b }
+    ensures { (text rest : List ℕ) → IsCharacters text → IsCharacters (text ++ rest) → IsCharacters rest }
 {}
 
-/// Bytes have one longest front that is text, which is the one that std finds.
+/// Bytes have just one longest front that is text, which is the one that std finds.
 pub fn one_front()
-    ensures one { (bytes a r b s : List ℕ) → IsFront bytes a r → IsFront bytes b s → (a ≡ b) × (r ≡ s) }
+    ensures exists { (bytes : List ℕ) → (front : List ℕ) × (rest : List ℕ) × IsFront bytes front rest }
+    ensures one { (bytes front rest other more : List ℕ) → IsFront bytes front rest → IsFront bytes other more
+        → (front ≡ other) × (rest ≡ more) }
     ensures valid { (bytes : List ℕ) (n : ℕ) → IsValidUpTo bytes n → IsFront bytes (take n bytes) (drop n bytes) }
 {}
 
 /// No text begins with a front and four bytes or more that no character begins.
 pub fn no_text_begins()
-    ensures { (bytes front rest more : List ℕ) → IsFront bytes front rest → 3 < length rest → IsCharacters (bytes ++ more) → ⊥ }
+    ensures { (bytes front rest more : List ℕ) → IsFront bytes front rest → 3 < length rest
+        → IsCharacters (bytes ++ more) → ⊥ }
 {}
 
 /// Bytes with a rest behind their front are no text.
