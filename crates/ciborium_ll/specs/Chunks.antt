@@ -9,11 +9,13 @@ use Rattle.ciborium_ll.specs.declared.dec.Error.{Error}
 use Rattle.ciborium_ll.specs.declared.dec.Error.TheVariants as e
 use Rattle.ciborium_ll.specs.declared.seg.Body.{Body}
 use Rattle.ciborium_ll.specs.declared.seg.Parser.{Ghosts as Parser}
+use Rattle.ciborium_ll.specs.declared.seg.Progress.{Progress}
 use Rattle.ciborium_ll.specs.declared.seg.Segment.{Segment}
 use Rattle.ciborium_ll.specs.Strings.{Kind, Bytes, Text}
 use Rattle.ciborium_ll.specs.Text.{IsFront}
 use Rattle.ciborium_ll.specs.Decoding.{offset_limit, ReadsAll, ReadFails, IsUntouched}
 use Rattle.ciborium_ll.specs.Kept.{kept_bytes}
+use Rattle.ciborium_ll.specs.Segments.{AdvancesTo}
 
 -- of a text the longest front that is text is handed out, of bytes all
 abbrev pub IsSplit : Kind → List ℕ → List ℕ → List ℕ → Type 0
@@ -146,3 +148,17 @@ module _ {R E P : Type 0} {parser : Parser P} (source : Ghosts R E) where
   PullsChunk room old (Err (e.Syntax place)) new = FindsDamage room old place new
   PullsChunk room old (Err e.TooLong) new = ChunkPasses room old new
   PullsChunk room old (Err e.Waiting) new = ⊥
+
+module _ {R E P : Type 0} {parser : Parser P} (source : Ghosts R E) (kind : Kind) where
+  -- a segment is whole, and holds the decoder as `advance` left it
+  pub record LendsWhole (progress : Progress) (old : Decoder R) (segment : Segment R P parser) : Type 0 where
+    pub body : Body
+    pub after : Progress
+    pub advanced : AdvancesTo source kind progress old (Ok (Some body)) after segment.reader.now
+    pub whole : IsWhole body segment
+
+  -- `pull` answers as `advance` does, with a whole segment for a body
+  abbrev pub PullsSegment : Progress → Decoder R → Result (Option (Segment R P parser)) (Error E) → Type 0
+  PullsSegment progress old (Ok (Some segment)) = LendsWhole progress old segment
+  PullsSegment progress old (Ok None) = (after : Progress) × (new : Decoder R) × AdvancesTo source kind progress old (Ok None) after new
+  PullsSegment progress old (Err error) = (after : Progress) × (new : Decoder R) × AdvancesTo source kind progress old (Err error) after new

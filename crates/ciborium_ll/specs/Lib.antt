@@ -7,6 +7,7 @@ pub mod Encoding
 pub mod Faults
 pub mod Items
 pub mod Kept
+pub mod Lend
 pub mod Parts
 pub mod Segments
 pub mod Steps

@@ -6,6 +6,7 @@ ghost use Rattle.ciborium_ll.specs.Title.{waiting_len};
 
 use crate::hdr::{Header, Minor, Title};
 use crate::io::{Failures, Read};
+use crate::seg::{Bytes, Segments};
 
 /// Why a decoder failed.
 #[derive(Debug, Drop)]
@@ -55,6 +56,7 @@ impl<R: Read> From<R> for Decoder<R> {
 
 impl<R: Read> Decoder<R> {
     ghost use Rattle.std.specs.Prelude.{◌<◌, ◌^◌, IsTrue, ◌↔◌, None, IsErrOf};
+    ghost use Rattle.ciborium_ll.specs.declared.seg.Progress.TheVariants.{Open};
     ghost use Rattle.ciborium_ll.specs.Title.{title_len};
     ghost use Rattle.ciborium_ll.specs.Decoding.{IsFresh, IsSteady, IsWaiting, PullsHeader, ReadsBytes, ReadsMinor, TakesBack, offset_of, reader_of, refusals_of, waiting_of};
 
@@ -133,6 +135,21 @@ impl<R: Read> Decoder<R> {
     {
         self.offset -= item.title_len();
         self.waiting = Some(item);
+    }
+
+    /// The segments of a byte string, behind its header with this length, which was just pulled.
+    ///
+    /// The header waits again until the first segment is asked for. Another length than the header's is not refused:
+    /// the string is then read with that length.
+    pub fn bytes(&mut self, len: Option<usize>) -> Segments<'_, R, Bytes>
+        requires none_waits { waiting_of self.old ≡ None }
+        requires covered { title_len (Header.Bytes len) ≤ offset_of self.old }
+        ensures same_reference { result.reader.ghost_name ≡ self.entry.ghost_name }
+        ensures back { TakesBack R.Read self.old (Header.Bytes len) result.reader.now }
+        ensures fresh { result.progress ≡ Open 0 }
+    {
+        self.push(Header::Bytes(len));
+        Segments::new(self)
     }
 
     /// Reads the affix that a minor announces, or nothing for a reserved one.

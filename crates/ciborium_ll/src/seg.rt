@@ -69,8 +69,11 @@ pub struct Segments<'r, R, P: Parser> {
 impl<'r, R: Read, P: Parser> Segments<'r, R, P> {
     ghost use Rattle.std.specs.Prelude.{OnOk};
     ghost use Rattle.ciborium_ll.specs.declared.seg.Progress.TheVariants.{Open};
-    ghost use Rattle.ciborium_ll.specs.Decoding.{IsSteady, offset_of, refusals_of};
+    ghost use Rattle.ciborium_ll.specs.Decoding.{IsSteady, offset_of, refusals_of, waiting_of};
+    ghost use Rattle.std.specs.Borrow.{sem};
     ghost use Rattle.ciborium_ll.specs.Segments.{AdvancesTo, StepsOver, opens_of};
+    ghost use Rattle.ciborium_ll.specs.Chunks.{IsWhole, PullsSegment};
+    ghost use Rattle.ciborium_ll.specs.Lend.{lends_segment};
 
     /// The segments of the string whose header waits.
     pub(crate) fn new(reader: &'r mut Decoder<R>) -> Segments<'r, R, P>
@@ -110,6 +113,38 @@ impl<'r, R: Read, P: Parser> Segments<'r, R, P> {
             Progress::Damaged(place) => Err(Error::Syntax(place)),
             Progress::TooDeep => Err(Error::TooLong),
             Progress::Open(_) | Progress::Ended => Ok(None),
+        }
+    }
+
+    /// The segment of a body that `advance` gave last. It lends the decoder on.
+    ///
+    /// A body that was not given by the last `advance` makes a segment of so many bytes all the same.
+    pub fn segment(&mut self, body: Body) -> Segment<'_, R, P>
+        requires { waiting_of self.old.reader.now ≡ None }
+        ensures* lends { sem 𝓛 (lends_segment R.row P.row self.entry result) }
+        ensures lent { result.reader.now ≡ self.old.reader.now }
+        ensures whole { IsWhole body result }
+    {
+        Segment {
+            reader: self.reader,
+            unread: body.length,
+            place: body.place,
+            kept: Kept::Nothing,
+            damaged: false,
+            parser: PhantomData,
+        }
+    }
+
+    /// The next segment of the string. The answers are those of `advance`.
+    ///
+    /// A segment that is dropped early leaves the rest of its body in the reader, where the next call reads on.
+    pub fn pull(&mut self) -> Result<Option<Segment<'_, R, P>>, Error<R::Error>>
+        ensures pulls { PullsSegment R.Read P.kind self.old.progress self.old.reader.now result }
+    {
+        match self.advance() {
+            Ok(Some(body)) => Ok(Some(self.segment(body))),
+            Ok(None) => Ok(None),
+            Err(error) => Err(error),
         }
     }
 
