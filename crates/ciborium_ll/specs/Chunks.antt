@@ -65,6 +65,20 @@ module _ {R P : Type 0} {parser : Parser P} where
   abbrev pub read_count : ℕ → Segment R P parser → ℕ
   read_count room s = let size = min room (left_of s) in size - min size (length (kept_bytes s.kept))
 
+module _ {R E : Type 0} (source : Ghosts R E) where
+  -- a read behind bytes that stand in front of a slice
+  pub record ReadsBehind (front : List ℕ) (old : Decoder R) (filled : List ℕ) (new : Decoder R) : Type 0 where
+    pub read : List ℕ
+    pub reads : ReadsAll source old read new
+    pub whole : filled ≡ front ++ read
+
+  abbrev pub FillsBehind : List ℕ → Decoder R → Result (Unit {0}) (Error E) → List ℕ → Decoder R → Type 0
+  FillsBehind front old (Ok done) filled new = ReadsBehind front old filled new
+  FillsBehind front old (Err (e.Io fault)) filled new = ReadFails source old (length filled - length front) new
+  FillsBehind front old (Err e.TooLong) filled new = (offset_limit ≤ old.offset + (length filled - length front)) × IsUntouched old new
+  FillsBehind front old (Err (e.Syntax place)) filled new = ⊥
+  FillsBehind front old (Err e.Waiting) filled new = ⊥
+
 module _ {R E P : Type 0} {parser : Parser P} (source : Ghosts R E) where
   -- the kept bytes, and as much of the body as is told
   abbrev pub rest : Segment R P parser → Option (List ℕ)

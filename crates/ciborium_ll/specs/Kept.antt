@@ -10,12 +10,6 @@ kept_bytes (k.One first) = first ∷ []
 kept_bytes (k.Two first second) = first ∷ second ∷ []
 kept_bytes (k.Three first second third) = first ∷ second ∷ third ∷ []
 
-abbrev pub kept_len : Kept → ℕ
-kept_len k.Nothing = 0
-kept_len (k.One first) = 1
-kept_len (k.Two first second) = 2
-kept_len (k.Three first second third) = 3
-
 -- no beginning of the bytes is text, but for the empty one
 abbrev pub IsStuck : List ℕ → Type 0
 IsStuck bytes = (front rest : List ℕ) → bytes ≡ front ++ rest → IsCharacters front → front ≡ []

@@ -13,4 +13,4 @@ pub use self::dec::{Decoder, Error};
 pub use self::enc::Encoder;
 pub use self::hdr::{Float, Header};
 pub use self::recode::RecodeError;
-pub use self::seg::{Body, Bytes, Segment, Segments};
+pub use self::seg::{Body, Bytes, Segment, Segments, Text};

@@ -1,14 +1,16 @@
 //! Strings, lent piece by piece (RFC 7049, 2.2.2).
 
-ghost use Rattle.std.specs.Prelude.{◌≡◌, ◌≤◌, ◌<◌, ◌+◌, ◌^◌, ◌⊎◌, length, IfSome, IfNone, [], None, Some};
+ghost use Rattle.std.specs.Prelude.{◌≡◌, ◌≤◌, ◌<◌, ◌+◌, ◌^◌, ◌⊎◌, length, take, drop, true, IfSome, IfNone, [], None, Some};
+ghost use Rattle.ciborium_ll.specs.Text.{IsFront};
 ghost use Rattle.ciborium_ll.specs.declared.hdr.Header.TheVariants.{Break};
 ghost use Rattle.ciborium_ll.specs.Strings.{Kind, kind_header, Bytes as byte_strings};
-ghost use Rattle.ciborium_ll.specs.Kept.{IsStuck, kept_bytes, kept_len};
+ghost use Rattle.ciborium_ll.specs.Kept.{IsStuck, kept_bytes};
 ghost use Rattle.ciborium_ll.specs.Faults.{IsMisplaced};
 
 use crate::dec::{Decoder, Error};
 use crate::hdr::Header;
 use crate::io::Read;
+use simdutf8::compat;
 use std::marker::PhantomData;
 
 /// A kind of string: which headers begin one.
@@ -31,6 +33,23 @@ impl Parser for Bytes {
     fn length(header: Header) -> Option<Option<usize>> {
         match header {
             Header::Bytes(length) => Some(length),
+            _ => None,
+        }
+    }
+}
+
+/// The kind of text strings.
+#[derive(Default, Drop)]
+pub struct Text(());
+
+impl Parser for Text {
+    ghost use Rattle.ciborium_ll.specs.Strings.{Text as text_strings};
+
+    ghost kind = { text_strings };
+
+    fn length(header: Header) -> Option<Option<usize>> {
+        match header {
+            Header::Text(length) => Some(length),
             _ => None,
         }
     }
@@ -224,6 +243,53 @@ impl Kept {
             Kept::Three(..) => 3,
         }
     }
+
+    /// Writes the kept bytes to the front of a slice.
+    fn put(self, buffer: &mut [u8])
+        requires { length (kept_bytes self) ≤ length buffer.old }
+        ensures { take (length (kept_bytes self)) buffer.new ≡ kept_bytes self }
+    {
+        match self {
+            Kept::Nothing => {}
+            Kept::One(first) => buffer[0] = first,
+            Kept::Two(first, second) => {
+                buffer[0] = first;
+                buffer[1] = second;
+            }
+            Kept::Three(first, second, third) => {
+                buffer[0] = first;
+                buffer[1] = second;
+                buffer[2] = third;
+            }
+        }
+    }
+
+    /// Keeps bytes, if they are at most three.
+    fn keep(bytes: &[u8]) -> Option<Kept>
+        ensures some { IfSome result (λ kept. kept_bytes kept ≡ bytes.now) }
+        ensures none { IfNone result (3 < length bytes.now) }
+    {
+        match bytes {
+            [] => Some(Kept::Nothing),
+            [first] => Some(Kept::One(*first)),
+            [first, second] => Some(Kept::Two(*first, *second)),
+            [first, second, third] => Some(Kept::Three(*first, *second, *third)),
+            _ => None,
+        }
+    }
+}
+
+/// The longest front of the bytes that is text.
+fn text_front(bytes: &[u8]) -> &str
+    ensures { IsFront bytes.now result.now (drop (length result.now) bytes.now) }
+{
+    match compat::from_utf8(bytes) {
+        Ok(text) => text,
+        Err(error) => match compat::from_utf8(&bytes[..error.valid_up_to()]) {
+            Ok(text) => text,
+            Err(_) => unreachable!(),
+        },
+    }
 }
 
 /// One segment of a string, which lends the decoder until it is dropped.
@@ -238,7 +304,7 @@ pub struct Segment<'r, R, P: Parser> {
     kept: Kept,
     damaged: bool,
     parser: PhantomData<P>,
-    ghost counted: { unread + kept_len kept < 2 ^ 64 },
+    ghost counted: { unread + length (kept_bytes kept) < 2 ^ 64 },
     ghost none_waits: { reader.now.waiting ≡ None },
     ghost stuck: { IsStuck (kept_bytes kept) },
     ghost text_alone: { P.kind ≡ byte_strings → kept_bytes kept ≡ [] },
@@ -300,5 +366,79 @@ impl<'r, R: Read> Segment<'r, R, Bytes> {
         self.reader.read(chunk)?;
         self.unread -= size;
         Ok(Some(chunk))
+    }
+}
+
+impl<'r, R: Read> Segment<'r, R, Text> {
+    ghost use Rattle.ciborium_ll.specs.Decoding.{IsSteady, refusals_of};
+    ghost use Rattle.ciborium_ll.specs.Chunks.{FillsBehind, IsSame, PullsChunk};
+
+    /// Reads the next bytes of the body, as many as there are and the buffer holds, and hands out the longest front of
+    /// them that is text. Up to three bytes behind it are kept, since they may begin a character.
+    ///
+    /// `None` says that the body has ended. A buffer of fewer than four bytes may give an empty chunk while bytes are
+    /// left. The errors are `Syntax` with the segment's place where the body is no text, which stays and reads nothing;
+    /// `Io` where the reader failed, and `TooLong` where the offset would pass `usize::MAX`: both leave the segment as
+    /// it was. A damaged end can give a chunk first, and its error on the next call.
+    pub fn pull<'a>(&mut self, buffer: &'a mut [u8]) -> Result<Option<&'a str>, Error<R::Error>>
+        ensures same_reference { self.new.reader.ghost_name ≡ self.old.reader.ghost_name }
+        ensures chunk { PullsChunk R.Read (length buffer.old) self.old result self.new }
+        ensures steady { IsSteady R.Read self.old.reader.now → IsSteady R.Read self.new.reader.now }
+        ensures refusals { refusals_of self.new.reader.now ≡ refusals_of self.old.reader.now }
+    {
+        if self.damaged {
+            return Err(Error::Syntax(self.place));
+        }
+        if self.unread == 0 {
+            return match self.kept {
+                Kept::Nothing => Ok(None),
+                _ => Err(self.damage()),
+            };
+        }
+        let kept = self.kept.len();
+        let size = buffer.len().min(self.unread + kept);
+        if size <= kept {
+            return Ok(Some(""));
+        }
+        let filled = &mut buffer[..size];
+        self.fill(filled)?;
+        let text = text_front(filled);
+        self.unread -= size - kept;
+        match Kept::keep(&filled[text.len()..]) {
+            Some(rest) => {
+                self.kept = rest;
+                Ok(Some(text))
+            }
+            None => Err(self.damage()),
+        }
+    }
+
+    /// Reads behind the kept bytes, which it writes to the front.
+    fn fill(&mut self, filled: &mut [u8]) -> Result<(), Error<R::Error>>
+        requires { length (kept_bytes self.old.kept) ≤ length filled.old }
+        ensures same_reference { self.new.reader.ghost_name ≡ self.old.reader.ghost_name }
+        ensures same { IsSame self.old self.new }
+        ensures filled { FillsBehind R.Read (kept_bytes self.old.kept) self.old.reader.now result filled.new self.new.reader.now }
+        ensures steady { IsSteady R.Read self.old.reader.now → IsSteady R.Read self.new.reader.now }
+        ensures refusals { refusals_of self.new.reader.now ≡ refusals_of self.old.reader.now }
+    {
+        let kept = self.kept.len();
+        self.kept.put(filled);
+        self.reader.read(&mut filled[kept..])
+    }
+
+    /// The body is no text: nothing is kept any more, and the error stays.
+    fn damage(&mut self) -> Error<R::Error>
+        ensures same_reference { self.new.reader.ghost_name ≡ self.old.reader.ghost_name }
+        ensures same { self.new.reader.now ≡ self.old.reader.now }
+        ensures unread { self.new.unread ≡ self.old.unread }
+        ensures place { self.new.place ≡ self.old.place }
+        ensures kept { kept_bytes self.new.kept ≡ [] }
+        ensures damaged { self.new.damaged ≡ true }
+        ensures error { result ≡ Error.Syntax self.old.place }
+    {
+        self.kept = Kept::Nothing;
+        self.damaged = true;
+        Error::Syntax(self.place)
     }
 }

@@ -1,0 +1,51 @@
+use Rattle.std.proofs.Common.{rules, arith, sym, ap, subst, inr, ◌∙◌, ◌≡◌, ◌<◌, [], length, drop, length-append}
+use Rattle.std.proofs.lemmas.List.{take_rest}
+use Rattle.ciborium_ll.specs.Kept.{IsStuck, kept_bytes}
+use Rattle.ciborium_ll.proofs.ChunkLaws.{IsFront-stuck, IsStuck-rest, ReadsOn-none}
+use Rattle.ciborium_ll.proofs.seg.Segment+R+Text.pull.Goals as goal
+
+pub returns-then-size-kept-clause-chunk : goal.returns-then-size-kept-clause-chunk
+returns-then-size-kept-clause-chunk g c = record {
+  read = [];
+  reads = ReadsOn-none g.R.Read (length c.args.buffer.now) c.args.self.now (omega (arith, c.if-self-eq0.false)) c.if-self.false
+      (omega (arith, c.if-size-kept.true, c.min-size.ensures, c.len-kept.ensures));
+  split = IsFront-stuck (kept_bytes c.args.self.now.kept) c.args.self.now.stuck;
+  still_sound = c.if-self.false;
+}
+
+pub invariant_of-self-clause-stuck : goal.invariant_of-self-clause-stuck
+invariant_of-self-clause-stuck g c =
+    let kept = c.in-Some.ensures.some ∙ take_rest c.fill.new.filled (length c.text_front-text.result.now) in
+    subst IsStuck (sym kept) (IsStuck-rest _ _ _ c.text_front-text.ensures)
+
+pub returns-in-None-clause-chunk : goal.returns-in-None-clause-chunk
+returns-in-None-clause-chunk g c =
+    let fill = c.in_ok-fill.ensures.filled in
+    let text = c.text_front-text.result.now in
+    let whole = fill.whole in
+    let counted = ap length whole in
+    let damage = c.damage-in-None.ensures in
+    let same = c.fill.ensures.same in
+    let size : length c.fill.new.filled ≡ c.min-size.result = search rules in
+    let behind : 3 < length (drop (length text) c.fill.new.filled) = rw (take_rest c.fill.new.filled (length text)) at c.in-None.ensures.none in
+    rw damage.error (record {
+      place = same.place;
+      same_place = damage.place ∙ same.place;
+      damaged = damage.damaged;
+      cause = inr (inr (record {
+        read = fill.read;
+        reads = record {
+          some_unread = omega (arith, c.if-self-eq0.false);
+          sound = c.if-self.false;
+          count = omega (arith, counted, size, length-append (kept_bytes c.args.self.now.kept) fill.read, c.min-size.ensures, c.len-kept.ensures, c.if-size-kept.false);
+          reads = rw damage.same fill.reads;
+          unread = omega (arith, counted, size, length-append (kept_bytes c.args.self.now.kept) fill.read, c.min-size.ensures, c.len-kept.ensures, c.if-size-kept.false, damage.unread, same.unread);
+          place = damage.place ∙ same.place;
+        };
+        front = text;
+        left = drop (length text) c.fill.new.filled;
+        split = rw (← whole) c.text_front-text.ensures;
+        too_much = behind;
+      }));
+      none_kept = inr damage.kept;
+    })
