@@ -6,7 +6,7 @@ ghost use Rattle.ciborium_ll.specs.Title.{waiting_len};
 
 use crate::hdr::{Header, Minor, Title};
 use crate::io::{Failures, Read};
-use crate::seg::{Bytes, Segments};
+use crate::seg::{Bytes, Segments, Text};
 
 /// Why a decoder failed.
 #[derive(Debug, Drop)]
@@ -149,6 +149,21 @@ impl<R: Read> Decoder<R> {
         ensures fresh { result.progress ≡ Open 0 }
     {
         self.push(Header::Bytes(len));
+        Segments::new(self)
+    }
+
+    /// The segments of a text string, behind its header with this length, which was just pulled.
+    ///
+    /// The header waits again until the first segment is asked for. Another length than the header's is not refused:
+    /// the string is then read with that length.
+    pub fn text(&mut self, len: Option<usize>) -> Segments<'_, R, Text>
+        requires none_waits { waiting_of self.old ≡ None }
+        requires covered { title_len (Header.Text len) ≤ offset_of self.old }
+        ensures same_reference { result.reader.ghost_name ≡ self.entry.ghost_name }
+        ensures back { TakesBack R.Read self.old (Header.Text len) result.reader.now }
+        ensures fresh { result.progress ≡ Open 0 }
+    {
+        self.push(Header::Text(len));
         Segments::new(self)
     }
 

@@ -1,6 +1,6 @@
 //! Strings, lent piece by piece (RFC 7049, 2.2.2).
 
-ghost use Rattle.std.specs.Prelude.{◌≡◌, ◌≤◌, ◌<◌, ◌+◌, ◌^◌, ◌⊎◌, length, take, drop, true, IfSome, IfNone, [], None, Some};
+ghost use Rattle.std.specs.Prelude.{◌≡◌, ◌≤◌, ◌<◌, ◌+◌, ◌^◌, ◌⊎◌, length, take, drop, true, IfOk, IfSome, IfNone, [], None, Some};
 ghost use Rattle.ciborium_ll.specs.Text.{IsFront};
 ghost use Rattle.ciborium_ll.specs.declared.hdr.Header.TheVariants.{Break};
 ghost use Rattle.ciborium_ll.specs.Strings.{Kind, kind_header, Bytes as byte_strings};
@@ -341,8 +341,9 @@ impl<'r, R: Read, P: Parser> Segment<'r, R, P> {
 }
 
 impl<'r, R: Read> Segment<'r, R, Bytes> {
-    ghost use Rattle.ciborium_ll.specs.Decoding.{IsSteady, refusals_of};
-    ghost use Rattle.ciborium_ll.specs.Chunks.{PullsChunk};
+    ghost use Rattle.std.specs.Io.KnownBytes.{Consumes};
+    ghost use Rattle.ciborium_ll.specs.Decoding.{IsSteady, offset_of, refusals_of};
+    ghost use Rattle.ciborium_ll.specs.Chunks.{PullsChunk, left_of, rest};
 
     /// Reads the next bytes of the body, as many as there are and the buffer holds.
     ///
@@ -352,6 +353,9 @@ impl<'r, R: Read> Segment<'r, R, Bytes> {
     pub fn pull<'a>(&mut self, buffer: &'a mut [u8]) -> Result<Option<&'a [u8]>, Error<R::Error>>
         ensures same_reference { self.new.reader.ghost_name ≡ self.old.reader.ghost_name }
         ensures chunk { PullsChunk R.Read (length buffer.old) self.old result self.new }
+        ensures left { IfOk result (λ chunk. IfSome chunk (λ c. length c.now + left_of self.new ≡ left_of self.old)) }
+        ensures rest { IfOk result (λ chunk. IfSome chunk (λ c. Consumes (rest R.Read self.old) (rest R.Read self.new) c.now)) }
+        ensures rises { offset_of self.old.reader.now ≤ offset_of self.new.reader.now }
         ensures steady { IsSteady R.Read self.old.reader.now → IsSteady R.Read self.new.reader.now }
         ensures refusals { refusals_of self.new.reader.now ≡ refusals_of self.old.reader.now }
     {
@@ -370,8 +374,9 @@ impl<'r, R: Read> Segment<'r, R, Bytes> {
 }
 
 impl<'r, R: Read> Segment<'r, R, Text> {
-    ghost use Rattle.ciborium_ll.specs.Decoding.{IsSteady, refusals_of};
-    ghost use Rattle.ciborium_ll.specs.Chunks.{FillsBehind, IsSame, PullsChunk};
+    ghost use Rattle.std.specs.Io.KnownBytes.{Consumes};
+    ghost use Rattle.ciborium_ll.specs.Decoding.{IsSteady, offset_of, refusals_of};
+    ghost use Rattle.ciborium_ll.specs.Chunks.{FillsBehind, IsSame, PullsChunk, left_of, rest};
 
     /// Reads the next bytes of the body, as many as there are and the buffer holds, and hands out the longest front of
     /// them that is text. Up to three bytes behind it are kept, since they may begin a character.
@@ -383,6 +388,9 @@ impl<'r, R: Read> Segment<'r, R, Text> {
     pub fn pull<'a>(&mut self, buffer: &'a mut [u8]) -> Result<Option<&'a str>, Error<R::Error>>
         ensures same_reference { self.new.reader.ghost_name ≡ self.old.reader.ghost_name }
         ensures chunk { PullsChunk R.Read (length buffer.old) self.old result self.new }
+        ensures left { IfOk result (λ chunk. IfSome chunk (λ c. length c.now + left_of self.new ≡ left_of self.old)) }
+        ensures rest { IfOk result (λ chunk. IfSome chunk (λ c. Consumes (rest R.Read self.old) (rest R.Read self.new) c.now)) }
+        ensures rises { offset_of self.old.reader.now ≤ offset_of self.new.reader.now }
         ensures steady { IsSteady R.Read self.old.reader.now → IsSteady R.Read self.new.reader.now }
         ensures refusals { refusals_of self.new.reader.now ≡ refusals_of self.old.reader.now }
     {
@@ -419,6 +427,7 @@ impl<'r, R: Read> Segment<'r, R, Text> {
         ensures same_reference { self.new.reader.ghost_name ≡ self.old.reader.ghost_name }
         ensures same { IsSame self.old self.new }
         ensures filled { FillsBehind R.Read (kept_bytes self.old.kept) self.old.reader.now result filled.new self.new.reader.now }
+        ensures rises { offset_of self.old.reader.now ≤ offset_of self.new.reader.now }
         ensures steady { IsSteady R.Read self.old.reader.now → IsSteady R.Read self.new.reader.now }
         ensures refusals { refusals_of self.new.reader.now ≡ refusals_of self.old.reader.now }
     {

@@ -1,7 +1,7 @@
-use Rattle.std.proofs.Common.{rules, arith, sym, ap, subst, inr, ◌∙◌, ◌≡◌, ◌<◌, [], length, drop, length-append}
+use Rattle.std.proofs.Common.{rules, arith, sym, ap, subst, inr, ◌∙◌, ◌≡◌, ◌<◌, [], ◌++◌, length, drop, length-append}
 use Rattle.std.proofs.lemmas.List.{take_rest}
 use Rattle.ciborium_ll.specs.Kept.{IsStuck, kept_bytes}
-use Rattle.ciborium_ll.proofs.ChunkLaws.{IsFront-stuck, IsStuck-rest, ReadsOn-none}
+use Rattle.ciborium_ll.proofs.ChunkLaws.{IsFront-stuck, IsStuck-rest, ReadsOn-none, rest_consumed}
 use Rattle.ciborium_ll.proofs.seg.Segment+R+Text.pull.Goals as goal
 
 pub returns-then-size-kept-clause-chunk : goal.returns-then-size-kept-clause-chunk
@@ -49,3 +49,17 @@ returns-in-None-clause-chunk g c =
       }));
       none_kept = inr damage.kept;
     })
+
+pub returns-in-Some-clause-rest : goal.returns-in-Some-clause-rest
+returns-in-Some-clause-rest g c =
+    let fill = c.in_ok-fill.ensures.filled in
+    let text = c.text_front-text.result.now in
+    let kept = kept_bytes c.args.self.now.kept in
+    let whole = fill.whole in
+    let counted = ap length whole in
+    let same = c.fill.ensures.same in
+    let size : length c.fill.new.filled ≡ c.min-size.result = search rules in
+    let behind = c.in-Some.ensures.some ∙ take_rest c.fill.new.filled (length text) in
+    rest_consumed _ _ c.args.self.now.unread _ kept (kept_bytes c.in-Some.rest) fill.read text fill.reads.bytes
+    (omega (arith, counted, size, length-append kept fill.read, c.min-size.ensures, c.len-kept.ensures, c.if-size-kept.false, same.unread))
+    (sym whole ∙ c.text_front-text.ensures.parts ∙ ap (λ z. text ++ z) (sym behind))
