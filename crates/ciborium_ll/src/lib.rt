@@ -7,7 +7,7 @@ mod hdr;
 pub mod io;
 pub mod laws;
 pub mod recode;
-mod seg;
+pub(crate) mod seg;
 
 pub use self::dec::{Decoder, Error};
 pub use self::enc::Encoder;

@@ -2,6 +2,8 @@
 
 use crate::dec::Error;
 
+mod chunked;
+
 /// Why a copy stopped.
 #[derive(Debug, Drop)]
 pub enum RecodeError<E, F> {

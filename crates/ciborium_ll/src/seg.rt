@@ -14,13 +14,17 @@ use simdutf8::compat;
 use std::marker::PhantomData;
 
 /// A kind of string: which headers begin one.
-pub trait Parser {
+pub trait Parser: Sized {
     ghost kind: { Kind };
 
     /// The length in a header of the kind, or `Some(None)` for the indefinite form.
     fn length(header: Header) -> Option<Option<usize>>
         ensures of_kind { IfSome result (λ length. header ≡ kind_header kind length) }
         ensures other { IfNone result ((header ≡ Break) ⊎ IsMisplaced kind header) };
+
+    /// The header of the kind with this length, or of the indefinite form.
+    fn header(length: Option<usize>) -> Header
+        ensures { result ≡ kind_header kind length };
 }
 
 /// The kind of byte strings.
@@ -35,6 +39,10 @@ impl Parser for Bytes {
             Header::Bytes(length) => Some(length),
             _ => None,
         }
+    }
+
+    fn header(length: Option<usize>) -> Header {
+        Header::Bytes(length)
     }
 }
 
@@ -52,6 +60,10 @@ impl Parser for Text {
             Header::Text(length) => Some(length),
             _ => None,
         }
+    }
+
+    fn header(length: Option<usize>) -> Header {
+        Header::Text(length)
     }
 }
 
