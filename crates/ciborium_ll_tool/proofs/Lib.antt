@@ -1,0 +1,2 @@
+mod Transfers
+mod WordLaws
