@@ -1,6 +1,4 @@
 use crate::{Fault, ToolError, bytes_of, fault_of_run, run, word_of};
-use ciborium_ll::io::SliceReader;
-use ciborium_ll::{Decoder, Error};
 use std::alloc::Global;
 use std::io;
 use std::test::Fail;
@@ -321,21 +319,5 @@ fn faults_as_printed(rt: HostRuntime) -> Result<(), Fail> {
         let printed = fault.to_string(rt.alloc())?;
         assert_eq!(rt; printed.as_str(), want);
     }
-    Ok(())
-}
-
-#[test]
-fn first_bytes_that_begin_no_title(rt: HostRuntime) -> Result<(), Fail> {
-    let mut refused = 0u8;
-    for first in 0..=u8::MAX {
-        let bytes = [first, 0, 0, 0, 0, 0, 0, 0, 0];
-        let mut decoder = Decoder::from(SliceReader::new(&bytes));
-        if let Err(error) = decoder.pull() {
-            assert!(rt; matches!(error, Error::Syntax(0)), "at {first}");
-            assert_eq!(rt; decoder.offset(), 1, "at {first}");
-            refused = refused.saturating_add(1);
-        }
-    }
-    assert_eq!(rt; refused, 27);
     Ok(())
 }
