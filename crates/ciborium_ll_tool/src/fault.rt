@@ -1,5 +1,8 @@
 //! What the program says when it fails.
 
+ghost use Rattle.std.specs.Prelude.{◌≡◌};
+ghost use Rattle.ciborium_ll_tool.specs.Fault.{fault_of};
+
 use crate::service::ToolError;
 use std::fmt;
 
@@ -25,7 +28,9 @@ impl fmt::Display for Fault {
 }
 
 /// The fault that ended a run.
-pub fn fault_of_run(error: &ToolError) -> Fault {
+pub fn fault_of_run(error: &ToolError) -> Fault
+    ensures { result ≡ fault_of error.now }
+{
     match error {
         ToolError::Memory => Fault::Memory,
         ToolError::Read(_) => Fault::Read,

@@ -1,5 +1,8 @@
 //! Lines out of a reader.
 
+ghost use Rattle.std.specs.Prelude.{◌≡◌, [], false, IfOk, OnOk, vec_len};
+ghost use Rattle.ciborium_ll_tool.specs.Line.{IsOneLine};
+
 use crate::service::ToolError;
 use std::alloc::{AllocError, Global};
 use std::io;
@@ -27,7 +30,10 @@ impl<R: io::Read + Drop> Lines<R> {
     /// Puts the next line in place of what `line` holds, without its line feed. It tells whether there was one.
     ///
     /// The errors are `Memory` and `Read`. Some of the line is then lost.
-    pub fn read_line(&mut self, line: &mut Vec<u8>) -> Result<bool, ToolError> {
+    pub fn read_line(&mut self, line: &mut Vec<u8>) -> Result<bool, ToolError>
+        ensures one { OnOk result (IsOneLine line.new.items) }
+        ensures none { IfOk result (λ found. found ≡ false → line.new.items ≡ []) }
+    {
         line.clear();
         for _ in 0..u64::MAX {
             if self.has_ended {
@@ -41,7 +47,10 @@ impl<R: io::Read + Drop> Lines<R> {
     }
 
     /// Appends what one read gave, up to the end of the line. It tells whether a line feed ended the line.
-    fn take_part(&mut self, line: &mut Vec<u8>) -> Result<bool, ToolError> {
+    fn take_part(&mut self, line: &mut Vec<u8>) -> Result<bool, ToolError>
+        requires { IsOneLine line.old.items }
+        ensures { OnOk result (IsOneLine line.new.items) }
+    {
         let part = self.reader.fill_buf().map_err(ToolError::Read)?;
         if part.is_empty() {
             self.has_ended = true;
