@@ -1,2 +1,3 @@
+mod RequestLaws
 mod Transfers
 mod WordLaws

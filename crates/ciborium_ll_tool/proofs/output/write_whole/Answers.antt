@@ -1,5 +1,4 @@
-use Rattle.std.proofs.Common.{◌≡◌, ◌∙◌, [], refl, ◌++◌, take, ap}
-use Rattle.std.proofs.lemmas.List.{append-nil}
+use Rattle.std.proofs.Common.{[], refl, ◌++◌, take}
 use Rattle.ciborium_ll_tool.proofs.Transfers.{Appends-append, Appends-nil, finished, moved}
 use Rattle.ciborium_ll_tool.proofs.output.write_whole.Goals as goal
 

@@ -1,4 +1,4 @@
-use Rattle.std.proofs.Common.{◌≡◌, ◌≢◌, [], Ok, Err, refl, arith, inl, inr, sym, ◌∙◌}
+use Rattle.std.proofs.Common.{◌≡◌, ◌≢◌, Ok, refl, inl, inr}
 use Rattle.hex.specs.Hex.{decode_of}
 use Rattle.ciborium_ll_tool.specs.Word.{no_bytes}
 use Rattle.ciborium_ll_tool.proofs.WordLaws.{IsHexWord-decoded, IsHexWord-refused, bytes_of_word-none}

@@ -1,4 +1,4 @@
-use Rattle.std.proofs.Common.{◌≡◌, Some, arith, string_bytes}
+use Rattle.std.proofs.Common.{◌≡◌, arith, string_bytes}
 use Rattle.std.proofs.lemmas.Result.{IfOk-weaker}
 use Rattle.hex.specs.Hex.{IsBytes, encode_lower}
 use Rattle.ciborium_ll_tool.proofs.WordLaws.{bytes_of_word-encode_lower}
