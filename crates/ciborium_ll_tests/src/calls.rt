@@ -1,0 +1,166 @@
+use ciborium_ll::io::{EndOfFile, Failures, OutOfSpace, Read, SliceReader, SliceWriter, Write};
+use ciborium_ll::{Decoder, Encoder, Error, Header};
+use std::process::Abort;
+use std::test::Fail;
+
+// Pulls a header that has to be there.
+fn pulls<R: Read>(rt: &impl Abort, decoder: &mut Decoder<R>, want: Header, offset: usize)
+where
+    R::Error: Drop,
+{
+    let header = decoder.pull();
+    assert!(rt; matches!(&header, Ok(header) if *header == want));
+    assert_eq!(rt; decoder.offset(), offset);
+}
+
+// Gives a header back.
+fn gives_back<R: Read>(rt: &impl Abort, decoder: &mut Decoder<R>, header: Header, offset: usize) {
+    assert!(rt; !decoder.is_waiting());
+    assert!(rt; header.title_len() <= decoder.offset());
+    decoder.push(header);
+    assert!(rt; decoder.is_waiting());
+    assert_eq!(rt; decoder.offset(), offset);
+}
+
+// Reads the bytes that come next.
+fn reads<R: Read>(reader: &mut R, data: &mut [u8]) -> Result<(), R::Error> {
+    reader.read_exact(data)
+}
+
+// Writes bytes, and passes them on.
+fn writes<W: Write>(writer: &mut W, data: &[u8]) -> Result<(), W::Error> {
+    writer.write_all(data)?;
+    writer.flush()
+}
+
+// Writes the title of a header.
+fn pushes<W: Write>(encoder: &mut Encoder<W>, header: Header) -> Result<(), W::Error> {
+    encoder.push(header)
+}
+
+#[test]
+fn slices(rt: HostRuntime) -> Result<(), Fail> {
+    let mut reader = SliceReader::new(&[1, 2, 3]);
+    let mut two = [0; 2];
+    reads(&mut reader, &mut two)?;
+    assert_eq!(rt; two, [1, 2]);
+    assert!(rt; matches!(reads(&mut reader, &mut two), Err(EndOfFile)));
+    assert_eq!(rt; reader.left(), [3].as_slice());
+
+    let mut space = [0; 3];
+    let mut writer = SliceWriter::new(&mut space);
+    writes(&mut writer, &[7, 8])?;
+    assert!(rt; matches!(writes(&mut writer, &[9, 9]), Err(OutOfSpace)));
+    assert_eq!(rt; writer.room(), 1);
+    assert_eq!(rt; writer.written(), [7, 8].as_slice());
+    Ok(())
+}
+
+#[test]
+fn failures(_rt: HostRuntime) {
+    let mut failures = Failures::new();
+    failures.raise();
+}
+
+#[test]
+fn the_greatest_number(rt: HostRuntime) -> Result<(), Fail> {
+    let bytes = [0x3b, 255, 255, 255, 255, 255, 255, 255, 255];
+    let mut decoder = Decoder::from(SliceReader::new(&bytes));
+    pulls(&rt, &mut decoder, Header::Negative(u64::MAX), 9);
+    let mut space = [0; 9];
+    let mut encoder = Encoder::from(SliceWriter::new(&mut space));
+    pushes(&mut encoder, Header::Negative(u64::MAX))?;
+    assert_eq!(rt; encoder.into_inner().written(), bytes.as_slice());
+    Ok(())
+}
+
+#[test]
+fn a_cut_title_loses_its_first_byte(rt: HostRuntime) {
+    let mut decoder = Decoder::from(SliceReader::new(&[0x19, 3]));
+    assert!(rt; matches!(decoder.pull(), Err(Error::Io(EndOfFile))));
+    assert_eq!(rt; decoder.offset(), 1);
+    pulls(&rt, &mut decoder, Header::Positive(3), 2);
+}
+
+#[test]
+fn a_header_given_back(rt: HostRuntime) {
+    // A longer title comes back as the shortest one.
+    let mut decoder = Decoder::from(SliceReader::new(&[0x18, 5, 0]));
+    pulls(&rt, &mut decoder, Header::Positive(5), 2);
+    gives_back(&rt, &mut decoder, Header::Positive(5), 1);
+    pulls(&rt, &mut decoder, Header::Positive(5), 2);
+    assert_eq!(rt; decoder.into_inner().left(), [0].as_slice());
+}
+
+#[test]
+fn no_bytes_while_a_header_waits(rt: HostRuntime) -> Result<(), Fail> {
+    let mut one = [0; 1];
+    let mut decoder = Decoder::from(SliceReader::new(&[1, 2]));
+    pulls(&rt, &mut decoder, Header::Positive(1), 1);
+    gives_back(&rt, &mut decoder, Header::Positive(1), 0);
+    assert!(rt; matches!(reads(&mut decoder, &mut one), Err(Error::Waiting)));
+    assert!(rt; matches!(reads(&mut decoder, &mut []), Err(Error::Waiting)));
+    pulls(&rt, &mut decoder, Header::Positive(1), 1);
+    reads(&mut decoder, &mut one)?;
+    assert_eq!(rt; one, [2]);
+    assert_eq!(rt; decoder.offset(), 2);
+    assert!(rt; matches!(reads(&mut decoder, &mut one), Err(Error::Io(EndOfFile))));
+    assert_eq!(rt; decoder.offset(), 2);
+    Ok(())
+}
+
+#[test]
+fn the_greatest_offset(rt: HostRuntime) -> Result<(), Fail> {
+    let mut decoder = Decoder::with_offset(SliceReader::new(&[0]), usize::MAX);
+    assert!(rt; matches!(decoder.pull(), Err(Error::TooLong)));
+    reads(&mut decoder, &mut [])?;
+    assert!(rt; matches!(reads(&mut decoder, &mut [0]), Err(Error::TooLong)));
+    assert_eq!(rt; decoder.offset(), usize::MAX);
+    assert_eq!(rt; decoder.into_inner().left(), [0].as_slice());
+
+    let mut decoder = Decoder::with_offset(SliceReader::new(&[0x18, 5]), usize::MAX - 1);
+    assert!(rt; matches!(decoder.pull(), Err(Error::TooLong)));
+    assert_eq!(rt; decoder.offset(), usize::MAX);
+    assert_eq!(rt; decoder.into_inner().left(), [5].as_slice());
+
+    let mut decoder = Decoder::with_offset(SliceReader::new(&[0, 0]), usize::MAX - 1);
+    pulls(&rt, &mut decoder, Header::Positive(0), usize::MAX);
+    assert!(rt; matches!(decoder.pull(), Err(Error::TooLong)));
+    assert_eq!(rt; decoder.into_inner().left(), [0].as_slice());
+    Ok(())
+}
+
+#[test]
+fn a_title_that_does_not_fit(rt: HostRuntime) {
+    let mut space = [0; 1];
+    let mut encoder = Encoder::from(SliceWriter::new(&mut space));
+    assert!(rt; matches!(pushes(&mut encoder, Header::Positive(24)), Err(OutOfSpace)));
+    assert_eq!(rt; encoder.into_inner().written(), [0x18].as_slice());
+}
+
+#[test]
+fn a_decoder_over_a_decoder(rt: HostRuntime) {
+    let mut inner = Decoder::from(SliceReader::new(&[0x18, 24, 1]));
+    pulls(&rt, &mut inner, Header::Positive(24), 2);
+    let mut outer: Decoder<Decoder<SliceReader>> = Decoder::from(inner);
+    pulls(&rt, &mut outer, Header::Positive(1), 1);
+    assert!(rt; matches!(outer.pull(), Err(Error::Io(Error::Io(EndOfFile)))));
+    let mut inner = outer.into_inner();
+    assert_eq!(rt; inner.offset(), 3);
+
+    gives_back(&rt, &mut inner, Header::Positive(1), 2);
+    let mut outer: Decoder<Decoder<SliceReader>> = Decoder::from(inner);
+    assert!(rt; matches!(outer.pull(), Err(Error::Io(Error::Waiting))));
+}
+
+#[test]
+fn an_encoder_over_an_encoder(rt: HostRuntime) -> Result<(), Fail> {
+    let mut space = [0; 4];
+    let inner = Encoder::from(SliceWriter::new(&mut space));
+    let mut encoder: Encoder<Encoder<SliceWriter>> = Encoder::from(inner);
+    pushes(&mut encoder, Header::Bytes(Some(3)))?;
+    writes(&mut encoder, &[1, 2, 3])?;
+    let writer = encoder.into_inner().into_inner();
+    assert_eq!(rt; writer.written(), [0x43, 1, 2, 3].as_slice());
+    Ok(())
+}

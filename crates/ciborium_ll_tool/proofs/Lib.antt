@@ -1,0 +1,3 @@
+mod RequestLaws
+mod Transfers
+mod WordLaws

@@ -1,0 +1,11 @@
+use Rattle.std.proofs.Common.{◌≡◌, List, ℕ, ◌++◌, length}
+use Rattle.std.specs.Io.KnownBytes.{Appends}
+use Rattle.ciborium_ll_tool.proofs.output.write_whole.Given as goal
+
+-- what is not left was appended
+abbrev pub invariant-loop-rest : goal.invariant-loop-rest
+invariant-loop-rest g l = (done : List ℕ) × (l.bytes ≡ done ++ l.rest)
+    × Appends (g.W.Write.contents l.fn.writer) (g.W.Write.contents l.writer) done
+
+abbrev pub decreases-loop-rest : goal.decreases-loop-rest
+decreases-loop-rest g l = length l.rest

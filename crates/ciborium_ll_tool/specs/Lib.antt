@@ -1,0 +1,5 @@
+pub mod Fault
+pub mod Line
+pub mod Output
+pub mod Request
+pub mod Word

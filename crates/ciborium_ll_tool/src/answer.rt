@@ -1,0 +1,103 @@
+//! Answers to requests, as lines of text.
+
+use crate::request::Request;
+use ciborium_ll::io::SliceReader;
+use ciborium_ll::{Decoder, Error, Float, Header};
+use std::alloc::Global;
+use std::fmt;
+use std::fmt::Write;
+
+/// Answers a line. The error says that the sink refused text, or that there is no memory.
+pub fn line<T: Write>(alloc: Global, line: &[u8], sink: &mut T) -> fmt::Result {
+    match Request::parse(alloc, line)? {
+        Some(Request::Heads(bytes)) => heads(bytes.as_slice(), sink),
+        None => writeln!(sink, "error: line"),
+    }
+}
+
+/// Answers `heads`: a line for each title, and one for what ended them.
+fn heads<T: Write>(bytes: &[u8], sink: &mut T) -> fmt::Result {
+    let mut decoder = Decoder::from(SliceReader::new(bytes));
+    // Each title takes a byte, and the call after the last title fails.
+    for _ in 0..=bytes.len() {
+        let offset = decoder.offset();
+        match decoder.pull() {
+            Ok(header) => writeln!(sink, "{}", Head { offset, header })?,
+            Err(error) => {
+                let last = match error {
+                    Error::Syntax(place) => Last::Syntax(place),
+                    Error::Io(_) if decoder.offset() == offset => Last::End(offset),
+                    Error::Io(_) => Last::Short(decoder.offset()),
+                    Error::TooLong | Error::Waiting => Last::Room,
+                };
+                return writeln!(sink, "{last}");
+            }
+        }
+    }
+    Ok(())
+}
+
+/// What ended an answer, and at which offset.
+#[derive(Drop)]
+enum Last {
+    /// All bytes were consumed.
+    End(usize),
+    /// The bytes are no CBOR.
+    Syntax(usize),
+    /// Bytes are missing.
+    Short(usize),
+    /// The offset has no room. No line is long enough for it.
+    Room,
+}
+
+impl fmt::Display for Last {
+    fn fmt<W: Write>(&self, f: &mut fmt::Formatter<W>) -> fmt::Result {
+        match self {
+            Last::End(offset) => write!(f, "end {offset}"),
+            Last::Syntax(offset) => write!(f, "syntax {offset}"),
+            Last::Short(offset) => write!(f, "short {offset}"),
+            Last::Room => f.write_str("error: room"),
+        }
+    }
+}
+
+/// A header, and the offset of its title.
+#[derive(Drop)]
+struct Head {
+    offset: usize,
+    header: Header,
+}
+
+impl fmt::Display for Head {
+    fn fmt<W: Write>(&self, f: &mut fmt::Formatter<W>) -> fmt::Result {
+        let offset = self.offset;
+        write!(f, "{offset} ")?;
+        match self.header {
+            Header::Positive(n) => write!(f, "positive {n}"),
+            Header::Negative(n) => write!(f, "negative {n}"),
+            Header::Float(Float::Half(bits)) => write!(f, "half {bits:04x}"),
+            Header::Float(Float::Single(bits)) => write!(f, "single {bits:08x}"),
+            Header::Float(Float::Double(bits)) => write!(f, "double {bits:016x}"),
+            Header::Simple(n) => write!(f, "simple {n}"),
+            Header::Tag(n) => write!(f, "tag {n}"),
+            Header::Break => f.write_str("break"),
+            Header::Bytes(length) => write!(f, "bytes {}", Length(length)),
+            Header::Text(length) => write!(f, "text {}", Length(length)),
+            Header::Array(length) => write!(f, "array {}", Length(length)),
+            Header::Map(length) => write!(f, "map {}", Length(length)),
+        }
+    }
+}
+
+/// A length, or the indefinite form.
+#[derive(Drop)]
+struct Length(Option<usize>);
+
+impl fmt::Display for Length {
+    fn fmt<W: Write>(&self, f: &mut fmt::Formatter<W>) -> fmt::Result {
+        match self.0 {
+            Some(n) => write!(f, "{n}"),
+            None => f.write_str("*"),
+        }
+    }
+}

@@ -1,0 +1,81 @@
+//! The service: each line that is read gets its answer.
+
+use crate::answer;
+use crate::input::Lines;
+use crate::output::write_whole;
+use std::alloc::{AllocError, Global};
+use std::{fmt, io};
+
+/// Why a run ended early.
+#[derive(Debug, Drop)]
+pub enum ToolError {
+    /// There was no memory for a line or for its answer.
+    Memory,
+    /// The reader failed.
+    Read(io::Error),
+    /// The writer failed.
+    Write(io::Error),
+}
+
+impl From<AllocError> for ToolError {
+    ghost use Rattle.std.specs.Prelude.{◌≡◌};
+    ghost use Rattle.ciborium_ll_tool.specs.declared.service.ToolError.TheVariants.{Memory};
+
+    ghost from_gives = { λ _ error. error ≡ Memory };
+
+    fn from(_refused: AllocError) -> ToolError {
+        ToolError::Memory
+    }
+}
+
+impl From<fmt::Error> for ToolError {
+    ghost use Rattle.std.specs.Prelude.{◌≡◌};
+    ghost use Rattle.ciborium_ll_tool.specs.declared.service.ToolError.TheVariants.{Memory};
+
+    ghost from_gives = { λ _ error. error ≡ Memory };
+
+    /// An answer is made in memory, so that only memory can fail there.
+    fn from(_refused: fmt::Error) -> ToolError {
+        ToolError::Memory
+    }
+}
+
+/// Answers each line of the reader on the writer, and flushes the writer at the end.
+///
+/// A line ends at a line feed or at the end of the input. After 2^64 - 1 lines the run ends as at the end of the
+/// input. An interrupted call is a failure like any other.
+///
+/// The errors are `Memory`, after the line `error: memory` where that can still be written; `Read` where the
+/// reader failed; and `Write` where the writer failed or took no byte of some. The answers to the lines before
+/// were then written, and of a `Write` some of the next answer may be.
+pub fn run<R: io::Read + Drop, W: io::Write + Drop>(
+    alloc: Global,
+    reader: R,
+    mut writer: W,
+) -> Result<(), ToolError> {
+    let outcome = answer_lines(alloc, reader, &mut writer);
+    if let Err(ToolError::Memory) = outcome {
+        let _ = write_whole(&mut writer, b"error: memory\n");
+    }
+    outcome
+}
+
+/// Answers each line, and flushes.
+fn answer_lines<R: io::Read + Drop, W: io::Write>(
+    alloc: Global,
+    reader: R,
+    writer: &mut W,
+) -> Result<(), ToolError> {
+    let mut lines = Lines::new(alloc, reader)?;
+    let mut line = Vec::new(alloc);
+    let mut answer = String::new(alloc);
+    for _ in 0..u64::MAX {
+        if !lines.read_line(&mut line)? {
+            break;
+        }
+        answer.clear();
+        answer::line(alloc, line.as_slice(), &mut answer)?;
+        write_whole(writer, answer.as_bytes()).map_err(ToolError::Write)?;
+    }
+    writer.flush().map_err(ToolError::Write)
+}

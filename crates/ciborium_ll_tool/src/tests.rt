@@ -1,0 +1,323 @@
+use crate::{Fault, ToolError, bytes_of, fault_of_run, run, word_of};
+use std::alloc::Global;
+use std::io;
+use std::test::Fail;
+
+// What `run` writes for an input.
+fn answers(alloc: Global, input: &[u8]) -> Result<Vec<u8>, ToolError> {
+    let mut output = Vec::new(alloc);
+    run(alloc, input, &mut output)?;
+    Ok(output)
+}
+
+#[test]
+fn heads_of_each_kind(rt: HostRuntime) -> Result<(), Fail> {
+    let rows = [
+        (
+            "9f018202039f0405ffff",
+            "0 array *\n1 positive 1\n2 array 2\n3 positive 2\n4 positive 3\n5 array *\n6 positive 4\n7 positive 5\n8 break\n9 break\nend 10\n",
+        ),
+        ("1f", "syntax 0\n"),
+        ("1c", "syntax 0\n"),
+        ("df", "syntax 0\n"),
+        ("001c", "0 positive 0\nsyntax 1\n"),
+        ("-", "end 0\n"),
+        ("1903", "short 1\n"),
+        (
+            "f97e00fa47c35000f810f818",
+            "0 half 7e00\n3 single 47c35000\n8 simple 16\n10 simple 24\nend 12\n",
+        ),
+        (
+            "3bffffffffffffffffc25f7fbf5818781960a1",
+            "0 negative 18446744073709551615\n9 tag 2\n10 bytes *\n11 text *\n12 map *\n13 bytes 24\n15 text 25\n17 text 0\n18 map 1\nend 19\n",
+        ),
+        ("FB0000000000000001", "0 double 0000000000000001\nend 9\n"),
+        ("00fb0000", "0 positive 0\nshort 2\n"),
+    ];
+    for (hex, want) in rows {
+        let line = format!(in rt.alloc(); "heads {hex}\n")?;
+        let output = answers(rt.alloc(), line.as_bytes())?;
+        assert_eq!(rt; output.as_slice(), want.as_bytes(), "at {hex}");
+    }
+    Ok(())
+}
+
+#[test]
+fn lines_that_are_no_request(rt: HostRuntime) -> Result<(), Fail> {
+    let lines: [&[u8]; 14] = [
+        b"",
+        b" ",
+        b"heads",
+        b"heads ",
+        b"heads 0",
+        b"heads 0g",
+        b"heads  00",
+        b"heads 00 ",
+        b" heads 00",
+        b"heads 00 00",
+        b"heads 00\r",
+        b"heads -00",
+        b"Heads 00",
+        b"heads \xff",
+    ];
+    for line in lines {
+        let mut input = line.to_vec(rt.alloc())?;
+        input.extend_from_slice(b"\nheads 00")?;
+        let output = answers(rt.alloc(), input.as_slice())?;
+        let want = b"error: line\n0 positive 0\nend 1\n";
+        assert_eq!(rt; output.as_slice(), want.as_slice(), "at {line:?}");
+    }
+    Ok(())
+}
+
+#[test]
+fn where_lines_end(rt: HostRuntime) -> Result<(), Fail> {
+    let rows = [
+        ("", ""),
+        ("\n", "error: line\n"),
+        ("heads -", "end 0\n"),
+        ("heads -\n", "end 0\n"),
+        ("heads -\n\nheads -\n", "end 0\nerror: line\nend 0\n"),
+    ];
+    for (input, want) in rows {
+        let output = answers(rt.alloc(), input.as_bytes())?;
+        assert_eq!(rt; output.as_slice(), want.as_bytes(), "at {input:?}");
+    }
+    Ok(())
+}
+
+#[test]
+fn a_line_longer_than_a_read(rt: HostRuntime) -> Result<(), Fail> {
+    let mut input = String::from_str(rt.alloc(), "heads 59")?;
+    for _ in 0..10_000 {
+        input.push_str("ff")?;
+    }
+    let output = answers(rt.alloc(), input.as_bytes())?;
+    let mut want = String::from_str(rt.alloc(), "0 bytes 65535\n")?;
+    for offset in 3..10_001 {
+        want.push_str(format!(in rt.alloc(); "{offset} break\n")?.as_str())?;
+    }
+    want.push_str("end 10001\n")?;
+    assert!(rt; output.as_slice() == want.as_bytes());
+    Ok(())
+}
+
+// A reader that gives one byte a call, and fails at one call.
+#[derive(Drop)]
+struct SlowReader<'a> {
+    left: &'a [u8],
+    calls_before: Option<usize>,
+    kind: io::ErrorKind,
+}
+
+impl io::Read for SlowReader<'_> {
+    fn read(&mut self, buf: &mut [u8]) -> io::Result<usize> {
+        match self.calls_before {
+            Some(0) => {
+                self.calls_before = None;
+                return Err(io::Error::from(self.kind));
+            }
+            Some(calls) => self.calls_before = Some(calls - 1),
+            None => {}
+        }
+        let Some((first, rest)) = self.left.split_first() else {
+            return Ok(0);
+        };
+        if buf.is_empty() {
+            return Ok(0);
+        }
+        buf[0] = *first;
+        self.left = rest;
+        Ok(1)
+    }
+}
+
+// A writer that takes one byte a call, and fails at one call, or takes nothing there.
+#[derive(Drop)]
+struct SlowWriter {
+    taken: Vec<u8>,
+    calls_before: Option<usize>,
+    kind: Option<io::ErrorKind>,
+    flushes: usize,
+    flush_fails: bool,
+}
+
+impl SlowWriter {
+    fn new(alloc: Global) -> SlowWriter {
+        SlowWriter {
+            taken: Vec::new(alloc),
+            calls_before: None,
+            kind: None,
+            flushes: 0,
+            flush_fails: false,
+        }
+    }
+}
+
+impl io::Write for SlowWriter {
+    fn write(&mut self, buf: &[u8]) -> io::Result<usize> {
+        match self.calls_before {
+            Some(0) => {
+                self.calls_before = None;
+                return match self.kind {
+                    Some(kind) => Err(io::Error::from(kind)),
+                    None => Ok(0),
+                };
+            }
+            Some(calls) => self.calls_before = Some(calls - 1),
+            None => {}
+        }
+        let Some(first) = buf.first() else {
+            return Ok(0);
+        };
+        self.taken.push(*first)?;
+        Ok(1)
+    }
+
+    fn flush(&mut self) -> io::Result<()> {
+        self.flushes = self.flushes.saturating_add(1);
+        if self.flush_fails {
+            return Err(io::Error::from(io::ErrorKind::Other));
+        }
+        Ok(())
+    }
+}
+
+const INPUT: &[u8] = b"heads 00\nheads 0101\n";
+
+const OUTPUT: &str = "0 positive 0\nend 1\n0 positive 1\n1 positive 1\nend 2\n";
+
+#[test]
+fn one_byte_a_call(rt: HostRuntime) -> Result<(), Fail> {
+    let reader = SlowReader {
+        left: INPUT,
+        calls_before: None,
+        kind: io::ErrorKind::Other,
+    };
+    let mut writer = SlowWriter::new(rt.alloc());
+    run(rt.alloc(), reader, &mut writer)?;
+    assert_eq!(rt; writer.taken.as_slice(), OUTPUT.as_bytes());
+    assert_eq!(rt; writer.flushes, 1);
+    Ok(())
+}
+
+#[test]
+fn a_read_that_fails(rt: HostRuntime) -> Result<(), Fail> {
+    for kind in [io::ErrorKind::Other, io::ErrorKind::Interrupted] {
+        for (calls, written) in [(0, 0), (8, 0), (9, 19), (15, 19), (20, 51)] {
+            let reader = SlowReader {
+                left: INPUT,
+                calls_before: Some(calls),
+                kind,
+            };
+            let mut writer = SlowWriter::new(rt.alloc());
+            match run(rt.alloc(), reader, &mut writer) {
+                Err(ToolError::Read(error)) => assert!(rt; error.kind() == kind),
+                _ => assert!(rt; false, "at {calls}"),
+            }
+            assert!(rt; OUTPUT.as_bytes().starts_with(writer.taken.as_slice()));
+            assert_eq!(rt; writer.taken.len(), written, "at {calls}");
+            assert_eq!(rt; writer.flushes, 0);
+        }
+    }
+    Ok(())
+}
+
+#[test]
+fn a_write_that_fails(rt: HostRuntime) -> Result<(), Fail> {
+    let kinds = [
+        Some(io::ErrorKind::Other),
+        Some(io::ErrorKind::Interrupted),
+        None,
+    ];
+    for kind in kinds {
+        for calls in [0, 7, 30, 50] {
+            let mut writer = SlowWriter::new(rt.alloc());
+            writer.calls_before = Some(calls);
+            writer.kind = kind;
+            match run(rt.alloc(), INPUT, &mut writer) {
+                Err(ToolError::Write(error)) => {
+                    assert!(rt; error.kind() == kind.unwrap_or(io::ErrorKind::WriteZero));
+                }
+                _ => assert!(rt; false, "at {calls}"),
+            }
+            assert!(rt; OUTPUT.as_bytes().starts_with(writer.taken.as_slice()));
+            assert_eq!(rt; writer.taken.len(), calls);
+        }
+    }
+    Ok(())
+}
+
+#[test]
+fn a_flush_that_fails(rt: HostRuntime) -> Result<(), Fail> {
+    let mut writer = SlowWriter::new(rt.alloc());
+    writer.flush_fails = true;
+    let outcome = run(rt.alloc(), INPUT, &mut writer);
+    assert!(rt; matches!(outcome, Err(ToolError::Write(_))));
+    assert_eq!(rt; writer.taken.as_slice(), OUTPUT.as_bytes());
+    Ok(())
+}
+
+// Holds too where an allocation is refused: the output is then cut at a line's end.
+#[test]
+fn whole_or_out_of_memory(rt: HostRuntime) -> Result<(), Fail> {
+    let mut space = [0; 256];
+    let mut room = space.as_mut_slice();
+    let outcome = run(rt.alloc(), INPUT, &mut room);
+    let left = room.len();
+    let length = 256usize.saturating_sub(left);
+    let written = space.get(..length).unwrap_or(&[]);
+    match outcome {
+        Ok(()) => assert_eq!(rt; written, OUTPUT.as_bytes()),
+        Err(error) => {
+            assert!(rt; matches!(error, ToolError::Memory));
+            let front = written
+                .strip_suffix(b"error: memory\n")
+                .ok_or("no last line")?;
+            assert!(rt; OUTPUT.as_bytes().starts_with(front));
+            assert!(rt; front.last().copied().unwrap_or(b'\n') == b'\n');
+        }
+    }
+    Ok(())
+}
+
+#[test]
+fn words_of_bytes(rt: HostRuntime) -> Result<(), Fail> {
+    let rows: [(&str, Option<&[u8]>); 8] = [
+        ("-", Some(&[])),
+        ("00", Some(&[0])),
+        ("0aFf", Some(&[10, 255])),
+        ("", None),
+        ("--", None),
+        ("0", None),
+        ("0g", None),
+        ("-0", None),
+    ];
+    for (word, want) in rows {
+        let bytes = bytes_of(rt.alloc(), word)?;
+        assert!(rt;
+            bytes.as_ref().map(|bytes| bytes.as_slice()) == want,
+            "at {word:?}"
+        );
+    }
+    for (bytes, want) in [([].as_slice(), "-"), ([10, 255].as_slice(), "0aff")] {
+        let word = word_of(rt.alloc(), bytes)?;
+        assert_eq!(rt; word.as_str(), want);
+    }
+    Ok(())
+}
+
+#[test]
+fn faults_as_printed(rt: HostRuntime) -> Result<(), Fail> {
+    let errors = [
+        (ToolError::Memory, "memory"),
+        (ToolError::Read(io::Error::other("gone")), "read"),
+        (ToolError::Write(io::Error::other("gone")), "write"),
+    ];
+    for (error, want) in errors {
+        let fault: Fault = fault_of_run(&error);
+        let printed = fault.to_string(rt.alloc())?;
+        assert_eq!(rt; printed.as_str(), want);
+    }
+    Ok(())
+}
