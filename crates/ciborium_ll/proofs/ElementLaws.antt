@@ -1,5 +1,5 @@
 -- Elements begin no other one; their spelling is an element again, and no longer.
-use Rattle.std.proofs.Common.{◌≡◌, ℕ, suc, ◌≤◌, List, [], ◌∷◌, ◌++◌, length, Option, Some, None, refl, sym, ap, subst, ◌∙◌, append_assoc, arith, inl, inr}
+use Rattle.std.proofs.Common.{◌≡◌, ℕ, suc, ◌≤◌, List, [], ◌∷◌, ◌++◌, length, Option, Some, None, refl, sym, ap, subst, ◌∙◌, append_assoc, arith}
 use Rattle.std.proofs.lemmas.List.{append-nil, length-append}
 use Rattle.ciborium_ll.specs.declared.hdr.Header.{Header}
 use Rattle.ciborium_ll.specs.Title.{IsTitle, shortest_title}
@@ -138,7 +138,7 @@ pub record Respelled (k : Kind) (w : List ℕ) (bs : List (List ℕ)) : Type 0 w
   pub shorter : length (spelling (pieces k bs)) ≤ length w
 
 -- bodies joined give their pieces joined
-pieces-append : (k : Kind) (bs cs : List (List ℕ)) → pieces k (bs ++ cs) ≡ pieces k bs ++ pieces k cs
+pub pieces-append : (k : Kind) (bs cs : List (List ℕ)) → pieces k (bs ++ cs) ≡ pieces k bs ++ pieces k cs
 pieces-append k [] cs = refl
 pieces-append k (b ∷ bs) cs = ap (λ y. Piece k b ∷ y) (pieces-append k bs cs)
 
