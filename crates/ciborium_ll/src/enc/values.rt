@@ -18,7 +18,7 @@ impl<W: Write> Encoder<W> {
     /// string of indefinite length, whose segments have as many bytes as the limit, but for the last one, which has
     /// the remainder.
     ///
-    /// The error is the writer's. A beginning of the string was then written.
+    /// The only errors are the writer's. A beginning of the string was then written.
     pub fn bytes(&mut self, value: &[u8], segment: Option<usize>) -> Result<(), W::Error>
         ensures { WritesValue W.Write Bytes segment value.now (writer_of self.old) result (writer_of self.new) }
     {
@@ -38,7 +38,7 @@ impl<W: Write> Encoder<W> {
     /// one string of a definite length. A longer one is a string of indefinite length, whose segments are texts: each
     /// is as long as the limit allows with no character cut. No other segments within the limit are fewer.
     ///
-    /// The error is the writer's. A beginning of the string was then written.
+    /// The only errors are the writer's. A beginning of the string was then written.
     pub fn text(&mut self, value: &str, segment: Option<usize>) -> Result<(), W::Error>
         ensures value { WritesValue W.Write Text segment value.now (writer_of self.old) result (writer_of self.new) }
         ensures fewest { OnOk result (0 < length value.now
