@@ -20,11 +20,11 @@ one_character x y r s p q e =
     sym a.is ∙ (ap encode ((encode_same a.char b.char r s same).0) ∙ b.is)
 
 -- a text that isn't empty begins with a character
-record Starts (t : List ℕ) : Type 0 where
-  char : List ℕ
-  ok : IsCharacter char
-  rest : List ℕ
-  is : t ≡ char ++ rest
+pub record Starts (t : List ℕ) : Type 0 where
+  pub char : List ℕ
+  pub ok : IsCharacter char
+  pub rest : List ℕ
+  pub is : t ≡ char ++ rest
 
 -- characters joined start with the first one
 starts_at : (t : List ℕ) (cs : List (List ℕ)) → AllByRecursion IsCharacter cs → t ≡ joined cs → 0 < length t → Starts t
@@ -32,7 +32,7 @@ starts_at t [] all e l = absurd (omega (arith, ap length e))
 starts_at t (c ∷ cs) all e l = record { char = c; ok = all.0; rest = joined cs; is = e }
 
 -- a text that isn't empty starts with a character
-starts : (t : List ℕ) → IsCharacters t → 0 < length t → Starts t
+pub starts : (t : List ℕ) → IsCharacters t → 0 < length t → Starts t
 starts t u l = starts_at t u.characters u.each u.whole l
 
 -- what goes past the end of a full member is too long

@@ -138,7 +138,7 @@ pub record Respelled (k : Kind) (w : List ℕ) (bs : List (List ℕ)) : Type 0 w
   pub shorter : length (spelling (pieces k bs)) ≤ length w
 
 -- bodies joined give their pieces joined
-pieces-append : (k : Kind) (bs cs : List (List ℕ)) → pieces k (bs ++ cs) ≡ pieces k bs ++ pieces k cs
+pub pieces-append : (k : Kind) (bs cs : List (List ℕ)) → pieces k (bs ++ cs) ≡ pieces k bs ++ pieces k cs
 pieces-append k [] cs = refl
 pieces-append k (b ∷ bs) cs = ap (λ y. Piece k b ∷ y) (pieces-append k bs cs)
 

@@ -1,5 +1,5 @@
 -- A write behind a write.
-use Rattle.std.proofs.Common.{◌≡◌, ℕ, ◌+◌, ◌≤◌, ◌<◌, List, ◌++◌, length, take, Option, Some, None, Result, Ok, Err, IfSome, IsErr, arith, sym, subst, length-append}
+use Rattle.std.proofs.Common.{◌≡◌, ℕ, ◌+◌, ◌≤◌, ◌<◌, List, ◌++◌, length, take, Option, Some, None, Result, Ok, Err, IfSome, IsErr, OnOk, OnErr, arith, sym, subst, length-append}
 use Rattle.std.proofs.Math.Seq.{take-append-add}
 use Rattle.std.proofs.lemmas.List.{take-append-le}
 use Rattle.std.proofs.KnownBytes.{Appends-trans}
@@ -70,3 +70,12 @@ module _ {W F : Type 0} (sink : Ghosts W F) where
     full = full_after _ _ xs ys all.room next.full;
     failures = cc (all.failures, next.failures);
   }
+
+  -- what a write ensures
+  pub WritesBytes-of : {T : Type 0} (old new : W) (result : Result T F) (xs : List ℕ) → OnOk result (Appends (sink.written old) (sink.written new) xs)
+      → OnOk result (Shrinks (sink.room old) (sink.room new) (length xs)) → OnOk result (sink.failures new ≡ sink.failures old)
+      → OnErr result (AppendsFront (sink.written old) (sink.written new) (sink.room old) (sink.room new) xs)
+      → OnErr result (IfSome (sink.room old) (λ n. n < length xs)) → OnErr result (sink.failures new ≡ sink.failures old + 1)
+      → WritesBytes sink old result xs new
+  WritesBytes-of old new (Ok done) xs bytes fills ok front full err = record { appended = bytes; room = fills; failures = ok }
+  WritesBytes-of old new (Err fault) xs bytes fills ok front full err = record { front = front; full = full; failures = err }

@@ -14,6 +14,7 @@ pub mod ItemLaws
 pub mod Lists
 pub mod OneFault
 pub mod PartsLaws
+pub mod PieceLaws
 pub mod RefusedBytes
 pub mod StepLaws
 pub mod StringLaws

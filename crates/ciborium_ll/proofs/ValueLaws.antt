@@ -8,14 +8,14 @@ use Rattle.ciborium_ll.specs.Title.{IsTitle, shortest_title}
 use Rattle.ciborium_ll.specs.Strings.{Kind, Bytes, Text, kind_header, AreStrings, none, more}
 use Rattle.ciborium_ll.specs.Strings.IsString.{definite as definite_str}
 use Rattle.ciborium_ll.specs.Text.{IsCharacter, joined, IsCharacters}
-use Rattle.ciborium_ll.specs.Elements.{IsSound, Mark, Whole, spelling, pieces, open_marks, IsElement, definite, indefinite}
-use Rattle.ciborium_ll.specs.Cuts.{IsMember, IsNonempty, IsFilled, AreFilled, IsFullCut}
-use Rattle.ciborium_ll.specs.Values.{least_limit, AreChunks, AreBytePieces, ArePieces, IsWritten, in_one, in_pieces}
+use Rattle.ciborium_ll.specs.Elements.{IsSound, Mark, Whole, Close, spelling, pieces, open_marks, IsElement, definite, indefinite}
+use Rattle.ciborium_ll.specs.Cuts.{IsMember, IsNonempty, IsCut, IsFilled, AreFilled, IsFullCut}
+use Rattle.ciborium_ll.specs.Values.{least_limit, AreChunks, AreBytePieces, ArePieces, IsWritten, in_one, in_pieces, segments, HasFewestSegments}
 use Rattle.ciborium_ll.proofs.Lists.{same_front}
 use Rattle.ciborium_ll.proofs.TitleLaws.{IsTitle-shortest}
 use Rattle.ciborium_ll.proofs.TextLaws.{character_length, character_is_text, IsCharacters-append}
 use Rattle.ciborium_ll.proofs.ElementLaws.{open_spelled}
-use Rattle.ciborium_ll.proofs.CutLaws.{one_character, one_full}
+use Rattle.ciborium_ll.proofs.CutLaws.{one_character, fewest, one_full}
 
 -- ---- texts
 
@@ -100,7 +100,7 @@ full_cut text limit u four =
 -- ---- bytes
 
 -- a piece as long as the limit, in front of pieces
-chunk_first : (limit : ℕ) (piece : List ℕ) (members : List (List ℕ)) → length piece ≡ limit → AreChunks limit members
+pub chunk_first : (limit : ℕ) (piece : List ℕ) (members : List (List ℕ)) → length piece ≡ limit → AreChunks limit members
     → AreChunks limit (piece ∷ members)
 chunk_first limit piece [] l c = absurd c
 chunk_first limit piece (following ∷ others) l c = (l, c)
@@ -174,7 +174,7 @@ one_writing k limit value ms ns (in_pieces cs l p) (in_one m) = absurd (omega ar
 one_writing k limit value ms ns (in_pieces cs l p) (in_pieces ds m q) = ap (open_marks k) (same_pieces k limit value cs ds p q)
 
 -- a value longer than the limit has pieces
-pieces_exist : (k : Kind) (limit : ℕ) (value : List ℕ) → least_limit k ≤ limit → IsSound k (value ∷ []) → limit < length value
+pub pieces_exist : (k : Kind) (limit : ℕ) (value : List ℕ) → least_limit k ≤ limit → IsSound k (value ∷ []) → limit < length value
     → (members : List (List ℕ)) × ArePieces k limit value members
 pieces_exist Bytes limit value l s m = byte_pieces value limit (omega arith) l
 pieces_exist Text limit value l s m = full_cut value limit s.0 l
@@ -230,3 +230,32 @@ written_element k limit value ms (in_pieces members l p) s n =
     let len = ap length q.0 in
     subst (λ (z : List ℕ). IsElement z (open_marks k members)) (sym (open_spelled k members))
     (indefinite k (open_title k) (piece_strings k members (omega arith)) q.1)
+
+-- ---- fewest segments
+
+-- pieces are the segments of what is written
+segments_of_pieces : (k : Kind) (members : List (List ℕ)) → segments (pieces k members ++ Close ∷ []) ≡ members
+segments_of_pieces k [] = refl
+segments_of_pieces k (x ∷ xs) = ap (λ (z : List (List ℕ)). x ∷ z) (segments_of_pieces k xs)
+
+-- members of a text that isn't empty are some
+some_members : (text : List ℕ) (members : List (List ℕ)) → 0 < length text → text ≡ joined members → 1 ≤ length members
+some_members text [] some e = absurd (omega (arith, ap length e))
+some_members text (x ∷ xs) some e = omega arith
+
+-- the segments of a text are texts, and no cut has fewer members
+pub fewest_segments : (limit : ℕ) (text : List ℕ) (ms : List Mark) → IsWritten Text limit text ms → IsCharacters text → 0 < length text
+    → HasFewestSegments limit text ms
+fewest_segments limit text ms (in_one l) u some =
+    record {
+      cut = record { whole = sym (append-nil text); each = ((u, l), tt) };
+      nonempty = (some, tt);
+      fewest = λ members c. some_members text members some c.whole;
+    }
+fewest_segments limit text ms (in_pieces members l p) u some =
+    let same = sym (segments_of_pieces Text members) in
+    record {
+      cut = subst (IsCut text limit) same p.cut;
+      nonempty = subst (AllByRecursion IsNonempty) same p.nonempty;
+      fewest = λ others c. subst (λ (z : List (List ℕ)). length z ≤ length others) same (fewest text limit members others p c);
+    }

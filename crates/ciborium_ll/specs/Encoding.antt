@@ -1,9 +1,12 @@
 -- What a write does to a writer, by its answer. Bytes are spoken of where the writer tells them, room where it tells that.
-use Rattle.std.specs.Prelude.{◌≡◌, ℕ, ◌+◌, ◌<◌, List, length, Result, Ok, Err, IfSome}
+use Rattle.std.specs.Prelude.{◌≡◌, ℕ, ◌+◌, ◌<◌, List, length, Option, Result, Ok, Err, IfSome}
 use Rattle.std.specs.Io.KnownBytes.{Appends}
 use Rattle.ciborium_ll.specs.declared.io.Write.{Ghosts}
 use Rattle.ciborium_ll.specs.declared.enc.Encoder.{Encoder}
 use Rattle.ciborium_ll.specs.Transfer.{Shrinks, AppendsFront}
+use Rattle.ciborium_ll.specs.Strings.{Kind, Text}
+use Rattle.ciborium_ll.specs.Elements.{Mark, spelling, pieces}
+use Rattle.ciborium_ll.specs.Values.{value_limit, ArePieces, IsWritten, HasFewestSegments}
 
 abbrev pub writer_of : {W : Type 0} → Encoder W → W
 writer_of encoder = encoder.writer
@@ -24,3 +27,22 @@ module _ {W F : Type 0} (sink : Ghosts W F) where
   abbrev pub WritesBytes : {T : Type 0} → W → Result T F → List ℕ → W → Type 0
   WritesBytes old (Ok done) bytes new = WritesAll old bytes new
   WritesBytes old (Err fault) bytes new = WritesFront old bytes new
+
+  -- the pieces of a value that is longer than the limit
+  pub record WritesPieces {T : Type 0} (kind : Kind) (limit : ℕ) (value : List ℕ) (old : W) (result : Result T F) (new : W) : Type 0 where
+    pub members : List (List ℕ)
+    pub are_pieces : ArePieces kind limit value members
+    pub bytes : WritesBytes old result (spelling (pieces kind members)) new
+
+  -- a value, in segments of at most as many bytes as are asked for
+  pub record WritesValue {T : Type 0} (kind : Kind) (segment : Option ℕ) (value : List ℕ) (old : W) (result : Result T F) (new : W) : Type 0 where
+    pub marks : List Mark
+    pub written : IsWritten kind (value_limit kind segment value) value marks
+    pub bytes : WritesBytes old result (spelling marks) new
+
+  -- a text, in as few segments as the limit allows
+  pub record WritesFewest (limit : ℕ) (text : List ℕ) (old new : W) : Type 0 where
+    pub marks : List Mark
+    pub written : IsWritten Text limit text marks
+    pub fewest : HasFewestSegments limit text marks
+    pub bytes : WritesAll old (spelling marks) new

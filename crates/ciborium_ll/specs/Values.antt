@@ -1,9 +1,10 @@
 -- How a value of bytes or of text is written in pieces of limited length (RFC 7049, 2.2.2).
 use Rattle.std.specs.Prelude.{◌≡◌, ℕ, ◌<◌, ◌≤◌, max, List, [], ◌∷◌, length, Option, Some, None}
+use Rattle.std.specs.List.{AllByRecursion}
 use Rattle.ciborium_ll.specs.Text.{joined}
 use Rattle.ciborium_ll.specs.Strings.{Kind, Bytes, Text}
-use Rattle.ciborium_ll.specs.Elements.{Mark, Whole, open_marks}
-use Rattle.ciborium_ll.specs.Cuts.{IsFullCut}
+use Rattle.ciborium_ll.specs.Elements.{Mark, Plain, Whole, Open, Piece, Close, open_marks}
+use Rattle.ciborium_ll.specs.Cuts.{IsNonempty, IsCut, IsFullCut}
 
 -- the least limit of the kind: one byte, and the bytes of the longest character
 abbrev pub least_limit : Kind → ℕ
@@ -40,3 +41,22 @@ pub data IsWritten (kind : Kind) (limit : ℕ) (value : List ℕ) : List Mark �
   in_one : length value ≤ limit → IsWritten kind limit value (Whole kind value ∷ [])
   in_pieces : (members : List (List ℕ)) → limit < length value → ArePieces kind limit value members
       → IsWritten kind limit value (open_marks kind members)
+
+-- the segments of what is written: the body of a string of a definite length, or each piece
+abbrev pub segments : List Mark → List (List ℕ)
+segments [] = []
+segments (Plain header ∷ marks) = segments marks
+segments (Whole kind body ∷ marks) = body ∷ segments marks
+segments (Open kind ∷ marks) = segments marks
+segments (Piece kind body ∷ marks) = body ∷ segments marks
+segments (Close ∷ marks) = segments marks
+
+-- a string of a definite length counts as one segment
+abbrev pub segment_count : List Mark → ℕ
+segment_count marks = length (segments marks)
+
+-- the segments are texts that aren't empty, and joined they are the text; no cut within the limit has fewer members
+pub record HasFewestSegments (limit : ℕ) (text : List ℕ) (marks : List Mark) : Type 0 where
+  pub cut : IsCut text limit (segments marks)
+  pub nonempty : AllByRecursion IsNonempty (segments marks)
+  pub fewest : (members : List (List ℕ)) → IsCut text limit members → segment_count marks ≤ length members

@@ -1,9 +1,11 @@
-//! The encoder: headers into a writer.
+//! The encoder: headers and values into a writer.
+
+mod values;
 
 use crate::hdr::{Header, Minor};
 use crate::io::Write;
 
-/// Writes headers, each as its shortest title.
+/// Writes headers, each as its shortest title, and values of bytes and of text.
 ///
 /// As a writer it passes on to the writer that it holds, which takes the bytes of bodies.
 #[derive(Drop)]

@@ -26,4 +26,4 @@ pub use self::text::{
 pub use self::titles::{
     cut_titles, one_title, refused_first_bytes, shortest_titles, title_header, title_length,
 };
-pub use self::values::written_values;
+pub use self::values::{fewest_segments, written_values};
