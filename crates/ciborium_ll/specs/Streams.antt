@@ -6,7 +6,7 @@ use Rattle.ciborium_ll.specs.declared.io.streams.StdWriter.{StdWriter}
 module _ {T : Type 0} where
   -- the reader within, as it is now
   abbrev pub source_of : StdReader T → T
-  source_of r = r.inner
+  source_of r = r.source
 
   -- how many reads failed so far
   abbrev pub read_failures_of : StdReader T → ℕ
@@ -14,7 +14,7 @@ module _ {T : Type 0} where
 
   -- the writer within, as it is now
   abbrev pub sink_of : StdWriter T → T
-  sink_of w = w.inner
+  sink_of w = w.sink
 
   -- how many writes and flushes failed so far
   abbrev pub write_failures_of : StdWriter T → ℕ

@@ -1,6 +1,6 @@
 //! A reader and a writer over those of std.
 
-ghost use Rattle.std.specs.Prelude.{false, IsTrue, ◌≡◌, ◌+◌, None, IsErrOf, IsOk, OnOk, OnErr, length};
+ghost use Rattle.std.specs.Prelude.{false, IsTrue, ◌≡◌, ◌+◌, None, Err, IsErrOf, IsOk, OnOk, OnErr, length};
 ghost use Rattle.std.specs.Io.KnownBytes.{Appends, Consumes, IsAtEnd, Keeps};
 ghost use Rattle.std.proofs.Common.{rules};
 ghost use Rattle.ciborium_ll.specs.Transfer.{AppendsFront, AppendsPart, ConsumesPart};
@@ -22,18 +22,18 @@ pub enum ReadFault {
 /// Reads from a reader of std. It tells the bytes that this reader tells, and is never steady.
 #[derive(Drop)]
 pub struct StdReader<T> {
-    inner: T,
+    source: T,
     failures: Failures,
 }
 
 impl<T: io::Read> StdReader<T> {
     /// A reader of all that is left within.
-    pub fn new(inner: T) -> StdReader<T>
-        ensures inner { source_of result ≡ inner }
+    pub fn new(source: T) -> StdReader<T>
+        ensures source { source_of result ≡ source }
         ensures failures { read_failures_of result ≡ 0 }
     {
         StdReader {
-            inner,
+            source,
             failures: Failures::new(),
         }
     }
@@ -42,31 +42,31 @@ impl<T: io::Read> StdReader<T> {
     pub fn into_inner(self) -> T
         ensures { result ≡ source_of self }
     {
-        self.inner
+        self.source
     }
 
-    /// Counts a failure at the end of the bytes.
+    /// Fails at the end of the bytes.
     #[cold]
     #[inline(never)]
-    fn ended(&mut self) -> ReadFault
-        ensures fault { result ≡ ReadFault.End }
+    fn ended(&mut self) -> Result<(), ReadFault>
+        ensures fault { result ≡ Err ReadFault.End }
         ensures same { source_of self.new ≡ source_of self.old }
         ensures failures { read_failures_of self.new ≡ read_failures_of self.old + 1 }
     {
         self.failures.raise();
-        ReadFault::End
+        Err(ReadFault::End)
     }
 
-    /// Counts a failure of the reader within.
+    /// Fails as the reader within did.
     #[cold]
     #[inline(never)]
-    fn failed(&mut self, error: io::Error) -> ReadFault
-        ensures fault { result ≡ ReadFault.Failed error }
+    fn read_failed(&mut self, error: io::Error) -> Result<(), ReadFault>
+        ensures fault { result ≡ Err (ReadFault.Failed error) }
         ensures same { source_of self.new ≡ source_of self.old }
         ensures failures { read_failures_of self.new ≡ read_failures_of self.old + 1 }
     {
         self.failures.raise();
-        ReadFault::Failed(error)
+        Err(ReadFault::Failed(error))
     }
 }
 
@@ -100,10 +100,10 @@ impl<T: io::Read> Read for StdReader<T> {
     {
         let mut filled = 0;
         while filled < data.len() {
-            match self.inner.read(&mut data[filled..]) {
-                Ok(0) => return Err(self.ended()),
+            match self.source.read(&mut data[filled..]) {
+                Ok(0) => return self.ended(),
                 Ok(count) => filled += count,
-                Err(error) => return Err(self.failed(error)),
+                Err(error) => return self.read_failed(error),
             }
         }
         Ok(())
@@ -122,18 +122,18 @@ pub enum WriteFault {
 /// Writes to a writer of std. It tells the bytes that this writer tells, and no room.
 #[derive(Drop)]
 pub struct StdWriter<T> {
-    inner: T,
+    sink: T,
     failures: Failures,
 }
 
 impl<T: io::Write> StdWriter<T> {
     /// A writer behind all that was written within.
-    pub fn new(inner: T) -> StdWriter<T>
-        ensures inner { sink_of result ≡ inner }
+    pub fn new(sink: T) -> StdWriter<T>
+        ensures sink { sink_of result ≡ sink }
         ensures failures { write_failures_of result ≡ 0 }
     {
         StdWriter {
-            inner,
+            sink,
             failures: Failures::new(),
         }
     }
@@ -142,31 +142,31 @@ impl<T: io::Write> StdWriter<T> {
     pub fn into_inner(self) -> T
         ensures { result ≡ sink_of self }
     {
-        self.inner
+        self.sink
     }
 
-    /// Counts a failure to take any byte.
+    /// Fails for a writer within that takes no byte.
     #[cold]
     #[inline(never)]
-    fn stopped(&mut self) -> WriteFault
-        ensures fault { result ≡ WriteFault.Zero }
+    fn stopped(&mut self) -> Result<(), WriteFault>
+        ensures fault { result ≡ Err WriteFault.Zero }
         ensures same { sink_of self.new ≡ sink_of self.old }
         ensures failures { write_failures_of self.new ≡ write_failures_of self.old + 1 }
     {
         self.failures.raise();
-        WriteFault::Zero
+        Err(WriteFault::Zero)
     }
 
-    /// Counts a failure of the writer within.
+    /// Fails as the writer within did.
     #[cold]
     #[inline(never)]
-    fn failed(&mut self, error: io::Error) -> WriteFault
-        ensures fault { result ≡ WriteFault.Failed error }
+    fn write_failed(&mut self, error: io::Error) -> Result<(), WriteFault>
+        ensures fault { result ≡ Err (WriteFault.Failed error) }
         ensures same { sink_of self.new ≡ sink_of self.old }
         ensures failures { write_failures_of self.new ≡ write_failures_of self.old + 1 }
     {
         self.failures.raise();
-        WriteFault::Failed(error)
+        Err(WriteFault::Failed(error))
     }
 }
 
@@ -199,10 +199,10 @@ impl<T: io::Write> Write for StdWriter<T> {
     {
         let mut sent = 0;
         while sent < data.len() {
-            match self.inner.write(&data[sent..]) {
-                Ok(0) => return Err(self.stopped()),
+            match self.sink.write(&data[sent..]) {
+                Ok(0) => return self.stopped(),
                 Ok(count) => sent += count,
-                Err(error) => return Err(self.failed(error)),
+                Err(error) => return self.write_failed(error),
             }
         }
         Ok(())
@@ -217,9 +217,9 @@ impl<T: io::Write> Write for StdWriter<T> {
         // The adapter's own.
         ensures keeps { Keeps (T.contents (sink_of self.old)) (T.contents (sink_of self.new)) }
     {
-        match self.inner.flush() {
+        match self.sink.flush() {
             Ok(()) => Ok(()),
-            Err(error) => Err(self.failed(error)),
+            Err(error) => self.write_failed(error),
         }
     }
 }

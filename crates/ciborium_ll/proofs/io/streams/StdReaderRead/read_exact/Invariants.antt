@@ -6,8 +6,8 @@ abbrev pub invariant-loop-filled : goal.invariant-loop-filled
 invariant-loop-filled g l = record {
   within : l.filled ≤ length l.«data»;
   failures : l.self.failures.count ≡ l.initial.self.failures.count;
-  bytes : Consumes (g.T.Read.remaining l.initial.self.inner) (g.T.Read.remaining l.self.inner) (take l.filled l.«data»);
-  empty : l.filled ≡ 0 → l.self.inner ≡ l.initial.self.inner;
+  bytes : Consumes (g.T.Read.remaining l.initial.self.source) (g.T.Read.remaining l.self.source) (take l.filled l.«data»);
+  empty : l.filled ≡ 0 → l.self.source ≡ l.initial.self.source;
 }
 
 abbrev pub decreases-loop-filled : goal.decreases-loop-filled

@@ -6,8 +6,8 @@ abbrev pub invariant-loop-sent : goal.invariant-loop-sent
 invariant-loop-sent g l = record {
   within : l.sent ≤ length l.«data»;
   failures : l.self.failures.count ≡ l.initial.self.failures.count;
-  bytes : Appends (g.T.Write.contents l.initial.self.inner) (g.T.Write.contents l.self.inner) (take l.sent l.«data»);
-  empty : l.sent ≡ 0 → l.self.inner ≡ l.initial.self.inner;
+  bytes : Appends (g.T.Write.contents l.initial.self.sink) (g.T.Write.contents l.self.sink) (take l.sent l.«data»);
+  empty : l.sent ≡ 0 → l.self.sink ≡ l.initial.self.sink;
 }
 
 abbrev pub decreases-loop-sent : goal.decreases-loop-sent
