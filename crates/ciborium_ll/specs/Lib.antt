@@ -11,6 +11,7 @@ pub mod Lend
 pub mod Parts
 pub mod Segments
 pub mod Steps
+pub mod Streams
 pub mod Strings
 pub mod Text
 pub mod Title

@@ -1,7 +1,7 @@
 -- What a write does to the bytes and the room that a writer tells. A read consumes bytes by std's `Consumes`,
 -- and a write appends them by std's `Appends`.
-use Rattle.std.specs.Prelude.{◌≡◌, ℕ, ◌+◌, ◌≤◌, List, length, take, ⊤, None, Some}
-use Rattle.std.specs.Io.KnownBytes.{Appends}
+use Rattle.std.specs.Prelude.{◌≡◌, ℕ, ◌+◌, ◌<◌, ◌≤◌, List, length, take, ⊤, None, Some}
+use Rattle.std.specs.Io.KnownBytes.{Appends, Consumes}
 use Rattle.std.specs.declared.option.Option.{Option}
 
 -- a room that is told is less by n
@@ -18,3 +18,11 @@ AppendsFirst written written' room room' bytes count =
 -- a beginning of the bytes was appended
 abbrev pub AppendsFront : Option (List ℕ) → Option (List ℕ) → Option ℕ → Option ℕ → List ℕ → Type 0
 AppendsFront written written' room room' bytes = (count : ℕ) × AppendsFirst written written' room room' bytes count
+
+-- a beginning of the bytes was appended, and not all of them
+abbrev pub AppendsPart : Option (List ℕ) → Option (List ℕ) → List ℕ → Type 0
+AppendsPart written written' bytes = (count : ℕ) × Appends written written' (take count bytes) × (count < length bytes)
+
+-- a beginning of the bytes was consumed, and not all of them
+abbrev pub ConsumesPart : Option (List ℕ) → Option (List ℕ) → List ℕ → Type 0
+ConsumesPart ahead ahead' bytes = (count : ℕ) × Consumes ahead ahead' (take count bytes) × (count < length bytes)

@@ -10,9 +10,11 @@ ghost use Rattle.ciborium_ll.specs.Transfer.{Shrinks, AppendsFront};
 
 mod failures;
 mod slices;
+mod streams;
 
 pub use self::failures::Failures;
 pub use self::slices::{EndOfFile, OutOfSpace, SliceReader, SliceWriter};
+pub use self::streams::{ReadFault, StdReader, StdWriter, WriteFault};
 
 /// A source of bytes.
 pub trait Read {
