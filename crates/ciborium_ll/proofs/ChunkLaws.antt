@@ -13,11 +13,8 @@ use Rattle.ciborium_ll.specs.Text.{IsFront}
 use Rattle.ciborium_ll.specs.Kept.{IsStuck, kept_bytes}
 use Rattle.ciborium_ll.specs.Chunks.{ReadsOn, left_of}
 use Rattle.ciborium_ll.proofs.TextLaws.{IsCharacters-append, IsCharacters-nil, front_of_text, front_of_valid}
+use Rattle.ciborium_ll.proofs.DecodingLaws.{length_zero}
 use Rattle.ciborium_ll.proofs.Utf8Laws.{from_std}
-
-length_zero : (bytes : List ℕ) → length bytes ≡ 0 → bytes ≡ []
-length_zero [] e = refl
-length_zero (byte ∷ bytes) e = absurd (omega arith)
 
 -- nothing is stuck
 pub IsStuck-nil : IsStuck []

@@ -1,5 +1,5 @@
 -- What the relations of the decoder's calls have in common.
-use Rattle.std.proofs.Common.{◌≡◌, ℕ, List, [], ◌++◌, length, Option, Some, None, Result, Ok, Err, refl, sym, ap, subst, ◌∙◌, inl, inr, arith, length-append}
+use Rattle.std.proofs.Common.{◌≡◌, ℕ, ◌⊎◌, List, [], ◌∷◌, ◌++◌, length, Option, Some, None, IfSome, Result, Ok, Err, refl, sym, ap, subst, ◌∙◌, inl, inr, arith, append_assoc, append-nil, length-append}
 use Rattle.std.proofs.KnownBytes.{Consumes-nil, Consumes-trans}
 use Rattle.std.specs.Io.KnownBytes.{Consumes, prepend_known}
 use Rattle.ciborium_ll.specs.declared.hdr.Header.{Header}
@@ -8,7 +8,7 @@ use Rattle.ciborium_ll.specs.declared.dec.Decoder.{Decoder}
 use Rattle.ciborium_ll.specs.declared.dec.Error.{Error}
 use Rattle.ciborium_ll.specs.declared.dec.Error.TheVariants as e
 use Rattle.ciborium_ll.specs.Title.{shortest_title, title_len}
-use Rattle.ciborium_ll.specs.Decoding.{behind_waiting, view, IsSteady, Passes, PullsTitle, PullsHeader, TakesBack, PullsAgain}
+use Rattle.ciborium_ll.specs.Decoding.{Begins, behind_waiting, view, IsSteady, Passes, PullsTitle, PullsHeader, TakesBack, PullsAgain}
 
 -- bytes put in front are the next ones
 pub Consumes-prepended : (known : Option (List ℕ)) (front : List ℕ) → Consumes (prepend_known front known) known front
@@ -46,10 +46,41 @@ pulls_again source old pulled pushed new header (Err (e.Syntax place)) first bac
 pulls_again source old pulled pushed new header (Err e.TooLong) first back second = let a = back.waits in let b = second.none_waited in absurd cc
 pulls_again source old pulled pushed new header (Err e.Waiting) first back second = absurd second
 
+-- what holds of every value holds of the one, if there is one
+pub IfSome-all : {A : Type 0} (option : Option A) (P : A → Type 0) → ((value : A) → P value) → IfSome option P
+IfSome-all None P all = tt
+IfSome-all (Some value) P all = all value
+
+-- no bytes, by the length
+pub length_zero : (bytes : List ℕ) → length bytes ≡ 0 → bytes ≡ []
+length_zero [] e = refl
+length_zero (byte ∷ bytes) e = absurd (omega arith)
+
+-- the title of a waiting header goes first, also with one title more
+waited_pull : {R : Type 0} (old between new : Decoder R) (bytes title : List ℕ) (header : Header) (waiting : Option Header) → old.waiting ≡ waiting
+    → IfSome waiting (λ h. (between ≡ old) ⊎ Begins (shortest_title h) bytes) → (between ≡ old → bytes ≡ [])
+    → IfSome between.waiting (λ kept. (kept ≡ header) × (title ≡ shortest_title header) × (new.reader ≡ between.reader))
+    → IfSome waiting (λ h. (new ≡ old) ⊎ Begins (shortest_title h) (bytes ++ title))
+waited_pull old between new bytes title header None e before nil waited = tt
+waited_pull old between new bytes title header (Some h) e (inl same) nil waited =
+    let waits : between.waiting ≡ Some h = ap (λ d. d.waiting) same ∙ e in
+    let w = rw waits at waited in
+    let first : title ≡ shortest_title h = w.1 ∙ ap shortest_title (sym w.0) in
+    inr ([], ap (λ (z : List ℕ). z ++ title) (nil same) ∙ first ∙ sym (append-nil (shortest_title h)))
+waited_pull old between new bytes title header (Some h) e (inr begins) nil waited =
+    inr (begins.0 ++ title, ap (λ (z : List ℕ). z ++ title) begins.1 ∙ append_assoc (shortest_title h) begins.0 title)
+
 module _ {R E : Type 0} (source : Ghosts R E) where
   -- no bytes
   pub Passes-none : (decoder : Decoder R) → Passes source decoder [] decoder
-  Passes-none decoder = record { consumed = Consumes-nil (view source decoder); offset = omega arith; waiting = inl (refl, refl); failures = refl; steady = λ s. s }
+  Passes-none decoder = record {
+    consumed = Consumes-nil (view source decoder);
+    offset = omega arith;
+    waiting = inl (refl, refl);
+    waited = IfSome-all decoder.waiting _ (λ h. inl refl);
+    failures = refl;
+    steady = λ s. s;
+  }
 
   -- one title more
   pub Passes-pull : (old between new : Decoder R) (bytes : List ℕ) (header : Header) (title : PullsTitle source between header new) → Passes source old bytes between
@@ -58,6 +89,8 @@ module _ {R E : Type 0} (source : Ghosts R E) where
     consumed = Consumes-trans _ _ _ bytes title.title passed.consumed title.bytes;
     offset = omega (arith, passed.offset, title.offset, length-append bytes title.title);
     waiting = inr title.none_waits;
+    waited = waited_pull old between new bytes title.title header old.waiting refl passed.waited
+    (λ same. length_zero bytes (let moved = ap (λ d. d.offset) same in omega (arith, moved, passed.offset))) title.waited;
     failures = cc (passed.failures, title.failures);
     steady = λ s. steady (passed.steady s);
   }

@@ -150,6 +150,8 @@ module _ {R E : Type 0} (source : Ghosts R E) where
     pub offset : new.offset ≡ old.offset + length bytes
     -- without a call nothing changed; behind one no header waits
     pub waiting : ((bytes ≡ []) × (new ≡ old)) ⊎ (new.waiting ≡ None)
+    -- the title of a header that waited went first
+    pub waited : IfSome old.waiting (λ header. (new ≡ old) ⊎ Begins (shortest_title header) bytes)
     pub failures : failures_of new ≡ failures_of old
     pub steady : IsSteady old → IsSteady new
 
