@@ -30,7 +30,7 @@ pub AreTitles-shortest : (bytes : List ℕ) (headers : List Header) → AreTitle
 AreTitles-shortest bytes headers none = none
 AreTitles-shortest bytes headers (next {title = t} {rest = rest} {header = h} {headers = hs} p ts) = next (IsTitle-shortest h (title_in_range t h p)) (AreTitles-shortest rest hs ts)
 
-Shrinks-zero : (room : Option ℕ) → Shrinks room room 0
+pub Shrinks-zero : (room : Option ℕ) → Shrinks room room 0
 Shrinks-zero None = tt
 Shrinks-zero (Some n) = omega arith
 

@@ -51,6 +51,11 @@ pub IfSome-all : {A : Type 0} (option : Option A) (P : A → Type 0) → ((value
 IfSome-all None P all = tt
 IfSome-all (Some value) P all = all value
 
+-- what holds of the value of an option, at that value
+pub IfSome-at : {A : Type 0} (option : Option A) (value : A) (P : A → Type 0) → option ≡ Some value → IfSome option P → P value
+IfSome-at None value P e holds = absurd cc
+IfSome-at (Some x) value P e holds = let same : x ≡ value = cc in subst P same holds
+
 -- no bytes, by the length
 pub length_zero : (bytes : List ℕ) → length bytes ≡ 0 → bytes ≡ []
 length_zero [] e = refl
@@ -90,7 +95,7 @@ module _ {R E : Type 0} (source : Ghosts R E) where
     offset = omega (arith, passed.offset, title.offset, length-append bytes title.title);
     waiting = inr title.none_waits;
     waited = waited_pull old between new bytes title.title header old.waiting refl passed.waited
-    (λ same. length_zero bytes (let moved = ap (λ d. d.offset) same in omega (arith, moved, passed.offset))) title.waited;
+        (λ same. length_zero bytes (let moved = ap (λ d. d.offset) same in omega (arith, moved, passed.offset))) title.waited;
     failures = cc (passed.failures, title.failures);
     steady = λ s. steady (passed.steady s);
   }

@@ -1,6 +1,7 @@
 pub mod AdvanceLaws
 pub mod AffixLaws
 pub mod Complete
+pub mod BodyLaws
 pub mod ChunkLaws
 pub mod CopyingLaws
 pub mod CopyingTold
@@ -13,6 +14,7 @@ pub mod HaltLaws
 pub mod ItemLaws
 pub mod Lists
 pub mod OneFault
+pub mod NestLaws
 pub mod PartsLaws
 pub mod PieceLaws
 pub mod RefusedBytes

@@ -9,6 +9,7 @@ pub mod Items
 pub mod Kept
 pub mod Lend
 pub mod Parts
+pub mod Recoding
 pub mod Segments
 pub mod Steps
 pub mod Streams
