@@ -71,7 +71,7 @@ module _ {W F : Type 0} (sink : Ghosts W F) where
     failures = cc (all.failures, next.failures);
   }
 
-  -- what a write ensures
+  -- the six clauses of one write, together
   pub WritesBytes-of : {T : Type 0} (old new : W) (result : Result T F) (xs : List ℕ) → OnOk result (Appends (sink.written old) (sink.written new) xs)
       → OnOk result (Shrinks (sink.room old) (sink.room new) (length xs)) → OnOk result (sink.failures new ≡ sink.failures old)
       → OnErr result (AppendsFront (sink.written old) (sink.written new) (sink.room old) (sink.room new) xs)

@@ -25,16 +25,19 @@ use Rattle.ciborium_ll.proofs.ValueLaws.{chunk_first, pieces_exist, fewest_segme
 
 -- with any pieces of the rest behind them these members are pieces of the value
 abbrev pub Leads : Kind → ℕ → List ℕ → List (List ℕ) → List ℕ → Type 0
-Leads kind limit value done rest = (others : List (List ℕ)) → ArePieces kind limit rest others → ArePieces kind limit value (done ++ others)
+Leads kind limit value done rest = (others : List (List ℕ)) → ArePieces kind limit rest others
+    → ArePieces kind limit value (done ++ others)
 
 -- members behind members
-Leads-then : (k : Kind) (limit : ℕ) (value mid rest : List ℕ) (done more : List (List ℕ)) → Leads k limit value done mid → Leads k limit mid more rest
+Leads-then : (k : Kind) (limit : ℕ) (value mid rest : List ℕ) (done more : List (List ℕ)) → Leads k limit value done mid
+    → Leads k limit mid more rest
     → Leads k limit value (done ++ more) rest
 Leads-then k limit value mid rest done more p q others o =
     subst (ArePieces k limit value) (sym (append_assoc done more others)) (p (more ++ others) (q others o))
 
 -- as many bytes as the limit lead the rest
-pub bytes_lead : (limit : ℕ) (value piece behind : List ℕ) → value ≡ piece ++ behind → length piece ≡ limit → Leads Bytes limit value (piece ∷ []) behind
+pub bytes_lead : (limit : ℕ) (value piece behind : List ℕ) → value ≡ piece ++ behind → length piece ≡ limit
+    → Leads Bytes limit value (piece ∷ []) behind
 bytes_lead limit value piece behind whole len others o =
     (whole ∙ ap (λ (z : List ℕ). piece ++ z) o.0, chunk_first limit piece others len o.1)
 
@@ -75,11 +78,13 @@ some_within limit text n u l four last =
     ]
 
 -- the first character behind the last place within the limit doesn't fit
-last_is_filled : (limit : ℕ) (text : List ℕ) (n : ℕ) (following behind : List ℕ) → IsUtf8 text → IsCharBoundary text n → IsLastWithin limit text n
+last_is_filled : (limit : ℕ) (text : List ℕ) (n : ℕ) (following behind : List ℕ) → IsUtf8 text → IsCharBoundary text n
+    → IsLastWithin limit text n
     → drop n text ≡ following ++ behind → IsFilled limit (take n text) following
 last_is_filled limit text n following behind u b last e character rest p f =
     let m = character_length character p in
-    let same : drop n text ≡ character ++ (rest ++ behind) = e ∙ (ap (λ (z : List ℕ). z ++ behind) f ∙ append_assoc character rest behind) in
+    let same : drop n text ≡ character ++ (rest ++ behind) = e ∙
+    (ap (λ (z : List ℕ). z ++ behind) f ∙ append_assoc character rest behind) in
     let len = length-take-le n text b.0 in
     elim (cases_lt limit (length (take n text) + length character)) [
       | inl l ↦ l
@@ -87,7 +92,8 @@ last_is_filled limit text n following behind u b last e character rest p f =
     ]
 
 -- the last place within the limit ends a member that is filled
-filled_first : (limit : ℕ) (text : List ℕ) (n : ℕ) (others : List (List ℕ)) → IsUtf8 text → IsCharBoundary text n → IsLastWithin limit text n
+filled_first : (limit : ℕ) (text : List ℕ) (n : ℕ) (others : List (List ℕ)) → IsUtf8 text → IsCharBoundary text n
+    → IsLastWithin limit text n
     → drop n text ≡ joined others → AreFilled limit others → AreFilled limit (take n text ∷ others)
 filled_first limit text n [] u b last e f = tt
 filled_first limit text n (x ∷ xs) u b last e f = (last_is_filled limit text n x (joined xs) u b last e, f)
@@ -132,12 +138,15 @@ limit_is k (Some n) value asked limit e m = omega arith
 -- ---- the spelling of pieces
 
 -- pieces behind pieces
-spelled_then : (k : Kind) (done others : List (List ℕ)) → spelling (pieces k (done ++ others)) ≡ spelling (pieces k done) ++ spelling (pieces k others)
+spelled_then : (k : Kind) (done others : List (List ℕ))
+    → spelling (pieces k (done ++ others)) ≡ spelling (pieces k done) ++ spelling (pieces k others)
 spelled_then k done others = ap spelling (pieces-append k done others) ∙ spelling-append (pieces k done) (pieces k others)
 
 -- one piece more
-spelled_more : (k : Kind) (done : List (List ℕ)) (piece : List ℕ) → spelling (pieces k (done ++ piece ∷ [])) ≡ spelling (pieces k done) ++ body_spelling k piece
-spelled_more k done piece = spelled_then k done (piece ∷ []) ∙ ap (λ (z : List ℕ). spelling (pieces k done) ++ z) (append-nil (body_spelling k piece))
+spelled_more : (k : Kind) (done : List (List ℕ)) (piece : List ℕ)
+    → spelling (pieces k (done ++ piece ∷ [])) ≡ spelling (pieces k done) ++ body_spelling k piece
+spelled_more k done piece = spelled_then k done (piece ∷ []) ∙ ap (λ (z : List ℕ). spelling (pieces k done) ++ z)
+    (append-nil (body_spelling k piece))
 
 module _ {W F : Type 0} (sink : Ghosts W F) where
   -- the first pieces of a value were written, and the rest is left
@@ -148,7 +157,8 @@ module _ {W F : Type 0} (sink : Ghosts W F) where
 
   -- one piece more is written
   pub Progress-more : (k : Kind) (limit : ℕ) (value : List ℕ) (old : W) (rest : List ℕ) (current : W) (piece behind : List ℕ) (new : W)
-      → Progress k limit value old rest current → Leads k limit rest (piece ∷ []) behind → WritesAll sink current (body_spelling k piece) new
+      → Progress k limit value old rest current → Leads k limit rest (piece ∷ []) behind
+      → WritesAll sink current (body_spelling k piece) new
       → Progress k limit value old behind new
   Progress-more k limit value old rest current piece behind new p leads all = record {
     done = p.done ++ piece ∷ [];
@@ -158,9 +168,12 @@ module _ {W F : Type 0} (sink : Ghosts W F) where
   }
 
   -- the writer failed at a piece, with others behind it
-  pub Progress-stopped : {T : Type 0} (result : Result T F) → IsErr result → (k : Kind) (limit : ℕ) (value : List ℕ) (old : W) (rest : List ℕ) (current : W)
-      (piece behind : List ℕ) (others : List (List ℕ)) (new : W) → Progress k limit value old rest current → Leads k limit rest (piece ∷ []) behind
-      → ArePieces k limit behind others → WritesFront sink current (body_spelling k piece) new → WritesPieces sink k limit value old result new
+  pub Progress-stopped : {T : Type 0} (result : Result T F) → IsErr result
+      → (k : Kind) (limit : ℕ) (value : List ℕ) (old : W) (rest : List ℕ) (current : W)
+      (piece behind : List ℕ) (others : List (List ℕ)) (new : W) → Progress k limit value old rest current
+      → Leads k limit rest (piece ∷ []) behind
+      → ArePieces k limit behind others → WritesFront sink current (body_spelling k piece) new
+      → WritesPieces sink k limit value old result new
   Progress-stopped result e k limit value old rest current piece behind others new p leads o front = record {
     members = p.done ++ (piece ∷ others);
     are_pieces = p.leads (piece ∷ others) (leads others o);
@@ -170,8 +183,10 @@ module _ {W F : Type 0} (sink : Ghosts W F) where
   }
 
   -- the rest is written as the last piece
-  pub Progress-last : {T : Type 0} (result : Result T F) (k : Kind) (limit : ℕ) (value : List ℕ) (old : W) (rest : List ℕ) (current new : W)
-      → Progress k limit value old rest current → ArePieces k limit rest (rest ∷ []) → WritesBytes sink current result (body_spelling k rest) new
+  pub Progress-last : {T : Type 0} (result : Result T F) (k : Kind) (limit : ℕ) (value : List ℕ) (old : W) (rest : List ℕ)
+      (current new : W)
+      → Progress k limit value old rest current → ArePieces k limit rest (rest ∷ [])
+      → WritesBytes sink current result (body_spelling k rest) new
       → WritesPieces sink k limit value old result new
   Progress-last result k limit value old rest current new p last next = record {
     members = p.done ++ rest ∷ [];
@@ -193,7 +208,8 @@ module _ {W F : Type 0} (sink : Ghosts W F) where
   }
 
   -- a value in pieces
-  in_open : {T : Type 0} (result : Result T F) (k : Kind) (segment : Option ℕ) (value : List ℕ) (limit : ℕ) (members : List (List ℕ)) (old new : W)
+  in_open : {T : Type 0} (result : Result T F) (k : Kind) (segment : Option ℕ) (value : List ℕ) (limit : ℕ) (members : List (List ℕ))
+      (old new : W)
       → limit ≡ value_limit k segment value → limit < length value → ArePieces k limit value members
       → WritesBytes sink old result (shortest_title (kind_header k None) ++ (spelling (pieces k members) ++ 0xff ∷ [])) new
       → WritesValue sink k segment value old result new
@@ -204,7 +220,8 @@ module _ {W F : Type 0} (sink : Ghosts W F) where
   }
 
   -- the writer failed at the open
-  pub WritesValue-unopened : {T : Type 0} (result : Result T F) → IsErr result → (k : Kind) (segment : Option ℕ) (value : List ℕ) (limit : ℕ) (old new : W)
+  pub WritesValue-unopened : {T : Type 0} (result : Result T F) → IsErr result
+      → (k : Kind) (segment : Option ℕ) (value : List ℕ) (limit : ℕ) (old new : W)
       → IsSound k (value ∷ []) → least_limit k ≤ limit → limit ≡ value_limit k segment value → limit < length value
       → WritesFront sink old (shortest_title (kind_header k None)) new → WritesValue sink k segment value old result new
   WritesValue-unopened result e k segment value limit old new sound least same longer front =
@@ -213,8 +230,10 @@ module _ {W F : Type 0} (sink : Ghosts W F) where
       (WritesBytes-stopped sink old new result (shortest_title (kind_header k None)) (spelling (pieces k p.0) ++ 0xff ∷ []) e front)
 
   -- the writer failed at the pieces
-  pub WritesValue-cut : {T : Type 0} (result : Result T F) → IsErr result → (k : Kind) (segment : Option ℕ) (value : List ℕ) (limit : ℕ) (old open_new new : W)
-      (fault : F) → limit ≡ value_limit k segment value → limit < length value → WritesAll sink old (shortest_title (kind_header k None)) open_new
+  pub WritesValue-cut : {T : Type 0} (result : Result T F) → IsErr result
+      → (k : Kind) (segment : Option ℕ) (value : List ℕ) (limit : ℕ) (old open_new new : W)
+      (fault : F) → limit ≡ value_limit k segment value → limit < length value
+      → WritesAll sink old (shortest_title (kind_header k None)) open_new
       → WritesPieces sink {T = T} k limit value open_new (Err fault) new → WritesValue sink k segment value old result new
   WritesValue-cut result e k segment value limit old open_new new fault same longer all p =
       in_open result k segment value limit p.members old new same longer p.are_pieces
@@ -222,8 +241,10 @@ module _ {W F : Type 0} (sink : Ghosts W F) where
       (WritesBytes-stopped sink open_new new result (spelling (pieces k p.members)) (0xff ∷ []) e p.bytes))
 
   -- the pieces were written, and then the break, or the writer failed there
-  pub WritesValue-closed : {T : Type 0} (result : Result T F) (k : Kind) (segment : Option ℕ) (value : List ℕ) (limit : ℕ) (old open_new last new : W)
-      (done : T) → limit ≡ value_limit k segment value → limit < length value → WritesAll sink old (shortest_title (kind_header k None)) open_new
+  pub WritesValue-closed : {T : Type 0} (result : Result T F) (k : Kind) (segment : Option ℕ) (value : List ℕ) (limit : ℕ)
+      (old open_new last new : W)
+      (done : T) → limit ≡ value_limit k segment value → limit < length value
+      → WritesAll sink old (shortest_title (kind_header k None)) open_new
       → WritesPieces sink {T = T} k limit value open_new (Ok done) last → WritesBytes sink last result (0xff ∷ []) new
       → WritesValue sink k segment value old result new
   WritesValue-closed result k segment value limit old open_new last new done same longer all p close =

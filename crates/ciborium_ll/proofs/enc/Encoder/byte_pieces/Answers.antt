@@ -7,7 +7,8 @@ use Rattle.ciborium_ll.proofs.enc.Encoder.byte_pieces.Goals as goal
 use Rattle.ciborium_ll.proofs.enc.Encoder.byte_pieces.Goals.{After-split_at}
 
 -- the piece that was split off leads what is behind it
-leads : (g : given.Over) (c : After-split_at g) → Leads Bytes c.args.limit c.pieces.rest.now (c.split_at.result.0.now ∷ []) c.split_at.result.1.now
+leads : (g : given.Over) (c : After-split_at g)
+    → Leads Bytes c.args.limit c.pieces.rest.now (c.split_at.result.0.now ∷ []) c.split_at.result.1.now
 leads g c = bytes_lead c.args.limit c.pieces.rest.now _ _ c.split_at.ensures.by_index.0 c.split_at.ensures.front_len
 
 pub pieces-preserved : goal.pieces-preserved
@@ -15,7 +16,8 @@ pieces-preserved g c =
     let cut = (goal.at.pieces-preserved g c).After-split_at in
     record {
       some = omega arith;
-      progress = Progress-more g.W.Write Bytes c.args.limit _ _ _ _ c.split_at.result.0.now _ _ c.pieces.invariant.progress (leads g cut) c.in_ok-string.ensures;
+      progress = Progress-more g.W.Write Bytes c.args.limit _ _ _ _ c.split_at.result.0.now _ _ c.pieces.invariant.progress (leads g cut)
+          c.in_ok-string.ensures;
     }
 
 pub returns-in_err-string : goal.returns-in_err-string
@@ -23,7 +25,8 @@ returns-in_err-string g c =
     let cut = (goal.at.returns-in_err-string g c).After-split_at in
     let behind = c.split_at.result.1.now in
     let others = byte_pieces behind c.args.limit (omega arith) c.requires.some in
-    Progress-stopped g.W.Write c.from_residual.result c.from_residual.ensures.0 Bytes c.args.limit _ _ _ _ c.split_at.result.0.now behind others.0 _
+    Progress-stopped g.W.Write c.from_residual.result c.from_residual.ensures.0 Bytes c.args.limit _ _ _ _ c.split_at.result.0.now behind
+    others.0 _
     c.pieces.invariant.progress (leads g cut) others.1 c.in_err-string.ensures
 
 pub returns : goal.returns

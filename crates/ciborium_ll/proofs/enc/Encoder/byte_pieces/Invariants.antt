@@ -4,7 +4,10 @@ use Rattle.ciborium_ll.proofs.PieceLaws.{Progress}
 use Rattle.ciborium_ll.proofs.enc.Encoder.byte_pieces.Given as goal
 
 abbrev pub invariant-pieces : goal.invariant-pieces
-invariant-pieces g l = record { some : 0 < length l.rest; progress : Progress g.W.Write Bytes l.limit l.fn.value l.initial.self.writer l.rest l.self.writer }
+invariant-pieces g l = record {
+  some : 0 < length l.rest;
+  progress : Progress g.W.Write Bytes l.limit l.fn.value l.initial.self.writer l.rest l.self.writer;
+}
 
 abbrev pub decreases-pieces : goal.decreases-pieces
 decreases-pieces g l = length l.rest

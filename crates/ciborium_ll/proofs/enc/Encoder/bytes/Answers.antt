@@ -13,19 +13,22 @@ pub returns-in_err-push : goal.returns-in_err-push
 returns-in_err-push g c =
     let value = c.args.value.now in
     let limit = limit_is Bytes c.args.segment value _ _ c.unwrap_or.ensures c.max-limit.ensures in
-    WritesValue-unopened g.W.Write c.from_residual.result c.from_residual.ensures.0 Bytes c.args.segment value _ _ _ tt (omega arith) limit
+    WritesValue-unopened g.W.Write c.from_residual.result c.from_residual.ensures.0 Bytes c.args.segment value _ _ _ tt (omega arith)
+    limit
     c.if-value-limit.false c.in_err-push.ensures.title
 
 pub returns-in_err-byte_pieces : goal.returns-in_err-byte_pieces
 returns-in_err-byte_pieces g c =
     let value = c.args.value.now in
     let limit = limit_is Bytes c.args.segment value _ _ c.unwrap_or.ensures c.max-limit.ensures in
-    WritesValue-cut g.W.Write c.from_residual-in_err-byte_pieces.result c.from_residual-in_err-byte_pieces.ensures.0 Bytes c.args.segment value _ _ _ _ _
+    WritesValue-cut g.W.Write c.from_residual-in_err-byte_pieces.result c.from_residual-in_err-byte_pieces.ensures.0 Bytes c.args.segment
+    value _ _ _ _ _
     limit c.if-value-limit.false c.in_ok-push.ensures.title c.in_err-byte_pieces.ensures
 
 pub returns : goal.returns
 returns g c =
     let value = c.args.value.now in
     let limit = limit_is Bytes c.args.segment value _ _ c.unwrap_or.ensures c.max-limit.ensures in
-    WritesValue-closed g.W.Write c.push-2.result Bytes c.args.segment value _ _ _ _ _ _ limit c.if-value-limit.false c.in_ok-push.ensures.title
+    WritesValue-closed g.W.Write c.push-2.result Bytes c.args.segment value _ _ _ _ _ _ limit c.if-value-limit.false
+    c.in_ok-push.ensures.title
     c.in_ok-byte_pieces.ensures c.push-2.ensures.title

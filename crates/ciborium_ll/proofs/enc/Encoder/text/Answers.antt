@@ -23,21 +23,24 @@ pub returns-in_err-push-clause-value : goal.returns-in_err-push-clause-value
 returns-in_err-push-clause-value g c =
     let value = c.args.value.now in
     let limit = limit_is Text c.args.segment value _ _ c.unwrap_or.ensures c.max-limit.ensures in
-    WritesValue-unopened g.W.Write c.from_residual.result c.from_residual.ensures.0 Text c.args.segment value _ _ _ (from_std value c.utf8.value, tt)
+    WritesValue-unopened g.W.Write c.from_residual.result c.from_residual.ensures.0 Text c.args.segment value _ _ _
+    (from_std value c.utf8.value, tt)
     (omega arith) limit c.if-value-limit.false c.in_err-push.ensures.title
 
 pub returns-in_err-text_pieces-clause-value : goal.returns-in_err-text_pieces-clause-value
 returns-in_err-text_pieces-clause-value g c =
     let value = c.args.value.now in
     let limit = limit_is Text c.args.segment value _ _ c.unwrap_or.ensures c.max-limit.ensures in
-    WritesValue-cut g.W.Write c.from_residual-in_err-text_pieces.result c.from_residual-in_err-text_pieces.ensures.0 Text c.args.segment value _ _ _ _ _
+    WritesValue-cut g.W.Write c.from_residual-in_err-text_pieces.result c.from_residual-in_err-text_pieces.ensures.0 Text c.args.segment
+    value _ _ _ _ _
     limit c.if-value-limit.false c.in_ok-push.ensures.title c.in_err-text_pieces.ensures
 
 pub returns-clause-value : goal.returns-clause-value
 returns-clause-value g c =
     let value = c.args.value.now in
     let limit = limit_is Text c.args.segment value _ _ c.unwrap_or.ensures c.max-limit.ensures in
-    WritesValue-closed g.W.Write c.push-2.result Text c.args.segment value _ _ _ _ _ _ limit c.if-value-limit.false c.in_ok-push.ensures.title
+    WritesValue-closed g.W.Write c.push-2.result Text c.args.segment value _ _ _ _ _ _ limit c.if-value-limit.false
+    c.in_ok-push.ensures.title
     c.in_ok-text_pieces.ensures c.push-2.ensures.title
 
 pub returns-clause-fewest : goal.returns-clause-fewest

@@ -12,23 +12,27 @@ use Rattle.ciborium_ll.proofs.enc.Encoder.text_pieces.Goals as goal
 use Rattle.ciborium_ll.proofs.enc.Encoder.text_pieces.Goals.{After-split_at}
 
 -- the piece that was split off leads what is behind it
-leads : (g : given.Over) (c : After-split_at g) → Leads Text c.args.limit c.pieces.rest.now (c.split_at.result.0.now ∷ []) c.split_at.result.1.now
+leads : (g : given.Over) (c : After-split_at g)
+    → Leads Text c.args.limit c.pieces.rest.now (c.split_at.result.0.now ∷ []) c.split_at.result.1.now
 leads g c =
     let first = c.piece_len.ensures in
-    text_leads c.args.limit c.pieces.rest.now c.piece_len.result _ _ c.split_at.ensures.front c.split_at.ensures.back c.pieces.invariant.utf8
+    text_leads c.args.limit c.pieces.rest.now c.piece_len.result _ _ c.split_at.ensures.front c.split_at.ensures.back
+    c.pieces.invariant.utf8
     first.boundary first.within first.some first.longest
 
 -- what is behind the piece is a text
 behind_is_text : (g : given.Over) (c : After-split_at g) → IsUtf8 c.split_at.result.1.now
 behind_is_text g c =
-    subst IsUtf8 (sym c.split_at.ensures.back) (IsUtf8-drop c.pieces.rest.now c.piece_len.result c.pieces.invariant.utf8 c.piece_len.ensures.boundary)
+    subst IsUtf8 (sym c.split_at.ensures.back)
+    (IsUtf8-drop c.pieces.rest.now c.piece_len.result c.pieces.invariant.utf8 c.piece_len.ensures.boundary)
 
 pub pieces-preserved : goal.pieces-preserved
 pieces-preserved g c =
     let cut = (goal.at.pieces-preserved g c).After-split_at in
     let piece = c.split_at.result.0.now in
     let title = shortest_title (kind_header Text (Some (length piece))) in
-    let wrote = subst (λ (z : List ℕ). WritesAll g.W.Write c.pieces.self.writer (title ++ z) c.string.new.self.writer) {x = c.as_bytes.result.now}
+    let wrote = subst (λ (z : List ℕ). WritesAll g.W.Write c.pieces.self.writer (title ++ z) c.string.new.self.writer)
+    {x = c.as_bytes.result.now}
     c.as_bytes.ensures.value c.in_ok-string.ensures in
     record {
       some = omega arith;
@@ -42,7 +46,8 @@ returns-in_err-string g c =
     let piece = c.split_at.result.0.now in
     let behind = c.split_at.result.1.now in
     let title = shortest_title (kind_header Text (Some (length piece))) in
-    let wrote = subst (λ (z : List ℕ). WritesFront g.W.Write c.pieces.self.writer (title ++ z) c.string.new.self.writer) {x = c.as_bytes.result.now}
+    let wrote = subst (λ (z : List ℕ). WritesFront g.W.Write c.pieces.self.writer (title ++ z) c.string.new.self.writer)
+    {x = c.as_bytes.result.now}
     c.as_bytes.ensures.value c.in_err-string.ensures in
     let others = full_cut behind c.args.limit (from_std behind (behind_is_text g cut)) c.requires.four in
     Progress-stopped g.W.Write c.from_residual.result c.from_residual.ensures.0 Text c.args.limit _ _ _ _ piece behind others.0 _
