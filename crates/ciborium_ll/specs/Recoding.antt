@@ -1,5 +1,5 @@
 -- Elements copied from a decoder to a writer: what was read and written, over any reader and writer.
-use Rattle.std.specs.Prelude.{◌≡◌, ℕ, ◌+◌, ◌<◌, ◌≤◌, ◌⊎◌, List, [], ◌++◌, length, Option, Some, None, Result, Ok, Err}
+use Rattle.std.specs.Prelude.{◌≡◌, ℕ, suc, ◌+◌, ◌<◌, ◌≤◌, ◌⊎◌, List, [], ◌++◌, length, Option, Some, None, Result, Ok, Err}
 use Rattle.ciborium_ll.specs.declared.io.Read.{Ghosts as Reader}
 use Rattle.ciborium_ll.specs.declared.io.Write.{Ghosts as Writer}
 use Rattle.ciborium_ll.specs.declared.hdr.Header.{Header}
@@ -11,9 +11,9 @@ use Rattle.ciborium_ll.specs.declared.recode.RecodeError.TheVariants as r
 use Rattle.ciborium_ll.specs.Title.{shortest_title}
 use Rattle.ciborium_ll.specs.Strings.{Kind, Bytes, Text, kind_header}
 use Rattle.ciborium_ll.specs.Text.{IsCharacters}
-use Rattle.ciborium_ll.specs.Elements.{IsSound, Mark, spelling, IsRun}
-use Rattle.ciborium_ll.specs.Faults.{Place, Due, In, Body, Reaches, IsMisplaced, IsWritable, BeginsNoText, most_kept, with_front}
-use Rattle.ciborium_ll.specs.Decoding.{offset_limit, Passes, PullsHeader, PullsTitle, ReadFails, IsUntouched}
+use Rattle.ciborium_ll.specs.Elements.{Mark, spelling, IsRun}
+use Rattle.ciborium_ll.specs.Faults.{Place, Due, In, Body, Reaches, IsAtTitle, IsMisplaced, IsWritable, BeginsNoText, most_kept}
+use Rattle.ciborium_ll.specs.Decoding.{offset_limit, Begins, Passes, PullsHeader, PullsTitle, ReadFails, IsUntouched}
 use Rattle.ciborium_ll.specs.Encoding.{WritesAll, WritesFront}
 
 -- ---- one body
@@ -95,3 +95,115 @@ module _ {R E W F : Type 0} (source : Reader R E) (sink : Writer W F) (kind : Ki
   CopiesBody len room place old writer (Err (r.Read (e.Syntax at))) new writer' = (at ≡ place) × BodyDamaged len old writer new writer'
   CopiesBody len room place old writer (Err (r.Read e.Waiting)) new writer' = ⊥
   CopiesBody len room place old writer (Err (r.Write fault)) new writer' = BodyUnwritten len old writer new writer'
+
+-- ---- elements
+
+-- what is under way of a body where its copy stops: its title, and a beginning of what was read of it
+abbrev pub IsUnderWay : Place → List ℕ → List ℕ → Type 0
+IsUnderWay Due more read = (more ≡ []) × (read ≡ [])
+IsUnderWay (In kind) more read = (more ≡ []) × (read ≡ [])
+IsUnderWay (Body kind len start) more read =
+    (part : List ℕ) × (more ≡ shortest_title (kind_header kind (Some len)) ++ part) × Begins part read × (length part ≤ len)
+
+module _ {R E W F : Type 0} (source : Reader R E) (sink : Writer W F) where
+  -- the bytes were read, and the spelling of the marks was written
+  pub record Copied (old : Decoder R) (writer : W) (bytes : List ℕ) (marks : List Mark) (new : Decoder R) (writer' : W) : Type 0 where
+    pub passed : Passes source old bytes new
+    pub written : WritesAll sink writer (spelling marks) writer'
+
+  -- so many elements were copied
+  pub record CopiesRun (count : ℕ) (old : Decoder R) (writer : W) (new : Decoder R) (writer' : W) : Type 0 where
+    pub bytes : List ℕ
+    pub marks : List Mark
+    pub run : IsRun count bytes marks
+    pub copied : Copied old writer bytes marks new writer'
+
+  -- `pull` failed where a title is due
+  pub record StopsAtTitle (count : ℕ) (old : Decoder R) (writer : W) (error : Error E) (new : Decoder R) (writer' : W) : Type 0 where
+    pub bytes : List ℕ
+    pub marks : List Mark
+    pub place : Place
+    pub reaches : Reaches count bytes marks place
+    pub at_title : IsAtTitle place
+    pub between : Decoder R
+    pub copied : Copied old writer bytes marks between writer'
+    pub fails : PullsHeader source between (Err error) new
+
+  -- a title came that may not stand within its string
+  pub record StopsAtOther (count : ℕ) (old : Decoder R) (writer : W) (at : ℕ) (new : Decoder R) (writer' : W) : Type 0 where
+    pub bytes : List ℕ
+    pub marks : List Mark
+    pub kind : Kind
+    pub reaches : Reaches count bytes marks (In kind)
+    pub between : Decoder R
+    pub copied : Copied old writer bytes marks between writer'
+    pub header : Header
+    pub pulled : PullsTitle source between header new
+    pub misplaced : IsMisplaced kind header
+    pub at-start : at ≡ between.offset
+
+  -- there are more opens than can be counted, and as many bytes at least
+  pub record StopsTooDeep (count : ℕ) (old : Decoder R) (writer : W) (new : Decoder R) (writer' : W) : Type 0 where
+    pub bytes : List ℕ
+    pub marks : List Mark
+    pub kind : Kind
+    pub reaches : Reaches count bytes marks (In kind)
+    pub between : Decoder R
+    pub copied : Copied old writer bytes marks between writer'
+    pub pulled : PullsTitle source between (kind_header kind None) new
+    pub full : offset_limit ≤ new.offset + 1
+
+  -- a body stopped, behind its title
+  pub record StopsInBody (count room : ℕ) (old : Decoder R) (writer : W) (error : Error E) (new : Decoder R) (writer' : W) : Type 0 where
+    pub bytes : List ℕ
+    pub marks : List Mark
+    pub kind : Kind
+    pub len : ℕ
+    pub start : ℕ
+    pub reaches : Reaches count bytes marks (Body kind len start)
+    pub between : Decoder R
+    pub writer-titled : W
+    pub writer-between : W
+    pub copied : Copied old writer bytes marks between writer-between
+    pub titled : WritesAll sink writer-between (shortest_title (kind_header kind (Some len))) writer-titled
+    pub stopped : CopiesBody source sink kind len room (old.offset + start) between writer-titled (Err (r.Read error)) new writer'
+
+  -- the writer failed
+  pub record StopsWriting (count : ℕ) (old : Decoder R) (writer : W) (new : Decoder R) (writer' : W) : Type 0 where
+    pub bytes : List ℕ
+    pub marks : List Mark
+    pub more : List ℕ
+    pub read : List ℕ
+    pub passed : Passes source old (bytes ++ read) new
+    pub stopped : WritesFront sink writer (spelling marks ++ more) writer'
+    pub belongs : (IsRun count bytes marks × (more ≡ []) × (read ≡ [])) ⊎ ((place : Place) × Reaches count bytes marks place × IsUnderWay place more read)
+
+  -- the copy of elements, of which there are to be so many, through a buffer of so much room: an error
+  abbrev pub StopsCopy : ℕ → ℕ → Decoder R → W → RecodeError E F → Decoder R → W → Type 0
+  StopsCopy count room old writer (r.Read (e.Io fault)) new writer' = StopsAtTitle count old writer (e.Io fault) new writer' ⊎ StopsInBody count room old writer (e.Io fault) new writer'
+  StopsCopy count room old writer (r.Read (e.Syntax at)) new writer' =
+      StopsAtTitle count old writer (e.Syntax at) new writer' ⊎ (StopsAtOther count old writer at new writer' ⊎ StopsInBody count room old writer (e.Syntax at) new writer')
+  StopsCopy count room old writer (r.Read e.TooLong) new writer' =
+      StopsAtTitle count old writer e.TooLong new writer' ⊎ (StopsTooDeep count old writer new writer' ⊎ StopsInBody count room old writer e.TooLong new writer')
+  StopsCopy count room old writer (r.Read e.Waiting) new writer' = ⊥
+  StopsCopy count room old writer (r.Write fault) new writer' = StopsWriting count old writer new writer'
+
+  -- the copy of so many elements
+  abbrev pub CopiesElements : ℕ → ℕ → Decoder R → W → Result (Unit {0}) (RecodeError E F) → Decoder R → W → Type 0
+  CopiesElements count room old writer (Ok done) new writer' = CopiesRun count old writer new writer'
+  CopiesElements count room old writer (Err error) new writer' = StopsCopy count room old writer error new writer'
+
+  -- elements so far, of which there are to be so many, are copied on with one element more; or the copy stops
+  pub record ElementsSoFar (count : ℕ) (old : Decoder R) (writer : W) (now : Decoder R) (writer' : W) : Type 0 where
+    pub before : ℕ
+    pub bytes : List ℕ
+    pub marks : List Mark
+    pub due : before < count
+    pub run : IsRun before bytes marks
+    pub copied : Copied old writer bytes marks now writer'
+
+  pub record AddsElement (count : ℕ) (old : Decoder R) (writer : W) (before : ℕ) (new : Decoder R) (writer' : W) : Type 0 where
+    pub bytes : List ℕ
+    pub marks : List Mark
+    pub run : IsRun (suc before) bytes marks
+    pub copied : Copied old writer bytes marks new writer'
