@@ -75,6 +75,25 @@ waited_pull old between new bytes title header (Some h) e (inl same) nil waited 
 waited_pull old between new bytes title header (Some h) e (inr begins) nil waited =
     inr (begins.0 ++ title, ap (λ (z : List ℕ). z ++ title) begins.1 ∙ append_assoc (shortest_title h) begins.0 title)
 
+waiting_then : {R : Type 0} (old between new : Decoder R) (bytes more : List ℕ) → ((bytes ≡ []) × (between ≡ old)) ⊎ (between.waiting ≡ None)
+    → ((more ≡ []) × (new ≡ between)) ⊎ (new.waiting ≡ None) → ((bytes ++ more ≡ []) × (new ≡ old)) ⊎ (new.waiting ≡ None)
+waiting_then old between new bytes more first (inr none) = inr none
+waiting_then old between new bytes more (inl a) (inl b) = inl (rw (a.0, b.0) refl, b.1 ∙ a.1)
+waiting_then old between new bytes more (inr none) (inl b) = inr (ap (λ d. d.waiting) b.1 ∙ none)
+
+waited_then : {R : Type 0} (old between new : Decoder R) (bytes more : List ℕ) (waiting : Option Header) → old.waiting ≡ waiting
+    → IfSome waiting (λ h. (between ≡ old) ⊎ Begins (shortest_title h) bytes) → (between ≡ old → bytes ≡ [])
+    → IfSome between.waiting (λ h. (new ≡ between) ⊎ Begins (shortest_title h) more)
+    → IfSome waiting (λ h. (new ≡ old) ⊎ Begins (shortest_title h) (bytes ++ more))
+waited_then old between new bytes more None e first nil second = tt
+waited_then old between new bytes more (Some h) e (inr begins) nil second =
+    inr (begins.0 ++ more, ap (λ (z : List ℕ). z ++ more) begins.1 ∙ append_assoc (shortest_title h) begins.0 more)
+waited_then old between new bytes more (Some h) e (inl same) nil second =
+    elim (IfSome-at between.waiting h (λ g. (new ≡ between) ⊎ Begins (shortest_title g) more) (ap (λ d. d.waiting) same ∙ e) second) [
+      | inl still ↦ inl (still ∙ same)
+      | inr begins ↦ inr (begins.0, ap (λ (z : List ℕ). z ++ more) (nil same) ∙ begins.1)
+    ]
+
 module _ {R E : Type 0} (source : Ghosts R E) where
   -- no bytes
   pub Passes-none : (decoder : Decoder R) → Passes source decoder [] decoder
@@ -98,4 +117,16 @@ module _ {R E : Type 0} (source : Ghosts R E) where
         (λ same. length_zero bytes (let moved = ap (λ d. d.offset) same in omega (arith, moved, passed.offset))) title.waited;
     failures = cc (passed.failures, title.failures);
     steady = λ s. steady (passed.steady s);
+  }
+
+  -- bytes, and then bytes
+  pub Passes-then : (old between new : Decoder R) (bytes more : List ℕ) → Passes source old bytes between → Passes source between more new → Passes source old (bytes ++ more) new
+  Passes-then old between new bytes more first second = record {
+    consumed = Consumes-trans _ _ _ bytes more first.consumed second.consumed;
+    offset = omega (arith, first.offset, second.offset, length-append bytes more);
+    waiting = waiting_then old between new bytes more first.waiting second.waiting;
+    waited = waited_then old between new bytes more old.waiting refl first.waited
+    (λ same. length_zero bytes (let moved = ap (λ d. d.offset) same in omega (arith, moved, first.offset))) second.waited;
+    failures = cc (first.failures, second.failures);
+    steady = λ s. second.steady (first.steady s);
   }

@@ -1,5 +1,5 @@
 -- Elements copied from a decoder to a writer: what was read and written, over any reader and writer.
-use Rattle.std.specs.Prelude.{◌≡◌, ℕ, suc, ◌+◌, ◌<◌, ◌≤◌, ◌⊎◌, List, [], ◌++◌, length, Option, Some, None, Result, Ok, Err}
+use Rattle.std.specs.Prelude.{◌≡◌, ℕ, suc, ◌+◌, ◌<◌, ◌≤◌, ◌⊎◌, List, [], ◌∷◌, ◌++◌, length, Option, Some, None, Result, Ok, Err}
 use Rattle.ciborium_ll.specs.declared.io.Read.{Ghosts as Reader}
 use Rattle.ciborium_ll.specs.declared.io.Write.{Ghosts as Writer}
 use Rattle.ciborium_ll.specs.declared.hdr.Header.{Header}
@@ -8,13 +8,21 @@ use Rattle.ciborium_ll.specs.declared.dec.Error.{Error}
 use Rattle.ciborium_ll.specs.declared.dec.Error.TheVariants as e
 use Rattle.ciborium_ll.specs.declared.recode.RecodeError.{RecodeError}
 use Rattle.ciborium_ll.specs.declared.recode.RecodeError.TheVariants as r
-use Rattle.ciborium_ll.specs.Title.{shortest_title}
+use Rattle.ciborium_ll.specs.Title.{IsTitle, shortest_title}
 use Rattle.ciborium_ll.specs.Strings.{Kind, Bytes, Text, kind_header}
 use Rattle.ciborium_ll.specs.Text.{IsCharacters}
-use Rattle.ciborium_ll.specs.Elements.{Mark, spelling, IsRun}
+use Rattle.ciborium_ll.specs.Elements.{Mark, Open, pieces, open_marks, spelling, IsElement, IsRun}
 use Rattle.ciborium_ll.specs.Faults.{Place, Due, In, Body, Reaches, IsAtTitle, IsMisplaced, IsWritable, BeginsNoText, most_kept}
 use Rattle.ciborium_ll.specs.Decoding.{offset_limit, Begins, Passes, PullsHeader, PullsTitle, ReadFails, IsUntouched}
 use Rattle.ciborium_ll.specs.Encoding.{WritesAll, WritesFront}
+
+-- ---- one header
+
+module _ {E W F : Type 0} (sink : Writer W F) where
+  abbrev pub WritesHeader : W → Result (Unit {0}) (RecodeError E F) → Header → W → Type 0
+  WritesHeader writer (Ok done) header writer' = WritesAll sink writer (shortest_title header) writer'
+  WritesHeader writer (Err (r.Write fault)) header writer' = WritesFront sink writer (shortest_title header) writer'
+  WritesHeader writer (Err (r.Read error)) header writer' = ⊥
 
 -- ---- one body
 
@@ -193,17 +201,63 @@ module _ {R E W F : Type 0} (source : Reader R E) (sink : Writer W F) where
   CopiesElements count room old writer (Ok done) new writer' = CopiesRun count old writer new writer'
   CopiesElements count room old writer (Err error) new writer' = StopsCopy count room old writer error new writer'
 
-  -- elements so far, of which there are to be so many, are copied on with one element more; or the copy stops
-  pub record ElementsSoFar (count : ℕ) (old : Decoder R) (writer : W) (now : Decoder R) (writer' : W) : Type 0 where
-    pub before : ℕ
+  -- ---- the parts of the copy: each goes on from any copy that came so far
+
+  -- so many elements were copied and one is due; of that the bytes of a title were read
+  pub record IsBehind (count before : ℕ) (title : List ℕ) (old : Decoder R) (writer : W) (now : Decoder R) (writer' : W) : Type 0 where
     pub bytes : List ℕ
     pub marks : List Mark
     pub due : before < count
     pub run : IsRun before bytes marks
-    pub copied : Copied old writer bytes marks now writer'
+    pub passed : Passes source old (bytes ++ title) now
+    pub written : WritesAll sink writer (spelling marks) writer'
 
-  pub record AddsElement (count : ℕ) (old : Decoder R) (writer : W) (before : ℕ) (new : Decoder R) (writer' : W) : Type 0 where
+  -- one element more
+  pub record AddsElement (before : ℕ) (old : Decoder R) (writer : W) (new : Decoder R) (writer' : W) : Type 0 where
     pub bytes : List ℕ
     pub marks : List Mark
     pub run : IsRun (suc before) bytes marks
     pub copied : Copied old writer bytes marks new writer'
+
+  abbrev pub GoesOn : ℕ → ℕ → ℕ → Decoder R → W → Result (Unit {0}) (RecodeError E F) → Decoder R → W → Type 0
+  GoesOn count before room old writer (Ok done) new writer' = AddsElement before old writer new writer'
+  GoesOn count before room old writer (Err error) new writer' = StopsCopy count room old writer error new writer'
+
+  -- the copy of an element
+  abbrev pub CopiesElement : ℕ → Decoder R → W → Result (Unit {0}) (RecodeError E F) → Decoder R → W → Type 0
+  CopiesElement room now writer-now result new writer' = (count before : ℕ) (old : Decoder R) (writer : W)
+      → IsBehind count before [] old writer now writer-now → GoesOn count before room old writer result new writer'
+
+  -- the copy of an element behind its title
+  abbrev pub CopiesBehind : Header → ℕ → Decoder R → W → Result (Unit {0}) (RecodeError E F) → Decoder R → W → Type 0
+  CopiesBehind header room now writer-now result new writer' = (count before : ℕ) (old : Decoder R) (writer : W) (title : List ℕ) → IsTitle title header
+      → IsBehind count before title old writer now writer-now → GoesOn count before room old writer result new writer'
+
+  -- the segments of a string of indefinite length and its break were read, and the open and the pieces written
+  pub record ReadsString (before : ℕ) (kind : Kind) (old : Decoder R) (writer : W) (new : Decoder R) (writer' : W) : Type 0 where
+    pub bytes : List ℕ
+    pub marks : List Mark
+    pub run : IsRun before bytes marks
+    pub element : List ℕ
+    pub bodies : List (List ℕ)
+    pub is_element : IsElement element (open_marks kind bodies)
+    pub passed : Passes source old (bytes ++ element) new
+    pub written : WritesAll sink writer (spelling (marks ++ Open kind ∷ pieces kind bodies)) writer'
+
+  abbrev pub GoesOnWithin : ℕ → ℕ → Kind → ℕ → Decoder R → W → Result (Unit {0}) (RecodeError E F) → Decoder R → W → Type 0
+  GoesOnWithin count before kind room old writer (Ok done) new writer' = ReadsString before kind old writer new writer'
+  GoesOnWithin count before kind room old writer (Err error) new writer' = StopsCopy count room old writer error new writer'
+
+  -- so many elements were copied, and the open of a string was read and written
+  pub record IsWithin (count before : ℕ) (kind : Kind) (old : Decoder R) (writer : W) (now : Decoder R) (writer' : W) : Type 0 where
+    pub bytes : List ℕ
+    pub marks : List Mark
+    pub due : before < count
+    pub run : IsRun before bytes marks
+    pub passed : Passes source old (bytes ++ shortest_title (kind_header kind None)) now
+    pub written : WritesAll sink writer (spelling (marks ++ Open kind ∷ [])) writer'
+
+  -- the copy of the segments of a string behind its open
+  abbrev pub CopiesSegments : Kind → ℕ → Decoder R → W → Result (Unit {0}) (RecodeError E F) → Decoder R → W → Type 0
+  CopiesSegments kind room now writer-now result new writer' = (count before : ℕ) (old : Decoder R) (writer : W)
+      → IsWithin count before kind old writer now writer-now → GoesOnWithin count before kind room old writer result new writer'

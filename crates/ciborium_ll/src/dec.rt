@@ -6,7 +6,7 @@ ghost use Rattle.ciborium_ll.specs.Title.{waiting_len};
 
 use crate::hdr::{Header, Minor, Title};
 use crate::io::{Failures, Read};
-use crate::seg::{Bytes, Segments, Text};
+use crate::seg::{Bytes, Parser, Segments, Text};
 
 /// Why a decoder failed.
 #[derive(Debug, Drop)]
@@ -58,6 +58,7 @@ impl<R: Read> Decoder<R> {
     ghost use Rattle.std.specs.Prelude.{◌<◌, ◌^◌, IsTrue, ◌↔◌, None, IsErrOf};
     ghost use Rattle.ciborium_ll.specs.declared.seg.Progress.TheVariants.{Open};
     ghost use Rattle.ciborium_ll.specs.Title.{title_len};
+    ghost use Rattle.ciborium_ll.specs.Strings.{kind_header};
     ghost use Rattle.ciborium_ll.specs.Decoding.{IsFresh, IsSteady, IsWaiting, PullsHeader, ReadsBytes, ReadsMinor, TakesBack, offset_of, reader_of, refusals_of, waiting_of};
 
     /// A decoder that counts from this offset, in bytes.
@@ -148,8 +149,7 @@ impl<R: Read> Decoder<R> {
         ensures back { TakesBack R.Read self.old (Header.Bytes len) result.reader.now }
         ensures fresh { result.progress ≡ Open 0 }
     {
-        self.push(Header::Bytes(len));
-        Segments::new(self)
+        self.string(len)
     }
 
     /// The segments of a text string, behind its header with this length, which was just pulled.
@@ -163,7 +163,18 @@ impl<R: Read> Decoder<R> {
         ensures back { TakesBack R.Read self.old (Header.Text len) result.reader.now }
         ensures fresh { result.progress ≡ Open 0 }
     {
-        self.push(Header::Text(len));
+        self.string(len)
+    }
+
+    /// The segments of a string of either kind, behind its header.
+    pub(crate) fn string<P: Parser>(&mut self, len: Option<usize>) -> Segments<'_, R, P>
+        requires none_waits { waiting_of self.old ≡ None }
+        requires covered { title_len (kind_header P.kind len) ≤ offset_of self.old }
+        ensures same_reference { result.reader.ghost_name ≡ self.entry.ghost_name }
+        ensures back { TakesBack R.Read self.old (kind_header P.kind len) result.reader.now }
+        ensures fresh { result.progress ≡ Open 0 }
+    {
+        self.push(P::header(len));
         Segments::new(self)
     }
 

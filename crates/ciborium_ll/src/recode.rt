@@ -1,18 +1,21 @@
 //! Elements copied from a decoder to an encoder, each in its shortest spelling.
 
-ghost use Rattle.std.specs.Prelude.{◌≡◌, ◌≤◌, length, OnOk};
-ghost use Rattle.ciborium_ll.specs.Decoding.{IsSteady};
+ghost use Rattle.std.specs.Prelude.{◌≡◌, ◌≤◌, length, None, Some};
+ghost use Rattle.ciborium_ll.specs.Title.{title_len};
+ghost use Rattle.ciborium_ll.specs.Strings.{kind_header};
+ghost use Rattle.ciborium_ll.specs.Decoding.{IsSteady, offset_of, waiting_of};
 ghost use Rattle.ciborium_ll.specs.Encoding.{writer_of};
 ghost use Rattle.ciborium_ll.specs.Chunks.{IsWhole};
-ghost use Rattle.ciborium_ll.specs.Recoding.{CopiesBody};
+ghost use Rattle.ciborium_ll.specs.Recoding.{CopiesBehind, CopiesBody, CopiesElement, CopiesElements, CopiesSegments, WritesHeader};
 
 mod chunked;
 
 use self::chunked::Chunked;
-use crate::dec::Error;
+use crate::dec::{Decoder, Error};
 use crate::enc::Encoder;
 use crate::io::{Read, Write};
-use crate::seg::{Body, Segment};
+use crate::hdr::Header;
+use crate::seg::{Body, Bytes, Segment, Text};
 
 /// Why a copy stopped.
 #[derive(Debug, Drop)]
@@ -47,4 +50,126 @@ fn copy_body<R: Read, W: Write, P: Chunked>(
             return Err(RecodeError::Write(fault));
         }
     }
+}
+
+/// Writes a header.
+fn write_header<E, W: Write>(encoder: &mut Encoder<W>, header: Header) -> Result<(), RecodeError<E, W::Error>>
+    ensures { WritesHeader W.Write (writer_of encoder.old) result header (writer_of encoder.new) }
+{
+    match encoder.push(header) {
+        Ok(()) => Ok(()),
+        Err(fault) => Err(RecodeError::Write(fault)),
+    }
+}
+
+/// Copies a string of a definite length, behind its header.
+fn copy_definite<R: Read, W: Write, P: Chunked>(
+    decoder: &mut Decoder<R>,
+    encoder: &mut Encoder<W>,
+    len: usize,
+    buffer: &mut [u8],
+) -> Result<(), RecodeError<R::Error, W::Error>>
+    requires room { 4 ≤ length buffer.old }
+    requires none_waits { waiting_of decoder.old ≡ None }
+    requires covered { title_len (kind_header P.kind (Some len)) ≤ offset_of decoder.old }
+    ensures copied { CopiesBehind R.Read W.Write (kind_header P.kind (Some len)) (length buffer.old)
+        decoder.old (writer_of encoder.old) result decoder.new (writer_of encoder.new) }
+    ensures steady { IsSteady R.Read decoder.old → IsSteady R.Read decoder.new }
+{
+    write_header::<R::Error, W>(encoder, P::header(Some(len)))?;
+    let mut segments = decoder.string::<P>(Some(len));
+    match segments.advance() {
+        Ok(Some(body)) => {
+            let mut segment = Segment::<R, P>::new(&mut *segments.reader, body);
+            copy_body(&mut segment, encoder, body, buffer)
+        }
+        Ok(None) => unreachable!(),
+        Err(error) => Err(RecodeError::Read(error)),
+    }
+}
+
+/// Copies a string of indefinite length, behind its open.
+fn copy_indefinite<R: Read, W: Write, P: Chunked>(
+    decoder: &mut Decoder<R>,
+    encoder: &mut Encoder<W>,
+    buffer: &mut [u8],
+) -> Result<(), RecodeError<R::Error, W::Error>>
+    requires room { 4 ≤ length buffer.old }
+    requires none_waits { waiting_of decoder.old ≡ None }
+    requires covered { title_len (kind_header P.kind None) ≤ offset_of decoder.old }
+    ensures copied { CopiesBehind R.Read W.Write (kind_header P.kind None) (length buffer.old)
+        decoder.old (writer_of encoder.old) result decoder.new (writer_of encoder.new) }
+    ensures steady { IsSteady R.Read decoder.old → IsSteady R.Read decoder.new }
+{
+    write_header::<R::Error, W>(encoder, P::header(None))?;
+    copy_segments::<R, W, P>(decoder, encoder, buffer)?;
+    write_header(encoder, Header::Break)
+}
+
+/// Copies the segments of a string of indefinite length, up to its last break.
+fn copy_segments<R: Read, W: Write, P: Chunked>(
+    decoder: &mut Decoder<R>,
+    encoder: &mut Encoder<W>,
+    buffer: &mut [u8],
+) -> Result<(), RecodeError<R::Error, W::Error>>
+    requires room { 4 ≤ length buffer.old }
+    requires none_waits { waiting_of decoder.old ≡ None }
+    requires covered { title_len (kind_header P.kind None) ≤ offset_of decoder.old }
+    ensures copied { CopiesSegments R.Read W.Write P.kind (length buffer.old)
+        decoder.old (writer_of encoder.old) result decoder.new (writer_of encoder.new) }
+    ensures steady { IsSteady R.Read decoder.old → IsSteady R.Read decoder.new }
+{
+    let mut segments = decoder.string::<P>(None);
+    'segments: loop {
+        let body = match segments.advance() {
+            Ok(Some(body)) => body,
+            Ok(None) => return Ok(()),
+            Err(error) => return Err(RecodeError::Read(error)),
+        };
+        write_header::<R::Error, W>(encoder, P::header(Some(body.length)))?;
+        let mut segment = Segment::<R, P>::new(&mut *segments.reader, body);
+        copy_body(&mut segment, encoder, body, buffer)?;
+    }
+}
+
+/// Copies one element.
+fn copy_element<R: Read, W: Write>(
+    decoder: &mut Decoder<R>,
+    encoder: &mut Encoder<W>,
+    buffer: &mut [u8],
+) -> Result<(), RecodeError<R::Error, W::Error>>
+    requires room { 4 ≤ length buffer.old }
+    ensures copied { CopiesElement R.Read W.Write (length buffer.old)
+        decoder.old (writer_of encoder.old) result decoder.new (writer_of encoder.new) }
+    ensures steady { IsSteady R.Read decoder.old → IsSteady R.Read decoder.new }
+{
+    let header = match decoder.pull() {
+        Ok(header) => header,
+        Err(error) => return Err(RecodeError::Read(error)),
+    };
+    match header {
+        Header::Bytes(Some(length)) => copy_definite::<R, W, Bytes>(decoder, encoder, length, buffer),
+        Header::Bytes(None) => copy_indefinite::<R, W, Bytes>(decoder, encoder, buffer),
+        Header::Text(Some(length)) => copy_definite::<R, W, Text>(decoder, encoder, length, buffer),
+        Header::Text(None) => copy_indefinite::<R, W, Text>(decoder, encoder, buffer),
+        _ => write_header(encoder, header),
+    }
+}
+
+/// Copies `count` elements.
+pub fn recode<R: Read, W: Write>(
+    decoder: &mut Decoder<R>,
+    encoder: &mut Encoder<W>,
+    count: usize,
+    buffer: &mut [u8],
+) -> Result<(), RecodeError<R::Error, W::Error>>
+    requires room { 4 ≤ length buffer.old }
+    ensures copied { CopiesElements R.Read W.Write count (length buffer.old)
+        decoder.old (writer_of encoder.old) result decoder.new (writer_of encoder.new) }
+    ensures steady { IsSteady R.Read decoder.old → IsSteady R.Read decoder.new }
+{
+    'elements: for _copied in 0..count {
+        copy_element(decoder, encoder, buffer)?;
+    }
+    Ok(())
 }

@@ -92,7 +92,7 @@ pub(crate) enum Progress {
 /// The segments of a string: its one body, or the bodies between an open and its break, to any depth.
 #[derive(Drop)]
 pub struct Segments<'r, R, P: Parser> {
-    reader: &'r mut Decoder<R>,
+    pub(crate) reader: &'r mut Decoder<R>,
     progress: Progress,
     parser: PhantomData<P>,
 }
