@@ -17,6 +17,7 @@ pub mod OneFault
 pub mod NestLaws
 pub mod PartsLaws
 pub mod PieceLaws
+pub mod RecodeLaws
 pub mod RefusedBytes
 pub mod StepLaws
 pub mod StringLaws

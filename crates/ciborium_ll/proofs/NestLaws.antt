@@ -1,5 +1,6 @@
 -- Opens and breaks in a row, and the first title of a string.
-use Rattle.std.proofs.Common.{◌≡◌, ℕ, suc, ◌+◌, ◌<◌, ◌⊎◌, List, [], ◌∷◌, ◌++◌, length, Option, Some, None, IfSome, IsTrue, Result, Ok, Err, refl, sym, ap, subst, ◌∙◌, inl, inr, arith, append_assoc, append-nil, length-append}
+use Rattle.std.specs.Prelude.{is_none}
+use Rattle.std.proofs.Common.{◌≡◌, ℕ, suc, ◌+◌, ◌^◌, ◌<◌, Bool, true, false, ◌⊎◌, List, [], ◌∷◌, ◌++◌, length, Option, Some, None, IfSome, IsTrue, Result, Ok, Err, refl, sym, ap, subst, ◌∙◌, inl, inr, arith, append_assoc, append-nil, length-append}
 use Rattle.std.specs.Io.KnownBytes.{Consumes, prepend_known}
 use Rattle.ciborium_ll.specs.declared.io.Read.{Ghosts}
 use Rattle.ciborium_ll.specs.declared.hdr.Header.{Header}
@@ -16,45 +17,57 @@ use Rattle.ciborium_ll.specs.Steps.{IsInsideAt}
 use Rattle.ciborium_ll.specs.Decoding.{Begins, view, Passes, PullsTitle, TakesBack}
 use Rattle.ciborium_ll.specs.Segments.{Nests, in_place, deeper, back, IsMisplacedAt, EndsAdvance, AdvancesFrom}
 use Rattle.ciborium_ll.proofs.Lists.{same_front}
-use Rattle.ciborium_ll.proofs.TitleLaws.{one_title, IsTitle-shortest, title_in_range}
+use Rattle.ciborium_ll.proofs.TitleLaws.{one_title, shortest_or_longer, IsTitle-shortest, title_in_range}
 use Rattle.ciborium_ll.proofs.AffixLaws.{announced}
 use Rattle.ciborium_ll.proofs.StepLaws.{add_open, close_inner}
 use Rattle.ciborium_ll.proofs.DecodingLaws.{IfSome-at}
 
--- ---- the title of a break
+-- ---- titles of one byte
 
-no_number_is_break : (m : Major) (s : Size) (n : ℕ) → numbered_header m s n ≡ h.Break → ⊥
-no_number_is_break Unsigned s n e = cc
-no_number_is_break Negative s n e = cc
-no_number_is_break ByteString s n e = cc
-no_number_is_break TextString s n e = cc
-no_number_is_break Array s n e = cc
-no_number_is_break Map s n e = cc
-no_number_is_break Tag s n e = cc
-no_number_is_break Other Small n e = cc
-no_number_is_break Other One n e = cc
-no_number_is_break Other Two n e = cc
-no_number_is_break Other Four n e = cc
-no_number_is_break Other Eight n e = cc
+-- a header that minor 31 means
+abbrev pub is_alone : Header → Bool
+is_alone (h.Positive n) = false
+is_alone (h.Negative n) = false
+is_alone (h.Float float) = false
+is_alone (h.Simple n) = false
+is_alone (h.Tag n) = false
+is_alone h.Break = true
+is_alone (h.Bytes len) = is_none len
+is_alone (h.Text len) = is_none len
+is_alone (h.Array len) = is_none len
+is_alone (h.Map len) = is_none len
 
-open_is_break : (m : Major) (x : Header) → open_header m ≡ Some x → x ≡ h.Break → m ≡ Other
-open_is_break Unsigned x o e = cc
-open_is_break Negative x o e = cc
-open_is_break ByteString x o e = cc
-open_is_break TextString x o e = cc
-open_is_break Array x o e = cc
-open_is_break Map x o e = cc
-open_is_break Tag x o e = cc
-open_is_break Other x o e = refl
-
--- a break has one title
-pub break_bytes : (w : List ℕ) (x : Header) → IsTitle w x → x ≡ h.Break → w ≡ 0xff ∷ []
-break_bytes w x (numbered m s n p) e = absurd (no_number_is_break m s n e)
-break_bytes w x (alone m y o) e = rw (open_is_break m y o e) refl
+not_alone : (m : Major) (s : Size) (n : ℕ) → is_alone (numbered_header m s n) ≡ false
+not_alone Unsigned s n = refl
+not_alone Negative s n = refl
+not_alone ByteString s n = refl
+not_alone TextString s n = refl
+not_alone Array s n = refl
+not_alone Map s n = refl
+not_alone Tag s n = refl
+not_alone Other Small n = refl
+not_alone Other One n = refl
+not_alone Other Two n = refl
+not_alone Other Four n = refl
+not_alone Other Eight n = refl
 
 -- a title has a byte
 pub title_some : (w : List ℕ) (x : Header) → IsTitle w x → 0 < length w
 title_some w x t = let a = announced w x t in let l = ap length a.is in omega (arith, l)
+
+-- a header that minor 31 means has one title
+pub alone_bytes : (w : List ℕ) (x : Header) → IsTitle w x → is_alone x ≡ true → w ≡ shortest_title x
+alone_bytes w x (numbered m s n p) e = absurd (let f = not_alone m s n in cc)
+alone_bytes w x (alone m y o) e =
+    let one : IsTitle w x = alone m y o in
+    elim (shortest_or_longer x w one) [
+      | inl same ↦ same
+      | inr less ↦ absurd (omega (arith, less, title_some (shortest_title x) x (IsTitle-shortest x (title_in_range w x one))))
+    ]
+
+pub open_alone : (k : Kind) → is_alone (kind_header k None) ≡ true
+open_alone Bytes = refl
+open_alone Text = refl
 
 -- ---- within a string
 
@@ -64,7 +77,7 @@ nest_inside k opens left u nest bs i in_place = subst (λ (z : List ℕ). IsInsi
 nest_inside k opens left u nest bs i (deeper {bytes = x} {title = t} n p) =
     subst (λ (z : List ℕ). IsInsideAt k left z bs) (append_assoc u x t) (add_open k _ (u ++ x) t bs (nest_inside k opens _ u x bs i n) p)
 nest_inside k opens left u nest bs i (back {bytes = x} {title = t} n p) =
-    let same = break_bytes t h.Break p refl in
+    let same = alone_bytes t h.Break p refl in
     subst (λ (z : List ℕ). IsInsideAt k left z bs) (ap (λ (z : List ℕ). (u ++ x) ++ z) (sym same) ∙ append_assoc u x t)
     (close_inner k _ (u ++ x) bs (nest_inside k opens _ u x bs i n))
 
@@ -283,3 +296,8 @@ module _ {R E : Type 0} (source : Ghosts R E) (k : Kind) where
             }
             )
       ]
+
+-- a length that is a number of its type is one of a header
+pub len_in_range : (k : Kind) (len : ℕ) → len < 2 ^ 64 → IsInRange (kind_header k (Some len))
+len_in_range Bytes len l = l
+len_in_range Text len l = l
