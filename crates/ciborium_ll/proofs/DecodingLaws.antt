@@ -107,17 +107,22 @@ module _ {R E : Type 0} (source : Ghosts R E) where
   }
 
   -- one title more
-  pub Passes-pull : (old between new : Decoder R) (bytes : List ℕ) (header : Header) (title : PullsTitle source between header new) → Passes source old bytes between
-      → (IsSteady source between → IsSteady source new) → Passes source old (bytes ++ title.title) new
-  Passes-pull old between new bytes header title passed steady = record {
+  pub Passes-pulled : (old between new : Decoder R) (bytes : List ℕ) (header : Header) (title : PullsTitle source between header new) → Passes source old bytes between
+      → (IsSteady source old → IsSteady source new) → Passes source old (bytes ++ title.title) new
+  Passes-pulled old between new bytes header title passed steady = record {
     consumed = Consumes-trans _ _ _ bytes title.title passed.consumed title.bytes;
     offset = omega (arith, passed.offset, title.offset, length-append bytes title.title);
     waiting = inr title.none_waits;
     waited = waited_pull old between new bytes title.title header old.waiting refl passed.waited
         (λ same. length_zero bytes (let moved = ap (λ d. d.offset) same in omega (arith, moved, passed.offset))) title.waited;
     failures = cc (passed.failures, title.failures);
-    steady = λ s. steady (passed.steady s);
+    steady = steady;
   }
+
+  pub Passes-pull : (old between new : Decoder R) (bytes : List ℕ) (header : Header) (title : PullsTitle source between header new) → Passes source old bytes between
+      → (IsSteady source between → IsSteady source new) → Passes source old (bytes ++ title.title) new
+  Passes-pull old between new bytes header title passed steady =
+      Passes-pulled old between new bytes header title passed (λ s. steady (passed.steady s))
 
   -- bytes, and then bytes
   pub Passes-then : (old between new : Decoder R) (bytes more : List ℕ) → Passes source old bytes between → Passes source between more new → Passes source old (bytes ++ more) new

@@ -3,6 +3,7 @@ pub mod AffixLaws
 pub mod Complete
 pub mod BodyLaws
 pub mod ChunkLaws
+pub mod CopyLaws
 pub mod CopyingLaws
 pub mod CopyingTold
 pub mod CutLaws
@@ -19,6 +20,7 @@ pub mod PartsLaws
 pub mod PieceLaws
 pub mod RecodeLaws
 pub mod RefusedBytes
+pub mod SegmentLaws
 pub mod StepLaws
 pub mod StringLaws
 pub mod TextLaws

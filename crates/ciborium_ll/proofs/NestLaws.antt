@@ -134,7 +134,7 @@ well_placed Text length (inl at) = let f = at.1 in cc
 well_placed Text length (inr m) = m
 
 -- an open has no number
-open_in_range : (k : Kind) → IsInRange (kind_header k None)
+pub open_in_range : (k : Kind) → IsInRange (kind_header k None)
 open_in_range Bytes = tt
 open_in_range Text = tt
 

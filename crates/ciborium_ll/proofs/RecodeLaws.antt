@@ -32,7 +32,7 @@ run_belongs count j bytes marks run within =
     ]
 
 -- a body that is written is sound by itself
-sound_body : (k : Kind) (b : List ℕ) → IsWritable k b → IsSound k (b ∷ [])
+pub sound_body : (k : Kind) (b : List ℕ) → IsWritable k b → IsSound k (b ∷ [])
 sound_body Bytes b w = tt
 sound_body Text b w = (w, tt)
 
@@ -43,7 +43,7 @@ waited_same old now now' bytes (Some h) e none (inl same) = absurd (let waits : 
 waited_same old now now' bytes (Some h) e none (inr begins) = inr begins
 
 module _ {R E W F : Type 0} (source : Reader R E) (sink : Writer W F) where
-  writes_then : (writer between writer' : W) (xs ys : List ℕ) → WritesAll sink writer xs between → WritesAll sink between ys writer' → WritesAll sink writer (xs ++ ys) writer'
+  pub writes_then : (writer between writer' : W) (xs ys : List ℕ) → WritesAll sink writer xs between → WritesAll sink between ys writer' → WritesAll sink writer (xs ++ ys) writer'
   writes_then writer between writer' xs ys first second = WritesBytes-then sink {T = Unit {0}} writer between writer' (Ok (tt {0})) xs ys first second
 
   stops_then : (writer between writer' : W) (fault : F) (xs ys : List ℕ) → WritesAll sink writer xs between → WritesFront sink between ys writer' → WritesFront sink writer (xs ++ ys) writer'

@@ -36,7 +36,7 @@ add_open k j u t bs i p =
     (subst (λ (z : List ℕ). IsInsideAt k (suc j) (u ++ z) (bs ++ [])) (append-nil t) (more_open i p none))
 
 -- some open is not closed
-never : (k : Kind) (u : List ℕ) (bs : List (List ℕ)) → IsInsideAt k zero u bs → ⊥
+pub never : (k : Kind) (u : List ℕ) (bs : List (List ℕ)) → IsInsideAt k zero u bs → ⊥
 never k u bs i = elim i [ ]
 
 -- a break within further opens
