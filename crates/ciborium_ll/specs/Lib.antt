@@ -10,6 +10,7 @@ pub mod Kept
 pub mod Lend
 pub mod Parts
 pub mod Segments
+pub mod Slices
 pub mod Steps
 pub mod Strings
 pub mod Text
