@@ -11,6 +11,7 @@ pub mod Lend
 pub mod Parts
 pub mod Recoding
 pub mod Segments
+pub mod Slices
 pub mod Steps
 pub mod Streams
 pub mod Strings

@@ -1,8 +1,6 @@
 //! A reader and a writer over slices.
 
-ghost use Rattle.std.specs.Prelude.{true, IsTrue, IfSome, ◌≡◌, ◌≤◌, ◌<◌, ◌-◌, ◌+◌, ◌↔◌, [], Some, length, take, refl, OnOk, OnErr, IsOk};
-ghost use Rattle.std.specs.Io.KnownBytes.{Appends, Consumes};
-ghost use Rattle.ciborium_ll.specs.Transfer.{Shrinks, AppendsFront};
+ghost use Rattle.std.specs.Prelude.{true, ◌≡◌, ◌≤◌, [], Some, length, refl};
 
 use super::failures::Failures;
 use super::{Read, Write};
@@ -105,15 +103,33 @@ impl<'a> SliceWriter<'a> {
 }
 
 impl<'a> Write for SliceWriter<'a> {
+    ghost use Rattle.std.specs.Prelude.{◌≡◌, ◌+◌, ◌<◌, IsSome, IfSome, OnOk, OnErr, IsOk, length};
+    ghost use Rattle.std.specs.Io.KnownBytes.{Appends};
+    ghost use Rattle.ciborium_ll.specs.Transfer.{Shrinks, AppendsFront};
+    ghost use Rattle.ciborium_ll.specs.Slices.{written_of, room_of, failures_of};
+
     type Error = OutOfSpace;
 
-    ghost written = { λ w. Some (take w.filled w.buffer.now) };
+    ghost written = { λ w. written_of w };
 
-    ghost room = { λ w. Some (length w.buffer.now - w.filled) };
+    ghost room = { λ w. room_of w };
 
-    ghost failures = { λ w. w.failures.count };
+    ghost failures = { λ w. failures_of w };
 
-    fn write_all(&mut self, data: &[u8]) -> Result<(), OutOfSpace> {
+    /// Appends the whole of `data`, or nothing where the room is smaller.
+    fn write_all(&mut self, data: &[u8]) -> Result<(), OutOfSpace>
+        // The trait's.
+        ensures bytes { OnOk result (Appends (written_of self.old) (written_of self.new) «data».now) }
+        ensures fills { OnOk result (Shrinks (room_of self.old) (room_of self.new) (length «data».now)) }
+        ensures ok { OnOk result (failures_of self.new ≡ failures_of self.old) }
+        ensures front { OnErr result (AppendsFront (written_of self.old) (written_of self.new) (room_of self.old)
+            (room_of self.new) «data».now) }
+        ensures full { OnErr result (IfSome (room_of self.old) (λ n. n < length «data».now)) }
+        ensures err { OnErr result (failures_of self.new ≡ failures_of self.old + 1) }
+
+        // The slice's own.
+        ensures nothing { OnErr result (written_of self.new ≡ written_of self.old) }
+    {
         if self.room() < data.len() {
             self.failures.raise();
             return Err(OutOfSpace);
@@ -124,7 +140,18 @@ impl<'a> Write for SliceWriter<'a> {
         Ok(())
     }
 
-    fn flush(&mut self) -> Result<(), OutOfSpace> {
+    /// Does nothing, and never fails.
+    fn flush(&mut self) -> Result<(), OutOfSpace>
+        // The trait's.
+        ensures bytes { IsSome (room_of self.old) → written_of self.new ≡ written_of self.old }
+        ensures room { IsSome (room_of self.old) → room_of self.new ≡ room_of self.old }
+        ensures ok { OnOk result (failures_of self.new ≡ failures_of self.old) }
+        ensures err { OnErr result (failures_of self.new ≡ failures_of self.old + 1) }
+
+        // The slice's own.
+        ensures done { IsOk result }
+    {
+        // Nothing was kept back.
         Ok(())
     }
 }

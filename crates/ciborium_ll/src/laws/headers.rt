@@ -1,7 +1,7 @@
 //! Laws of headers, and of a header that is given back.
 
 ghost use Rattle.std.specs.Prelude.{◌≡◌, ◌↔◌, IsTrue};
-ghost use Rattle.ciborium_ll.specs.Decoding.{PullsAgain};
+ghost use Rattle.ciborium_ll.specs.Decoding.{IsSteady, PullsAgain, refusals_of};
 
 use crate::dec::{Decoder, Error};
 use crate::hdr::{Float, Header};
@@ -40,7 +40,9 @@ pub fn copied_float(float: &Float) -> Float
 ///
 /// The errors are those of the first `pull`, and the second one never fails.
 pub fn pull_again<R: Read>(decoder: &mut Decoder<R>) -> Result<Header, Error<R::Error>>
-    ensures { PullsAgain R.Read decoder.old result decoder.new }
+    ensures again { PullsAgain R.Read decoder.old result decoder.new }
+    ensures steady { IsSteady R.Read decoder.old → IsSteady R.Read decoder.new }
+    ensures refusals { refusals_of decoder.new ≡ refusals_of decoder.old }
 {
     let header = decoder.pull()?;
     decoder.push(header);

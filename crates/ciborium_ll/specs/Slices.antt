@@ -1,0 +1,12 @@
+-- What a writer over a slice tells.
+use Rattle.std.specs.Prelude.{ℕ, List, Option, Some, length, take, ◌-◌}
+use Rattle.ciborium_ll.specs.declared.io.slices.SliceWriter.{SliceWriter}
+
+abbrev pub written_of : SliceWriter → Option (List ℕ)
+written_of w = Some (take w.filled w.buffer.now)
+
+abbrev pub room_of : SliceWriter → Option ℕ
+room_of w = Some (length w.buffer.now - w.filled)
+
+abbrev pub failures_of : SliceWriter → ℕ
+failures_of w = w.failures.count
