@@ -11,7 +11,7 @@ use Rattle.ciborium_ll.specs.declared.recode.RecodeError.{RecodeError}
 use Rattle.ciborium_ll.specs.declared.recode.RecodeError.TheVariants as r
 use Rattle.ciborium_ll.specs.Title.{IsTitle, shortest_title, title_len}
 use Rattle.ciborium_ll.specs.Strings.{Kind, Bytes, Text, kind_header, none}
-use Rattle.ciborium_ll.specs.Elements.{IsSound, IsPlain, Mark, Plain, Open, Close, spelling, pieces, open_marks, plain, IsRun}
+use Rattle.ciborium_ll.specs.Elements.{IsSound, IsPlain, Mark, Plain, Open, Close, spelling, pieces, open_marks, plain, IsRun, done}
 use Rattle.ciborium_ll.specs.Faults.{Due, In, Reaches, due, inside, opened}
 use Rattle.ciborium_ll.specs.Decoding.{Passes, IsSteady, PullsHeader, PullsTitle}
 use Rattle.ciborium_ll.specs.Encoding.{WritesAll, WritesFront}
@@ -21,7 +21,7 @@ use Rattle.ciborium_ll.proofs.StepLaws.{add_element}
 use Rattle.ciborium_ll.proofs.DecodingLaws.{Passes-none, Passes-pull}
 use Rattle.ciborium_ll.proofs.CopyingLaws.{Copies-none}
 use Rattle.ciborium_ll.proofs.NestLaws.{alone_bytes, open_alone}
-use Rattle.ciborium_ll.proofs.RecodeLaws.{run_belongs, marks_then, mark_unwritten, element_unwritten, header_error}
+use Rattle.ciborium_ll.proofs.RecodeLaws.{marks_then, mark_unwritten, element_unwritten, header_error}
 use Rattle.ciborium_ll.proofs.SegmentLaws.{sound_none}
 
 module _ {R E W F : Type 0} (source : Reader R E) (sink : Writer W F) where
@@ -88,7 +88,7 @@ module _ {R E W F : Type 0} (source : Reader R E) (sink : Writer W F) where
 
     pub plain_goes_on : (room : ℕ) (header : Header) (title : List ℕ) (result : Result (Unit {0}) (RecodeError E F)) (new : W) → IsPlain header → IsTitle title header
         → IsBehind source sink count before title old writer now writer' → WritesHeader sink writer' result header new → GoesOn source sink count before room old writer result now new
-    plain_goes_on room header title (Ok done) new p t behind wrote = plain_added header title new p t behind wrote
+    plain_goes_on room header title (Ok unit) new p t behind wrote = plain_added header title new p t behind wrote
     plain_goes_on room header title (Err error) new p t behind wrote =
         header_error source sink count room old now writer writer' new header error wrote (λ fault stopped. plain_unwritten header title new fault p t behind stopped)
 
@@ -143,7 +143,7 @@ module _ {R E W F : Type 0} (source : Reader R E) (sink : Writer W F) where
 
     pub close_goes_on : (room : ℕ) (k : Kind) (result : Result (Unit {0}) (RecodeError E F)) (new : W) → before < count → ReadsString source sink before k old writer now writer'
         → WritesHeader sink writer' result h.Break new → GoesOn source sink count before room old writer result now new
-    close_goes_on room k (Ok done) new less string wrote = closed k new string wrote
+    close_goes_on room k (Ok unit) new less string wrote = closed k new string wrote
     close_goes_on room k (Err error) new less string wrote =
         header_error source sink count room old now writer writer' new h.Break error wrote (λ fault stopped. unclosed k new fault less string stopped)
 
@@ -160,5 +160,19 @@ module _ {R E W F : Type 0} (source : Reader R E) (sink : Writer W F) where
       written = run.copied.written;
     }
 
-    pub added_run : AddsElement source sink before old writer now writer' → CopiesRun source sink (suc before) old writer now writer'
-    added_run added = record { bytes = added.bytes; marks = added.marks; run = added.run; copied = added.copied }
+    pub added_run : AddsElement source sink before old writer now writer' → CopiesRun source sink (before + 1) old writer now writer'
+    added_run added = record {
+      bytes = added.bytes;
+      marks = added.marks;
+      run = subst (λ (n : ℕ). IsRun n added.bytes added.marks) (omega arith) added.run;
+      copied = added.copied;
+    }
+
+  -- no element
+  pub run_none : (decoder : Decoder R) (writer : W) → CopiesRun source sink 0 decoder writer decoder writer
+  run_none decoder writer = let copied = Copies-none source sink decoder writer in record {
+    bytes = [];
+    marks = [];
+    run = done;
+    copied = record { passed = Passes-none source decoder; written = copied.written };
+  }

@@ -1,0 +1,73 @@
+use Rattle.std.proofs.Common.{rules, refl, ap, subst, ◌∙◌, ◌≡◌, ◌≤◌, ℕ, Option, Some, None, Result, Ok, Err, length, arith}
+use Rattle.ciborium_ll.specs.declared.hdr.Header.{Header}
+use Rattle.ciborium_ll.specs.declared.hdr.Header.TheVariants as h
+use Rattle.ciborium_ll.specs.Title.{title_len}
+use Rattle.ciborium_ll.specs.Elements.{IsPlain}
+use Rattle.ciborium_ll.specs.Decoding.{PullsTitle}
+use Rattle.ciborium_ll.proofs.CopyLaws.{pulled_covers, behind_pulled, pull_stops, plain_goes_on}
+use Rattle.ciborium_ll.proofs.recode.copy_element.Goals as goal
+
+pub returns-in-Err-clause-copied : goal.returns-in-Err-clause-copied
+returns-in-Err-clause-copied g c = λ count before old writer behind.
+    pull_stops g.R.Read g.W.Write count before old writer c.args.decoder.now c.args.encoder.now.writer (length c.args.buffer.now) c.pull.new.self c.in-Err.error behind c.in-Err.ensures.header
+
+pub copy_definite-requires-clause-covered : goal.copy_definite-requires-clause-covered
+copy_definite-requires-clause-covered g c =
+    let arm = c.in-Bytes-Some in
+    let len = rw arm.is at arm.field-0-is in
+    let is : c.in-Ok.header ≡ h.Bytes (Some arm.length) = arm.is ∙ ap h.Bytes len in
+    subst (λ (x : Header). title_len x ≤ c.pull.new.self.offset) is (pulled_covers g.R.Read g.W.Write c.args.decoder.now c.pull.new.self c.in-Ok.header c.in-Ok.ensures.header)
+
+pub copy_definite-requires-in-Text-Some-clause-covered : goal.copy_definite-requires-in-Text-Some-clause-covered
+copy_definite-requires-in-Text-Some-clause-covered g c =
+    let arm = c.in-Text-Some in
+    let len = rw arm.is at arm.field-0-is in
+    let is : c.in-Ok.header ≡ h.Text (Some arm.length) = arm.is ∙ ap h.Text len in
+    subst (λ (x : Header). title_len x ≤ c.pull.new.self.offset) is (pulled_covers g.R.Read g.W.Write c.args.decoder.now c.pull.new.self c.in-Ok.header c.in-Ok.ensures.header)
+
+pub returns-in-Bytes-Some-clause-copied : goal.returns-in-Bytes-Some-clause-copied
+returns-in-Bytes-Some-clause-copied g c = λ count before old writer behind.
+    let arm = c.in-Bytes-Some in
+    let len = rw arm.is at arm.field-0-is in
+    let is : c.in-Ok.header ≡ h.Bytes (Some arm.length) = arm.is ∙ ap h.Bytes len in
+    let pulled = subst (λ (x : Header). PullsTitle g.R.Read c.args.decoder.now x c.pull.new.self) is c.in-Ok.ensures.header in
+    c.copy_definite.ensures.copied count before old writer pulled.title pulled.is_title
+    (behind_pulled g.R.Read g.W.Write count before old writer c.args.decoder.now c.args.encoder.now.writer c.pull.new.self (h.Bytes (Some arm.length)) behind pulled c.pull.ensures.steady)
+
+pub returns-in-Bytes-None-clause-copied : goal.returns-in-Bytes-None-clause-copied
+returns-in-Bytes-None-clause-copied g c = λ count before old writer behind.
+    let arm = c.in-Bytes-None in
+    let len = rw arm.is at arm.field-0-is in
+    let is : c.in-Ok.header ≡ h.Bytes None = arm.is ∙ ap h.Bytes len in
+    let pulled = subst (λ (x : Header). PullsTitle g.R.Read c.args.decoder.now x c.pull.new.self) is c.in-Ok.ensures.header in
+    c.copy_indefinite.ensures.copied count before old writer pulled.title pulled.is_title
+    (behind_pulled g.R.Read g.W.Write count before old writer c.args.decoder.now c.args.encoder.now.writer c.pull.new.self (h.Bytes None) behind pulled c.pull.ensures.steady)
+
+pub returns-in-Text-Some-clause-copied : goal.returns-in-Text-Some-clause-copied
+returns-in-Text-Some-clause-copied g c = λ count before old writer behind.
+    let arm = c.in-Text-Some in
+    let len = rw arm.is at arm.field-0-is in
+    let is : c.in-Ok.header ≡ h.Text (Some arm.length) = arm.is ∙ ap h.Text len in
+    let pulled = subst (λ (x : Header). PullsTitle g.R.Read c.args.decoder.now x c.pull.new.self) is c.in-Ok.ensures.header in
+    c.copy_definite-in-Text-Some.ensures.copied count before old writer pulled.title pulled.is_title
+    (behind_pulled g.R.Read g.W.Write count before old writer c.args.decoder.now c.args.encoder.now.writer c.pull.new.self (h.Text (Some arm.length)) behind pulled c.pull.ensures.steady)
+
+pub returns-in-Text-None-clause-copied : goal.returns-in-Text-None-clause-copied
+returns-in-Text-None-clause-copied g c = λ count before old writer behind.
+    let arm = c.in-Text-None in
+    let len = rw arm.is at arm.field-0-is in
+    let is : c.in-Ok.header ≡ h.Text None = arm.is ∙ ap h.Text len in
+    let pulled = subst (λ (x : Header). PullsTitle g.R.Read c.args.decoder.now x c.pull.new.self) is c.in-Ok.ensures.header in
+    c.copy_indefinite-in-Text-None.ensures.copied count before old writer pulled.title pulled.is_title
+    (behind_pulled g.R.Read g.W.Write count before old writer c.args.decoder.now c.args.encoder.now.writer c.pull.new.self (h.Text None) behind pulled c.pull.ensures.steady)
+
+pub returns-in_default : goal.returns-in_default
+returns-in_default g c =
+    record {
+      copied = λ count before old writer behind.
+          let pulled = c.in-Ok.ensures.header in
+          let plain : IsPlain c.in-Ok.header = search rules in
+          plain_goes_on g.R.Read g.W.Write count before old writer c.pull.new.self c.args.encoder.now.writer (length c.args.buffer.now) c.in-Ok.header pulled.title c.write_header.result c.write_header.new.encoder.writer
+          plain pulled.is_title (behind_pulled g.R.Read g.W.Write count before old writer c.args.decoder.now c.args.encoder.now.writer c.pull.new.self c.in-Ok.header behind pulled c.pull.ensures.steady) c.write_header.ensures;
+      steady = c.pull.ensures.steady;
+    }

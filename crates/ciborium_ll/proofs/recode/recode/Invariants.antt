@@ -1,0 +1,9 @@
+use Rattle.ciborium_ll.specs.Decoding.{IsSteady}
+use Rattle.ciborium_ll.specs.Recoding.{CopiesRun}
+use Rattle.ciborium_ll.proofs.recode.recode.Given as goal
+
+abbrev pub invariant-elements : goal.invariant-elements
+invariant-elements g l = record {
+  so_far : CopiesRun g.R.Read g.W.Write l._copied l.initial.decoder l.initial.encoder.writer l.decoder l.encoder.writer;
+  steady : IsSteady g.R.Read l.initial.decoder → IsSteady g.R.Read l.decoder;
+}
