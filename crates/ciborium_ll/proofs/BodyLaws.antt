@@ -69,7 +69,7 @@ too_much_is_no_text read front kept more chunk left e text split much = λ other
 
 -- ---- reads
 
-view_none : (waiting : Option Header) (ahead : Option (List ℕ)) → waiting ≡ None → behind_waiting waiting ahead ≡ ahead
+pub view_none : (waiting : Option Header) (ahead : Option (List ℕ)) → waiting ≡ None → behind_waiting waiting ahead ≡ ahead
 view_none None ahead e = refl
 view_none (Some header) ahead e = absurd cc
 

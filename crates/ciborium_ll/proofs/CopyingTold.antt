@@ -31,18 +31,18 @@ title_behind ts r ts' r' hs hs' (next {title = t} {rest = q} {header = h} {heade
 
 -- ---- what is told
 
-consumes_told : (known known' : Option (List ℕ)) (due bytes : List ℕ) → known ≡ Some due → Consumes known known' bytes
+pub consumes_told : (known known' : Option (List ℕ)) (due bytes : List ℕ) → known ≡ Some due → Consumes known known' bytes
     → (rest : List ℕ) × (known' ≡ Some rest) × (due ≡ bytes ++ rest)
 consumes_told None known' due bytes e c = absurd cc
 consumes_told (Some x) None due bytes e c = absurd c
 consumes_told (Some x) (Some y) due bytes e c = let same : x ≡ due = cc in (y, refl, sym same ∙ c)
 
-appends_told : (known known' : Option (List ℕ)) (written bytes : List ℕ) → known ≡ Some written → Appends known known' bytes → known' ≡ Some (written ++ bytes)
+pub appends_told : (known known' : Option (List ℕ)) (written bytes : List ℕ) → known ≡ Some written → Appends known known' bytes → known' ≡ Some (written ++ bytes)
 appends_told None known' written bytes e a = absurd cc
 appends_told (Some x) None written bytes e a = absurd a
 appends_told (Some x) (Some y) written bytes e a = let same : x ≡ written = cc in ap Some (a ∙ ap (λ z. z ++ bytes) same)
 
-shrinks_told : (room room' : Option ℕ) (n count : ℕ) → room ≡ Some n → Shrinks room room' count → (m : ℕ) × (room' ≡ Some m) × (n ≡ m + count)
+pub shrinks_told : (room room' : Option ℕ) (n count : ℕ) → room ≡ Some n → Shrinks room room' count → (m : ℕ) × (room' ≡ Some m) × (n ≡ m + count)
 shrinks_told None room' n count e s = absurd cc
 shrinks_told (Some x) None n count e s = absurd s
 shrinks_told (Some x) (Some y) n count e s = let same : x ≡ n = cc in (y, refl, omega arith)
@@ -52,7 +52,7 @@ either_small : (b : Bool) (x y : ℕ) → x ≤ 8 → y ≤ 8 → (if b then x e
 either_small true x y p q = p
 either_small false x y p q = q
 
-next_read_small : (read : List ℕ) → next_read read ≤ 8
+pub next_read_small : (read : List ℕ) → next_read read ≤ 8
 next_read_small [] = omega arith
 next_read_small (byte ∷ more) =
     either_small (byte % 32 == 24) 1 _ (omega arith) (either_small (byte % 32 == 25) 2 _ (omega arith) (either_small (byte % 32 == 26) 4 _ (omega arith) (either_small (byte % 32 == 27) 8 0 (omega arith) (omega arith))))
@@ -77,12 +77,12 @@ passed : (headers : List Header) (due front : List ℕ) (known known' : Option (
 passed headers due front known known' e c = let t = consumes_told known known' due front e c in record { rest = t.0; parts = t.2; left = t.1 }
 
 -- a first byte or none is gone
-first_gone : (rest read left : List ℕ) → rest ≡ read ++ left → read ≡ take 1 rest → left ≡ drop 1 rest
+pub first_gone : (rest read left : List ℕ) → rest ≡ read ++ left → read ≡ take 1 rest → left ≡ drop 1 rest
 first_gone [] [] left e f = sym e
 first_gone [] (b ∷ read) left e f = absurd cc
 first_gone (b ∷ rest) read left e f = let g : b ∷ rest ≡ (b ∷ []) ++ left = e ∙ ap (λ z. z ++ left) f in cc
 
-refused_byte : (rest left : List ℕ) (byte : ℕ) → rest ≡ byte ∷ left → left ≡ drop 1 rest
+pub refused_byte : (rest left : List ℕ) (byte : ℕ) → rest ≡ byte ∷ left → left ≡ drop 1 rest
 refused_byte rest left byte e = sym (ap (drop 1) e)
 
 module _ {R E W F : Type 0} (source : Reader R E) (sink : Writer W F) where

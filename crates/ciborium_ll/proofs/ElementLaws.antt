@@ -167,7 +167,7 @@ mutual
       }
 
   -- strings are spelled again as their pieces, no longer
-  respell_all : (k : Kind) (w : List ℕ) (bs : List (List ℕ)) → AreStrings k w bs → Respelled k w bs
+  pub respell_all : (k : Kind) (w : List ℕ) (bs : List (List ℕ)) → AreStrings k w bs → Respelled k w bs
   respell_all k w bs none = record { strings = none; shorter = omega arith }
   respell_all k w bs (more {first = x} {rest = y} {bodies = ds} {others = es} s ss) =
       let a = respell_one k x ds s in

@@ -19,6 +19,7 @@ pub mod NestLaws
 pub mod PartsLaws
 pub mod PieceLaws
 pub mod RecodeLaws
+pub mod RecodingToldLaws
 pub mod RefusedBytes
 pub mod SegmentLaws
 pub mod StepLaws

@@ -10,6 +10,7 @@ pub mod Kept
 pub mod Lend
 pub mod Parts
 pub mod Recoding
+pub mod RecodingTold
 pub mod Segments
 pub mod Slices
 pub mod Steps

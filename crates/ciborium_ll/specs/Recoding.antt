@@ -126,6 +126,12 @@ module _ {R E W F : Type 0} (source : Reader R E) (sink : Writer W F) where
     pub run : IsRun count bytes marks
     pub copied : Copied old writer bytes marks new writer'
 
+  -- all elements were copied. What was written are the same elements again, with the same marks, and no longer
+  pub record CopiesAll (count : ℕ) (old : Decoder R) (writer : W) (new : Decoder R) (writer' : W) : Type 0 where
+    pub elements : CopiesRun count old writer new writer'
+    pub again : IsRun count (spelling elements.marks) elements.marks
+    pub shorter : length (spelling elements.marks) ≤ length elements.bytes
+
   -- `pull` failed where a title is due
   pub record StopsAtTitle (count : ℕ) (old : Decoder R) (writer : W) (error : Error E) (new : Decoder R) (writer' : W) : Type 0 where
     pub bytes : List ℕ
@@ -198,7 +204,7 @@ module _ {R E W F : Type 0} (source : Reader R E) (sink : Writer W F) where
 
   -- the copy of so many elements
   abbrev pub CopiesElements : ℕ → ℕ → Decoder R → W → Result (Unit {0}) (RecodeError E F) → Decoder R → W → Type 0
-  CopiesElements count room old writer (Ok done) new writer' = CopiesRun count old writer new writer'
+  CopiesElements count room old writer (Ok done) new writer' = CopiesAll count old writer new writer'
   CopiesElements count room old writer (Err error) new writer' = StopsCopy count room old writer error new writer'
 
   -- ---- the parts of the copy: each goes on from any copy that came so far

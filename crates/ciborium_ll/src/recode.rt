@@ -1,11 +1,13 @@
 //! Elements copied from a decoder to an encoder, each in its shortest spelling.
 
-ghost use Rattle.std.specs.Prelude.{◌≡◌, ◌≤◌, length, None, Some};
+ghost use Rattle.std.specs.Prelude.{◌≡◌, ◌≤◌, ◌↔◌, ℕ, List, length, IsOk, None, Some};
 ghost use Rattle.ciborium_ll.specs.Title.{title_len};
 ghost use Rattle.ciborium_ll.specs.Strings.{kind_header};
 ghost use Rattle.ciborium_ll.specs.Decoding.{IsSteady, offset_of, waiting_of};
 ghost use Rattle.ciborium_ll.specs.Encoding.{writer_of};
 ghost use Rattle.ciborium_ll.specs.Chunks.{IsWhole};
+ghost use Rattle.ciborium_ll.specs.Faults.{RunInFront};
+ghost use Rattle.ciborium_ll.specs.RecodingTold.{IsReady, RecodesTold};
 ghost use Rattle.ciborium_ll.specs.Recoding.{CopiesBehind, CopiesBody, CopiesElement, CopiesElements, CopiesSegments, WritesHeader};
 
 mod chunked;
@@ -167,6 +169,12 @@ pub fn recode<R: Read, W: Write>(
     ensures copied { CopiesElements R.Read W.Write count (length buffer.old)
         decoder.old (writer_of encoder.old) result decoder.new (writer_of encoder.new) }
     ensures steady { IsSteady R.Read decoder.old → IsSteady R.Read decoder.new }
+    ensures told { (due written : List ℕ)
+        → IsReady R.Read W.Write (length buffer.old) decoder.old (writer_of encoder.old) due written
+        → RecodesTold R.Read W.Write count due written decoder.old result decoder.new (writer_of encoder.new) }
+    ensures exactly { (due written : List ℕ)
+        → IsReady R.Read W.Write (length buffer.old) decoder.old (writer_of encoder.old) due written
+        → (IsOk result ↔ RunInFront count due) }
 {
     'elements: for _copied in 0..count {
         copy_element(decoder, encoder, buffer)?;
