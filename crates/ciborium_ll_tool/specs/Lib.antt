@@ -1,5 +1,6 @@
 pub mod Fault
 pub mod Line
+pub mod Number
 pub mod Output
 pub mod Request
 pub mod Word

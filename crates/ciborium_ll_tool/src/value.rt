@@ -1,0 +1,53 @@
+//! Values that are written as strings.
+
+use crate::memory::{OutOfMemory, VecWriter};
+use crate::service::ToolError;
+use crate::word::word_of;
+use ciborium_ll::Encoder;
+use std::alloc::Global;
+use std::fmt::Write;
+
+/// Answers `bytes`: the spelling of a byte string under a limit.
+pub fn bytes<T: Write>(
+    alloc: Global,
+    value: &[u8],
+    limit: Option<usize>,
+    sink: &mut T,
+) -> Result<(), ToolError> {
+    let spelling = spelled_bytes(alloc, value, limit)?;
+    let word = word_of(alloc, spelling.as_slice())?;
+    Ok(writeln!(sink, "{word}")?)
+}
+
+/// Answers `text`: the spelling of a text string under a limit, where the bytes are text.
+pub fn text<T: Write>(
+    alloc: Global,
+    value: &[u8],
+    limit: Option<usize>,
+    sink: &mut T,
+) -> Result<(), ToolError> {
+    let Ok(value) = std::str::from_utf8(value) else {
+        return Ok(writeln!(sink, "error: text")?);
+    };
+    let spelling = spelled_text(alloc, value, limit)?;
+    let word = word_of(alloc, spelling.as_slice())?;
+    Ok(writeln!(sink, "{word}")?)
+}
+
+/// The bytes of a byte string, in segments within the limit.
+fn spelled_bytes(
+    alloc: Global,
+    value: &[u8],
+    limit: Option<usize>,
+) -> Result<Vec<u8>, OutOfMemory> {
+    let mut encoder = Encoder::from(VecWriter::new(alloc));
+    encoder.bytes(value, limit)?;
+    Ok(encoder.into_inner().into_vec())
+}
+
+/// The bytes of a text string, in segments within the limit.
+fn spelled_text(alloc: Global, value: &str, limit: Option<usize>) -> Result<Vec<u8>, OutOfMemory> {
+    let mut encoder = Encoder::from(VecWriter::new(alloc));
+    encoder.text(value, limit)?;
+    Ok(encoder.into_inner().into_vec())
+}
