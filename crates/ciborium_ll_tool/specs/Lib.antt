@@ -3,4 +3,5 @@ pub mod Line
 pub mod Number
 pub mod Output
 pub mod Request
+pub mod Value
 pub mod Word

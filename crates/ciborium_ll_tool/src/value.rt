@@ -1,5 +1,9 @@
 //! Values that are written as strings.
 
+ghost use Rattle.std.specs.Prelude.{IfOk};
+ghost use Rattle.ciborium_ll.specs.Strings.{Bytes as byte_strings, Text as text_strings};
+ghost use Rattle.ciborium_ll_tool.specs.Value.{IsSpelled};
+
 use crate::memory::{OutOfMemory, VecWriter};
 use crate::service::ToolError;
 use crate::word::word_of;
@@ -34,19 +38,19 @@ pub fn text<T: Write>(
     Ok(writeln!(sink, "{word}")?)
 }
 
-/// The bytes of a byte string, in segments within the limit.
-fn spelled_bytes(
-    alloc: Global,
-    value: &[u8],
-    limit: Option<usize>,
-) -> Result<Vec<u8>, OutOfMemory> {
+/// The spelling of a byte string, in segments within the limit. The error says that there is no memory for it.
+fn spelled_bytes(alloc: Global, value: &[u8], limit: Option<usize>) -> Result<Vec<u8>, OutOfMemory>
+    ensures { IfOk result (λ bytes. IsSpelled byte_strings limit value.now bytes.items) }
+{
     let mut encoder = Encoder::from(VecWriter::new(alloc));
     encoder.bytes(value, limit)?;
     Ok(encoder.into_inner().into_vec())
 }
 
-/// The bytes of a text string, in segments within the limit.
-fn spelled_text(alloc: Global, value: &str, limit: Option<usize>) -> Result<Vec<u8>, OutOfMemory> {
+/// The spelling of a text string, in segments within the limit. The error says that there is no memory for it.
+fn spelled_text(alloc: Global, value: &str, limit: Option<usize>) -> Result<Vec<u8>, OutOfMemory>
+    ensures { IfOk result (λ bytes. IsSpelled text_strings limit value.now bytes.items) }
+{
     let mut encoder = Encoder::from(VecWriter::new(alloc));
     encoder.text(value, limit)?;
     Ok(encoder.into_inner().into_vec())
