@@ -1,8 +1,7 @@
 use crate::calls::pulls;
 use ciborium_ll::io::{Read, SliceReader};
-use ciborium_ll::{Body, Bytes, Decoder, Error, Header, Segments, Text};
+use ciborium_ll::{Bytes, Decoder, Error, Header, Text};
 use std::process::Abort;
-use std::test::Fail;
 
 // What a call on a segment of text answers.
 #[derive(Clone, Copy)]
@@ -12,19 +11,14 @@ enum Answer {
     Syntax(usize),
 }
 
-// A header of this title length may be given back.
-fn may_wait<R: Read>(rt: &impl Abort, decoder: &mut Decoder<R>, header: Header) {
-    assert!(rt; !decoder.is_waiting());
-    assert!(rt; header.title_len() <= decoder.offset());
-}
-
 // Reads the only segment of a text by buffers of these sizes, and compares answers and what is left.
 fn reads_text<R: Read>(
     rt: &impl Abort,
     decoder: &mut Decoder<R>,
     length: usize,
     steps: &[(usize, Answer, usize)],
-) where
+)
+where
     R::Error: Drop,
 {
     assert!(rt; !decoder.is_waiting());
@@ -159,7 +153,8 @@ fn finds_no_segment<R: Read>(
     decoder: &mut Decoder<R>,
     dropped: usize,
     place: usize,
-) where
+)
+where
     R::Error: Drop,
 {
     assert!(rt; !decoder.is_waiting());
@@ -197,21 +192,37 @@ fn a_title_that_may_not_stand_in_a_string(rt: HostRuntime) {
     finds_no_segment(&rt, &mut decoder, 1, 2);
 }
 
-// Goes on to a body, and makes its segment.
-fn advances<R: Read>(rt: &impl Abort, segments: &mut Segments<'_, R, Text>, place: usize)
+// Goes on to the first body of an open text, and reads it in one chunk.
+fn reads_body<R: Read>(rt: &impl Abort, decoder: &mut Decoder<R>, place: usize, want: &str)
 where
     R::Error: Drop,
 {
+    assert!(rt; !decoder.is_waiting());
+    assert!(rt; Header::Text(None).title_len() <= decoder.offset());
+    let mut segments = decoder.text(None);
     let Ok(Some(body)) = segments.advance() else {
         panic!(rt; "no body");
     };
-    let Body { length, place: at } = body;
-    assert_eq!(rt; (length, at), (2, place));
+    assert_eq!(rt; (body.length, body.place), (want.len(), place));
+    let mut segment = segments.segment(body);
+    let is_right = match segment.pull(&mut [0; 8]) {
+        Ok(Some(chunk)) => chunk == want,
+        _ => false,
+    };
+    assert!(rt; is_right);
+    assert_eq!(rt; segment.left(), 0);
 }
 
 #[test]
-fn kinds_of_strings(rt: HostRuntime) -> Result<(), Fail> {
+fn a_body_by_length_and_place(rt: HostRuntime) {
+    let mut decoder = Decoder::from(SliceReader::new(b"\x7f\x7f\x62\xc3\xa9\xff\xff"));
+    pulls(&rt, &mut decoder, Header::Text(None), 1);
+    reads_body(&rt, &mut decoder, 2, "\u{e9}");
+    assert_eq!(rt; decoder.offset(), 5);
+}
+
+#[test]
+fn kinds_of_strings() {
     let _bytes = Bytes::default();
     let _text = Text::default();
-    Ok(())
 }
