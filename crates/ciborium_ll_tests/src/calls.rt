@@ -4,7 +4,7 @@ use std::process::Abort;
 use std::test::Fail;
 
 // Pulls a header that has to be there.
-fn pulls<R: Read>(rt: &impl Abort, decoder: &mut Decoder<R>, want: Header, offset: usize)
+pub fn pulls<R: Read>(rt: &impl Abort, decoder: &mut Decoder<R>, want: Header, offset: usize)
 where
     R::Error: Drop,
 {
@@ -23,18 +23,18 @@ fn gives_back<R: Read>(rt: &impl Abort, decoder: &mut Decoder<R>, header: Header
 }
 
 // Reads the bytes that come next.
-fn reads<R: Read>(reader: &mut R, data: &mut [u8]) -> Result<(), R::Error> {
+pub fn reads<R: Read>(reader: &mut R, data: &mut [u8]) -> Result<(), R::Error> {
     reader.read_exact(data)
 }
 
 // Writes bytes, and passes them on.
-fn writes<W: Write>(writer: &mut W, data: &[u8]) -> Result<(), W::Error> {
+pub fn writes<W: Write>(writer: &mut W, data: &[u8]) -> Result<(), W::Error> {
     writer.write_all(data)?;
     writer.flush()
 }
 
 // Writes the title of a header.
-fn pushes<W: Write>(encoder: &mut Encoder<W>, header: Header) -> Result<(), W::Error> {
+pub fn pushes<W: Write>(encoder: &mut Encoder<W>, header: Header) -> Result<(), W::Error> {
     encoder.push(header)
 }
 

@@ -1,7 +1,15 @@
-//! Tests of titles and headers against vectors, and of each public call.
+//! Tests of titles and headers against vectors, of strings, and of each public call.
 #![tactic(auto)]
 
 #[cfg(test)]
 mod calls;
+#[cfg(test)]
+mod copies;
+#[cfg(test)]
+mod streams;
+#[cfg(test)]
+mod strings;
+#[cfg(test)]
+mod values;
 #[cfg(test)]
 mod vectors;

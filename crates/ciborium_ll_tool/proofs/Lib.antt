@@ -1,3 +1,4 @@
+pub mod NumberLaws
 mod RequestLaws
 mod Transfers
 mod WordLaws

@@ -1,16 +1,22 @@
--- A request is spelled in ASCII.
-use Rattle.std.proofs.Common.{◌≡◌, ◌<◌, ℕ, List, [], ◌∷◌, Some, Result, Ok, Err, true, nat_lt, codes, refl, arith, IsUtf8}
+-- A request is spelled in ASCII, and cut where its words end.
+use Rattle.std.proofs.Common.{◌≡◌, ◌≢◌, ◌<◌, ◌==◌, ℕ, suc, zero, List, [], ◌∷◌, ◌++◌, length, get_or, Option, Some, None, MatchOption, IfNone, IsSomeAnd, sym, ap, ◌∙◌, Result, Ok, Err, Bool, true, not, nat_lt, codes, refl, arith, IsUtf8, Bor}
 use Rattle.std.specs.List.{AllPass, list_all}
 use Rattle.std.specs.Str.{IsAscii}
 use Rattle.std.proofs.lemmas.Str.{IsAscii-append, IsUtf8-from_ascii}
+use Rattle.std.proofs.lemmas.Str.Pattern.{IsSplitOnceResult, split_after}
+use Rattle.std.proofs.lemmas.Fmt.{IsAscii-from_digits}
 use Rattle.std.proofs.lemmas.Str.Ascii.{IsAscii-cons, IsAscii-from_all, IsAscii-nil}
 use Rattle.hex.specs.Hex.{decode_of, is_hex_digit}
 use Rattle.hex.specs.declared.error.FromHexError.{FromHexError}
 use Rattle.hex.proofs.HexLemmas.{decode_of-ok}
-use Rattle.ciborium_ll_tool.specs.Request.{Asks}
+use Rattle.ciborium_ll_tool.specs.Number.{IsLimit, IsNumber, IsSize}
+use Rattle.ciborium_ll_tool.specs.Request.{Asks, Spells, SpellsBuffered, SpellsLimited, name_of, space}
+use Rattle.ciborium_ll_tool.specs.declared.request.Buffered.{Buffered}
+use Rattle.ciborium_ll_tool.specs.declared.request.Limited.{Limited}
 use Rattle.ciborium_ll_tool.specs.Word.{bytes_of_word, decoded}
 use Rattle.ciborium_ll_tool.specs.declared.request.Request.{Request}
-use Rattle.ciborium_ll_tool.specs.declared.request.Request.TheVariants.{Heads}
+use Rattle.ciborium_ll_tool.specs.declared.request.Request.TheVariants.{Bytes, Chunks, Heads, Text}
+use Rattle.ciborium_ll_tool.proofs.NumberLaws.{limit_has_no_space, number_has_no_space}
 
 -- what was decoded to bytes is Ok
 decoded-some : (r : Result (List ℕ) FromHexError) (bytes : List ℕ) → decoded r ≡ Some bytes → r ≡ Ok bytes
@@ -40,8 +46,137 @@ IsAscii-from_test [] h = IsAscii-nil
 IsAscii-from_test (byte ∷ rest) h =
     IsAscii-cons byte rest (grind (arith)) (IsAscii-from_test rest (grind (arith)))
 
+-- so are digits of a number
+IsAscii-number : (word : List ℕ) (n : ℕ) → IsNumber word n → IsAscii word
+IsAscii-number word n is = IsAscii-from_digits word is.numeral.1
+
+-- and a limit
+IsAscii-limit : (word : List ℕ) (limit : Option ℕ) → IsLimit word limit → IsAscii word
+IsAscii-limit word None is = rw is (IsAscii-from_test (codes "*") refl)
+IsAscii-limit word (Some n) is = IsAscii-number word n is
+
+-- two words with a space between
+IsAscii-two : (first word : List ℕ) → IsAscii first → IsAscii word → IsAscii (first ++ (space ∷ word))
+IsAscii-two first word left right =
+    IsAscii-append first (space ∷ word) left (IsAscii-cons space word (omega arith) right)
+
+-- the words of a request
+IsAscii-words : (words : List ℕ) (request : Request) → Spells words request → IsAscii words
+IsAscii-words words (Heads bytes) has = IsAscii-word words bytes.items has
+IsAscii-words words (Chunks asked) (first, word, parts, size, has) =
+    rw parts (IsAscii-two first word (IsAscii-number first asked.size size.0) (IsAscii-word word asked.bytes.items has))
+IsAscii-words words (Bytes asked) (first, word, parts, limit, has) =
+    rw parts (IsAscii-two first word (IsAscii-limit first asked.limit limit) (IsAscii-word word asked.bytes.items has))
+IsAscii-words words (Text asked) (first, word, parts, limit, has) =
+    rw parts (IsAscii-two first word (IsAscii-limit first asked.limit limit) (IsAscii-word word asked.bytes.items has))
+
+-- the name of a request
+IsAscii-name : (request : Request) → IsAscii (name_of request)
+IsAscii-name (Heads bytes) = IsAscii-from_test (codes "heads") refl
+IsAscii-name (Chunks asked) = IsAscii-from_test (codes "chunks") refl
+IsAscii-name (Bytes asked) = IsAscii-from_test (codes "bytes") refl
+IsAscii-name (Text asked) = IsAscii-from_test (codes "text") refl
+
 -- a request is UTF-8
 pub IsUtf8-request : (line : List ℕ) (request : Request) → Asks line request → IsUtf8 line
-IsUtf8-request line (Heads bytes) (word, spelled, has) =
-    let name = IsAscii-from_test (codes "heads ") refl in
-    rw spelled (IsUtf8-from_ascii _ (IsAscii-append (codes "heads ") word name (IsAscii-word word bytes.items has)))
+IsUtf8-request line request (words, parts, spelled) =
+    rw parts (IsUtf8-from_ascii _ (IsAscii-two (name_of request) words (IsAscii-name request) (IsAscii-words words request spelled)))
+
+-- ---- where a line is cut
+
+-- no byte is a space, by a test of each
+abbrev has_no_space : List ℕ → Bool
+has_no_space bytes = list_all (λ byte. not (byte == space)) bytes
+
+no_space_at : (bytes : List ℕ) → has_no_space bytes ≡ true → (i : ℕ) → i < length bytes → get_or bytes i 0 ≢ space
+no_space_at [] h i within = absurd (omega (arith, within))
+no_space_at (byte ∷ rest) h zero within = λ same. absurd (grind (arith))
+no_space_at (byte ∷ rest) h (suc i) within = no_space_at rest (grind (arith)) i (omega (arith, within))
+
+-- no name has a space
+name_has_no_space : (request : Request) → (i : ℕ) → i < length (name_of request) → get_or (name_of request) i 0 ≢ space
+name_has_no_space (Heads bytes) = no_space_at (codes "heads") refl
+name_has_no_space (Chunks asked) = no_space_at (codes "chunks") refl
+name_has_no_space (Bytes asked) = no_space_at (codes "bytes") refl
+name_has_no_space (Text asked) = no_space_at (codes "text") refl
+
+-- a request is cut behind its name
+pub cut_behind_name : (line : List ℕ) (r : Option (Bor (List ℕ) × Bor (List ℕ))) → IsSplitOnceResult space line r
+    → (request : Request) → Asks line request → MatchOption r ⊥ (λ x. (x.0.now ≡ name_of request) × Spells x.1.now request)
+cut_behind_name line None cut request (words, parts, spelled) =
+    split_after space line (name_of request) words None cut (omega arith) parts (name_has_no_space request)
+cut_behind_name line (Some x) cut request (words, parts, spelled) =
+    let same = split_after space line (name_of request) words (Some x) cut (omega arith) parts (name_has_no_space request) in
+    (same.0, rw same.1 spelled)
+
+-- a size and bytes are cut behind the size
+pub cut_behind_size : (words : List ℕ) (r : Option (Bor (List ℕ) × Bor (List ℕ))) → IsSplitOnceResult space words r
+    → (asked : Buffered) → SpellsBuffered words asked
+    → MatchOption r ⊥ (λ x. IsSize x.0.now asked.size × (bytes_of_word x.1.now ≡ Some asked.bytes.items))
+cut_behind_size words None cut asked (first, word, parts, size, has) =
+    split_after space words first word None cut (omega arith) parts (number_has_no_space first asked.size size.0)
+cut_behind_size words (Some x) cut asked (first, word, parts, size, has) =
+    let same = split_after space words first word (Some x) cut (omega arith) parts (number_has_no_space first asked.size size.0) in
+    (rw same.0 size, rw same.1 has)
+
+-- a limit and bytes are cut behind the limit
+pub cut_behind_limit : (words : List ℕ) (r : Option (Bor (List ℕ) × Bor (List ℕ))) → IsSplitOnceResult space words r
+    → (asked : Limited) → SpellsLimited words asked
+    → MatchOption r ⊥ (λ x. IsLimit x.0.now asked.limit × (bytes_of_word x.1.now ≡ Some asked.bytes.items))
+cut_behind_limit words None cut asked (first, word, parts, limit, has) =
+    split_after space words first word None cut (omega arith) parts (limit_has_no_space first asked.limit limit)
+cut_behind_limit words (Some x) cut asked (first, word, parts, limit, has) =
+    let same = split_after space words first word (Some x) cut (omega arith) parts (limit_has_no_space first asked.limit limit) in
+    (rw same.0 limit, rw same.1 has)
+
+-- ---- requests of one name
+
+-- the first byte, by which names differ
+abbrev initial : List ℕ → ℕ
+initial [] = 0
+initial (byte ∷ bytes) = byte
+
+refuses_chunks : (name words : List ℕ) → name ≡ codes "chunks" → ((asked : Buffered) → SpellsBuffered words asked → ⊥)
+    → (request : Request) → name ≡ name_of request → Spells words request → ⊥
+refuses_chunks name words is refused (Heads bytes) named spelled = let other : 99 ≡ 104 = ap initial (sym is ∙ named) in omega (arith, other)
+refuses_chunks name words is refused (Chunks asked) named spelled = refused asked spelled
+refuses_chunks name words is refused (Bytes asked) named spelled = let other : 99 ≡ 98 = ap initial (sym is ∙ named) in omega (arith, other)
+refuses_chunks name words is refused (Text asked) named spelled = let other : 99 ≡ 116 = ap initial (sym is ∙ named) in omega (arith, other)
+
+-- words that are refused behind the name are no request of it
+pub none_of_chunks : (name words : List ℕ) (found : Option Buffered) (result : Option Request) (P : Buffered → Request → Type 0)
+    → MatchOption found (result ≡ None) (λ x. IsSomeAnd result (P x)) → IfNone found ((asked : Buffered) → SpellsBuffered words asked → ⊥)
+    → name ≡ codes "chunks" → IfNone result ((request : Request) → name ≡ name_of request → Spells words request → ⊥)
+none_of_chunks name words found (Some request) P cases refused is = _
+none_of_chunks name words (Some asked) None P cases refused is = absurd cases
+none_of_chunks name words None None P cases refused is = refuses_chunks name words is refused
+
+refuses_bytes : (name words : List ℕ) → name ≡ codes "bytes" → ((asked : Limited) → SpellsLimited words asked → ⊥)
+    → (request : Request) → name ≡ name_of request → Spells words request → ⊥
+refuses_bytes name words is refused (Heads bytes) named spelled = let other : 98 ≡ 104 = ap initial (sym is ∙ named) in omega (arith, other)
+refuses_bytes name words is refused (Chunks asked) named spelled = let other : 98 ≡ 99 = ap initial (sym is ∙ named) in omega (arith, other)
+refuses_bytes name words is refused (Bytes asked) named spelled = refused asked spelled
+refuses_bytes name words is refused (Text asked) named spelled = let other : 98 ≡ 116 = ap initial (sym is ∙ named) in omega (arith, other)
+
+-- words that are refused behind the name are no request of it
+pub none_of_bytes : (name words : List ℕ) (found : Option Limited) (result : Option Request) (P : Limited → Request → Type 0)
+    → MatchOption found (result ≡ None) (λ x. IsSomeAnd result (P x)) → IfNone found ((asked : Limited) → SpellsLimited words asked → ⊥)
+    → name ≡ codes "bytes" → IfNone result ((request : Request) → name ≡ name_of request → Spells words request → ⊥)
+none_of_bytes name words found (Some request) P cases refused is = _
+none_of_bytes name words (Some asked) None P cases refused is = absurd cases
+none_of_bytes name words None None P cases refused is = refuses_bytes name words is refused
+
+refuses_text : (name words : List ℕ) → name ≡ codes "text" → ((asked : Limited) → SpellsLimited words asked → ⊥)
+    → (request : Request) → name ≡ name_of request → Spells words request → ⊥
+refuses_text name words is refused (Heads bytes) named spelled = let other : 116 ≡ 104 = ap initial (sym is ∙ named) in omega (arith, other)
+refuses_text name words is refused (Chunks asked) named spelled = let other : 116 ≡ 99 = ap initial (sym is ∙ named) in omega (arith, other)
+refuses_text name words is refused (Bytes asked) named spelled = let other : 116 ≡ 98 = ap initial (sym is ∙ named) in omega (arith, other)
+refuses_text name words is refused (Text asked) named spelled = refused asked spelled
+
+-- words that are refused behind the name are no request of it
+pub none_of_text : (name words : List ℕ) (found : Option Limited) (result : Option Request) (P : Limited → Request → Type 0)
+    → MatchOption found (result ≡ None) (λ x. IsSomeAnd result (P x)) → IfNone found ((asked : Limited) → SpellsLimited words asked → ⊥)
+    → name ≡ codes "text" → IfNone result ((request : Request) → name ≡ name_of request → Spells words request → ⊥)
+none_of_text name words found (Some request) P cases refused is = _
+none_of_text name words (Some asked) None P cases refused is = absurd cases
+none_of_text name words None None P cases refused is = refuses_text name words is refused

@@ -1,5 +1,7 @@
 pub mod Fault
 pub mod Line
+pub mod Number
 pub mod Output
 pub mod Request
+pub mod Value
 pub mod Word

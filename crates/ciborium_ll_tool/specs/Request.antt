@@ -1,9 +1,40 @@
 -- What lines ask for.
-use Rattle.std.specs.Prelude.{◌≡◌, ℕ, List, ◌++◌, codes, Some}
+use Rattle.std.specs.Prelude.{◌≡◌, ℕ, List, ◌++◌, ◌∷◌, codes, Some}
+use Rattle.ciborium_ll_tool.specs.Number.{IsLimit, IsSize}
 use Rattle.ciborium_ll_tool.specs.Word.{bytes_of_word}
+use Rattle.ciborium_ll_tool.specs.declared.request.Limited.{Limited}
 use Rattle.ciborium_ll_tool.specs.declared.request.Request.{Request}
-use Rattle.ciborium_ll_tool.specs.declared.request.Request.TheVariants.{Heads}
+use Rattle.ciborium_ll_tool.specs.declared.request.Request.TheVariants.{Bytes, Chunks, Heads, Text}
+use Rattle.ciborium_ll_tool.specs.declared.request.Buffered.{Buffered}
+
+-- the byte that parts two words
+abbrev pub space : ℕ
+space = 32
+
+-- the words are a size and bytes
+abbrev pub SpellsBuffered : List ℕ → Buffered → Type 0
+SpellsBuffered words asked = (first : List ℕ) × (word : List ℕ) × (words ≡ first ++ (space ∷ word))
+    × IsSize first asked.size × (bytes_of_word word ≡ Some asked.bytes.items)
+
+-- the words are a limit and bytes
+abbrev pub SpellsLimited : List ℕ → Limited → Type 0
+SpellsLimited words asked = (first : List ℕ) × (word : List ℕ) × (words ≡ first ++ (space ∷ word))
+    × IsLimit first asked.limit × (bytes_of_word word ≡ Some asked.bytes.items)
+
+-- the first word of a request
+abbrev pub name_of : Request → List ℕ
+name_of (Heads bytes) = codes "heads"
+name_of (Chunks asked) = codes "chunks"
+name_of (Bytes asked) = codes "bytes"
+name_of (Text asked) = codes "text"
+
+-- the words behind the first one
+abbrev pub Spells : List ℕ → Request → Type 0
+Spells words (Heads bytes) = bytes_of_word words ≡ Some bytes.items
+Spells words (Chunks asked) = SpellsBuffered words asked
+Spells words (Bytes asked) = SpellsLimited words asked
+Spells words (Text asked) = SpellsLimited words asked
 
 -- the line is this request, spelled out
 abbrev pub Asks : List ℕ → Request → Type 0
-Asks line (Heads bytes) = (word : List ℕ) × (line ≡ codes "heads " ++ word) × (bytes_of_word word ≡ Some bytes.items)
+Asks line request = (words : List ℕ) × (line ≡ name_of request ++ (space ∷ words)) × Spells words request

@@ -1,18 +1,30 @@
 //! Answers to requests, as lines of text.
 
 use crate::request::Request;
+use crate::service::ToolError;
+use crate::{string, value};
 use ciborium_ll::io::SliceReader;
 use ciborium_ll::{Decoder, Error, Float, Header};
 use std::alloc::Global;
 use std::fmt;
 use std::fmt::Write;
 
-/// Answers a line. The error says that the sink refused text, or that there is no memory.
-pub fn line<T: Write>(alloc: Global, line: &[u8], sink: &mut T) -> fmt::Result {
+/// Answers a line. The error is `Memory`: the sink refused text, or there is no memory.
+pub fn line<T: Write>(alloc: Global, line: &[u8], sink: &mut T) -> Result<(), ToolError> {
     match Request::parse(alloc, line)? {
-        Some(Request::Heads(bytes)) => heads(bytes.as_slice(), sink),
-        None => writeln!(sink, "error: line"),
+        Some(Request::Heads(bytes)) => heads(bytes.as_slice(), sink)?,
+        Some(Request::Chunks(asked)) => {
+            string::chunks(alloc, asked.size, asked.bytes.as_slice(), sink)?;
+        }
+        Some(Request::Bytes(asked)) => {
+            value::bytes(alloc, asked.bytes.as_slice(), asked.limit, sink)?;
+        }
+        Some(Request::Text(asked)) => {
+            value::text(alloc, asked.bytes.as_slice(), asked.limit, sink)?;
+        }
+        None => writeln!(sink, "error: line")?,
     }
+    Ok(())
 }
 
 /// Answers `heads`: a line for each title, and one for what ended them.
@@ -39,7 +51,7 @@ fn heads<T: Write>(bytes: &[u8], sink: &mut T) -> fmt::Result {
 
 /// What ended an answer, and at which offset.
 #[derive(Drop)]
-enum Last {
+pub enum Last {
     /// All bytes were consumed.
     End(usize),
     /// The bytes are no CBOR.

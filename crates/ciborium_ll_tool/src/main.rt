@@ -1,4 +1,4 @@
-//! A program that answers lines on CBOR titles.
+//! A program that answers lines on CBOR titles and strings.
 //!
 //! It reads lines from standard input and answers each on standard output.
 #![tactic(auto)]
@@ -6,14 +6,19 @@
 mod answer;
 mod fault;
 mod input;
+mod memory;
+mod number;
 mod output;
 mod request;
 mod service;
+mod string;
 #[cfg(test)]
 mod tests;
+mod value;
 mod word;
 
 pub use crate::fault::{Fault, fault_of_run};
+pub use crate::memory::{OutOfMemory, VecWriter};
 pub use crate::service::{ToolError, run};
 pub use crate::word::{bytes_of, word_of};
 use std::process::ExitCode;

@@ -2,6 +2,7 @@
 
 use crate::answer;
 use crate::input::Lines;
+use crate::memory::OutOfMemory;
 use crate::output::write_whole;
 use std::alloc::{AllocError, Global};
 use std::{fmt, io};
@@ -36,6 +37,17 @@ impl From<fmt::Error> for ToolError {
 
     /// An answer is made in memory, so that only memory can fail there.
     fn from(_refused: fmt::Error) -> ToolError {
+        ToolError::Memory
+    }
+}
+
+impl From<OutOfMemory> for ToolError {
+    ghost use Rattle.std.specs.Prelude.{◌≡◌};
+    ghost use Rattle.ciborium_ll_tool.specs.declared.service.ToolError.TheVariants.{Memory};
+
+    ghost from_gives = { λ _ error. error ≡ Memory };
+
+    fn from(_refused: OutOfMemory) -> ToolError {
         ToolError::Memory
     }
 }

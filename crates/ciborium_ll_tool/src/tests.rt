@@ -1,6 +1,8 @@
-use crate::{Fault, ToolError, bytes_of, fault_of_run, run, word_of};
+use crate::{Fault, OutOfMemory, ToolError, VecWriter, bytes_of, fault_of_run, run, word_of};
+use ciborium_ll::io::Write;
 use std::alloc::Global;
 use std::io;
+use std::process::Abort;
 use std::test::Fail;
 
 // What `run` writes for an input.
@@ -8,6 +10,15 @@ fn answers(alloc: Global, input: &[u8]) -> Result<Vec<u8>, ToolError> {
     let mut output = Vec::new(alloc);
     run(alloc, input, &mut output)?;
     Ok(output)
+}
+
+// Runs lines, and compares what is written.
+fn answer_as(rt: &impl Abort, alloc: Global, rows: &[(&str, &str)]) -> Result<(), Fail> {
+    for (line, want) in rows {
+        let output = answers(alloc, line.as_bytes())?;
+        assert_eq!(rt; output.as_slice(), want.as_bytes(), "at {line}");
+    }
+    Ok(())
 }
 
 #[test]
@@ -43,8 +54,111 @@ fn heads_of_each_kind(rt: HostRuntime) -> Result<(), Fail> {
 }
 
 #[test]
+fn byte_strings_in_chunks(rt: HostRuntime) -> Result<(), Fail> {
+    let rows = [
+        (
+            "chunks 2 43010203",
+            "segment 3\nchunk 0102\nchunk 03\nstop\nend 4\n",
+        ),
+        (
+            "chunks 1 5f5f4101ff4102ff",
+            "segment 1\nchunk 01\nstop\nsegment 1\nchunk 02\nstop\nend 8\n",
+        ),
+        ("chunks 4 5fff", "end 2\n"),
+        ("chunks 4 5f01", "syntax 1\n"),
+        ("chunks 4 40", "segment 0\nstop\nend 1\n"),
+        ("chunks 4 4301", "segment 3\nshort 1\n"),
+        ("chunks 1 4301", "segment 3\nchunk 01\nshort 2\n"),
+        ("chunks 0 4101", "segment 1\nchunk -\nstuck\n"),
+        ("chunks 4 00", "other\n"),
+        ("chunks 4 ff", "other\n"),
+        ("chunks 4 1f", "syntax 0\n"),
+        ("chunks 4 -", "short 0\n"),
+        ("chunks 4 1903", "short 1\n"),
+        (
+            "chunks 65536 5803010203",
+            "segment 3\nchunk 010203\nstop\nend 5\n",
+        ),
+    ];
+    answer_as(&rt, rt.alloc(), &rows)
+}
+
+#[test]
+fn text_strings_in_chunks(rt: HostRuntime) -> Result<(), Fail> {
+    let rows = [
+        (
+            "chunks 4 6661f09f988062",
+            "segment 6\nchunk 61\nchunk f09f9880\nchunk 62\nstop\nend 7\n",
+        ),
+        ("chunks 4 63eda080", "segment 3\nchunk -\nsyntax 0\n"),
+        ("chunks 4 64eda08061", "segment 4\nsyntax 0\n"),
+        ("chunks 4 780261ff", "segment 2\nchunk 61\nsyntax 1\n"),
+        ("chunks 4 7f62e28261acff", "segment 2\nchunk -\nsyntax 1\n"),
+        ("chunks 3 64f09f9880", "segment 4\nchunk -\nstuck\n"),
+        (
+            "chunks 7 6d48656c6c6f2c20576f726c6421",
+            "segment 13\nchunk 48656c6c6f2c20\nchunk 576f726c6421\nstop\nend 14\n",
+        ),
+    ];
+    answer_as(&rt, rt.alloc(), &rows)
+}
+
+#[test]
+fn values_in_segments(rt: HostRuntime) -> Result<(), Fail> {
+    let rows = [
+        ("bytes 2 0102030405", "5f4201024203044105ff\n"),
+        ("bytes * -", "40\n"),
+        ("bytes 0 010203", "5f410141024103ff\n"),
+        ("bytes 3 010203", "43010203\n"),
+        ("bytes 4294967295 0a", "410a\n"),
+        ("text 5 c3a9c3a9c3a9", "7f64c3a9c3a962c3a9ff\n"),
+        ("text 6 c3a9c3a9c3a9", "66c3a9c3a9c3a9\n"),
+        (
+            "text 4 61f09f9880f09f9880",
+            "7f616164f09f988064f09f9880ff\n",
+        ),
+        ("text 7 61f09f9880f09f9880", "7f6561f09f988064f09f9880ff\n"),
+        ("text 8 61f09f9880f09f9880", "7f6561f09f988064f09f9880ff\n"),
+        (
+            "text 4 61c3a9e282acf09f9880",
+            "7f6361c3a963e282ac64f09f9880ff\n",
+        ),
+        (
+            "text 0 61c3a9e282acf09f9880",
+            "7f6361c3a963e282ac64f09f9880ff\n",
+        ),
+        (
+            "text 7 61c3a9e282acf09f9880",
+            "7f6661c3a9e282ac64f09f9880ff\n",
+        ),
+        ("text * 61c3a9e282acf09f9880", "6a61c3a9e282acf09f9880\n"),
+        ("text 9 -", "60\n"),
+        ("text 4 e282", "error: text\n"),
+    ];
+    answer_as(&rt, rt.alloc(), &rows)
+}
+
+// Writes bytes, and passes them on.
+fn writes<W: Write>(writer: &mut W, data: &[u8]) -> Result<(), W::Error> {
+    writer.write_all(data)?;
+    writer.flush()
+}
+
+#[test]
+fn a_writer_in_memory(rt: HostRuntime) -> Result<(), Fail> {
+    let mut writer = VecWriter::new(rt.alloc());
+    writes(&mut writer, &[1, 2])?;
+    writes(&mut writer, &[])?;
+    writes(&mut writer, &[3])?;
+    assert_eq!(rt; writer.into_vec().as_slice(), [1, 2, 3].as_slice());
+    let refused = ToolError::from(OutOfMemory);
+    assert!(rt; matches!(refused, ToolError::Memory));
+    Ok(())
+}
+
+#[test]
 fn lines_that_are_no_request(rt: HostRuntime) -> Result<(), Fail> {
-    let lines: [&[u8]; 14] = [
+    let lines: [&[u8]; 27] = [
         b"",
         b" ",
         b"heads",
@@ -59,6 +173,19 @@ fn lines_that_are_no_request(rt: HostRuntime) -> Result<(), Fail> {
         b"heads -00",
         b"Heads 00",
         b"heads \xff",
+        b"chunks 4",
+        b"chunks 4 ",
+        b"chunks 4  00",
+        b"chunks  4 00",
+        b"chunks 01 00",
+        b"chunks +1 00",
+        b"chunks * 00",
+        b"chunks 65537 00",
+        b"bytes 4294967296 00",
+        b"bytes 00 00",
+        b"bytes ** 00",
+        b"text - 00",
+        b"text 4 0",
     ];
     for line in lines {
         let mut input = line.to_vec(rt.alloc())?;
@@ -258,23 +385,29 @@ fn a_flush_that_fails(rt: HostRuntime) -> Result<(), Fail> {
     Ok(())
 }
 
+const SCRIPT: &[u8] =
+    b"heads 00\nchunks 7 6d48656c6c6f2c20576f726c6421\nbytes 2 0102030405\ntext 4 61c3a9e282acf09f9880\nheads 0101\n";
+
+const SCRIPT_OUTPUT: &str =
+    "0 positive 0\nend 1\nsegment 13\nchunk 48656c6c6f2c20\nchunk 576f726c6421\nstop\nend 14\n5f4201024203044105ff\n7f6361c3a963e282ac64f09f9880ff\n0 positive 1\n1 positive 1\nend 2\n";
+
 // Holds too where an allocation is refused: the output is then cut at a line's end.
 #[test]
 fn whole_or_out_of_memory(rt: HostRuntime) -> Result<(), Fail> {
     let mut space = [0; 256];
     let mut room = space.as_mut_slice();
-    let outcome = run(rt.alloc(), INPUT, &mut room);
+    let outcome = run(rt.alloc(), SCRIPT, &mut room);
     let left = room.len();
     let length = 256usize.saturating_sub(left);
     let written = space.get(..length).unwrap_or(&[]);
     match outcome {
-        Ok(()) => assert_eq!(rt; written, OUTPUT.as_bytes()),
+        Ok(()) => assert_eq!(rt; written, SCRIPT_OUTPUT.as_bytes()),
         Err(error) => {
             assert!(rt; matches!(error, ToolError::Memory));
             let front = written
                 .strip_suffix(b"error: memory\n")
                 .ok_or("no last line")?;
-            assert!(rt; OUTPUT.as_bytes().starts_with(front));
+            assert!(rt; SCRIPT_OUTPUT.as_bytes().starts_with(front));
             assert!(rt; front.last().copied().unwrap_or(b'\n') == b'\n');
         }
     }

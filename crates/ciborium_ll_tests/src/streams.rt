@@ -1,0 +1,172 @@
+use crate::calls::{pulls, pushes, reads, writes};
+use ciborium_ll::io::{ReadFault, StdReader, StdWriter, Write, WriteFault};
+use ciborium_ll::{Decoder, Encoder, Header};
+use std::alloc::Global;
+use std::io;
+use std::test::Fail;
+
+// A reader that gives one byte a call, counts its calls, and is interrupted at one call.
+#[derive(Drop)]
+struct SlowReader<'a> {
+    left: &'a [u8],
+    calls: usize,
+    interrupted: Option<usize>,
+}
+
+impl io::Read for SlowReader<'_> {
+    fn read(&mut self, buf: &mut [u8]) -> io::Result<usize> {
+        let call = self.calls;
+        self.calls = call.saturating_add(1);
+        if self.interrupted == Some(call) {
+            return Err(io::Error::from(io::ErrorKind::Interrupted));
+        }
+        let Some((first, rest)) = self.left.split_first() else {
+            return Ok(0);
+        };
+        if buf.is_empty() {
+            return Ok(0);
+        }
+        buf[0] = *first;
+        self.left = rest;
+        Ok(1)
+    }
+}
+
+// A writer that takes one byte a call while it has room, counts its calls, and is interrupted at one call.
+#[derive(Drop)]
+struct SlowWriter {
+    taken: Vec<u8>,
+    room: usize,
+    calls: usize,
+    interrupted: Option<usize>,
+    flushes: usize,
+    flush_fails: bool,
+}
+
+impl SlowWriter {
+    fn new(alloc: Global, room: usize) -> SlowWriter {
+        SlowWriter {
+            taken: Vec::new(alloc),
+            room,
+            calls: 0,
+            interrupted: None,
+            flushes: 0,
+            flush_fails: false,
+        }
+    }
+}
+
+impl io::Write for SlowWriter {
+    fn write(&mut self, buf: &[u8]) -> io::Result<usize> {
+        let call = self.calls;
+        self.calls = call.saturating_add(1);
+        if self.interrupted == Some(call) {
+            return Err(io::Error::from(io::ErrorKind::Interrupted));
+        }
+        let Some(first) = buf.first() else {
+            return Ok(0);
+        };
+        if self.taken.len() >= self.room {
+            return Ok(0);
+        }
+        self.taken.push(*first)?;
+        Ok(1)
+    }
+
+    fn flush(&mut self) -> io::Result<()> {
+        self.flushes = self.flushes.saturating_add(1);
+        if self.flush_fails {
+            return Err(io::Error::from(io::ErrorKind::Other));
+        }
+        Ok(())
+    }
+}
+
+// Passes on what was written.
+fn flushes<W: Write>(writer: &mut W) -> Result<(), W::Error> {
+    writer.flush()
+}
+
+#[test]
+fn a_reader_in_memory(rt: HostRuntime) -> Result<(), Fail> {
+    let mut decoder = Decoder::from(StdReader::new([0x18, 24, 1, 2].as_slice()));
+    pulls(&rt, &mut decoder, Header::Positive(24), 2);
+    let mut one = [0; 1];
+    reads(&mut decoder, &mut one)?;
+    assert_eq!(rt; one, [1]);
+    let left = decoder.into_inner().into_inner();
+    assert_eq!(rt; left, [2].as_slice());
+    Ok(())
+}
+
+#[test]
+fn one_byte_a_read(rt: HostRuntime) -> Result<(), Fail> {
+    let inner = SlowReader {
+        left: &[1, 2, 3, 4],
+        calls: 0,
+        interrupted: Some(3),
+    };
+    let mut reader = StdReader::new(inner);
+    let mut two = [0; 2];
+    reads(&mut reader, &mut two)?;
+    assert_eq!(rt; two, [1, 2]);
+    reads(&mut reader, &mut [])?;
+    match reads(&mut reader, &mut two) {
+        Err(ReadFault::Failed(error)) => {
+            assert!(rt; error.kind() == io::ErrorKind::Interrupted);
+        }
+        _ => panic!(rt; "not interrupted"),
+    }
+    assert!(rt; matches!(reads(&mut reader, &mut two), Err(ReadFault::End)));
+    let inner = reader.into_inner();
+    assert_eq!(rt; inner.calls, 6);
+    assert!(rt; inner.left.is_empty());
+    Ok(())
+}
+
+#[test]
+fn a_writer_in_memory(rt: HostRuntime) -> Result<(), Fail> {
+    let mut encoder = Encoder::from(StdWriter::new(Vec::new(rt.alloc())));
+    pushes(&mut encoder, Header::Bytes(Some(2)))?;
+    writes(&mut encoder, &[1, 2])?;
+    let taken = encoder.into_inner().into_inner();
+    assert_eq!(rt; taken.as_slice(), [0x42, 1, 2].as_slice());
+    Ok(())
+}
+
+#[test]
+fn one_byte_a_write(rt: HostRuntime) -> Result<(), Fail> {
+    let mut inner = SlowWriter::new(rt.alloc(), 4);
+    inner.interrupted = Some(3);
+    let mut writer = StdWriter::new(inner);
+    writer.write_all(&[1, 2])?;
+    writer.write_all(&[])?;
+    match writer.write_all(&[3, 4]) {
+        Err(WriteFault::Failed(error)) => {
+            assert!(rt; error.kind() == io::ErrorKind::Interrupted);
+        }
+        _ => panic!(rt; "not interrupted"),
+    }
+    assert!(rt; matches!(writer.write_all(&[5, 6]), Err(WriteFault::Zero)));
+    let inner = writer.into_inner();
+    assert_eq!(rt; inner.taken.as_slice(), [1, 2, 3, 5].as_slice());
+    assert_eq!(rt; (inner.calls, inner.flushes), (6, 0));
+    Ok(())
+}
+
+#[test]
+fn a_flush_is_passed_on(rt: HostRuntime) -> Result<(), Fail> {
+    let mut writer = StdWriter::new(SlowWriter::new(rt.alloc(), 4));
+    flushes(&mut writer)?;
+    let mut inner = writer.into_inner();
+    assert_eq!(rt; (inner.calls, inner.flushes), (0, 1));
+
+    inner.flush_fails = true;
+    let mut writer = StdWriter::new(inner);
+    match flushes(&mut writer) {
+        Err(WriteFault::Failed(error)) => assert!(rt; error.kind() == io::ErrorKind::Other),
+        _ => panic!(rt; "not failed"),
+    }
+    assert_eq!(rt; writer.into_inner().flushes, 2);
+    Ok(())
+}

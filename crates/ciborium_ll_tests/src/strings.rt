@@ -1,0 +1,228 @@
+use crate::calls::pulls;
+use ciborium_ll::io::{Read, SliceReader};
+use ciborium_ll::{Bytes, Decoder, Error, Header, Text};
+use std::process::Abort;
+
+// What a call on a segment of text answers.
+#[derive(Clone, Copy)]
+enum Answer {
+    Chunk(&'static str),
+    Ended,
+    Syntax(usize),
+}
+
+// Reads the only segment of a text by buffers of these sizes, and compares answers and what is left.
+fn reads_text<R: Read>(
+    rt: &impl Abort,
+    decoder: &mut Decoder<R>,
+    length: usize,
+    steps: &[(usize, Answer, usize)],
+)
+where
+    R::Error: Drop,
+{
+    assert!(rt; !decoder.is_waiting());
+    assert!(rt; Header::Text(Some(length)).title_len() <= decoder.offset());
+    let mut segments = decoder.text(Some(length));
+    let found = match segments.pull() {
+        Ok(found) => found,
+        Err(_) => panic!(rt; "no segment"),
+    };
+    let Some(mut segment) = found else {
+        panic!(rt; "no segment");
+    };
+    assert_eq!(rt; segment.left(), length);
+    for (size, want, left) in steps {
+        let mut space = [0; 8];
+        let size = (*size).min(8);
+        let is_right = match segment.pull(&mut space[..size]) {
+            Ok(Some(chunk)) => matches!(*want, Answer::Chunk(text) if text == chunk),
+            Ok(None) => matches!(*want, Answer::Ended),
+            Err(Error::Syntax(place)) => matches!(*want, Answer::Syntax(at) if at == place),
+            Err(_) => false,
+        };
+        assert!(rt; is_right, "by a buffer of {size}");
+        assert_eq!(rt; segment.left(), *left);
+    }
+}
+
+// Pulls a text's header, and reads it as `reads_text` does.
+fn text_row(rt: &impl Abort, bytes: &[u8], length: usize, steps: &[(usize, Answer, usize)]) {
+    let mut decoder = Decoder::from(SliceReader::new(bytes));
+    pulls(rt, &mut decoder, Header::Text(Some(length)), 1);
+    reads_text(rt, &mut decoder, length, steps);
+}
+
+#[test]
+fn a_text_in_two_chunks(rt: HostRuntime) {
+    let bytes = b"\x6dHello, World!";
+    let steps = [
+        (7, Answer::Chunk("Hello, "), 6),
+        (7, Answer::Chunk("World!"), 0),
+        (7, Answer::Ended, 0),
+        (7, Answer::Ended, 0),
+    ];
+    text_row(&rt, bytes, 13, &steps);
+}
+
+#[test]
+fn a_damage_comes_late_or_at_once(rt: HostRuntime) {
+    let late = [
+        (4, Answer::Chunk("a"), 1),
+        (4, Answer::Syntax(0), 0),
+        (4, Answer::Syntax(0), 0),
+    ];
+    text_row(&rt, b"\x62a\xff", 2, &late);
+    let at_once = [(8, Answer::Syntax(0), 0), (8, Answer::Syntax(0), 0)];
+    text_row(&rt, b"\x65a\xffbcd", 5, &at_once);
+}
+
+#[test]
+fn a_character_waits_for_room(rt: HostRuntime) {
+    let steps = [
+        (3, Answer::Chunk(""), 4),
+        (3, Answer::Chunk(""), 4),
+        (4, Answer::Chunk("\u{1f600}"), 0),
+        (4, Answer::Ended, 0),
+    ];
+    text_row(&rt, b"\x64\xf0\x9f\x98\x80", 4, &steps);
+}
+
+// Asks for the segments of a byte string, and drops them.
+fn asks_for_segments<R: Read>(rt: &impl Abort, decoder: &mut Decoder<R>, length: Option<usize>) {
+    assert!(rt; !decoder.is_waiting());
+    assert!(rt; Header::Bytes(length).title_len() <= decoder.offset());
+    let _segments = decoder.bytes(length);
+}
+
+#[test]
+fn segments_that_are_never_asked_for(rt: HostRuntime) {
+    let mut decoder = Decoder::from(SliceReader::new(&[0x58, 5, 1, 2, 3, 4, 5]));
+    pulls(&rt, &mut decoder, Header::Bytes(Some(5)), 2);
+    asks_for_segments(&rt, &mut decoder, Some(5));
+    assert_eq!(rt; decoder.offset(), 1);
+    assert!(rt; decoder.is_waiting());
+    pulls(&rt, &mut decoder, Header::Bytes(Some(5)), 2);
+}
+
+// Reads segments of bytes by a buffer of one byte, and then twice the string's end.
+fn reads_bodies<R: Read>(rt: &impl Abort, decoder: &mut Decoder<R>, bodies: &[&[u8]])
+where
+    R::Error: Drop,
+{
+    assert!(rt; !decoder.is_waiting());
+    assert!(rt; Header::Bytes(None).title_len() <= decoder.offset());
+    let mut segments = decoder.bytes(None);
+    for body in bodies {
+        let found = match segments.pull() {
+            Ok(found) => found,
+            Err(_) => panic!(rt; "no segment"),
+        };
+        let Some(mut segment) = found else {
+            panic!(rt; "no segment");
+        };
+        assert_eq!(rt; segment.left(), body.len());
+        for byte in *body {
+            let mut one = [0; 1];
+            let is_right = match segment.pull(&mut one) {
+                Ok(Some(chunk)) => chunk == [*byte].as_slice(),
+                _ => false,
+            };
+            assert!(rt; is_right, "at {byte}");
+        }
+        assert!(rt; matches!(segment.pull(&mut [0; 1]), Ok(None)));
+    }
+    for _ in 0..2 {
+        assert!(rt; matches!(segments.advance(), Ok(None)));
+    }
+}
+
+#[test]
+fn bodies_of_nested_strings(rt: HostRuntime) {
+    let bytes = [0x5f, 0x5f, 0x41, 1, 0xff, 0x41, 2, 0xff, 0];
+    let mut decoder = Decoder::from(SliceReader::new(&bytes));
+    pulls(&rt, &mut decoder, Header::Bytes(None), 1);
+    reads_bodies(&rt, &mut decoder, &[&[1], &[2]]);
+    assert_eq!(rt; decoder.offset(), 8);
+    assert_eq!(rt; decoder.into_inner().left(), [0].as_slice());
+}
+
+// Drops so many segments that have three bytes, and then finds twice a title that may not stand there.
+fn finds_no_segment<R: Read>(
+    rt: &impl Abort,
+    decoder: &mut Decoder<R>,
+    dropped: usize,
+    place: usize,
+)
+where
+    R::Error: Drop,
+{
+    assert!(rt; !decoder.is_waiting());
+    assert!(rt; Header::Bytes(None).title_len() <= decoder.offset());
+    let mut segments = decoder.bytes(None);
+    for _ in 0..dropped {
+        let found = match segments.pull() {
+            Ok(found) => found,
+            Err(_) => panic!(rt; "no segment"),
+        };
+        let Some(segment) = found else {
+            panic!(rt; "no segment");
+        };
+        assert_eq!(rt; segment.left(), 3);
+    }
+    for _ in 0..2 {
+        let is_right = match segments.pull() {
+            Err(Error::Syntax(at)) => at == place,
+            _ => false,
+        };
+        assert!(rt; is_right);
+    }
+}
+
+#[test]
+fn a_title_that_may_not_stand_in_a_string(rt: HostRuntime) {
+    let mut decoder = Decoder::from(SliceReader::new(&[0x5f, 1]));
+    pulls(&rt, &mut decoder, Header::Bytes(None), 1);
+    finds_no_segment(&rt, &mut decoder, 0, 1);
+    assert_eq!(rt; decoder.offset(), 2);
+
+    // A segment that is dropped early leaves its body, which is then read as a title.
+    let mut decoder = Decoder::from(SliceReader::new(&[0x5f, 0x43, 1, 2, 3, 0xff]));
+    pulls(&rt, &mut decoder, Header::Bytes(None), 1);
+    finds_no_segment(&rt, &mut decoder, 1, 2);
+}
+
+// Goes on to the first body of an open text, and reads it in one chunk.
+fn reads_body<R: Read>(rt: &impl Abort, decoder: &mut Decoder<R>, place: usize, want: &str)
+where
+    R::Error: Drop,
+{
+    assert!(rt; !decoder.is_waiting());
+    assert!(rt; Header::Text(None).title_len() <= decoder.offset());
+    let mut segments = decoder.text(None);
+    let Ok(Some(body)) = segments.advance() else {
+        panic!(rt; "no body");
+    };
+    assert_eq!(rt; (body.length, body.place), (want.len(), place));
+    let mut segment = segments.segment(body);
+    let is_right = match segment.pull(&mut [0; 8]) {
+        Ok(Some(chunk)) => chunk == want,
+        _ => false,
+    };
+    assert!(rt; is_right);
+    assert_eq!(rt; segment.left(), 0);
+}
+
+#[test]
+fn a_body_by_length_and_place(rt: HostRuntime) {
+    let mut decoder = Decoder::from(SliceReader::new(b"\x7f\x7f\x62\xc3\xa9\xff\xff"));
+    pulls(&rt, &mut decoder, Header::Text(None), 1);
+    reads_body(&rt, &mut decoder, 2, "\u{e9}");
+    assert_eq!(rt; decoder.offset(), 5);
+}
+
+#[test]
+fn kinds_of_strings() {
+    let _bytes = Bytes::default();
+    let _text = Text::default();
+}

@@ -1,0 +1,17 @@
+use Rattle.ciborium_ll_tool.proofs.RequestLaws.{none_of_bytes, none_of_chunks, none_of_text}
+use Rattle.ciborium_ll_tool.proofs.request.Request.named.Goals as goal
+
+pub returns-in_ok-parse-in-chunks-clause-none : goal.returns-in_ok-parse-in-chunks-clause-none
+returns-in_ok-parse-in-chunks-clause-none c =
+    none_of_chunks c.args.name.now c.args.words.now c.in_ok-parse-in-chunks.field-0 c.map-in-chunks.result _
+    c.map-in-chunks.ensures.cases c.in_ok-parse-in-chunks.ensures.none c.in-chunks.is
+
+pub returns-in_ok-parse-in-bytes-clause-none : goal.returns-in_ok-parse-in-bytes-clause-none
+returns-in_ok-parse-in-bytes-clause-none c =
+    none_of_bytes c.args.name.now c.args.words.now c.in_ok-parse-in-bytes.field-0 c.map-in-bytes.result _
+    c.map-in-bytes.ensures.cases c.in_ok-parse-in-bytes.ensures.none c.in-bytes.is
+
+pub returns-in_ok-parse-in-text-clause-none : goal.returns-in_ok-parse-in-text-clause-none
+returns-in_ok-parse-in-text-clause-none c =
+    none_of_text c.args.name.now c.args.words.now c.in_ok-parse-in-text.field-0 c.map-in-text.result _
+    c.map-in-text.ensures.cases c.in_ok-parse-in-text.ensures.none c.in-text.is

@@ -1,0 +1,27 @@
+-- Numbers as words of a line.
+use Rattle.std.specs.Prelude.{◌≡◌, ◌≤◌, ℕ, List, length, codes, slice_index, Option, Some, None}
+use Rattle.std.specs.Str.Parse.{IsNumeral, digits_value}
+
+-- the greatest number of a line
+abbrev pub most_number : ℕ
+most_number = 4294967295
+
+-- the greatest size of a buffer
+abbrev pub most_size : ℕ
+most_size = 65536
+
+-- the word has digits alone, of which the first is a zero only where it is the only one, and the number is their value
+pub record IsNumber (word : List ℕ) (n : ℕ) : Type 0 where
+  pub numeral : IsNumeral 10 word
+  pub shortest : slice_index word 0 ≡ 48 → length word ≡ 1
+  pub value : n ≡ digits_value 10 word
+  pub most : n ≤ most_number
+
+-- the word is the size of a buffer
+abbrev pub IsSize : List ℕ → ℕ → Type 0
+IsSize word size = IsNumber word size × (size ≤ most_size)
+
+-- the word is a limit: a number, or `*` for none
+abbrev pub IsLimit : List ℕ → Option ℕ → Type 0
+IsLimit word None = word ≡ codes "*"
+IsLimit word (Some limit) = IsNumber word limit

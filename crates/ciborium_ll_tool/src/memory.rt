@@ -1,0 +1,76 @@
+//! A writer in memory.
+
+ghost use Rattle.std.specs.Prelude.{◌≡◌, ◌+◌, ◌<◌, [], Some, None, OnOk, OnErr, length, vec_capacity, vec_len};
+ghost use Rattle.std.specs.Io.KnownBytes.{Appends};
+ghost use Rattle.ciborium_ll.specs.Transfer.{AppendsFront};
+
+use ciborium_ll::io::{Failures, Write};
+use std::alloc::Global;
+
+/// A growth of the memory was refused. Nothing was written.
+#[derive(Debug, Drop)]
+pub struct OutOfMemory;
+
+/// Writes to the end of a `Vec`. It tells what it wrote, and no room.
+#[derive(Drop)]
+pub struct VecWriter {
+    bytes: Vec<u8>,
+    failures: Failures,
+}
+
+impl VecWriter {
+    /// A writer that has written nothing. It takes no memory yet.
+    pub fn new(alloc: Global) -> VecWriter
+        ensures written { ⟦<VecWriter as Write>⟧.written result ≡ Some [] }
+        ensures failures { ⟦<VecWriter as Write>⟧.failures result ≡ 0 }
+    {
+        VecWriter {
+            bytes: Vec::new(alloc),
+            failures: Failures::new(),
+        }
+    }
+
+    /// The bytes that were written.
+    pub fn into_vec(self) -> Vec<u8>
+        ensures { ⟦<VecWriter as Write>⟧.written self ≡ Some result.items }
+    {
+        self.bytes
+    }
+}
+
+impl Write for VecWriter {
+    type Error = OutOfMemory;
+
+    ghost written = { λ w. Some w.bytes.items };
+
+    ghost room = { λ _. None };
+
+    ghost failures = { λ w. w.failures.count };
+
+    /// Appends the whole of `data`.
+    ///
+    /// The error comes only where a growth was refused. Nothing was then written.
+    fn write_all(&mut self, data: &[u8]) -> Result<(), OutOfMemory>
+        // The trait's.
+        ensures bytes { OnOk result (Appends (Some self.old.bytes.items) (Some self.new.bytes.items) «data».now) }
+        ensures front { OnErr result (AppendsFront (Some self.old.bytes.items) (Some self.new.bytes.items) None None «data».now) }
+        ensures ok { OnOk result (self.new.failures.count ≡ self.old.failures.count) }
+        ensures err { OnErr result (self.new.failures.count ≡ self.old.failures.count + 1) }
+
+        // The writer's own.
+        ensures nothing { OnErr result (self.new.bytes.items ≡ self.old.bytes.items) }
+        ensures full { OnErr result (vec_capacity self.old.bytes < vec_len self.old.bytes + length «data».now) }
+    {
+        match self.bytes.extend_from_slice(data) {
+            Ok(()) => Ok(()),
+            Err(_) => {
+                self.failures.raise();
+                Err(OutOfMemory)
+            }
+        }
+    }
+
+    fn flush(&mut self) -> Result<(), OutOfMemory> {
+        Ok(())
+    }
+}
