@@ -1,5 +1,5 @@
 -- How the titles of a string lead on, one after the other.
-use Rattle.std.proofs.Common.{◌≡◌, ℕ, suc, ◌+◌, ◌-◌, ◌<◌, ◌⊎◌, List, ◌++◌, length, Option, Some, None, Result, Ok, Err, refl, ap, subst, ◌∙◌, inl, inr, arith, add-one}
+use Rattle.std.proofs.Common.{◌≡◌, ℕ, suc, ◌-◌, ◌<◌, ◌⊎◌, List, ◌++◌, Option, None, Result, Ok, Err, refl, ap, subst, ◌∙◌, inl, inr, arith, add-one}
 use Rattle.ciborium_ll.specs.declared.io.Read.{Ghosts}
 use Rattle.ciborium_ll.specs.declared.dec.Decoder.{Decoder}
 use Rattle.ciborium_ll.specs.declared.dec.Error.{Error}
@@ -9,7 +9,7 @@ use Rattle.ciborium_ll.specs.declared.seg.Progress.{Progress}
 use Rattle.ciborium_ll.specs.declared.seg.Progress.TheVariants as p
 use Rattle.ciborium_ll.specs.Strings.{Kind}
 use Rattle.ciborium_ll.specs.Decoding.{IsSteady, Passes}
-use Rattle.ciborium_ll.specs.Segments.{Nests, in_place, deeper, back, AdvancesFrom, AdvancesTo, EndsAdvance, StepsOver, ClosesString, Deepens, ClosesInner}
+use Rattle.ciborium_ll.specs.Segments.{Nests, in_place, deeper, back, AdvancesFrom, AdvancesTo, EndsAdvance, StepsOver, Deepens, ClosesInner}
 use Rattle.ciborium_ll.proofs.DecodingLaws.{Passes-none, Passes-pull}
 
 two_or_more : (n : ℕ) → 1 < n → (m : ℕ) × (n ≡ suc (suc m))

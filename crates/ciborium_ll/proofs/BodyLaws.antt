@@ -1,6 +1,5 @@
 -- The copy of a body, chunk by chunk.
-use Rattle.std.proofs.Common.{◌≡◌, ℕ, ◌+◌, ◌-◌, ◌<◌, ◌≤◌, ◌⊎◌, min, true, false, List, [], ◌∷◌, ◌++◌, length, Option, Some, None, IfSome, Ok, Err, refl, sym, ap, subst, ◌∙◌, inl, inr, arith, append_assoc, append-nil, length-append}
-use Rattle.std.specs.Io.KnownBytes.{Consumes}
+use Rattle.std.proofs.Common.{◌≡◌, ℕ, ◌+◌, ◌<◌, ◌≤◌, ◌⊎◌, false, List, [], ◌++◌, length, Option, Some, None, IfSome, Ok, Err, refl, sym, ap, subst, ◌∙◌, inl, inr, arith, append_assoc, append-nil, length-append}
 use Rattle.std.proofs.KnownBytes.{Consumes-trans, Appends-nil}
 use Rattle.ciborium_ll.specs.declared.io.Read.{Ghosts as Reader}
 use Rattle.ciborium_ll.specs.declared.io.Write.{Ghosts as Writer}
@@ -19,12 +18,12 @@ use Rattle.ciborium_ll.specs.Strings.{Kind, Bytes, Text}
 use Rattle.ciborium_ll.specs.Text.{IsCharacters, IsFront}
 use Rattle.ciborium_ll.specs.Faults.{IsWritable, BeginsNoText, most_kept}
 use Rattle.ciborium_ll.specs.Kept.{IsStuck, kept_bytes}
-use Rattle.ciborium_ll.specs.Decoding.{Begins, behind_waiting, view, IsSteady, Passes, ReadsAll}
+use Rattle.ciborium_ll.specs.Decoding.{Begins, behind_waiting, IsSteady, Passes, ReadsAll}
 use Rattle.ciborium_ll.specs.Encoding.{WritesAll, WritesFront}
 use Rattle.ciborium_ll.specs.Chunks.{IsSplit, IsWhole, SegmentEnds, GivesChunk, FindsDamage, EndsInCharacter, KeepsTooMuch, ChunkFails, ChunkPasses, PullsChunk, read_count}
-use Rattle.ciborium_ll.specs.Recoding.{IsNoText, CopiesWhole, CopiesPart, BodyFails, BodyPasses, BodyDamaged, BodyUnwritten, CopiesBody}
+use Rattle.ciborium_ll.specs.Recoding.{CopiesWhole, CopiesPart, BodyFails, BodyPasses, BodyDamaged, BodyUnwritten, CopiesBody}
 use Rattle.ciborium_ll.proofs.TextLaws.{IsCharacters-append, IsCharacters-rest, IsCharacters-nil, no_text_begins}
-use Rattle.ciborium_ll.proofs.DecodingLaws.{IfSome-at, Passes-none}
+use Rattle.ciborium_ll.proofs.DecodingLaws.{Passes-none}
 use Rattle.ciborium_ll.proofs.EncodingLaws.{WritesBytes-then}
 use Rattle.ciborium_ll.proofs.CopyingLaws.{Shrinks-zero}
 

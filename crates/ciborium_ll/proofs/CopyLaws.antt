@@ -1,5 +1,5 @@
 -- The copy of one element, by its parts.
-use Rattle.std.proofs.Common.{◌≡◌, ℕ, suc, ◌+◌, ◌<◌, ◌≤◌, List, [], ◌∷◌, ◌++◌, length, Some, None, Result, Ok, Err, refl, sym, ap, subst, ◌∙◌, inl, inr, arith, append_assoc, append-nil}
+use Rattle.std.proofs.Common.{◌≡◌, ℕ, suc, ◌+◌, ◌<◌, ◌≤◌, List, [], ◌∷◌, ◌++◌, None, Result, Ok, Err, refl, sym, subst, inl, inr, arith, append_assoc, append-nil}
 use Rattle.ciborium_ll.specs.declared.io.Read.{Ghosts as Reader}
 use Rattle.ciborium_ll.specs.declared.io.Write.{Ghosts as Writer}
 use Rattle.ciborium_ll.specs.declared.hdr.Header.{Header}
@@ -10,12 +10,12 @@ use Rattle.ciborium_ll.specs.declared.dec.Error.TheVariants as e
 use Rattle.ciborium_ll.specs.declared.recode.RecodeError.{RecodeError}
 use Rattle.ciborium_ll.specs.declared.recode.RecodeError.TheVariants as r
 use Rattle.ciborium_ll.specs.Title.{IsTitle, shortest_title, title_len}
-use Rattle.ciborium_ll.specs.Strings.{Kind, Bytes, Text, kind_header, none}
-use Rattle.ciborium_ll.specs.Elements.{IsSound, IsPlain, Mark, Plain, Open, Close, spelling, pieces, open_marks, plain, IsRun, done}
+use Rattle.ciborium_ll.specs.Strings.{Kind, kind_header, none}
+use Rattle.ciborium_ll.specs.Elements.{IsPlain, Mark, Plain, Open, Close, spelling, pieces, open_marks, plain, IsRun, done}
 use Rattle.ciborium_ll.specs.Faults.{Due, In, Reaches, due, inside, opened}
 use Rattle.ciborium_ll.specs.Decoding.{Passes, IsSteady, PullsHeader, PullsTitle}
 use Rattle.ciborium_ll.specs.Encoding.{WritesAll, WritesFront}
-use Rattle.ciborium_ll.specs.Recoding.{WritesHeader, Copied, CopiesRun, StopsWriting, StopsCopy, IsBehind, AddsElement, GoesOn, IsWithin, ReadsString}
+use Rattle.ciborium_ll.specs.Recoding.{WritesHeader, CopiesRun, StopsWriting, StopsCopy, IsBehind, AddsElement, GoesOn, IsWithin, ReadsString}
 use Rattle.ciborium_ll.proofs.TitleLaws.{shortest_no_longer}
 use Rattle.ciborium_ll.proofs.StepLaws.{add_element}
 use Rattle.ciborium_ll.proofs.DecodingLaws.{Passes-none, Passes-pull}
@@ -48,17 +48,32 @@ module _ {R E W F : Type 0} (source : Reader R E) (sink : Writer W F) where
     pub pull_stops : (room : ℕ) (new : Decoder R) (error : Error E) → IsBehind source sink count before [] old writer now writer' → PullsHeader source now (Err error) new
         → StopsCopy source sink count room old writer (r.Read error) new writer'
     pull_stops room new (e.Io fault) behind fails = inl (record {
-      bytes = behind.bytes; marks = behind.marks; place = Due; reaches = due behind.due behind.run; at_title = tt; between = now;
+      bytes = behind.bytes;
+      marks = behind.marks;
+      place = Due;
+      reaches = due behind.due behind.run;
+      at_title = tt;
+      between = now;
       copied = record { passed = subst (λ (z : List ℕ). Passes source old z now) (append-nil behind.bytes) behind.passed; written = behind.written };
       fails = fails;
     })
     pull_stops room new (e.Syntax at) behind fails = inl (record {
-      bytes = behind.bytes; marks = behind.marks; place = Due; reaches = due behind.due behind.run; at_title = tt; between = now;
+      bytes = behind.bytes;
+      marks = behind.marks;
+      place = Due;
+      reaches = due behind.due behind.run;
+      at_title = tt;
+      between = now;
       copied = record { passed = subst (λ (z : List ℕ). Passes source old z now) (append-nil behind.bytes) behind.passed; written = behind.written };
       fails = fails;
     })
     pull_stops room new e.TooLong behind fails = inl (record {
-      bytes = behind.bytes; marks = behind.marks; place = Due; reaches = due behind.due behind.run; at_title = tt; between = now;
+      bytes = behind.bytes;
+      marks = behind.marks;
+      place = Due;
+      reaches = due behind.due behind.run;
+      at_title = tt;
+      between = now;
       copied = record { passed = subst (λ (z : List ℕ). Passes source old z now) (append-nil behind.bytes) behind.passed; written = behind.written };
       fails = fails;
     })
@@ -138,7 +153,7 @@ module _ {R E W F : Type 0} (source : Reader R E) (sink : Writer W F) where
     unclosed k new fault less string stopped =
         element_unwritten source sink count 0 old writer before (string.bytes ++ string.element) (string.marks ++ Open k ∷ pieces k string.bodies) (Close ∷ []) now writer' new fault less
         (subst (λ (z : List Mark). IsRun (suc before) (string.bytes ++ string.element) z) (sym (close_marks k string.marks string.bodies))
-            (add_element before string.bytes string.marks string.run string.element (open_marks k string.bodies) string.is_element))
+        (add_element before string.bytes string.marks string.run string.element (open_marks k string.bodies) string.is_element))
         string.passed string.written stopped
 
     pub close_goes_on : (room : ℕ) (k : Kind) (result : Result (Unit {0}) (RecodeError E F)) (new : W) → before < count → ReadsString source sink before k old writer now writer'

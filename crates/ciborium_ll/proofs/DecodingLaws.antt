@@ -131,7 +131,7 @@ module _ {R E : Type 0} (source : Ghosts R E) where
     offset = omega (arith, first.offset, second.offset, length-append bytes more);
     waiting = waiting_then old between new bytes more first.waiting second.waiting;
     waited = waited_then old between new bytes more old.waiting refl first.waited
-    (λ same. length_zero bytes (let moved = ap (λ d. d.offset) same in omega (arith, moved, first.offset))) second.waited;
+        (λ same. length_zero bytes (let moved = ap (λ d. d.offset) same in omega (arith, moved, first.offset))) second.waited;
     failures = cc (first.failures, second.failures);
     steady = λ s. second.steady (first.steady s);
   }

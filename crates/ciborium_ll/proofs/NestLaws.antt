@@ -1,6 +1,6 @@
 -- Opens and breaks in a row, and the first title of a string.
 use Rattle.std.specs.Prelude.{is_none}
-use Rattle.std.proofs.Common.{◌≡◌, ℕ, suc, ◌+◌, ◌^◌, ◌<◌, Bool, true, false, ◌⊎◌, List, [], ◌∷◌, ◌++◌, length, Option, Some, None, IfSome, IsTrue, Result, Ok, Err, refl, sym, ap, subst, ◌∙◌, inl, inr, arith, append_assoc, append-nil, length-append}
+use Rattle.std.proofs.Common.{◌≡◌, ℕ, suc, ◌+◌, ◌^◌, ◌<◌, Bool, true, false, ◌⊎◌, List, [], ◌++◌, length, Option, Some, None, IfSome, IsTrue, Result, Ok, Err, refl, sym, ap, subst, ◌∙◌, inl, inr, arith, append_assoc, append-nil, length-append}
 use Rattle.std.specs.Io.KnownBytes.{Consumes, prepend_known}
 use Rattle.ciborium_ll.specs.declared.io.Read.{Ghosts}
 use Rattle.ciborium_ll.specs.declared.hdr.Header.{Header}
@@ -11,10 +11,10 @@ use Rattle.ciborium_ll.specs.declared.dec.Error.TheVariants as e
 use Rattle.ciborium_ll.specs.declared.seg.Body.{Body}
 use Rattle.ciborium_ll.specs.declared.seg.Progress.{Progress}
 use Rattle.ciborium_ll.specs.declared.seg.Progress.TheVariants as p
-use Rattle.ciborium_ll.specs.Title.{Major, Unsigned, Negative, ByteString, TextString, Array, Map, Tag, Other, Size, Small, One, Two, Four, Eight, IsTitle, numbered, alone, numbered_header, open_header, shortest_title, title_len, IsInRange}
+use Rattle.ciborium_ll.specs.Title.{Major, Unsigned, Negative, ByteString, TextString, Array, Map, Tag, Other, Size, Small, One, Two, Four, Eight, IsTitle, numbered, alone, numbered_header, shortest_title, title_len, IsInRange}
 use Rattle.ciborium_ll.specs.Strings.{Kind, Bytes, Text, kind_header}
 use Rattle.ciborium_ll.specs.Steps.{IsInsideAt}
-use Rattle.ciborium_ll.specs.Decoding.{Begins, view, Passes, PullsTitle, TakesBack}
+use Rattle.ciborium_ll.specs.Decoding.{Begins, view, Passes, TakesBack}
 use Rattle.ciborium_ll.specs.Segments.{Nests, in_place, deeper, back, IsMisplacedAt, EndsAdvance, AdvancesFrom}
 use Rattle.ciborium_ll.proofs.Lists.{same_front}
 use Rattle.ciborium_ll.proofs.TitleLaws.{one_title, shortest_or_longer, IsTitle-shortest, title_in_range}

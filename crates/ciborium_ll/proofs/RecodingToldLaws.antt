@@ -1,20 +1,19 @@
 -- What a copy of elements means where the bytes are told: the premises turn the general statement into an exact one.
-use Rattle.std.proofs.Common.{◌≡◌, ℕ, suc, ◌+◌, ◌-◌, ◌^◌, ◌<◌, ◌≤◌, ◌⊎◌, List, [], ◌∷◌, ◌++◌, length, take, drop, min, Option, Some, None, Result, Ok, Err, IsOk, ◌↔◌, refl, sym, ap, subst, ◌∙◌, inl, inr, arith, append_assoc, append-nil, length-append}
-use Rattle.std.proofs.lemmas.List.{length-take, length-drop, take-append-drop}
+use Rattle.std.proofs.Common.{◌≡◌, ℕ, ◌+◌, ◌-◌, ◌^◌, ◌<◌, ◌≤◌, List, [], ◌∷◌, ◌++◌, length, take, drop, min, Some, None, Result, Ok, Err, IsOk, ◌↔◌, refl, sym, ap, subst, ◌∙◌, inl, inr, arith, append_assoc, length-append}
+use Rattle.std.proofs.lemmas.List.{length-take}
 use Rattle.std.proofs.Math.Seq.{take-append_seam, take-append-add, drop-append_seam}
 use Rattle.std.proofs.lemmas.Bool.{cases_lt}
 use Rattle.ciborium_ll.specs.declared.io.Read.{Ghosts as Reader}
 use Rattle.ciborium_ll.specs.declared.io.Write.{Ghosts as Writer}
 use Rattle.ciborium_ll.specs.declared.dec.Decoder.{Decoder}
-use Rattle.ciborium_ll.specs.declared.dec.Error.{Error}
 use Rattle.ciborium_ll.specs.declared.dec.Error.TheVariants as e
 use Rattle.ciborium_ll.specs.declared.recode.RecodeError.{RecodeError}
 use Rattle.ciborium_ll.specs.declared.recode.RecodeError.TheVariants as r
-use Rattle.ciborium_ll.specs.Title.{IsTitle, shortest_title, title_len, BeginsRefused}
-use Rattle.ciborium_ll.specs.Strings.{Kind, Bytes, Text, kind_header}
+use Rattle.ciborium_ll.specs.Title.{shortest_title, title_len, BeginsRefused}
+use Rattle.ciborium_ll.specs.Strings.{Kind, Text, kind_header}
 use Rattle.ciborium_ll.specs.Text.{IsCharacters}
-use Rattle.ciborium_ll.specs.Elements.{Mark, Open, pieces, spelling, IsRun}
-use Rattle.ciborium_ll.specs.Faults.{Place, Due, In, Body, IsInside, opened, deeper, Reaches, due, inside, body, body_inside, Answer, Short, Syntax, CutTitle, NoTitle, OtherTitle, DamagedText, CutBody, CutDamagedText, BeginsNoText, RunInFront, HasFault}
+use Rattle.ciborium_ll.specs.Elements.{Mark, Open, pieces, spelling}
+use Rattle.ciborium_ll.specs.Faults.{Place, Due, In, Body, IsInside, opened, deeper, Reaches, due, inside, body, body_inside, Short, Syntax, CutTitle, NoTitle, OtherTitle, DamagedText, CutBody, CutDamagedText, BeginsNoText, RunInFront, HasFault}
 use Rattle.ciborium_ll.specs.Decoding.{view, next_read}
 use Rattle.ciborium_ll.specs.Encoding.{WritesAll}
 use Rattle.ciborium_ll.specs.Recoding.{IsUnderWay, IsNoText, Copied, CopiesRun, CopiesAll, CopiesElements, StopsAtTitle, StopsAtOther, StopsTooDeep, StopsInBody, StopsWriting}
@@ -47,8 +46,15 @@ reach_shorter count bytes marks place (due {before = j} less run) = let again = 
 reach_shorter count bytes marks place (inside {before = j} {bytes = u} {opens = v} {marks = ms} {bodies = bs} {kind = k} less run i s) =
     let again = run_again j u ms run in
     let spelled = ap length (spelling-append ms (Open k ∷ pieces k bs)) in
-    omega (arith, again.shorter, inside_shorter k v bs i, spelled, length-append (spelling ms) (shortest_title (kind_header k None) ++ spelling (pieces k bs)),
-        length-append (shortest_title (kind_header k None)) (spelling (pieces k bs)), length-append u v)
+    omega (
+      arith,
+      again.shorter,
+      inside_shorter k v bs i,
+      spelled,
+      length-append (spelling ms) (shortest_title (kind_header k None) ++ spelling (pieces k bs)),
+      length-append (shortest_title (kind_header k None)) (spelling (pieces k bs)),
+      length-append u v,
+    )
 reach_shorter count bytes marks place (body {bytes = u} {title = t} {len = l} k reach p) =
     omega (arith, reach_shorter count u marks Due reach, shortest_no_longer t (kind_header k (Some l)) p, length-append u t)
 reach_shorter count bytes marks place (body_inside {bytes = u} {title = t} {len = l} {kind = k} reach p) =
@@ -66,8 +72,16 @@ way_shorter count bytes marks (In k) more read reach way =
 way_shorter count bytes marks (Body k len start) more read reach way =
     let parts = ap length way.1 in
     let front = ap length way.2.1 in
-    omega (arith, parts, front, reach_shorter count bytes marks (Body k len start) reach, length-append (spelling marks) more, length-append bytes read,
-        length-append (shortest_title (kind_header k (Some len))) way.0, length-append way.0 way.2.0)
+    omega (
+      arith,
+      parts,
+      front,
+      reach_shorter count bytes marks (Body k len start) reach,
+      length-append (spelling marks) more,
+      length-append bytes read,
+      length-append (shortest_title (kind_header k (Some len))) way.0,
+      length-append way.0 way.2.0,
+    )
 
 -- ---- lists
 
@@ -125,8 +139,16 @@ module _ {R E W F : Type 0} (source : Reader R E) (sink : Writer W F) (count roo
       let ends = rw c.left at cut.1 in
       record {
         fault = record {
-          before = stops.bytes; marks = stops.marks; place = stops.place; ahead = c.rest; answer = Short; written = spelling stops.marks; consumed = min 1 (length c.rest);
-          reach = stops.reaches; is = c.parts; fault = CutTitle stops.at_title ends.0;
+          before = stops.bytes;
+          marks = stops.marks;
+          place = stops.place;
+          ahead = c.rest;
+          answer = Short;
+          written = spelling stops.marks;
+          consumed = min 1 (length c.rest);
+          reach = stops.reaches;
+          is = c.parts;
+          fault = CutTitle stops.at_title ends.0;
         };
         answered = refl;
         output = c.output;
@@ -139,17 +161,28 @@ module _ {R E W F : Type 0} (source : Reader R E) (sink : Writer W F) (count roo
   no_title_told at new writer' stops =
       let c = came stops.bytes stops.marks stops.between writer' stops.copied in
       let byte = stops.fails.byte in
-      let gone = consumes_told _ _ c.rest (byte ∷ []) c.left stops.fails.bytes in
-      (length stops.bytes, stops.fails.place ∙ stops.copied.passed.offset, record {
-        fault = record {
-          before = stops.bytes; marks = stops.marks; place = stops.place; ahead = c.rest; answer = Syntax (length stops.bytes); written = spelling stops.marks; consumed = 1;
-          reach = stops.reaches; is = c.parts; fault = NoTitle stops.at_title (subst BeginsRefused (sym gone.2) stops.fails.refused);
-        };
-        answered = refl;
-        output = c.output;
-        left = gone.1 ∙ ap Some (refused_byte c.rest gone.0 byte gone.2);
-        offset = omega (arith, stops.fails.offset, stops.copied.passed.offset);
-      })
+      let gone = consumes_told _ _ c.rest (byte ∷ []) c.left stops.fails.bytes in (
+        length stops.bytes,
+        stops.fails.place ∙ stops.copied.passed.offset,
+        record {
+          fault = record {
+            before = stops.bytes;
+            marks = stops.marks;
+            place = stops.place;
+            ahead = c.rest;
+            answer = Syntax (length stops.bytes);
+            written = spelling stops.marks;
+            consumed = 1;
+            reach = stops.reaches;
+            is = c.parts;
+            fault = NoTitle stops.at_title (subst BeginsRefused (sym gone.2) stops.fails.refused);
+          };
+          answered = refl;
+          output = c.output;
+          left = gone.1 ∙ ap Some (refused_byte c.rest gone.0 byte gone.2);
+          offset = omega (arith, stops.fails.offset, stops.copied.passed.offset);
+        },
+      )
 
   title_fits : (new : Decoder R) (writer' : W) → StopsAtTitle source sink count old writer e.TooLong new writer' → ⊥
   title_fits new writer' stops =
@@ -167,17 +200,28 @@ module _ {R E W F : Type 0} (source : Reader R E) (sink : Writer W F) (count roo
   other_title_told at new writer' stops =
       let c = came stops.bytes stops.marks stops.between writer' stops.copied in
       let title = stops.pulled.title in
-      let gone = consumes_told _ _ c.rest title c.left stops.pulled.bytes in
-      (length stops.bytes, stops.at-start ∙ stops.copied.passed.offset, record {
-        fault = record {
-          before = stops.bytes; marks = stops.marks; place = In stops.kind; ahead = c.rest; answer = Syntax (length stops.bytes); written = spelling stops.marks; consumed = length title;
-          reach = stops.reaches; is = c.parts; fault = OtherTitle stops.header gone.0 stops.pulled.is_title stops.misplaced gone.2;
-        };
-        answered = refl;
-        output = c.output;
-        left = gone.1 ∙ ap Some (sym (ap (drop (length title)) gone.2 ∙ drop-append_seam title gone.0));
-        offset = omega (arith, stops.pulled.offset, stops.copied.passed.offset);
-      })
+      let gone = consumes_told _ _ c.rest title c.left stops.pulled.bytes in (
+        length stops.bytes,
+        stops.at-start ∙ stops.copied.passed.offset,
+        record {
+          fault = record {
+            before = stops.bytes;
+            marks = stops.marks;
+            place = In stops.kind;
+            ahead = c.rest;
+            answer = Syntax (length stops.bytes);
+            written = spelling stops.marks;
+            consumed = length title;
+            reach = stops.reaches;
+            is = c.parts;
+            fault = OtherTitle stops.header gone.0 stops.pulled.is_title stops.misplaced gone.2;
+          };
+          answered = refl;
+          output = c.output;
+          left = gone.1 ∙ ap Some (sym (ap (drop (length title)) gone.2 ∙ drop-append_seam title gone.0));
+          offset = omega (arith, stops.pulled.offset, stops.copied.passed.offset);
+        },
+      )
 
   opens_fit : (new : Decoder R) (writer' : W) → StopsTooDeep source sink count old writer new writer' → ⊥
   opens_fit new writer' stops =
@@ -217,9 +261,15 @@ module _ {R E W F : Type 0} (source : Reader R E) (sink : Writer W F) (count roo
       let split : c.rest ≡ part.front ++ (part.kept ++ gone.0) = gone.2 ∙ ap (λ (z : List ℕ). z ++ gone.0) part.parts ∙ append_assoc part.front part.kept gone.0 in
       record {
         fault = record {
-          before = stops.bytes; marks = stops.marks; place = Body stops.kind stops.len stops.start; ahead = c.rest; answer = Short;
-          written = spelling stops.marks ++ (shortest_title (kind_header stops.kind (Some stops.len)) ++ part.front); consumed = length part.read;
-          reach = stops.reaches; is = c.parts;
+          before = stops.bytes;
+          marks = stops.marks;
+          place = Body stops.kind stops.len stops.start;
+          ahead = c.rest;
+          answer = Short;
+          written = spelling stops.marks ++ (shortest_title (kind_header stops.kind (Some stops.len)) ++ part.front);
+          consumed = length part.read;
+          reach = stops.reaches;
+          is = c.parts;
           fault = CutBody part.front (part.kept ++ gone.0) (omega (arith, few, behind, fails.more, length-append part.read gone.0)) split part.sound
               (omega (arith, parts, length-append part.front part.kept)) (omega (arith, parts, part.few, length-append part.front part.kept)) (omega (arith, behind, length-append part.read gone.0));
         };
@@ -247,14 +297,14 @@ module _ {R E W F : Type 0} (source : Reader R E) (sink : Writer W F) (count roo
       let gone = consumes_told _ _ due (stops.bytes ++ stops.read) ready.due-told stops.passed.consumed in
       let less : ready.room < length (spelling stops.marks ++ stops.more) = rw ready.room-told at stops.stopped.full in
       let shorter : length (spelling stops.marks ++ stops.more) ≤ length (stops.bytes ++ stops.read) =
-          elim stops.belongs [
-            | inl all ↦ (
-                let again = run_again count stops.bytes stops.marks all.0 in
-                let none = ap length all.1 in
-                omega (arith, again.shorter, none, length-append (spelling stops.marks) stops.more, length-append stops.bytes stops.read)
-                )
-            | inr way ↦ way_shorter count stops.bytes stops.marks way.0 stops.more stops.read way.1 way.2
-          ] in
+      elim stops.belongs [
+        | inl all ↦ (
+            let again = run_again count stops.bytes stops.marks all.0 in
+            let none = ap length all.1 in
+            omega (arith, again.shorter, none, length-append (spelling stops.marks) stops.more, length-append stops.bytes stops.read)
+            )
+        | inr way ↦ way_shorter count stops.bytes stops.marks way.0 stops.more stops.read way.1 way.2
+      ] in
       let whole = ap length gone.2 in
       let enough : length due ≤ ready.room = ready.enough in
       omega (arith, less, shorter, whole, enough, length-append (stops.bytes ++ stops.read) gone.0)
@@ -273,31 +323,71 @@ module _ {R E W F : Type 0} (source : Reader R E) (sink : Writer W F) (count roo
   damage : (bytes : List ℕ) (marks : List Mark) (len start : ℕ) (read front more : List ℕ) (rest behind : List ℕ) → Reaches count bytes marks (Body Text len start) → due ≡ bytes ++ rest
       → rest ≡ read ++ behind → read ≡ front ++ more → IsCharacters front → length read ≤ len → IsNoText len read
       → (fault : HasFault count due) × (fault.answer ≡ Syntax start) × (fault.written ≡ spelling marks ++ (shortest_title (kind_header Text (Some len)) ++ front)) × (fault.before ≡ bytes)
-          × (fault.ahead ≡ rest) × (fault.consumed ≡ length read)
+      × (fault.ahead ≡ rest) × (fault.consumed ≡ length read)
   damage bytes marks len start read front more rest behind reach parts split e text within (inl whole) =
       let taken : take len rest ≡ read = front_of len rest read behind split whole.0 in
-      let counted = ap length split in
-      (record {
-        before = bytes; marks = marks; place = Body Text len start; ahead = rest; answer = Syntax start;
-        written = spelling marks ++ (shortest_title (kind_header Text (Some len)) ++ front); consumed = length read; reach = reach; is = parts;
-        fault = DamagedText front more (omega (arith, whole.0, counted, length-append read behind)) (λ u. whole.1 (subst IsCharacters taken u)) (taken ∙ e) text within;
-      }, refl, refl, refl, refl, refl)
+      let counted = ap length split in (
+        record {
+          before = bytes;
+          marks = marks;
+          place = Body Text len start;
+          ahead = rest;
+          answer = Syntax start;
+          written = spelling marks ++ (shortest_title (kind_header Text (Some len)) ++ front);
+          consumed = length read;
+          reach = reach;
+          is = parts;
+          fault = DamagedText front more (omega (arith, whole.0, counted, length-append read behind)) (λ u. whole.1 (subst IsCharacters taken u)) (taken ∙ e) text within;
+        },
+        refl,
+        refl,
+        refl,
+        refl,
+        refl,
+      )
   damage bytes marks len start read front more rest behind reach parts split e text within (inr begins) =
       elim (cases_lt (length rest) len) [
-        | inl cut ↦ (record {
-          before = bytes; marks = marks; place = Body Text len start; ahead = rest; answer = Syntax start;
-          written = spelling marks ++ (shortest_title (kind_header Text (Some len)) ++ front); consumed = length read; reach = reach; is = parts;
-          fault = CutDamagedText front (more ++ behind) cut (subst BeginsNoText (sym split) (no_text_behind read behind begins))
-              (split ∙ ap (λ (z : List ℕ). z ++ behind) e ∙ append_assoc front more behind) text (let counted = ap length split in omega (arith, counted, length-append read behind));
-        }, refl, refl, refl, refl, refl)
+        | inl cut ↦ (
+          record {
+            before = bytes;
+            marks = marks;
+            place = Body Text len start;
+            ahead = rest;
+            answer = Syntax start;
+            written = spelling marks ++ (shortest_title (kind_header Text (Some len)) ++ front);
+            consumed = length read;
+            reach = reach;
+            is = parts;
+            fault = CutDamagedText front (more ++ behind) cut (subst BeginsNoText (sym split) (no_text_behind read behind begins))
+                (split ∙ ap (λ (z : List ℕ). z ++ behind) e ∙ append_assoc front more behind) text (let counted = ap length split in omega (arith, counted, length-append read behind));
+          },
+          refl,
+          refl,
+          refl,
+          refl,
+          refl,
+        )
         | inr all ↦ (
-            let taken : take len rest ≡ read ++ take (len - length read) behind = front_behind len rest read behind split within in
-            (record {
-              before = bytes; marks = marks; place = Body Text len start; ahead = rest; answer = Syntax start;
-              written = spelling marks ++ (shortest_title (kind_header Text (Some len)) ++ front); consumed = length read; reach = reach; is = parts;
-              fault = DamagedText front (more ++ take (len - length read) behind) all (λ u. begins (take (len - length read) behind) (subst IsCharacters taken u))
-                  (taken ∙ ap (λ (z : List ℕ). z ++ take (len - length read) behind) e ∙ append_assoc front more (take (len - length read) behind)) text within;
-            }, refl, refl, refl, refl, refl)
+            let taken : take len rest ≡ read ++ take (len - length read) behind = front_behind len rest read behind split within in (
+              record {
+                before = bytes;
+                marks = marks;
+                place = Body Text len start;
+                ahead = rest;
+                answer = Syntax start;
+                written = spelling marks ++ (shortest_title (kind_header Text (Some len)) ++ front);
+                consumed = length read;
+                reach = reach;
+                is = parts;
+                fault = DamagedText front (more ++ take (len - length read) behind) all (λ u. begins (take (len - length read) behind) (subst IsCharacters taken u))
+                    (taken ∙ ap (λ (z : List ℕ). z ++ take (len - length read) behind) e ∙ append_assoc front more (take (len - length read) behind)) text within;
+              },
+              refl,
+              refl,
+              refl,
+              refl,
+              refl,
+            )
             )
       ]
 
@@ -310,14 +400,17 @@ module _ {R E W F : Type 0} (source : Reader R E) (sink : Writer W F) (count roo
       let reach = subst (λ (k : Kind). Reaches count stops.bytes stops.marks (Body k stops.len stops.start)) body.textual stops.reaches in
       let f = damage stops.bytes stops.marks stops.len stops.start body.read body.front body.rest c.rest gone.0 reach c.parts gone.2 body.parts body.sound body.within body.no_text in
       let output = front_output stops.marks stops.bytes body.front stops.kind stops.len stops.between stops.writer-between stops.writer-titled writer' stops.copied stops.titled body.written in
-      let output-text = subst (λ (k : Kind). sink.written writer' ≡ Some (written ++ (spelling stops.marks ++ (shortest_title (kind_header k (Some stops.len)) ++ body.front)))) body.textual output in
-      (stops.start, stops.stopped.0, record {
-        fault = f.0;
-        answered = f.1;
-        output = output-text ∙ ap (λ (z : List ℕ). Some (written ++ z)) (sym f.2);
-        left = gone.1 ∙ ap Some (sym (ap (drop (length body.read)) gone.2 ∙ drop-append_seam body.read gone.0)) ∙ cc;
-        offset = (let before = ap length f.3 in let consumed = f.5 in omega (arith, before, consumed, body.passed.offset, stops.copied.passed.offset));
-      })
+      let output-text = subst (λ (k : Kind). sink.written writer' ≡ Some (written ++ (spelling stops.marks ++ (shortest_title (kind_header k (Some stops.len)) ++ body.front)))) body.textual output in (
+        stops.start,
+        stops.stopped.0,
+        record {
+          fault = f.0;
+          answered = f.1;
+          output = output-text ∙ ap (λ (z : List ℕ). Some (written ++ z)) (sym f.2);
+          left = gone.1 ∙ ap Some (sym (ap (drop (length body.read)) gone.2 ∙ drop-append_seam body.read gone.0)) ∙ cc;
+          offset = (let before = ap length f.3 in let consumed = f.5 in omega (arith, before, consumed, body.passed.offset, stops.copied.passed.offset));
+        },
+      )
 
   -- ---- the whole copy
 

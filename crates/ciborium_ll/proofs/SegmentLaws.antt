@@ -1,5 +1,5 @@
 -- The copy of a string's segments, behind its open.
-use Rattle.std.proofs.Common.{◌≡◌, ℕ, zero, suc, ◌+◌, ◌^◌, ◌<◌, ◌≤◌, ◌⊎◌, List, [], ◌∷◌, ◌++◌, length, Option, Some, None, IsTrue, Result, Ok, Err, refl, sym, ap, subst, ◌∙◌, inl, inr, arith, append_assoc, append-nil, length-append}
+use Rattle.std.proofs.Common.{◌≡◌, ℕ, zero, suc, ◌+◌, ◌<◌, ◌≤◌, ◌⊎◌, List, [], ◌∷◌, ◌++◌, length, Option, Some, None, IsTrue, Result, Ok, Err, refl, sym, ap, subst, ◌∙◌, inl, inr, arith, append_assoc, append-nil, length-append}
 use Rattle.std.proofs.KnownBytes.{Appends-nil}
 use Rattle.ciborium_ll.specs.declared.io.Read.{Ghosts as Reader}
 use Rattle.ciborium_ll.specs.declared.io.Write.{Ghosts as Writer}
@@ -16,12 +16,12 @@ use Rattle.ciborium_ll.specs.declared.recode.RecodeError.TheVariants as r
 use Rattle.ciborium_ll.specs.Title.{IsTitle, shortest_title}
 use Rattle.ciborium_ll.specs.Strings.{Kind, Bytes, Text, kind_header, definite, none}
 use Rattle.ciborium_ll.specs.Steps.{IsInsideAt, one_open, more_open}
-use Rattle.ciborium_ll.specs.Elements.{IsSound, Mark, Open, Piece, Close, spelling, pieces, open_marks, body_spelling, IsElement, IsRun}
-use Rattle.ciborium_ll.specs.Faults.{In, Body as BodyDue, Reaches, inside, body_inside, IsMisplaced, IsWritable}
-use Rattle.ciborium_ll.specs.Decoding.{Passes, IsSteady, PullsTitle, TakesBack, offset_limit}
+use Rattle.ciborium_ll.specs.Elements.{IsSound, Mark, Open, Piece, spelling, pieces, body_spelling}
+use Rattle.ciborium_ll.specs.Faults.{In, Body as BodyDue, Reaches, inside, body_inside, IsMisplaced}
+use Rattle.ciborium_ll.specs.Decoding.{Passes, IsSteady, TakesBack}
 use Rattle.ciborium_ll.specs.Encoding.{WritesAll, WritesFront}
-use Rattle.ciborium_ll.specs.Segments.{IsMisplacedAt, EndsAdvance, AdvancesFrom, AdvancesTo, FindsBody, ClosesString}
-use Rattle.ciborium_ll.specs.Recoding.{CopiesBody, CopiesWhole, Copied, StopsWriting, StopsCopy, IsWithin, ReadsString, GoesOnWithin}
+use Rattle.ciborium_ll.specs.Segments.{IsMisplacedAt, EndsAdvance, AdvancesFrom, AdvancesTo}
+use Rattle.ciborium_ll.specs.Recoding.{CopiesBody, CopiesWhole, Copied, StopsWriting, StopsCopy, IsWithin, ReadsString}
 use Rattle.ciborium_ll.proofs.TitleLaws.{IsTitle-shortest}
 use Rattle.ciborium_ll.proofs.StepLaws.{counted, add_string, close_last, never}
 use Rattle.ciborium_ll.proofs.ElementLaws.{IsSound-append, pieces-append}
@@ -96,6 +96,7 @@ module _ {R E W F : Type 0} (source : Reader R E) (sink : Writer W F) (k : Kind)
     written = subst (λ (w : W). WritesAll sink writer [] w) (sym nothing)
         (record { appended = Appends-nil (sink.written writer); room = Shrinks-zero (sink.room writer); failures = refl });
   }
+
   -- opens and breaks further
   among_nest : (opens : ℕ) (opened now : Decoder R) (writer writer' : W) (result : Result (Option Body) (Error E)) (progress : Progress) (new : Decoder R) → IsAmong opens opened writer now writer'
       → (all : AdvancesFrom source k opens now result progress new) → IsAmong all.left opened writer all.between writer'
@@ -223,8 +224,15 @@ module _ {R E W F : Type 0} (source : Reader R E) (sink : Writer W F) (k : Kind)
         pulled = deep.pulled;
         full = (
             let copied = copied_inside all.left all.between writer' all.among in
-            omega (arith, opens_counted k all.left _ _ all.among.within, deep.most, copied.passed.offset, deep.pulled.offset, title_some deep.pulled.title (kind_header k None) deep.pulled.is_title,
-                length-append outer.bytes (shortest_title (kind_header k None) ++ all.among.strings))
+            omega (
+              arith,
+              opens_counted k all.left _ _ all.among.within,
+              deep.most,
+              copied.passed.offset,
+              deep.pulled.offset,
+              title_some deep.pulled.title (kind_header k None) deep.pulled.is_title,
+              length-append outer.bytes (shortest_title (kind_header k None) ++ all.among.strings),
+            )
             );
       }))
     ]

@@ -1,5 +1,5 @@
 -- Elements copied from a decoder to a writer: what was read and written, over any reader and writer.
-use Rattle.std.specs.Prelude.{◌≡◌, ℕ, suc, ◌+◌, ◌<◌, ◌≤◌, ◌⊎◌, List, [], ◌∷◌, ◌++◌, length, Option, Some, None, Result, Ok, Err}
+use Rattle.std.specs.Prelude.{◌≡◌, ℕ, suc, ◌+◌, ◌<◌, ◌≤◌, ◌⊎◌, List, [], ◌∷◌, ◌++◌, length, Some, None, Result, Ok, Err}
 use Rattle.ciborium_ll.specs.declared.io.Read.{Ghosts as Reader}
 use Rattle.ciborium_ll.specs.declared.io.Write.{Ghosts as Writer}
 use Rattle.ciborium_ll.specs.declared.hdr.Header.{Header}
@@ -9,7 +9,7 @@ use Rattle.ciborium_ll.specs.declared.dec.Error.TheVariants as e
 use Rattle.ciborium_ll.specs.declared.recode.RecodeError.{RecodeError}
 use Rattle.ciborium_ll.specs.declared.recode.RecodeError.TheVariants as r
 use Rattle.ciborium_ll.specs.Title.{IsTitle, shortest_title}
-use Rattle.ciborium_ll.specs.Strings.{Kind, Bytes, Text, kind_header}
+use Rattle.ciborium_ll.specs.Strings.{Kind, Text, kind_header}
 use Rattle.ciborium_ll.specs.Text.{IsCharacters}
 use Rattle.ciborium_ll.specs.Elements.{Mark, Open, pieces, open_marks, spelling, IsElement, IsRun}
 use Rattle.ciborium_ll.specs.Faults.{Place, Due, In, Body, Reaches, IsAtTitle, IsMisplaced, IsWritable, BeginsNoText, most_kept}

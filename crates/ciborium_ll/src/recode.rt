@@ -15,8 +15,8 @@ mod chunked;
 use self::chunked::Chunked;
 use crate::dec::{Decoder, Error};
 use crate::enc::Encoder;
-use crate::io::{Read, Write};
 use crate::hdr::Header;
+use crate::io::{Read, Write};
 use crate::seg::{Body, Bytes, Segment, Text};
 
 /// Why a copy stopped.
@@ -55,7 +55,10 @@ fn copy_body<R: Read, W: Write, P: Chunked>(
 }
 
 /// Writes a header.
-fn write_header<E, W: Write>(encoder: &mut Encoder<W>, header: Header) -> Result<(), RecodeError<E, W::Error>>
+fn write_header<E, W: Write>(
+    encoder: &mut Encoder<W>,
+    header: Header,
+) -> Result<(), RecodeError<E, W::Error>>
     ensures { WritesHeader W.Write (writer_of encoder.old) result header (writer_of encoder.new) }
 {
     match encoder.push(header) {
@@ -150,7 +153,9 @@ fn copy_element<R: Read, W: Write>(
         Err(error) => return Err(RecodeError::Read(error)),
     };
     match header {
-        Header::Bytes(Some(length)) => copy_definite::<R, W, Bytes>(decoder, encoder, length, buffer),
+        Header::Bytes(Some(length)) => copy_definite::<R, W, Bytes>(
+            decoder, encoder, length, buffer,
+        ),
         Header::Bytes(None) => copy_indefinite::<R, W, Bytes>(decoder, encoder, buffer),
         Header::Text(Some(length)) => copy_definite::<R, W, Text>(decoder, encoder, length, buffer),
         Header::Text(None) => copy_indefinite::<R, W, Text>(decoder, encoder, buffer),

@@ -1,13 +1,10 @@
-use Rattle.std.proofs.Common.{rules, refl, sym, ap, subst, ◌∙◌, ◌≡◌, ◌+◌, ◌++◌, Some, None, Ok, Err, length, ℕ, arith}
+use Rattle.std.proofs.Common.{rules, sym, ap, subst, ◌∙◌, ◌≡◌, ◌++◌, Err, length, ℕ, arith}
 use Rattle.std.proofs.lemmas.Result.{err_from_is_err_and}
 use Rattle.ciborium_ll.specs.declared.dec.Decoder.{Decoder}
 use Rattle.ciborium_ll.specs.declared.seg.Body.{Body}
-use Rattle.ciborium_ll.specs.Title.{IsTitle, IsInRange, title_len}
-use Rattle.ciborium_ll.specs.Strings.{kind_header}
-use Rattle.ciborium_ll.specs.Recoding.{WritesHeader, CopiesBody, GoesOn, StopsCopy}
-use Rattle.ciborium_ll.proofs.TitleLaws.{title_in_range}
+use Rattle.ciborium_ll.specs.Recoding.{CopiesBody, GoesOn}
 use Rattle.ciborium_ll.proofs.RecodeLaws.{definite_goes_on, definite_unwritten, header_error, passes_same}
-use Rattle.ciborium_ll.proofs.NestLaws.{FindsOnly, advance_definite, len_in_range}
+use Rattle.ciborium_ll.proofs.NestLaws.{advance_definite, len_in_range}
 use Rattle.ciborium_ll.proofs.recode.copy_definite.Goals as goal
 
 pub returns-in_err-write_header-clause-copied : goal.returns-in_err-write_header-clause-copied

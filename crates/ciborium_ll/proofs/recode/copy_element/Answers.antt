@@ -1,4 +1,4 @@
-use Rattle.std.proofs.Common.{rules, refl, ap, subst, ◌∙◌, ◌≡◌, ◌≤◌, ℕ, Option, Some, None, Result, Ok, Err, length, arith}
+use Rattle.std.proofs.Common.{rules, ap, subst, ◌∙◌, ◌≡◌, ◌≤◌, Some, None, length}
 use Rattle.ciborium_ll.specs.declared.hdr.Header.{Header}
 use Rattle.ciborium_ll.specs.declared.hdr.Header.TheVariants as h
 use Rattle.ciborium_ll.specs.Title.{title_len}

@@ -1,6 +1,5 @@
-use Rattle.std.proofs.Common.{◌≡◌, ℕ, Some, None, Result, Ok, Err, length}
+use Rattle.std.proofs.Common.{◌≡◌, Err, length}
 use Rattle.std.proofs.lemmas.Result.{err_from_is_err_and}
-use Rattle.ciborium_ll.specs.Recoding.{WritesHeader, CopiesSegments, GoesOnWithin}
 use Rattle.ciborium_ll.proofs.RecodeLaws.{header_error}
 use Rattle.ciborium_ll.proofs.CopyLaws.{opened_within, open_unwritten, close_goes_on}
 use Rattle.ciborium_ll.proofs.recode.copy_indefinite.Goals as goal

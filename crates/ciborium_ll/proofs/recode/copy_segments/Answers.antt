@@ -1,13 +1,10 @@
-use Rattle.std.proofs.Common.{rules, refl, sym, ap, subst, ◌∙◌, ◌≡◌, ◌+◌, ◌<◌, ℕ, Option, Some, None, Result, Ok, Err, length, arith}
+use Rattle.std.proofs.Common.{rules, sym, ap, subst, ◌∙◌, ◌≡◌, ◌<◌, ℕ, Some, None, Ok, Err, length, arith}
 use Rattle.std.proofs.lemmas.Result.{err_from_is_err_and}
 use Rattle.ciborium_ll.specs.declared.dec.Decoder.{Decoder}
-use Rattle.ciborium_ll.specs.declared.dec.Error.{Error}
-use Rattle.ciborium_ll.specs.declared.seg.Body.{Body}
-use Rattle.ciborium_ll.specs.declared.recode.RecodeError.{RecodeError}
 use Rattle.ciborium_ll.specs.declared.recode.RecodeError.TheVariants as r
-use Rattle.ciborium_ll.specs.Recoding.{WritesHeader, CopiesBody, CopiesWhole, ReadsString, StopsCopy, GoesOnWithin}
+use Rattle.ciborium_ll.specs.Recoding.{CopiesBody, CopiesWhole, ReadsString, StopsCopy, GoesOnWithin}
 use Rattle.ciborium_ll.proofs.RecodeLaws.{header_error}
-use Rattle.ciborium_ll.proofs.SegmentLaws.{AdvancesAmong, StringSoFar, advances_among, segments_stop, segments_end, segment_unwritten, segment_stops, segment_added, so_far_fresh, announced_rises}
+use Rattle.ciborium_ll.proofs.SegmentLaws.{advances_among, segments_stop, segments_end, segment_unwritten, segment_stops, segment_added, announced_rises}
 use Rattle.ciborium_ll.proofs.recode.copy_segments.Goals as goal
 
 pub returns-in-Ok-None-clause-copied : goal.returns-in-Ok-None-clause-copied

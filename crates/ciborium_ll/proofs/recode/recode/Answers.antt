@@ -1,6 +1,6 @@
-use Rattle.std.proofs.Common.{◌≡◌, ℕ, suc, ◌+◌, Result, Ok, Err, length, arith, rules, ap, subst, refl}
+use Rattle.std.proofs.Common.{◌≡◌, ℕ, Ok, Err, length, arith, subst}
 use Rattle.std.proofs.lemmas.Result.{err_from_is_err_and}
-use Rattle.ciborium_ll.specs.Recoding.{CopiesElements, CopiesRun, CopiesAll, StopsCopy}
+use Rattle.ciborium_ll.specs.Recoding.{CopiesElements, CopiesRun}
 use Rattle.ciborium_ll.proofs.CopyLaws.{run_none, run_behind, added_run}
 use Rattle.ciborium_ll.proofs.RecodingToldLaws.{recode_told, recode_exactly, copies_all}
 use Rattle.ciborium_ll.proofs.recode.recode.Goals as goal

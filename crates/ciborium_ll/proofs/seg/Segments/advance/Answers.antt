@@ -1,6 +1,5 @@
-use Rattle.std.proofs.Common.{rules, arith, refl, sym, ◌≡◌, Option, Some, Result, Ok, Err}
+use Rattle.std.proofs.Common.{rules, arith, refl, ◌≡◌, Some, Ok, Err}
 use Rattle.std.proofs.lemmas.Result.{err_from_is_err_and}
-use Rattle.ciborium_ll.specs.Segments.{StepsOver}
 use Rattle.ciborium_ll.proofs.AdvanceLaws.{Reached-start, Reached-step, Reached-ends}
 use Rattle.ciborium_ll.proofs.seg.Segments.advance.Goals as goal
 
