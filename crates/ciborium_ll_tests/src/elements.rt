@@ -56,7 +56,16 @@ fn a_text_that_is_cut_off(rt: HostRuntime) {
 fn an_offset_with_no_room(rt: HostRuntime) {
     let reader = SliceReader::new(&[0x43, 1, 2, 3]);
     let decoder = Decoder::with_offset(reader, usize::MAX - 1);
-    let stopped = copies(&rt, decoder, 1, &mut [0; 64], 16, &[0x43], usize::MAX, &[1, 2, 3]);
+    let stopped = copies(
+        &rt,
+        decoder,
+        1,
+        &mut [0; 64],
+        16,
+        &[0x43],
+        usize::MAX,
+        &[1, 2, 3],
+    );
     assert!(rt; matches!(stopped, Some(RecodeError::Read(Error::TooLong))));
 }
 
@@ -65,7 +74,16 @@ fn many_opens_and_breaks(rt: HostRuntime) -> Result<(), Fail> {
     let mut bytes = vec![in rt.alloc(); 0x5fu8; 100_000]?;
     bytes.extend_from_slice(vec![in rt.alloc(); 0xffu8; 100_000]?.as_slice())?;
     let decoder = Decoder::from(SliceReader::new(bytes.as_slice()));
-    let stopped = copies(&rt, decoder, 1, &mut [0; 64], 16, &[0x5f, 0xff], 200_000, &[]);
+    let stopped = copies(
+        &rt,
+        decoder,
+        1,
+        &mut [0; 64],
+        16,
+        &[0x5f, 0xff],
+        200_000,
+        &[],
+    );
     assert!(rt; stopped.is_none());
     Ok(())
 }
