@@ -1,3 +1,4 @@
+mod ArgumentLaws
 pub mod NumberLaws
 mod RequestLaws
 mod Transfers

@@ -3,9 +3,22 @@ use Rattle.ciborium_ll_tool.specs.declared.fault.Fault.{Fault}
 use Rattle.ciborium_ll_tool.specs.declared.fault.Fault.TheVariants as f
 use Rattle.ciborium_ll_tool.specs.declared.service.ToolError.{ToolError}
 use Rattle.ciborium_ll_tool.specs.declared.service.ToolError.TheVariants as e
+use Rattle.ciborium_ll.specs.declared.dec.Error.TheVariants as d
+use Rattle.ciborium_ll.specs.declared.io.streams.ReadFault.{ReadFault}
+use Rattle.ciborium_ll.specs.declared.io.streams.WriteFault.{WriteFault}
+use Rattle.ciborium_ll.specs.declared.recode.RecodeError.{RecodeError}
+use Rattle.ciborium_ll.specs.declared.recode.RecodeError.TheVariants as r
 
 -- the fault of an error that ended a run
 abbrev pub fault_of : ToolError → Fault
 fault_of e.Memory = f.Memory
 fault_of (e.Read error) = f.Read
 fault_of (e.Write error) = f.Write
+
+-- the fault of an error that stopped a copy
+abbrev pub fault_of_copy : RecodeError ReadFault WriteFault → Fault
+fault_of_copy (r.Read (d.Io error)) = f.Read
+fault_of_copy (r.Read (d.Syntax place)) = f.Syntax place
+fault_of_copy (r.Read d.TooLong) = f.TooLong
+fault_of_copy (r.Read d.Waiting) = f.Read
+fault_of_copy (r.Write error) = f.Write

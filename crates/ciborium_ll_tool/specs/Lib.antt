@@ -1,3 +1,4 @@
+pub mod Choice
 pub mod Fault
 pub mod Line
 pub mod Number

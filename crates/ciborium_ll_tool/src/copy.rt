@@ -9,8 +9,8 @@ use std::alloc::Global;
 use std::fmt;
 use std::fmt::Write;
 
-/// How many bytes of a string are read at a time.
-const BUFFER_SIZE: usize = 64;
+/// How many bytes of a string are copied at a time, at most.
+pub const BUFFER_SIZE: usize = 64;
 
 /// Answers `recode`: what a copy of so many elements wrote, and what is left of the bytes or why the copy stopped.
 pub fn elements<T: Write>(alloc: Global, count: usize, bytes: &[u8], sink: &mut T) -> fmt::Result {

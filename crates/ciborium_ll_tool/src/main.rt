@@ -1,15 +1,19 @@
 //! A program that answers lines on CBOR titles, strings and copies.
 //!
-//! It reads lines from standard input and answers each on standard output.
+//! It reads lines from standard input and answers each on standard output. With the arguments `recode COUNT` it copies
+//! so many elements from standard input to standard output.
 #![tactic(auto)]
 
 mod answer;
+mod arguments;
+mod choice;
 mod copy;
 mod fault;
 mod input;
 mod memory;
 mod number;
 mod output;
+mod raw;
 mod request;
 mod service;
 mod string;
@@ -18,25 +22,58 @@ mod tests;
 mod value;
 mod word;
 
-pub use crate::fault::{Fault, fault_of_run};
+pub use crate::arguments::chosen;
+pub use crate::choice::Chosen;
+pub use crate::fault::{Fault, fault_of_raw, fault_of_run};
 pub use crate::memory::{OutOfMemory, VecWriter};
+pub use crate::raw::raw;
 pub use crate::service::{ToolError, run};
 pub use crate::word::{bytes_of, word_of};
+use std::io::{BufReader, BufWriter};
 use std::process::ExitCode;
 use std::{env, io};
 
 fn main(rt: HostRuntime) -> ExitCode {
-    let Ok(words) = env::args(&rt) else {
+    let Ok(words) = words_of(&rt) else {
         return failed(&rt, Fault::Read);
     };
-    if words.len() > 1 {
-        let _ = eprintln!(rt; "usage: ciborium_ll_tool [recode COUNT]");
-        return ExitCode::from(2);
-    }
-    match run(rt.alloc(), rt.reader(), io::writer(&rt)) {
+    let outcome = match chosen(words.as_slice()) {
+        Chosen::Lines => {
+            run(rt.alloc(), rt.reader(), io::writer(&rt)).map_err(|error| fault_of_run(&error))
+        }
+        Chosen::Raw(count) => copied(&rt, count),
+        Chosen::Usage => {
+            let _ = eprintln!(rt; "usage: ciborium_ll_tool [recode COUNT]");
+            return ExitCode::from(2);
+        }
+    };
+    match outcome {
         Ok(()) => ExitCode::SUCCESS,
-        Err(error) => failed(&rt, fault_of_run(&error)),
+        Err(fault) => failed(&rt, fault),
     }
+}
+
+/// The words behind the program's name. The error is that of the arguments, or says that there is no memory.
+fn words_of(rt: &HostRuntime) -> io::Result<Vec<String>> {
+    let mut words = Vec::new(rt.alloc());
+    for word in env::args(rt)?.skip(1) {
+        words
+            .push(word)
+            .map_err(|_| io::Error::from(io::ErrorKind::OutOfMemory))?;
+    }
+    Ok(words)
+}
+
+/// Copies so many elements from standard input to standard output.
+fn copied(rt: &HostRuntime, count: usize) -> Result<(), Fault> {
+    let Ok(reader) = BufReader::new(rt.alloc(), rt.reader()) else {
+        return Err(Fault::Memory);
+    };
+    let Ok(writer) = BufWriter::new(rt.alloc(), io::writer(rt)) else {
+        return Err(Fault::Memory);
+    };
+    let (_reader, _writer, outcome) = raw(reader, writer, count);
+    outcome.map_err(|error| fault_of_raw(&error))
 }
 
 /// Names the fault on standard error.

@@ -1,5 +1,9 @@
-use crate::{Fault, OutOfMemory, ToolError, VecWriter, bytes_of, fault_of_run, run, word_of};
-use ciborium_ll::io::Write;
+use crate::{
+    Chosen, Fault, OutOfMemory, ToolError, VecWriter, bytes_of, chosen, fault_of_raw, fault_of_run,
+    raw, run, word_of,
+};
+use ciborium_ll::io::{ReadFault, Write, WriteFault};
+use ciborium_ll::{Error, RecodeError};
 use std::alloc::Global;
 use std::io;
 use std::process::Abort;
@@ -507,6 +511,114 @@ fn faults_as_printed(rt: HostRuntime) -> Result<(), Fail> {
         let fault: Fault = fault_of_run(&error);
         let printed = fault.to_string(rt.alloc())?;
         assert_eq!(rt; printed.as_str(), want);
+    }
+    Ok(())
+}
+
+#[test]
+fn faults_of_copies_as_printed(rt: HostRuntime) -> Result<(), Fail> {
+    let errors = [
+        (RecodeError::Read(Error::Syntax(3)), "syntax 3"),
+        (RecodeError::Read(Error::TooLong), "too long"),
+        (RecodeError::Read(Error::Io(ReadFault::End)), "read"),
+        (RecodeError::Read(Error::Waiting), "read"),
+        (RecodeError::Write(WriteFault::Zero), "write"),
+    ];
+    for (error, want) in errors {
+        let printed = fault_of_raw(&error).to_string(rt.alloc())?;
+        assert_eq!(rt; printed.as_str(), want);
+    }
+    Ok(())
+}
+
+// A writer that takes no byte.
+#[derive(Drop)]
+struct Stuck;
+
+impl io::Write for Stuck {
+    fn write(&mut self, _data: &[u8]) -> io::Result<usize> {
+        Ok(0)
+    }
+
+    fn flush(&mut self) -> io::Result<()> {
+        Ok(())
+    }
+}
+
+#[test]
+fn raw_copies(rt: HostRuntime) -> Result<(), Fail> {
+    let (left, written, outcome) = raw([0x58, 1, 1, 0].as_slice(), Vec::new(rt.alloc()), 1);
+    assert!(rt; outcome.is_ok());
+    assert_eq!(rt; written.as_slice(), [0x41, 1].as_slice());
+    assert_eq!(rt; left, [0].as_slice());
+
+    let slow = SlowReader {
+        left: &[0x58, 1, 1],
+        calls_before: None,
+        kind: io::ErrorKind::Other,
+    };
+    let (slow, written, outcome) = raw(slow, SlowWriter::new(rt.alloc()), 1);
+    assert!(rt; outcome.is_ok());
+    assert!(rt; slow.left.is_empty());
+    assert_eq!(rt; written.taken.as_slice(), [0x41, 1].as_slice());
+    assert_eq!(rt; written.flushes, 1);
+
+    let mut writer = SlowWriter::new(rt.alloc());
+    writer.flush_fails = true;
+    let (_, written, outcome) = raw([0].as_slice(), writer, 1);
+    assert!(rt; matches!(outcome, Err(RecodeError::Write(WriteFault::Failed(_)))));
+    assert_eq!(rt; written.taken.as_slice(), [0].as_slice());
+
+    let (_, written, outcome) = raw(
+        [0x7f, 0x61, 0x61, 0x5f, 0xff].as_slice(),
+        Vec::new(rt.alloc()),
+        1,
+    );
+    let fault = outcome.map_err(|error| fault_of_raw(&error));
+    assert!(rt; matches!(fault, Err(Fault::Syntax(3))));
+    assert_eq!(rt; written.as_slice(), [0x7f, 0x61, 0x61].as_slice());
+
+    let (_, _, outcome) = raw([].as_slice(), Vec::new(rt.alloc()), 1);
+    let fault = outcome.map_err(|error| fault_of_raw(&error));
+    assert!(rt; matches!(fault, Err(Fault::Read)));
+
+    let (_, _, outcome) = raw([0].as_slice(), Stuck, 1);
+    let fault = outcome.map_err(|error| fault_of_raw(&error));
+    assert!(rt; matches!(fault, Err(Fault::Write)));
+    Ok(())
+}
+
+// What words parted by spaces ask for.
+fn choice(alloc: Global, text: &str) -> Result<Chosen, Fail> {
+    let mut words = Vec::new(alloc);
+    for word in text.split_whitespace() {
+        words.push(String::from_str(alloc, word)?)?;
+    }
+    Ok(chosen(words.as_slice()))
+}
+
+#[test]
+fn choices_of_arguments(rt: HostRuntime) -> Result<(), Fail> {
+    assert!(rt; matches!(choice(rt.alloc(), "")?, Chosen::Lines));
+    assert!(rt; matches!(choice(rt.alloc(), "recode 0")?, Chosen::Raw(0)));
+    assert!(rt;
+        matches!(
+            choice(rt.alloc(), "recode 4294967295")?,
+            Chosen::Raw(4_294_967_295)
+        )
+    );
+    for text in [
+        "recode 01",
+        "recode 4294967296",
+        "recode",
+        "recode 1 2",
+        "heads 1",
+        "1 recode",
+    ] {
+        assert!(rt;
+            matches!(choice(rt.alloc(), text)?, Chosen::Usage),
+            "at {text}"
+        );
     }
     Ok(())
 }

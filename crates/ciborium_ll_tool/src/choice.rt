@@ -1,0 +1,12 @@
+//! What the program does.
+
+/// What the program does.
+#[derive(Debug, Drop)]
+pub enum Chosen {
+    /// It answers lines.
+    Lines,
+    /// It copies so many elements.
+    Raw(usize),
+    /// It says how it is used.
+    Usage,
+}
