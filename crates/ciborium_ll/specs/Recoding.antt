@@ -131,6 +131,8 @@ module _ {R E W F : Type 0} (source : Reader R E) (sink : Writer W F) where
     pub elements : CopiesRun count old writer new writer'
     pub again : IsRun count (spelling elements.marks) elements.marks
     pub shorter : length (spelling elements.marks) ≤ length elements.bytes
+    -- behind an element no header waits
+    pub settled : 0 < count → new.waiting ≡ None
 
   -- `pull` failed where a title is due
   pub record StopsAtTitle (count : ℕ) (old : Decoder R) (writer : W) (error : Error E) (new : Decoder R) (writer' : W) : Type 0 where
