@@ -10,12 +10,13 @@ use Rattle.hex.specs.Hex.{decode_of, is_hex_digit}
 use Rattle.hex.specs.declared.error.FromHexError.{FromHexError}
 use Rattle.hex.proofs.HexLemmas.{decode_of-ok}
 use Rattle.ciborium_ll_tool.specs.Number.{IsLimit, IsNumber, IsSize}
-use Rattle.ciborium_ll_tool.specs.Request.{Asks, Spells, SpellsBuffered, SpellsLimited, name_of, space}
+use Rattle.ciborium_ll_tool.specs.Request.{Asks, Spells, SpellsBuffered, SpellsCounted, SpellsLimited, name_of, space}
 use Rattle.ciborium_ll_tool.specs.declared.request.Buffered.{Buffered}
+use Rattle.ciborium_ll_tool.specs.declared.request.Counted.{Counted}
 use Rattle.ciborium_ll_tool.specs.declared.request.Limited.{Limited}
 use Rattle.ciborium_ll_tool.specs.Word.{bytes_of_word, decoded}
 use Rattle.ciborium_ll_tool.specs.declared.request.Request.{Request}
-use Rattle.ciborium_ll_tool.specs.declared.request.Request.TheVariants.{Bytes, Chunks, Heads, Text}
+use Rattle.ciborium_ll_tool.specs.declared.request.Request.TheVariants.{Bytes, Chunks, Heads, Recode, Text}
 use Rattle.ciborium_ll_tool.proofs.NumberLaws.{limit_has_no_space, number_has_no_space}
 
 -- what was decoded to bytes is Ok
@@ -69,6 +70,8 @@ IsAscii-words words (Bytes asked) (first, word, parts, limit, has) =
     rw parts (IsAscii-two first word (IsAscii-limit first asked.limit limit) (IsAscii-word word asked.bytes.items has))
 IsAscii-words words (Text asked) (first, word, parts, limit, has) =
     rw parts (IsAscii-two first word (IsAscii-limit first asked.limit limit) (IsAscii-word word asked.bytes.items has))
+IsAscii-words words (Recode asked) (first, word, parts, count, has) =
+    rw parts (IsAscii-two first word (IsAscii-number first asked.count count) (IsAscii-word word asked.bytes.items has))
 
 -- the name of a request
 IsAscii-name : (request : Request) → IsAscii (name_of request)
@@ -76,6 +79,7 @@ IsAscii-name (Heads bytes) = IsAscii-from_test (codes "heads") refl
 IsAscii-name (Chunks asked) = IsAscii-from_test (codes "chunks") refl
 IsAscii-name (Bytes asked) = IsAscii-from_test (codes "bytes") refl
 IsAscii-name (Text asked) = IsAscii-from_test (codes "text") refl
+IsAscii-name (Recode asked) = IsAscii-from_test (codes "recode") refl
 
 -- a request is UTF-8
 pub IsUtf8-request : (line : List ℕ) (request : Request) → Asks line request → IsUtf8 line
@@ -99,6 +103,7 @@ name_has_no_space (Heads bytes) = no_space_at (codes "heads") refl
 name_has_no_space (Chunks asked) = no_space_at (codes "chunks") refl
 name_has_no_space (Bytes asked) = no_space_at (codes "bytes") refl
 name_has_no_space (Text asked) = no_space_at (codes "text") refl
+name_has_no_space (Recode asked) = no_space_at (codes "recode") refl
 
 -- a request is cut behind its name
 pub cut_behind_name : (line : List ℕ) (r : Option (Bor (List ℕ) × Bor (List ℕ))) → IsSplitOnceResult space line r
@@ -129,6 +134,16 @@ cut_behind_limit words (Some x) cut asked (first, word, parts, limit, has) =
     let same = split_after space words first word (Some x) cut (omega arith) parts (limit_has_no_space first asked.limit limit) in
     (rw same.0 limit, rw same.1 has)
 
+-- a count and bytes are cut behind the count
+pub cut_behind_count : (words : List ℕ) (r : Option (Bor (List ℕ) × Bor (List ℕ))) → IsSplitOnceResult space words r
+    → (asked : Counted) → SpellsCounted words asked
+    → MatchOption r ⊥ (λ x. IsNumber x.0.now asked.count × (bytes_of_word x.1.now ≡ Some asked.bytes.items))
+cut_behind_count words None cut asked (first, word, parts, count, has) =
+    split_after space words first word None cut (omega arith) parts (number_has_no_space first asked.count count)
+cut_behind_count words (Some x) cut asked (first, word, parts, count, has) =
+    let same = split_after space words first word (Some x) cut (omega arith) parts (number_has_no_space first asked.count count) in
+    (rw same.0 count, rw same.1 has)
+
 -- ---- requests of one name
 
 -- the first byte, by which names differ
@@ -142,6 +157,7 @@ refuses_chunks name words is refused (Heads bytes) named spelled = let other : 9
 refuses_chunks name words is refused (Chunks asked) named spelled = refused asked spelled
 refuses_chunks name words is refused (Bytes asked) named spelled = let other : 99 ≡ 98 = ap initial (sym is ∙ named) in omega (arith, other)
 refuses_chunks name words is refused (Text asked) named spelled = let other : 99 ≡ 116 = ap initial (sym is ∙ named) in omega (arith, other)
+refuses_chunks name words is refused (Recode asked) named spelled = let other : 99 ≡ 114 = ap initial (sym is ∙ named) in omega (arith, other)
 
 -- words that are refused behind the name are no request of it
 pub none_of_chunks : (name words : List ℕ) (found : Option Buffered) (result : Option Request) (P : Buffered → Request → Type 0)
@@ -157,6 +173,7 @@ refuses_bytes name words is refused (Heads bytes) named spelled = let other : 98
 refuses_bytes name words is refused (Chunks asked) named spelled = let other : 98 ≡ 99 = ap initial (sym is ∙ named) in omega (arith, other)
 refuses_bytes name words is refused (Bytes asked) named spelled = refused asked spelled
 refuses_bytes name words is refused (Text asked) named spelled = let other : 98 ≡ 116 = ap initial (sym is ∙ named) in omega (arith, other)
+refuses_bytes name words is refused (Recode asked) named spelled = let other : 98 ≡ 114 = ap initial (sym is ∙ named) in omega (arith, other)
 
 -- words that are refused behind the name are no request of it
 pub none_of_bytes : (name words : List ℕ) (found : Option Limited) (result : Option Request) (P : Limited → Request → Type 0)
@@ -172,6 +189,7 @@ refuses_text name words is refused (Heads bytes) named spelled = let other : 116
 refuses_text name words is refused (Chunks asked) named spelled = let other : 116 ≡ 99 = ap initial (sym is ∙ named) in omega (arith, other)
 refuses_text name words is refused (Bytes asked) named spelled = let other : 116 ≡ 98 = ap initial (sym is ∙ named) in omega (arith, other)
 refuses_text name words is refused (Text asked) named spelled = refused asked spelled
+refuses_text name words is refused (Recode asked) named spelled = let other : 116 ≡ 114 = ap initial (sym is ∙ named) in omega (arith, other)
 
 -- words that are refused behind the name are no request of it
 pub none_of_text : (name words : List ℕ) (found : Option Limited) (result : Option Request) (P : Limited → Request → Type 0)
@@ -180,3 +198,19 @@ pub none_of_text : (name words : List ℕ) (found : Option Limited) (result : Op
 none_of_text name words found (Some request) P cases refused is = _
 none_of_text name words (Some asked) None P cases refused is = absurd cases
 none_of_text name words None None P cases refused is = refuses_text name words is refused
+
+refuses_recode : (name words : List ℕ) → name ≡ codes "recode" → ((asked : Counted) → SpellsCounted words asked → ⊥)
+    → (request : Request) → name ≡ name_of request → Spells words request → ⊥
+refuses_recode name words is refused (Heads bytes) named spelled = let other : 114 ≡ 104 = ap initial (sym is ∙ named) in omega (arith, other)
+refuses_recode name words is refused (Chunks asked) named spelled = let other : 114 ≡ 99 = ap initial (sym is ∙ named) in omega (arith, other)
+refuses_recode name words is refused (Bytes asked) named spelled = let other : 114 ≡ 98 = ap initial (sym is ∙ named) in omega (arith, other)
+refuses_recode name words is refused (Text asked) named spelled = let other : 114 ≡ 116 = ap initial (sym is ∙ named) in omega (arith, other)
+refuses_recode name words is refused (Recode asked) named spelled = refused asked spelled
+
+-- words that are refused behind the name are no request of it
+pub none_of_recode : (name words : List ℕ) (found : Option Counted) (result : Option Request) (P : Counted → Request → Type 0)
+    → MatchOption found (result ≡ None) (λ x. IsSomeAnd result (P x)) → IfNone found ((asked : Counted) → SpellsCounted words asked → ⊥)
+    → name ≡ codes "recode" → IfNone result ((request : Request) → name ≡ name_of request → Spells words request → ⊥)
+none_of_recode name words found (Some request) P cases refused is = _
+none_of_recode name words (Some asked) None P cases refused is = absurd cases
+none_of_recode name words None None P cases refused is = refuses_recode name words is refused

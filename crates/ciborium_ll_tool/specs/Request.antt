@@ -1,11 +1,12 @@
 -- What lines ask for.
 use Rattle.std.specs.Prelude.{◌≡◌, ℕ, List, ◌++◌, ◌∷◌, codes, Some}
-use Rattle.ciborium_ll_tool.specs.Number.{IsLimit, IsSize}
+use Rattle.ciborium_ll_tool.specs.Number.{IsLimit, IsNumber, IsSize}
 use Rattle.ciborium_ll_tool.specs.Word.{bytes_of_word}
 use Rattle.ciborium_ll_tool.specs.declared.request.Limited.{Limited}
 use Rattle.ciborium_ll_tool.specs.declared.request.Request.{Request}
-use Rattle.ciborium_ll_tool.specs.declared.request.Request.TheVariants.{Bytes, Chunks, Heads, Text}
+use Rattle.ciborium_ll_tool.specs.declared.request.Request.TheVariants.{Bytes, Chunks, Heads, Recode, Text}
 use Rattle.ciborium_ll_tool.specs.declared.request.Buffered.{Buffered}
+use Rattle.ciborium_ll_tool.specs.declared.request.Counted.{Counted}
 
 -- the byte that parts two words
 abbrev pub space : ℕ
@@ -21,12 +22,18 @@ abbrev pub SpellsLimited : List ℕ → Limited → Type 0
 SpellsLimited words asked = (first : List ℕ) × (word : List ℕ) × (words ≡ first ++ (space ∷ word))
     × IsLimit first asked.limit × (bytes_of_word word ≡ Some asked.bytes.items)
 
+-- the words are a count and bytes
+abbrev pub SpellsCounted : List ℕ → Counted → Type 0
+SpellsCounted words asked = (first : List ℕ) × (word : List ℕ) × (words ≡ first ++ (space ∷ word))
+    × IsNumber first asked.count × (bytes_of_word word ≡ Some asked.bytes.items)
+
 -- the first word of a request
 abbrev pub name_of : Request → List ℕ
 name_of (Heads bytes) = codes "heads"
 name_of (Chunks asked) = codes "chunks"
 name_of (Bytes asked) = codes "bytes"
 name_of (Text asked) = codes "text"
+name_of (Recode asked) = codes "recode"
 
 -- the words behind the first one
 abbrev pub Spells : List ℕ → Request → Type 0
@@ -34,6 +41,7 @@ Spells words (Heads bytes) = bytes_of_word words ≡ Some bytes.items
 Spells words (Chunks asked) = SpellsBuffered words asked
 Spells words (Bytes asked) = SpellsLimited words asked
 Spells words (Text asked) = SpellsLimited words asked
+Spells words (Recode asked) = SpellsCounted words asked
 
 -- the line is this request, spelled out
 abbrev pub Asks : List ℕ → Request → Type 0

@@ -2,7 +2,7 @@
 
 use crate::request::Request;
 use crate::service::ToolError;
-use crate::{string, value};
+use crate::{copy, string, value};
 use ciborium_ll::io::SliceReader;
 use ciborium_ll::{Decoder, Error, Float, Header};
 use std::alloc::Global;
@@ -21,6 +21,9 @@ pub fn line<T: Write>(alloc: Global, line: &[u8], sink: &mut T) -> Result<(), To
         }
         Some(Request::Text(asked)) => {
             value::text(alloc, asked.bytes.as_slice(), asked.limit, sink)?;
+        }
+        Some(Request::Recode(asked)) => {
+            copy::elements(alloc, asked.count, asked.bytes.as_slice(), sink)?;
         }
         None => writeln!(sink, "error: line")?,
     }

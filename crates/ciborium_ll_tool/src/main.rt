@@ -1,9 +1,10 @@
-//! A program that answers lines on CBOR titles and strings.
+//! A program that answers lines on CBOR titles, strings and copies.
 //!
 //! It reads lines from standard input and answers each on standard output.
 #![tactic(auto)]
 
 mod answer;
+mod copy;
 mod fault;
 mod input;
 mod memory;

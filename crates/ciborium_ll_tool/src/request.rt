@@ -2,7 +2,7 @@
 
 ghost use Rattle.std.specs.Prelude.{IfNone, IfOk, IfSome};
 
-use crate::number::{limit_of, size_of};
+use crate::number::{limit_of, number_of, size_of};
 use crate::word::bytes_of;
 use std::alloc::{AllocError, Global};
 
@@ -72,6 +72,42 @@ impl Limited {
     }
 }
 
+/// A count of elements, and bytes that they are copied from.
+#[derive(Drop)]
+pub struct Counted {
+    /// How many elements are copied, at most 4,294,967,295.
+    pub count: usize,
+    /// What is copied.
+    pub bytes: Vec<u8>,
+}
+
+impl Counted {
+    ghost use Rattle.ciborium_ll_tool.specs.declared.request.Counted.{Counted};
+    ghost use Rattle.ciborium_ll_tool.specs.Request.{SpellsCounted};
+
+    /// Reads two words, parted by exactly one space.
+    ///
+    /// It is `None` where they are no such. The error says that there is no memory for the bytes.
+    fn parse(alloc: Global, words: &str) -> Result<Option<Counted>, AllocError>
+        ensures some { IfOk result (λ found. IfSome found (SpellsCounted words.now)) }
+        ensures none { IfOk result (λ found. IfNone found ((asked : Counted) → SpellsCounted words.now asked → ⊥)) }
+    {
+        let Some((first, word)) = words.split_once(' ') else {
+            return Ok(None);
+        };
+        let Some(count) = number_of(first) else {
+            return Ok(None);
+        };
+        match bytes_of(alloc, word)? {
+            Some(bytes) => Ok(Some(Counted {
+                count: count as usize,
+                bytes,
+            })),
+            None => Ok(None),
+        }
+    }
+}
+
 /// What a line asks for.
 #[derive(Drop)]
 pub enum Request {
@@ -83,6 +119,8 @@ pub enum Request {
     Bytes(Limited),
     /// `text LIMIT HEX`: the spelling of a text string.
     Text(Limited),
+    /// `recode COUNT HEX`: a copy of the elements that the bytes begin with.
+    Recode(Counted),
 }
 
 impl Request {
@@ -124,6 +162,7 @@ impl Request {
             "chunks" => Ok(Buffered::parse(alloc, words)?.map(Request::Chunks)),
             "bytes" => Ok(Limited::parse(alloc, words)?.map(Request::Bytes)),
             "text" => Ok(Limited::parse(alloc, words)?.map(Request::Text)),
+            "recode" => Ok(Counted::parse(alloc, words)?.map(Request::Recode)),
             _ => Ok(None),
         }
     }

@@ -138,6 +138,57 @@ fn values_in_segments(rt: HostRuntime) -> Result<(), Fail> {
     answer_as(&rt, rt.alloc(), &rows)
 }
 
+#[test]
+fn elements_are_copied(rt: HostRuntime) -> Result<(), Fail> {
+    let rows = [
+        ("recode 1 5f5f580101ffff", "5f4101ff rest -\n"),
+        ("recode 0 5f5f580101ffff", "- rest 5f5f580101ffff\n"),
+        ("recode 2 1805f810a0", "05f0 rest a0\n"),
+        ("recode 1 ff", "ff rest -\n"),
+        ("recode 1 7fff", "7fff rest -\n"),
+        (
+            "recode 3 a107780d48656c6c6f2c20576f726c6421",
+            "a1076d48656c6c6f2c20576f726c6421 rest -\n",
+        ),
+        ("recode 2 5801015f5f420203ffff", "41015f420203ff rest -\n"),
+        (
+            "recode 3 825f4201024103ff7f62c3a963e282acff00",
+            "825f4201024103ff7f62c3a963e282acff rest 00\n",
+        ),
+        ("recode 0 -", "- rest -\n"),
+    ];
+    answer_as(&rt, rt.alloc(), &rows)
+}
+
+#[test]
+fn a_copy_that_stops(rt: HostRuntime) -> Result<(), Fail> {
+    let rows = [
+        ("recode 1 7f61615fff", "7f6161 syntax 3\n"),
+        ("recode 1 780261ff", "6261 syntax 1\n"),
+        ("recode 1 6561ff626364", "65 syntax 0\n"),
+        ("recode 1 4301", "43 short 1\n"),
+        ("recode 1 7f7fff", "7f short 3\n"),
+        ("recode 1 -", "- short 0\n"),
+        ("recode 4294967295 -", "- short 0\n"),
+        ("recode 1 7f62c3a9641f", "7f62c3a964 short 5\n"),
+        ("recode 2 f6fc", "f6 syntax 1\n"),
+        ("recode 1 5f", "5f short 1\n"),
+        ("recode 1 5f41", "5f41 short 2\n"),
+        ("recode 1 5f4101", "5f4101 short 3\n"),
+        ("recode 1 7f62c32964f09f9880ff", "7f62 syntax 1\n"),
+        ("recode 1 7f63c3a964f09f9880ff", "7f63c3a964 syntax 5\n"),
+        (
+            "recode 1 7f62c3a965f09f9880ff",
+            "7f62c3a965f09f9880 syntax 4\n",
+        ),
+        (
+            "recode 1 7f62c3a964f09f9880fe",
+            "7f62c3a964f09f9880 syntax 9\n",
+        ),
+    ];
+    answer_as(&rt, rt.alloc(), &rows)
+}
+
 // Writes bytes, and passes them on.
 fn writes<W: Write>(writer: &mut W, data: &[u8]) -> Result<(), W::Error> {
     writer.write_all(data)?;
@@ -158,7 +209,7 @@ fn a_writer_in_memory(rt: HostRuntime) -> Result<(), Fail> {
 
 #[test]
 fn lines_that_are_no_request(rt: HostRuntime) -> Result<(), Fail> {
-    let lines: [&[u8]; 27] = [
+    let lines: [&[u8]; 32] = [
         b"",
         b" ",
         b"heads",
@@ -186,6 +237,11 @@ fn lines_that_are_no_request(rt: HostRuntime) -> Result<(), Fail> {
         b"bytes ** 00",
         b"text - 00",
         b"text 4 0",
+        b"recode 1",
+        b"recode 1 ",
+        b"recode * 00",
+        b"recode 01 00",
+        b"recode 4294967296 00",
     ];
     for line in lines {
         let mut input = line.to_vec(rt.alloc())?;

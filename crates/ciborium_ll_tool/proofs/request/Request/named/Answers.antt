@@ -1,4 +1,4 @@
-use Rattle.ciborium_ll_tool.proofs.RequestLaws.{none_of_bytes, none_of_chunks, none_of_text}
+use Rattle.ciborium_ll_tool.proofs.RequestLaws.{none_of_bytes, none_of_chunks, none_of_recode, none_of_text}
 use Rattle.ciborium_ll_tool.proofs.request.Request.named.Goals as goal
 
 pub returns-in_ok-parse-in-chunks-clause-none : goal.returns-in_ok-parse-in-chunks-clause-none
@@ -15,3 +15,8 @@ pub returns-in_ok-parse-in-text-clause-none : goal.returns-in_ok-parse-in-text-c
 returns-in_ok-parse-in-text-clause-none c =
     none_of_text c.args.name.now c.args.words.now c.in_ok-parse-in-text.field-0 c.map-in-text.result _
     c.map-in-text.ensures.cases c.in_ok-parse-in-text.ensures.none c.in-text.is
+
+pub returns-in_ok-parse-in-recode-clause-none : goal.returns-in_ok-parse-in-recode-clause-none
+returns-in_ok-parse-in-recode-clause-none c =
+    none_of_recode c.args.name.now c.args.words.now c.in_ok-parse-in-recode.field-0 c.map-in-recode.result _
+    c.map-in-recode.ensures.cases c.in_ok-parse-in-recode.ensures.none c.in-recode.is

@@ -1,0 +1,38 @@
+//! Elements that are copied.
+
+use crate::answer::Last;
+use crate::word::word_of;
+use ciborium_ll::io::{SliceReader, SliceWriter};
+use ciborium_ll::recode::recode;
+use ciborium_ll::{Decoder, Encoder, Error, RecodeError};
+use std::alloc::Global;
+use std::fmt;
+use std::fmt::Write;
+
+/// How many bytes of a string are read at a time.
+const BUFFER_SIZE: usize = 64;
+
+/// Answers `recode`: what a copy of so many elements wrote, and what is left of the bytes or why the copy stopped.
+pub fn elements<T: Write>(alloc: Global, count: usize, bytes: &[u8], sink: &mut T) -> fmt::Result {
+    let mut buffer = [0; BUFFER_SIZE];
+    // No element has a longer spelling than the one that it is read from.
+    let mut space = vec![in alloc; 0u8; bytes.len()]?;
+    let mut decoder = Decoder::from(SliceReader::new(bytes));
+    let mut encoder = Encoder::from(SliceWriter::new(space.as_mut_slice()));
+    let outcome = recode(&mut decoder, &mut encoder, count, &mut buffer);
+    let offset = decoder.offset();
+    let last = match outcome {
+        Ok(()) => None,
+        Err(RecodeError::Read(Error::Syntax(place))) => Some(Last::Syntax(place)),
+        Err(RecodeError::Read(Error::Io(_))) => Some(Last::Short(offset)),
+        Err(_) => return writeln!(sink, "{}", Last::Room),
+    };
+    let writer = encoder.into_inner();
+    let output = word_of(alloc, writer.written())?;
+    if let Some(last) = last {
+        return writeln!(sink, "{output} {last}");
+    }
+    let reader = decoder.into_inner();
+    let rest = word_of(alloc, reader.left())?;
+    writeln!(sink, "{output} rest {rest}")
+}
