@@ -1,5 +1,5 @@
 -- What a copy of elements means where the bytes are told: the premises turn the general statement into an exact one.
-use Rattle.std.proofs.Common.{◌≡◌, ℕ, ◌+◌, ◌-◌, ◌^◌, ◌<◌, ◌≤◌, List, [], ◌∷◌, ◌++◌, length, take, drop, min, Some, None, Result, Ok, Err, IsOk, ◌↔◌, refl, sym, ap, subst, ◌∙◌, inl, inr, arith, append_assoc, length-append}
+use Rattle.std.proofs.Common.{◌≡◌, ℕ, ◌+◌, ◌-◌, ◌^◌, ◌<◌, ◌≤◌, ◌⊎◌, List, [], ◌∷◌, ◌++◌, length, take, drop, min, Some, None, Result, Ok, Err, IsOk, ◌↔◌, refl, sym, ap, subst, ◌∙◌, inl, inr, arith, append_assoc, length-append}
 use Rattle.std.proofs.lemmas.List.{length-take}
 use Rattle.std.proofs.Math.Seq.{take-append_seam, take-append-add, drop-append_seam}
 use Rattle.std.proofs.lemmas.Bool.{cases_lt}
@@ -12,7 +12,7 @@ use Rattle.ciborium_ll.specs.declared.recode.RecodeError.TheVariants as r
 use Rattle.ciborium_ll.specs.Title.{shortest_title, title_len, BeginsRefused}
 use Rattle.ciborium_ll.specs.Strings.{Kind, Text, kind_header}
 use Rattle.ciborium_ll.specs.Text.{IsCharacters}
-use Rattle.ciborium_ll.specs.Elements.{Mark, Open, pieces, spelling}
+use Rattle.ciborium_ll.specs.Elements.{Mark, Open, pieces, spelling, IsElement, plain, definite, indefinite, IsRun, done, next}
 use Rattle.ciborium_ll.specs.Faults.{Place, Due, In, Body, IsInside, opened, deeper, Reaches, due, inside, body, body_inside, Short, Syntax, CutTitle, NoTitle, OtherTitle, DamagedText, CutBody, CutDamagedText, BeginsNoText, RunInFront, HasFault}
 use Rattle.ciborium_ll.specs.Decoding.{view, next_read}
 use Rattle.ciborium_ll.specs.Encoding.{WritesAll}
@@ -23,6 +23,7 @@ use Rattle.ciborium_ll.proofs.ElementLaws.{respell_all, pieces-append, spelling-
 use Rattle.ciborium_ll.proofs.FaultLaws.{no_fault}
 use Rattle.ciborium_ll.proofs.BodyLaws.{view_none}
 use Rattle.ciborium_ll.proofs.CopyingTold.{consumes_told, appends_told, next_read_small, first_gone, refused_byte}
+use Rattle.ciborium_ll.proofs.NestLaws.{title_some}
 use Rattle.ciborium_ll.proofs.RecodeLaws.{writes_then}
 
 -- ---- what is written is no longer than what was read
@@ -440,9 +441,28 @@ module _ {R E W F : Type 0} (source : Reader R E) (sink : Writer W F) (count roo
       → IsOk result ↔ RunInFront count due
   recode_exactly new writer' result copied = exactly_told new writer' result (recode_told new writer' result copied)
 
+-- an element has a byte
+element_some : (w : List ℕ) (ms : List Mark) → IsElement w ms → 0 < length w
+element_some w ms (plain x p q) = title_some w x p
+element_some w ms (definite {title = t} {body = b} k p s) = omega (arith, title_some t (kind_header k (Some (length b))) p, length-append t b)
+element_some w ms (indefinite {title = t} {strings = y} k p q s) = omega (arith, title_some t (kind_header k None) p, length-append t (y ++ 0xff ∷ []))
+
+-- behind some elements no header waits
+run_settled : {R : Type 0} (count : ℕ) (old new : Decoder R) (bytes : List ℕ) (marks : List Mark) → IsRun count bytes marks → ((bytes ≡ []) × (new ≡ old)) ⊎ (new.waiting ≡ None)
+    → 0 < count → new.waiting ≡ None
+run_settled count old new bytes marks run (inr none) some = none
+run_settled count old new bytes marks done (inl empty) some = absurd (omega (arith, some))
+run_settled count old new bytes marks (next {first = x} {rest = y} {marks = ms} element more) (inl empty) some =
+    absurd (let none = ap length empty.0 in omega (arith, none, element_some x ms element, length-append x y))
+
 -- behind all elements
 pub copies_all : {R E W F : Type 0} (source : Reader R E) (sink : Writer W F) (count : ℕ) (old new : Decoder R) (writer writer' : W) → CopiesRun source sink count old writer new writer'
     → CopiesAll source sink count old writer new writer'
 copies_all source sink count old new writer writer' run =
     let again = run_again count run.bytes run.marks run.run in
-    record { elements = run; again = again.run; shorter = again.shorter }
+    record {
+      elements = run;
+      again = again.run;
+      shorter = again.shorter;
+      settled = run_settled count old new run.bytes run.marks run.run run.copied.passed.waiting;
+    }

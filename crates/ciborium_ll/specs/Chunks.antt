@@ -37,6 +37,7 @@ module _ {R P : Type 0} {parser : Parser P} where
   abbrev pub kept_of : Segment R P parser → List ℕ
   kept_of s = kept_bytes s.kept
 
+  -- the offset of its title, which a damage names
   abbrev pub place_of : Segment R P parser → ℕ
   place_of s = s.place
 
@@ -44,6 +45,7 @@ module _ {R P : Type 0} {parser : Parser P} where
   abbrev pub IsDamaged : Segment R P parser → Type 0
   IsDamaged s = s.damaged ≡ true
 
+  -- how many bytes of the body were not handed out
   abbrev pub left_of : Segment R P parser → ℕ
   left_of s = s.unread + length (kept_bytes s.kept)
 
@@ -72,6 +74,7 @@ module _ {R E : Type 0} (source : Ghosts R E) where
     pub reads : ReadsAll source old read new
     pub whole : filled ≡ front ++ read
 
+  -- bytes are read behind a front, up to the end of a slice
   abbrev pub FillsBehind : List ℕ → Decoder R → Result (Unit {0}) (Error E) → List ℕ → Decoder R → Type 0
   FillsBehind front old (Ok done) filled new = ReadsBehind front old filled new
   FillsBehind front old (Err (e.Io fault)) filled new = ReadFails source old (length filled - length front) new

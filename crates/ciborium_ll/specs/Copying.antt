@@ -66,6 +66,7 @@ module _ {R E W F : Type 0} (source : Reader R E) (sink : Writer W F) where
     pub pulled : PullsHeader source between (Ok last) new
     pub stopped : WritesFront sink writer-between (shortest_title last) writer'
 
+  -- the copy of so many headers, by its answer
   abbrev pub CopiesHeaders : ℕ → Decoder R → W → Result (Unit {0}) (RecodeError E F) → Decoder R → W → Type 0
   CopiesHeaders count old writer (Ok done) new writer' = CopiesAll count old writer new writer'
   CopiesHeaders count old writer (Err (r.Read error)) new writer' = StopsReading count old writer error new writer'

@@ -30,12 +30,15 @@ told_unless_waiting (Some header) ahead = None
 -- ---- what a decoder is to its callers
 
 module _ {R : Type 0} where
+  -- the reader that the decoder reads
   abbrev pub reader_of : Decoder R → R
   reader_of d = d.reader
 
+  -- how many bytes of titles and bodies were consumed, counted from its start
   abbrev pub offset_of : Decoder R → ℕ
   offset_of d = d.offset
 
+  -- the header that waits, if one does
   abbrev pub waiting_of : Decoder R → Option Header
   waiting_of d = d.waiting
 
@@ -82,9 +85,11 @@ module _ {R E : Type 0} (source : Ghosts R E) where
   abbrev pub view : Decoder R → Option (List ℕ)
   view d = behind_waiting d.waiting (source.ahead d.reader)
 
+  -- how often its reader failed
   abbrev pub failures_of : Decoder R → ℕ
   failures_of d = source.failures d.reader
 
+  -- its reader fails only where bytes are missing
   abbrev pub IsSteady : Decoder R → Type 0
   IsSteady d = IsTrue (source.steady d.reader)
 
@@ -137,6 +142,7 @@ module _ {R E : Type 0} (source : Ghosts R E) where
     pub none_waits : new.waiting ≡ None
     pub failures : failures_of new ≡ failures_of old
 
+  -- `pull`, by its answer
   abbrev pub PullsHeader : Decoder R → Result Header (Error E) → Decoder R → Type 0
   PullsHeader old (Ok header) new = PullsTitle old header new
   PullsHeader old (Err (e.Io fault)) new = StopsInTitle old new
@@ -178,6 +184,7 @@ module _ {R E : Type 0} (source : Ghosts R E) where
     pub offset : new.offset ≡ pulled.offset
     pub none_waits : new.waiting ≡ None
 
+  -- the three calls, by the last answer
   abbrev pub PullsAgain : Decoder R → Result Header (Error E) → Decoder R → Type 0
   PullsAgain old (Ok header) new = PullsTwice old header new
   PullsAgain old (Err error) new = PullsHeader old (Err error) new
@@ -212,11 +219,13 @@ module _ {R E : Type 0} (source : Ghosts R E) where
 
   -- ---- the affix of a title, inside `pull`
 
+  -- the affix that a minor announces was read
   pub record ReadsAffix (minor : ℕ) (old : Decoder R) (read : Minor) (new : Decoder R) : Type 0 where
     pub is_minor : IsMinor read
     pub code : minor ≡ minor_code read
     pub all : ReadsAll old (minor_affix read) new
 
+  -- the read of an affix, by its answer
   abbrev pub ReadsMinor : ℕ → Decoder R → Result (Option Minor) (Error E) → Decoder R → Type 0
   ReadsMinor minor old (Ok (Some read)) new = ReadsAffix minor old read new
   ReadsMinor minor old (Ok None) new = IsReserved minor × (new ≡ old)

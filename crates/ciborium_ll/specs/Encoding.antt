@@ -8,6 +8,7 @@ use Rattle.ciborium_ll.specs.Strings.{Kind, Text}
 use Rattle.ciborium_ll.specs.Elements.{Mark, spelling, pieces}
 use Rattle.ciborium_ll.specs.Values.{value_limit, ArePieces, IsWritten, HasFewestSegments}
 
+-- the writer that the encoder writes to
 abbrev pub writer_of : {W : Type 0} → Encoder W → W
 writer_of encoder = encoder.writer
 
@@ -24,6 +25,7 @@ module _ {W F : Type 0} (sink : Ghosts W F) where
     pub full : IfSome (sink.room old) (λ room. room < length bytes)
     pub failures : sink.failures new ≡ sink.failures old + 1
 
+  -- a write, by its answer
   abbrev pub WritesBytes : {T : Type 0} → W → Result T F → List ℕ → W → Type 0
   WritesBytes old (Ok done) bytes new = WritesAll old bytes new
   WritesBytes old (Err fault) bytes new = WritesFront old bytes new

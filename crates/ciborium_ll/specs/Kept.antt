@@ -4,6 +4,7 @@ use Rattle.ciborium_ll.specs.declared.seg.Kept.{Kept}
 use Rattle.ciborium_ll.specs.declared.seg.Kept.TheVariants as k
 use Rattle.ciborium_ll.specs.Text.{IsCharacters}
 
+-- the kept bytes, in order
 abbrev pub kept_bytes : Kept → List ℕ
 kept_bytes k.Nothing = []
 kept_bytes (k.One first) = first ∷ []

@@ -14,6 +14,7 @@ minor_code (m.Four n) = 26
 minor_code (m.Eight n) = 27
 minor_code m.Open = 31
 
+-- the bytes behind a first byte (RFC 7049, 2.1)
 abbrev pub minor_affix : Minor → List ℕ
 minor_affix (m.Small n) = []
 minor_affix (m.One n) = to_be_bytes w8 n
@@ -22,6 +23,7 @@ minor_affix (m.Four n) = to_be_bytes w32 n
 minor_affix (m.Eight n) = to_be_bytes w64 n
 minor_affix m.Open = []
 
+-- the number that a minor and its affix hold, which minor 31 has none of (RFC 7049, 2.1)
 abbrev pub minor_number : Minor → Option ℕ
 minor_number (m.Small n) = Some n
 minor_number (m.One n) = Some n
@@ -39,15 +41,19 @@ IsMinor (m.Four n) = n < 2 ^ 32
 IsMinor (m.Eight n) = n < 2 ^ 64
 IsMinor m.Open = Unit {0}
 
+-- the first byte of a title in parts (RFC 7049, 2.1)
 abbrev pub parts_first : ℕ → Minor → ℕ
 parts_first major minor = 32 * major + minor_code minor
 
+-- the bytes of a title in parts (RFC 7049, 2.1)
 abbrev pub parts_bytes : ℕ → Minor → List ℕ
 parts_bytes major minor = parts_first major minor ∷ minor_affix minor
 
+-- the bytes of a title
 abbrev pub title_bytes : Title → List ℕ
 title_bytes t = parts_bytes t.major t.minor
 
+-- the parts are those of some title
 pub record IsParts (t : Title) : Type 0 where
   pub major : t.major < 8
   pub minor : IsMinor t.minor

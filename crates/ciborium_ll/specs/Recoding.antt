@@ -19,6 +19,7 @@ use Rattle.ciborium_ll.specs.Encoding.{WritesAll, WritesFront}
 -- ---- one header
 
 module _ {E W F : Type 0} (sink : Writer W F) where
+  -- the write of a header, by its answer
   abbrev pub WritesHeader : W → Result (Unit {0}) (RecodeError E F) → Header → W → Type 0
   WritesHeader writer (Ok done) header writer' = WritesAll sink writer (shortest_title header) writer'
   WritesHeader writer (Err (r.Write fault)) header writer' = WritesFront sink writer (shortest_title header) writer'
@@ -131,6 +132,8 @@ module _ {R E W F : Type 0} (source : Reader R E) (sink : Writer W F) where
     pub elements : CopiesRun count old writer new writer'
     pub again : IsRun count (spelling elements.marks) elements.marks
     pub shorter : length (spelling elements.marks) ≤ length elements.bytes
+    -- behind an element no header waits
+    pub settled : 0 < count → new.waiting ≡ None
 
   -- `pull` failed where a title is due
   pub record StopsAtTitle (count : ℕ) (old : Decoder R) (writer : W) (error : Error E) (new : Decoder R) (writer' : W) : Type 0 where
@@ -225,6 +228,7 @@ module _ {R E W F : Type 0} (source : Reader R E) (sink : Writer W F) where
     pub run : IsRun (suc before) bytes marks
     pub copied : Copied old writer bytes marks new writer'
 
+  -- one element more, or an error that stops the whole copy
   abbrev pub GoesOn : ℕ → ℕ → ℕ → Decoder R → W → Result (Unit {0}) (RecodeError E F) → Decoder R → W → Type 0
   GoesOn count before room old writer (Ok done) new writer' = AddsElement before old writer new writer'
   GoesOn count before room old writer (Err error) new writer' = StopsCopy count room old writer error new writer'
@@ -250,6 +254,7 @@ module _ {R E W F : Type 0} (source : Reader R E) (sink : Writer W F) where
     pub passed : Passes source old (bytes ++ element) new
     pub written : WritesAll sink writer (spelling (marks ++ Open kind ∷ pieces kind bodies)) writer'
 
+  -- a string up to its last break, or an error that stops the whole copy
   abbrev pub GoesOnWithin : ℕ → ℕ → Kind → ℕ → Decoder R → W → Result (Unit {0}) (RecodeError E F) → Decoder R → W → Type 0
   GoesOnWithin count before kind room old writer (Ok done) new writer' = ReadsString before kind old writer new writer'
   GoesOnWithin count before kind room old writer (Err error) new writer' = StopsCopy count room old writer error new writer'

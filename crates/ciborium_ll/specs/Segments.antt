@@ -79,6 +79,7 @@ module _ {R E : Type 0} (source : Ghosts R E) (kind : Kind) where
     pub pulled : PullsTitle source old (kind_header kind None) new
     pub after : progress ≡ p.Open (opens + 1)
 
+  -- a break behind which an open is left
   pub record ClosesInner (opens : ℕ) (old : Decoder R) (progress : Progress) (new : Decoder R) : Type 0 where
     pub pulled : PullsTitle source old h.Break new
     pub inner : 1 < opens

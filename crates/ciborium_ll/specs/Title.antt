@@ -12,6 +12,7 @@ use Rattle.ciborium_ll.specs.declared.hdr.Float.TheVariants as f
 pub data Major : Type 0 where
   Unsigned Negative ByteString TextString Array Map Tag Other : Major
 
+-- the number of a major type (RFC 7049, 2.1)
 abbrev pub major_code : Major → ℕ
 major_code Unsigned = 0
 major_code Negative = 1
@@ -30,7 +31,7 @@ first_byte major minor = 32 * major_code major + minor
 pub data Size : Type 0 where
   Small One Two Four Eight : Size
 
--- the numbers of a size are below this one
+-- the numbers of a size are below this one (RFC 7049, 2.1)
 abbrev pub size_limit : Size → ℕ
 size_limit Small = 24
 size_limit One = 2 ^ 8
@@ -38,6 +39,7 @@ size_limit Two = 2 ^ 16
 size_limit Four = 2 ^ 32
 size_limit Eight = 2 ^ 64
 
+-- the minor of a size (RFC 7049, 2.1): the number itself, or how many bytes follow
 abbrev pub minor_of : Size → ℕ → ℕ
 minor_of Small n = n
 minor_of One n = 24
@@ -53,6 +55,7 @@ affix_of Two n = to_be_bytes w16 n
 affix_of Four n = to_be_bytes w32 n
 affix_of Eight n = to_be_bytes w64 n
 
+-- a first byte and its affix (RFC 7049, 2.1)
 abbrev pub numbered_title : Major → Size → ℕ → List ℕ
 numbered_title major size n = first_byte major (minor_of size n) ∷ affix_of size n
 
@@ -86,26 +89,29 @@ open_header Map = Some (h.Map None)
 open_header Tag = None
 open_header Other = Some h.Break
 
--- the bytes are a title of the header: a first byte with its number, or a first byte of minor 31 alone
+-- the bytes are a title of the header: a first byte with its number, or a first byte of minor 31 alone (RFC 7049, 2.1
+-- and 2.2)
 pub data IsTitle : List ℕ → Header → Type 0 where
   numbered : (major : Major) (size : Size) (n : ℕ) → n < size_limit size → IsTitle (numbered_title major size n) (numbered_header major size n)
   alone : (major : Major) (header : Header) → open_header major ≡ Some header → IsTitle (first_byte major 31 ∷ []) header
 
 -- ---- the shortest title
 
--- the smallest size that holds the number
+-- the smallest size that holds the number (RFC 7049, 3.9)
 abbrev pub least_size : ℕ → Size
 least_size n =
     if nat_lt n 24 then Small else (if nat_lt n (2 ^ 8) then One else (if nat_lt n (2 ^ 16) then Two else (if nat_lt n (2 ^ 32) then Four else Eight)))
 
+-- a number under a major type, in the smallest size that holds it (RFC 7049, 3.9)
 abbrev pub shortest_numbered : Major → ℕ → List ℕ
 shortest_numbered major n = numbered_title major (least_size n) n
 
+-- a length in the smallest size, or the indefinite form (RFC 7049, 2.2 and 3.9)
 abbrev pub shortest_with_length : Major → Option ℕ → List ℕ
 shortest_with_length major (Some n) = shortest_numbered major n
 shortest_with_length major None = first_byte major 31 ∷ []
 
--- a float has one title alone
+-- a float has one title alone (RFC 7049, 2.3)
 abbrev pub float_title : Float → List ℕ
 float_title (f.Half n) = numbered_title Other Two n
 float_title (f.Single n) = numbered_title Other Four n
@@ -124,6 +130,7 @@ shortest_title (h.Text len) = shortest_with_length TextString len
 shortest_title (h.Array len) = shortest_with_length Array len
 shortest_title (h.Map len) = shortest_with_length Map len
 
+-- how many bytes a header's shortest title has
 abbrev pub title_len : Header → ℕ
 title_len header = length (shortest_title header)
 
@@ -134,11 +141,13 @@ waiting_len (Some header) = title_len header
 
 -- ---- the numbers of a header are in the ranges of their types
 
+-- a float's bits fit its width (RFC 7049, 2.3)
 abbrev pub IsFloatInRange : Float → Type 0
 IsFloatInRange (f.Half n) = n < 2 ^ 16
 IsFloatInRange (f.Single n) = n < 2 ^ 32
 IsFloatInRange (f.Double n) = n < 2 ^ 64
 
+-- each number fits its Rust type: 64 bits, and 8 for a simple value (RFC 7049, 2.1 and 2.3)
 abbrev pub IsInRange : Header → Type 0
 IsInRange (h.Positive n) = n < 2 ^ 64
 IsInRange (h.Negative n) = n < 2 ^ 64
@@ -157,7 +166,7 @@ IsInRange (h.Map len) = IfSome len (λ n. n < 2 ^ 64)
 abbrev pub IsReserved : ℕ → Type 0
 IsReserved minor = (28 ≤ minor) × (minor ≤ 30)
 
--- the minor 31 under a major type that has no indefinite form: 0, 1 or 6
+-- the minor 31 under a major type that has no indefinite form (RFC 7049, 2.2): 0, 1 or 6
 abbrev pub IsNeverOpen : ℕ → Type 0
 IsNeverOpen major = (major ≡ 0) ⊎ ((major ≡ 1) ⊎ (major ≡ 6))
 
@@ -165,6 +174,7 @@ IsNeverOpen major = (major ≡ 0) ⊎ ((major ≡ 1) ⊎ (major ≡ 6))
 abbrev pub IsRefused : ℕ → Type 0
 IsRefused byte = IsReserved (byte % 32) ⊎ ((byte % 32 ≡ 31) × IsNeverOpen (byte / 32))
 
+-- the bytes begin with one of those
 abbrev pub BeginsRefused : List ℕ → Type 0
 BeginsRefused [] = ⊥
 BeginsRefused (byte ∷ rest) = IsRefused byte
@@ -174,7 +184,7 @@ abbrev pub affix_len : ℕ → ℕ
 affix_len minor = if minor == 24 then 1 else (if minor == 25 then 2 else (if minor == 26 then 4 else (if minor == 27 then 8 else 0)))
 
 -- The bytes end inside a title: they are none, or fewer follow the first byte than it announces. By the law
--- `cut_titles` just these are the proper beginnings of titles.
+-- `cut_titles` just these, of lists of bytes, are the proper beginnings of titles.
 abbrev pub IsCutTitle : List ℕ → Type 0
 IsCutTitle [] = Unit {0}
 IsCutTitle (byte ∷ rest) = length rest < affix_len (byte % 32)

@@ -163,7 +163,17 @@ fn copy_element<R: Read, W: Write>(
     }
 }
 
-/// Copies `count` elements.
+/// Copies `count` elements, each in its shortest spelling. An element is a header that begins no string, or a whole
+/// string (RFC 7049, 2.1 and 2.2).
+///
+/// Every title becomes the shortest one of its header. The bodies of a string of indefinite length stay the segments
+/// that they were, in one string: strings within it lose their opens and breaks. Bodies go through `buffer`, each chunk
+/// as soon as it is read, and each body of a text is UTF-8 by itself.
+///
+/// `Read` carries the decoder's error. `Syntax` names the offset of a title that is none or may not stand there; of a
+/// body that is no text the offset of its title, or, where a whole string's title is longer than its shortest one, of
+/// the byte from which the shortest would reach the body. `Io` says that the reader failed, `TooLong` that the offset
+/// can't take the next read. `Write` carries the writer's error. The titles and chunks before the error are written.
 pub fn recode<R: Read, W: Write>(
     decoder: &mut Decoder<R>,
     encoder: &mut Encoder<W>,

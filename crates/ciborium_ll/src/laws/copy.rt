@@ -16,7 +16,8 @@ use crate::recode::RecodeError;
 ///
 /// Where the reader is steady, the writer's room covers what is due and the offset fits, the copy succeeds exactly
 /// where that many titles are next. What it wrote is then their shortest spelling, which it would copy unchanged,
-/// and what follows them is left. Else it names the place of the first title that is cut or is none.
+/// and what follows them is left. Else `Syntax` names the offset of the first byte with which no title begins, or `Io`
+/// says that the bytes end within a title, of which the first byte is gone.
 pub fn copy_headers<R: Read, W: Write>(
     decoder: &mut Decoder<R>,
     encoder: &mut Encoder<W>,
