@@ -6,6 +6,8 @@ mod calls;
 #[cfg(test)]
 mod copies;
 #[cfg(test)]
+mod pieces;
+#[cfg(test)]
 mod streams;
 #[cfg(test)]
 mod strings;

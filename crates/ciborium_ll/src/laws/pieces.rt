@@ -11,6 +11,7 @@ use crate::hdr::Header;
 use crate::io::Write;
 
 /// What one call writes: a header, or a value in segments of limited length.
+#[derive(Drop)]
 pub enum Piece<'a> {
     /// A header that begins no string.
     Header(Header),
