@@ -1,9 +1,14 @@
 -- Pieces written one by one.
-use Rattle.std.proofs.Common.{◌≡◌, ℕ, suc, ◌<◌, ◌≤◌, ◌^◌, List, [], ◌∷◌, ◌++◌, length, Option, Some, None, Result, Ok, IsErr, refl, sym, ap, subst, ◌∙◌, arith}
+use Rattle.std.proofs.Common.{◌≡◌, ℕ, suc, ◌<◌, ◌≤◌, ◌^◌, List, [], ◌∷◌, ◌++◌, length, Option, Some, None, Result, Ok, IsErr, refl, sym, ap, subst, ◌∙◌, arith, IsOk, ◌↔◌, Err}
 use Rattle.std.proofs.lemmas.List.{append-nil}
 use Rattle.std.proofs.KnownBytes.{Appends-nil}
 use Rattle.std.specs.Borrow.{Bor}
+use Rattle.ciborium_ll.specs.declared.io.Read.{Ghosts as Reader}
 use Rattle.ciborium_ll.specs.declared.io.Write.{Ghosts}
+use Rattle.ciborium_ll.specs.declared.dec.Decoder.{Decoder}
+use Rattle.ciborium_ll.specs.declared.recode.RecodeError.{RecodeError}
+use Rattle.ciborium_ll.specs.Faults.{RunInFront}
+use Rattle.ciborium_ll.specs.RecodingTold.{CopiesFront, RecodesTold}
 use Rattle.ciborium_ll.specs.declared.hdr.Header.{Header}
 use Rattle.ciborium_ll.specs.declared.laws.pieces.Piece.{Piece}
 use Rattle.ciborium_ll.specs.declared.laws.pieces.Piece.TheVariants as p
@@ -13,11 +18,11 @@ use Rattle.ciborium_ll.specs.Text.{joined}
 use Rattle.ciborium_ll.specs.Elements.{IsSound, Mark, Plain, IsPlain, spelling, IsElement, plain, IsRun, done, next}
 use Rattle.ciborium_ll.specs.Values.{least_limit, value_limit, segments, IsWritten, in_one, in_pieces}
 use Rattle.ciborium_ll.specs.Encoding.{WritesAll, WritesFront, WritesBytes, WritesValue}
-use Rattle.ciborium_ll.specs.Pieces.{IsValue, IsPiece, ArePieces, AreSpelled, IsSpelled, HasMarks, WritesPiece, WritesElements}
+use Rattle.ciborium_ll.specs.Pieces.{IsValue, IsPiece, ArePieces, AreSpelled, CopiesSame, IsSpelled, HasMarks, WritesPiece, WritesElements}
 use Rattle.ciborium_ll.specs.Pieces.ArePieces.{none as no_pieces, next as next_piece}
 use Rattle.ciborium_ll.proofs.TitleLaws.{IsTitle-shortest}
 use Rattle.ciborium_ll.proofs.CopyingLaws.{Shrinks-zero}
-use Rattle.ciborium_ll.proofs.ElementLaws.{spelling-append}
+use Rattle.ciborium_ll.proofs.ElementLaws.{spelling-append, one_run}
 use Rattle.ciborium_ll.proofs.EncodingLaws.{WritesBytes-then, WritesBytes-stopped}
 use Rattle.ciborium_ll.proofs.ValueLaws.{one_writing, some_writing, written_element, sound_pieces, segments_of_pieces}
 
@@ -181,3 +186,29 @@ module _ {W F : Type 0} (sink : Ghosts W F) where
         spelled = m.spelled;
         bytes = m.goes_on (Ok (tt {0})) now (subst (λ (z : List Mark). WritesAll sink now (spelling z) now) (sym (none_left rest m.others e m.left)) nothing);
       }
+
+-- ---- a copy of what is in its shortest spelling
+
+module _ {R E W F : Type 0} (source : Reader R E) (sink : Ghosts W F) where
+  -- the run in front is the one that stands there
+  same_front_copied : (count : ℕ) (marks : List Mark) (rest written : List ℕ) (old new : Decoder R) (writer' : W) → IsRun count (spelling marks) marks
+      → CopiesFront source sink count (spelling marks ++ rest) written old new writer'
+      → CopiesSame source sink {T = Unit {0}} {X = RecodeError E F} (spelling marks) rest written (Ok (tt {0})) new writer'
+  same_front_copied count marks rest written old new writer' run copied =
+      let front = copied.front in
+      let same = one_run count front.elements front.marks front.run (spelling marks) front.rest rest marks run (sym front.is) in
+      record {
+        ok = refl;
+        output = copied.output ∙ ap (λ (z : List Mark). Some (written ++ spelling z)) same.1;
+        left = copied.left ∙ ap Some same.2;
+      }
+
+  pub copied_same : (count : ℕ) (marks : List Mark) (rest written : List ℕ) (old new : Decoder R) (writer' : W) (result : Result (Unit {0}) (RecodeError E F))
+      → IsRun count (spelling marks) marks → (IsOk result ↔ RunInFront count (spelling marks ++ rest))
+      → RecodesTold source sink count (spelling marks ++ rest) written old result new writer'
+      → CopiesSame source sink (spelling marks) rest written result new writer'
+  copied_same count marks rest written old new writer' (Ok unit) run exactly told = same_front_copied count marks rest written old new writer' run told
+  copied_same count marks rest written old new writer' (Err error) run exactly told =
+      let front : RunInFront count (spelling marks ++ rest) = record { elements = spelling marks; marks = marks; rest = rest; run = run; is = refl } in
+      let ok : IsOk {T = Unit {0}} {E = RecodeError E F} (Err error) = exactly.1 front in
+      absurd cc

@@ -1,12 +1,15 @@
 -- Pieces that are written one by one: headers, and values of bytes and of text (RFC 7049, 2.1).
-use Rattle.std.specs.Prelude.{◌≡◌, ℕ, List, [], ◌∷◌, ◌++◌, length, Option, Result}
+use Rattle.std.specs.Prelude.{◌≡◌, ℕ, List, [], ◌∷◌, ◌++◌, length, Option, Some, Result, IsOk}
+use Rattle.ciborium_ll.specs.declared.io.Read.{Ghosts as Reader}
 use Rattle.ciborium_ll.specs.declared.io.Write.{Ghosts}
+use Rattle.ciborium_ll.specs.declared.dec.Decoder.{Decoder}
 use Rattle.ciborium_ll.specs.declared.laws.pieces.Piece.{Piece}
 use Rattle.ciborium_ll.specs.declared.laws.pieces.Piece.TheVariants as p
 use Rattle.ciborium_ll.specs.Text.{joined}
 use Rattle.ciborium_ll.specs.Strings.{Kind, Bytes, Text}
 use Rattle.ciborium_ll.specs.Elements.{Mark, Plain, IsPlain, IsElement, IsRun, spelling}
 use Rattle.ciborium_ll.specs.Values.{value_limit, IsWritten, segments}
+use Rattle.ciborium_ll.specs.Decoding.{view}
 use Rattle.ciborium_ll.specs.Encoding.{WritesBytes}
 
 -- a header piece begins no string; strings are pieces of bytes and of text
@@ -62,3 +65,10 @@ module _ {W F : Type 0} (sink : Ghosts W F) where
   pub record WritesElements {T : Type 0} (pieces : List Piece) (old : W) (result : Result T F) (new : W) : Type 0 where
     pub spelled : AreSpelled pieces
     pub bytes : WritesBytes sink old result (spelling spelled.marks) new
+
+module _ {R E W F : Type 0} (source : Reader R E) (sink : Ghosts W F) where
+  -- the bytes were copied unchanged, and just what follows them is left
+  pub record CopiesSame {T X : Type 0} (bytes rest written : List ℕ) (result : Result T X) (new : Decoder R) (writer' : W) : Type 0 where
+    pub ok : IsOk result
+    pub output : sink.written writer' ≡ Some (written ++ bytes)
+    pub left : view source new ≡ Some rest

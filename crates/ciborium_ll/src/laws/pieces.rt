@@ -1,14 +1,18 @@
 //! Headers and values written one by one.
 
-ghost use Rattle.std.specs.Prelude.{ℕ, Option};
+ghost use Rattle.std.specs.Prelude.{◌≤◌, ◌++◌, ℕ, List, length, Option};
 ghost use Rattle.std.specs.List.{All};
 ghost use Rattle.ciborium_ll.specs.Strings.{Bytes, Text};
+ghost use Rattle.ciborium_ll.specs.Elements.{Mark, IsRun, spelling};
 ghost use Rattle.ciborium_ll.specs.Encoding.{writer_of};
-ghost use Rattle.ciborium_ll.specs.Pieces.{AreSpelled, HasMarks, IsPlainPiece, IsSpelled, WritesElements, WritesPiece};
+ghost use Rattle.ciborium_ll.specs.RecodingTold.{IsReady};
+ghost use Rattle.ciborium_ll.specs.Pieces.{AreSpelled, CopiesSame, HasMarks, IsPlainPiece, IsSpelled, WritesElements, WritesPiece};
 
+use crate::dec::Decoder;
 use crate::enc::Encoder;
 use crate::hdr::Header;
-use crate::io::Write;
+use crate::io::{Read, Write};
+use crate::recode::{RecodeError, recode};
 
 /// What one call writes: a header, or a value in segments of limited length.
 #[derive(Drop)]
@@ -69,7 +73,7 @@ fn write_piece<W: Write>(encoder: &mut Encoder<W>, piece: &Piece<'_>) -> Result<
 /// Writes each piece in turn, a header by `push` and a value by `bytes` or `text`.
 ///
 /// What is written is an element for each piece, in its shortest spelling, and the bodies of a value joined are the
-/// value. So a copy of as many elements leaves it as it is.
+/// value. So a copy of as many elements leaves it as it is, as `copy_spelled` says.
 ///
 /// The only errors are the writer's. A beginning of that spelling was then written.
 pub fn write_pieces<W: Write>(
@@ -85,4 +89,22 @@ pub fn write_pieces<W: Write>(
         write_piece(encoder, piece)?;
     }
     Ok(())
+}
+
+/// Copies elements that are in their shortest spelling, as those of `write_pieces` are.
+///
+/// Where the reader is steady, the writer has room and the offset fits, they are copied unchanged, and just what
+/// follows them is left.
+pub fn copy_spelled<R: Read, W: Write>(
+    decoder: &mut Decoder<R>,
+    encoder: &mut Encoder<W>,
+    count: usize,
+    buffer: &mut [u8],
+) -> Result<(), RecodeError<R::Error, W::Error>>
+    requires room { 4 ≤ length buffer.old }
+    ensures { (marks : List Mark) (rest written : List ℕ) → IsRun count (spelling marks) marks
+        → IsReady R.Read W.Write (length buffer.old) decoder.old (writer_of encoder.old) (spelling marks ++ rest) written
+        → CopiesSame R.Read W.Write (spelling marks) rest written result decoder.new (writer_of encoder.new) }
+{
+    recode(decoder, encoder, count, buffer)
 }
