@@ -18,6 +18,7 @@ pub mod OneFault
 pub mod NestLaws
 pub mod PartsLaws
 pub mod PieceLaws
+pub mod PiecesWritten
 pub mod RecodeLaws
 pub mod RecodingToldLaws
 pub mod RefusedBytes

@@ -213,7 +213,7 @@ text_members limit [] all = tt
 text_members limit (x ∷ xs) all = (all.0.0, text_members limit xs all.1)
 
 -- pieces joined are the value, and they are sound
-sound_pieces : (k : Kind) (limit : ℕ) (value : List ℕ) (members : List (List ℕ)) → ArePieces k limit value members
+pub sound_pieces : (k : Kind) (limit : ℕ) (value : List ℕ) (members : List (List ℕ)) → ArePieces k limit value members
     → (value ≡ joined members) × IsSound k members
 sound_pieces Bytes limit value members p = (p.0, tt)
 sound_pieces Text limit value members p = (p.cut.whole, text_members limit members p.cut.each)
@@ -234,7 +234,7 @@ written_element k limit value ms (in_pieces members l p) s n =
 -- ---- fewest segments
 
 -- pieces are the segments of what is written
-segments_of_pieces : (k : Kind) (members : List (List ℕ)) → segments (pieces k members ++ Close ∷ []) ≡ members
+pub segments_of_pieces : (k : Kind) (members : List (List ℕ)) → segments (pieces k members ++ Close ∷ []) ≡ members
 segments_of_pieces k [] = refl
 segments_of_pieces k (x ∷ xs) = ap (λ (z : List (List ℕ)). x ∷ z) (segments_of_pieces k xs)
 

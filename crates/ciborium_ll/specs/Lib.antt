@@ -9,6 +9,7 @@ pub mod Items
 pub mod Kept
 pub mod Lend
 pub mod Parts
+pub mod Pieces
 pub mod Recoding
 pub mod RecodingTold
 pub mod Segments

@@ -8,6 +8,7 @@ mod elements;
 mod faults;
 mod headers;
 mod items;
+mod pieces;
 mod strings;
 mod text;
 mod titles;
@@ -19,6 +20,7 @@ pub use self::elements::{one_element, one_run, spelled_run};
 pub use self::faults::{no_fault, one_fault, run_or_fault};
 pub use self::headers::{copied_float, copied_header, pull_again, same_float, same_header};
 pub use self::items::one_item;
+pub use self::pieces::{Piece, copy_spelled, spelled_pieces, write_pieces};
 pub use self::strings::one_string;
 pub use self::text::{
     joined_texts, no_rest_of_text, no_text_begins, one_front, rest_of_text, same_text,

@@ -8,6 +8,8 @@ mod copies;
 #[cfg(test)]
 mod elements;
 #[cfg(test)]
+mod pieces;
+#[cfg(test)]
 mod streams;
 #[cfg(test)]
 mod strings;

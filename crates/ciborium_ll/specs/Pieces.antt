@@ -1,0 +1,74 @@
+-- Pieces that are written one by one: headers, and values of bytes and of text (RFC 7049, 2.1).
+use Rattle.std.specs.Prelude.{◌≡◌, ℕ, List, [], ◌∷◌, ◌++◌, length, Option, Some, Result, IsOk}
+use Rattle.ciborium_ll.specs.declared.io.Read.{Ghosts as Reader}
+use Rattle.ciborium_ll.specs.declared.io.Write.{Ghosts}
+use Rattle.ciborium_ll.specs.declared.dec.Decoder.{Decoder}
+use Rattle.ciborium_ll.specs.declared.laws.pieces.Piece.{Piece}
+use Rattle.ciborium_ll.specs.declared.laws.pieces.Piece.TheVariants as p
+use Rattle.ciborium_ll.specs.Text.{joined}
+use Rattle.ciborium_ll.specs.Strings.{Kind, Bytes, Text}
+use Rattle.ciborium_ll.specs.Elements.{Mark, Plain, IsPlain, IsElement, IsRun, spelling}
+use Rattle.ciborium_ll.specs.Values.{value_limit, IsWritten, segments}
+use Rattle.ciborium_ll.specs.Decoding.{view}
+use Rattle.ciborium_ll.specs.Encoding.{WritesBytes}
+
+-- a header piece begins no string; strings are pieces of bytes and of text
+abbrev pub IsPlainPiece : Piece → Type 0
+IsPlainPiece (p.Header header) = IsPlain header
+IsPlainPiece (p.Bytes value segment) = Unit {0}
+IsPlainPiece (p.Text value segment) = Unit {0}
+
+-- the marks of a value in segments of at most as many bytes as are asked for (RFC 7049, 2.2.2); their bodies joined
+-- are the value
+pub record IsValue (kind : Kind) (segment : Option ℕ) (value : List ℕ) (marks : List Mark) : Type 0 where
+  pub written : IsWritten kind (value_limit kind segment value) value marks
+  pub whole : joined (segments marks) ≡ value
+
+-- the marks of one piece
+abbrev pub IsPiece : Piece → List Mark → Type 0
+IsPiece (p.Header header) marks = marks ≡ Plain header ∷ []
+IsPiece (p.Bytes value segment) marks = IsValue Bytes segment value.now marks
+IsPiece (p.Text value segment) marks = IsValue Text segment value.now marks
+
+-- the marks of the pieces, one by one
+pub data ArePieces : List Piece → List Mark → Type 0 where
+  none : ArePieces [] []
+  next : {piece : Piece} {rest : List Piece} (marks : List Mark) {others : List Mark} → IsPiece piece marks → ArePieces rest others
+      → ArePieces (piece ∷ rest) (marks ++ others)
+
+-- marks of the pieces, whose spelling is an element for each piece
+pub record AreSpelled (pieces : List Piece) : Type 0 where
+  pub marks : List Mark
+  pub are_pieces : ArePieces pieces marks
+  pub run : IsRun (length pieces) (spelling marks) marks
+
+-- marks of one piece, whose spelling is an element
+pub record IsSpelled (piece : Piece) : Type 0 where
+  pub marks : List Mark
+  pub is_piece : IsPiece piece marks
+  pub element : IsElement (spelling marks) marks
+
+-- marks of a value, whose spelling is an element
+pub record HasMarks (kind : Kind) (segment : Option ℕ) (value : List ℕ) : Type 0 where
+  pub marks : List Mark
+  pub is_value : IsValue kind segment value marks
+  pub element : IsElement (spelling marks) marks
+
+module _ {W F : Type 0} (sink : Ghosts W F) where
+  -- the spelling of one piece
+  pub record WritesPiece {T : Type 0} (piece : Piece) (old : W) (result : Result T F) (new : W) : Type 0 where
+    pub marks : List Mark
+    pub is_piece : IsPiece piece marks
+    pub bytes : WritesBytes sink old result (spelling marks) new
+
+  -- the spelling of the pieces, which is an element for each
+  pub record WritesElements {T : Type 0} (pieces : List Piece) (old : W) (result : Result T F) (new : W) : Type 0 where
+    pub spelled : AreSpelled pieces
+    pub bytes : WritesBytes sink old result (spelling spelled.marks) new
+
+module _ {R E W F : Type 0} (source : Reader R E) (sink : Ghosts W F) where
+  -- the bytes were copied unchanged, and just what follows them is left
+  pub record CopiesSame {T X : Type 0} (bytes rest written : List ℕ) (result : Result T X) (new : Decoder R) (writer' : W) : Type 0 where
+    pub ok : IsOk result
+    pub output : sink.written writer' ≡ Some (written ++ bytes)
+    pub left : view source new ≡ Some rest
