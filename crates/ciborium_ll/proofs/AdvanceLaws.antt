@@ -126,3 +126,10 @@ module _ {R E : Type 0} (source : Ghosts R E) (kind : Kind) where
   Reached-too_deep p.Ended old now r = let f = r.0 in cc
   Reached-too_deep (p.Damaged place) old now r = let f = r.0 in cc
   Reached-too_deep p.TooDeep old now r = (refl, refl, r.1)
+
+  -- behind the title of a body no header waits
+  pub none_waits_for_body : (first : Progress) (old : Decoder R) (body : Body) (after : Progress) (new : Decoder R) → AdvancesTo source kind first old (Ok (Some body)) after new → new.waiting ≡ None
+  none_waits_for_body (p.Open opens) old body after new advanced = advanced.ends.pulled.none_waits
+  none_waits_for_body p.Ended old body after new advanced = let f = advanced.0 in cc
+  none_waits_for_body (p.Damaged place) old body after new advanced = let f = advanced.0 in cc
+  none_waits_for_body p.TooDeep old body after new advanced = let f = advanced.0 in cc

@@ -104,7 +104,7 @@ impl<'r, R: Read, P: Parser> Segments<'r, R, P> {
     ghost use Rattle.std.specs.Borrow.{sem};
     ghost use Rattle.ciborium_ll.specs.Segments.{AdvancesTo, StepsOver, opens_of};
     ghost use Rattle.ciborium_ll.specs.Chunks.{IsWhole, PullsSegment};
-    ghost use Rattle.ciborium_ll.specs.Lend.{lends_segment};
+    ghost use Rattle.ciborium_ll.specs.Lend.{lends_segment, pulls_segment};
 
     /// The segments of the string whose header waits.
     pub(crate) fn new(reader: &'r mut Decoder<R>) -> Segments<'r, R, P>
@@ -170,6 +170,7 @@ impl<'r, R: Read, P: Parser> Segments<'r, R, P> {
     ///
     /// A segment that is dropped early leaves the rest of its body in the reader, where the next call reads on.
     pub fn pull(&mut self) -> Result<Option<Segment<'_, R, P>>, Error<R::Error>>
+        ensures* lends { sem 𝓛 (pulls_segment R.row P.row R.Read self.entry result) }
         ensures pulls { PullsSegment R.Read P.kind self.old.progress self.old.reader.now result }
     {
         match self.advance() {
