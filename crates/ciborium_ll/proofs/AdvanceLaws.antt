@@ -1,5 +1,5 @@
 -- How the titles of a string lead on, one after the other.
-use Rattle.std.proofs.Common.{◌≡◌, ℕ, suc, ◌-◌, ◌<◌, ◌⊎◌, List, ◌++◌, Option, None, Result, Ok, Err, refl, ap, subst, ◌∙◌, inl, inr, arith, add-one}
+use Rattle.std.proofs.Common.{Some, ◌≡◌, ℕ, suc, ◌-◌, ◌<◌, ◌⊎◌, List, ◌++◌, Option, None, Result, Ok, Err, refl, ap, subst, ◌∙◌, inl, inr, arith, add-one}
 use Rattle.ciborium_ll.specs.declared.io.Read.{Ghosts}
 use Rattle.ciborium_ll.specs.declared.dec.Decoder.{Decoder}
 use Rattle.ciborium_ll.specs.declared.dec.Error.{Error}
