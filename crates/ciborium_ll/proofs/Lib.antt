@@ -8,6 +8,8 @@ pub mod CopyingLaws
 pub mod CopyingTold
 pub mod CutLaws
 pub mod DecodingLaws
+pub mod DrainLaws
+pub mod DrainTold
 pub mod ElementLaws
 pub mod EncodingLaws
 pub mod FaultLaws

@@ -2,6 +2,7 @@ pub mod Chunks
 pub mod Copying
 pub mod Cuts
 pub mod Decoding
+pub mod Drains
 pub mod Elements
 pub mod Encoding
 pub mod Faults

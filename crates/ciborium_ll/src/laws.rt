@@ -4,6 +4,7 @@
 
 mod copy;
 mod cuts;
+mod drains;
 mod elements;
 mod faults;
 mod headers;
@@ -16,6 +17,7 @@ mod values;
 
 pub use self::copy::copy_headers;
 pub use self::cuts::full_cuts;
+pub use self::drains::{Drained, End, drain_bytes, drain_text, enough_sizes};
 pub use self::elements::{one_element, one_run, spelled_run};
 pub use self::faults::{no_fault, one_fault, run_or_fault};
 pub use self::headers::{copied_float, copied_header, pull_again, same_float, same_header};

@@ -10,7 +10,7 @@ ghost use Rattle.ciborium_ll.specs.Faults.{RunInFront};
 ghost use Rattle.ciborium_ll.specs.RecodingTold.{IsReady, RecodesTold};
 ghost use Rattle.ciborium_ll.specs.Recoding.{CopiesBehind, CopiesBody, CopiesElement, CopiesElements, CopiesSegments, WritesHeader};
 
-mod chunked;
+pub(crate) mod chunked;
 
 use self::chunked::Chunked;
 use crate::dec::{Decoder, Error};

@@ -6,6 +6,8 @@ mod calls;
 #[cfg(test)]
 mod copies;
 #[cfg(test)]
+mod drains;
+#[cfg(test)]
 mod elements;
 #[cfg(test)]
 mod pieces;

@@ -1,7 +1,7 @@
 //! Bodies in chunks, for both kinds of string alike.
 
 ghost use Rattle.std.specs.Prelude.{◌≡◌, length};
-ghost use Rattle.ciborium_ll.specs.Decoding.{IsSteady};
+ghost use Rattle.ciborium_ll.specs.Decoding.{IsSteady, refusals_of};
 ghost use Rattle.ciborium_ll.specs.Chunks.{PullsChunk};
 
 use crate::dec::Error;
@@ -17,7 +17,8 @@ pub trait Chunked: Parser {
     ) -> Result<Option<&'a [u8]>, Error<R::Error>>
         ensures same_reference { segment.new.reader.ghost_name ≡ segment.old.reader.ghost_name }
         ensures chunk { PullsChunk R.Read (length buffer.old) segment.old result segment.new }
-        ensures steady { IsSteady R.Read segment.old.reader.now → IsSteady R.Read segment.new.reader.now };
+        ensures steady { IsSteady R.Read segment.old.reader.now → IsSteady R.Read segment.new.reader.now }
+        ensures refusals { refusals_of segment.new.reader.now ≡ refusals_of segment.old.reader.now };
 }
 
 impl Chunked for Bytes {

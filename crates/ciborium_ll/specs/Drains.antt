@@ -1,0 +1,189 @@
+-- A body drained into a writer, through buffers of given sizes.
+use Rattle.std.specs.Prelude.{◌≡◌, ℕ, ◌+◌, ◌-◌, ◌/◌, ◌<◌, ◌≤◌, ◌⊎◌, max, false, List, [], ◌∷◌, ◌++◌, length, take, sum, sum_by, Some, Result, Ok, Err}
+use Rattle.ciborium_ll.specs.declared.io.Read.{Ghosts as Reader}
+use Rattle.ciborium_ll.specs.declared.io.Write.{Ghosts as Writer}
+use Rattle.ciborium_ll.specs.declared.dec.Error.{Error}
+use Rattle.ciborium_ll.specs.declared.dec.Error.TheVariants as e
+use Rattle.ciborium_ll.specs.declared.recode.RecodeError.{RecodeError}
+use Rattle.ciborium_ll.specs.declared.recode.RecodeError.TheVariants as r
+use Rattle.ciborium_ll.specs.declared.laws.drains.Drained.{Drained}
+use Rattle.ciborium_ll.specs.declared.laws.drains.End.{End}
+use Rattle.ciborium_ll.specs.declared.laws.drains.End.TheVariants as end
+use Rattle.ciborium_ll.specs.declared.seg.Parser.{Ghosts as Parser}
+use Rattle.ciborium_ll.specs.declared.seg.Segment.{Segment}
+use Rattle.ciborium_ll.specs.Strings.{Kind, Text}
+use Rattle.ciborium_ll.specs.Text.{IsCharacters}
+use Rattle.ciborium_ll.specs.Faults.{IsWritable, most_kept}
+use Rattle.ciborium_ll.specs.Kept.{kept_bytes}
+use Rattle.ciborium_ll.specs.Decoding.{offset_limit, IsSteady, Passes}
+use Rattle.ciborium_ll.specs.Encoding.{WritesAll, WritesFront}
+use Rattle.ciborium_ll.specs.Chunks.{GivesChunk, PullsChunk, SegmentEnds, left_of, rest}
+
+-- ---- sizes
+
+-- what calls with buffers of these sizes read at least: of a text up to three bytes of each size may be kept ones
+abbrev pub gains : Kind → List ℕ → ℕ
+gains kind sizes = sum_by (λ size. size - most_kept kind) sizes
+
+-- the greatest of the sizes, and 0 of none
+abbrev pub greatest : List ℕ → ℕ
+greatest [] = 0
+greatest (size ∷ sizes) = max size (greatest sizes)
+
+-- the sizes are those before, this one and others
+abbrev pub HasBehind : List ℕ → List ℕ → ℕ → Type 0
+HasBehind sizes before size = (others : List ℕ) × (sizes ≡ before ++ size ∷ others)
+
+-- how many calls with buffers of at least this size bring on so many bytes: the bytes by what each call reads at least,
+-- rounded up
+abbrev pub calls_for : Kind → ℕ → ℕ → ℕ
+calls_for kind size bytes = let gain = size - most_kept kind in (bytes + gain - 1) / gain
+
+-- so many of the sizes in front, and not all of them, bring on as many bytes
+pub record IsEnough (kind : Kind) (sizes : List ℕ) (bytes count : ℕ) : Type 0 where
+  pub fewer : count < length sizes
+  pub enough : bytes ≤ gains kind (take count sizes)
+
+-- so many of the sizes in front, and not all of them, add up to as many bytes
+pub record AddUp (sizes : List ℕ) (bytes count : ℕ) : Type 0 where
+  pub fewer : count < length sizes
+  pub enough : bytes ≤ sum (take count sizes)
+
+-- ---- over any reader and writer
+
+module _ {R E P W F : Type 0} {parser : Parser P} (source : Reader R E) (sink : Writer W F) where
+  -- of the body these bytes were handed out, and read before that, by calls that all succeeded
+  pub record HandsOut (old : Segment R P parser) (given : List ℕ) (new : Segment R P parser) : Type 0 where
+    pub read : List ℕ
+    pub passed : Passes source old.reader.now read new.reader.now
+    pub unread : new.unread + length read ≡ old.unread
+    pub parts : kept_bytes old.kept ++ read ≡ given ++ kept_bytes new.kept
+    pub sound : IsWritable parser.kind given
+    pub place : new.place ≡ old.place
+    pub damaged : new.damaged ≡ old.damaged
+
+  -- with buffers of these sizes chunks were handed out and written
+  pub record DrainsSome (sizes : List ℕ) (old : Segment R P parser) (writer : W) (new : Segment R P parser) (writer' : W) : Type 0 where
+    pub given : List ℕ
+    pub hands_out : HandsOut old given new
+    pub written : WritesAll sink writer given writer'
+    -- no chunk is longer than its buffer
+    pub most : length given ≤ sum sizes
+    -- each size was used while the ones before it had not brought all
+    pub needed : (count : ℕ) → count < length sizes → gains parser.kind (take count sizes) < old.unread
+    -- each buffer is filled as far as the body reaches
+    pub least : (gains parser.kind sizes ≤ length hands_out.read) ⊎ (new.unread ≡ 0)
+    pub filled : (greatest sizes ≤ length (kept_bytes old.kept) + length hands_out.read) ⊎ (new.unread ≡ 0)
+
+  -- the call with this size behind others found that the body had ended
+  pub record DrainsAll (sizes : List ℕ) (old : Segment R P parser) (writer : W) (calls : ℕ) (new : Segment R P parser) (writer' : W) : Type 0 where
+    pub before : List ℕ
+    pub size : ℕ
+    pub is_behind : HasBehind sizes before size
+    pub counted : calls ≡ length before + 1
+    pub between : Segment R P parser
+    pub some : DrainsSome before old writer between writer'
+    pub ends : SegmentEnds source between new
+
+  -- each size was used
+  pub record DrainsSizes (sizes : List ℕ) (old : Segment R P parser) (writer : W) (calls : ℕ) (new : Segment R P parser) (writer' : W) : Type 0 where
+    pub counted : calls ≡ length sizes
+    pub some : DrainsSome sizes old writer new writer'
+
+  -- the call with this size behind others failed
+  pub record DrainFails (sizes : List ℕ) (old : Segment R P parser) (writer : W) (error : Error E) (new : Segment R P parser) (writer' : W) : Type 0 where
+    pub before : List ℕ
+    pub size : ℕ
+    pub is_behind : HasBehind sizes before size
+    pub between : Segment R P parser
+    pub some : DrainsSome before old writer between writer'
+    pub fails : PullsChunk source size between (Err error) new
+
+  -- the write of the chunk that came with this size behind others failed
+  pub record DrainUnwritten (sizes : List ℕ) (old : Segment R P parser) (writer : W) (new : Segment R P parser) (writer' : W) : Type 0 where
+    pub before : List ℕ
+    pub size : ℕ
+    pub is_behind : HasBehind sizes before size
+    pub between : Segment R P parser
+    pub writer-between : W
+    pub some : DrainsSome before old writer between writer-between
+    pub chunk : List ℕ
+    pub gives : GivesChunk source size between chunk new
+    pub stopped : WritesFront sink writer-between chunk writer'
+
+  -- how a drain ended that met no error
+  abbrev pub EndsDrain : List ℕ → Segment R P parser → W → ℕ → End → Segment R P parser → W → Type 0
+  EndsDrain sizes old writer calls end.Ended new writer' = DrainsAll sizes old writer calls new writer'
+  EndsDrain sizes old writer calls end.OutOfSizes new writer' = DrainsSizes sizes old writer calls new writer'
+
+  -- a drain, by its answer
+  abbrev pub Drains : List ℕ → Segment R P parser → W → Result Drained (RecodeError E F) → Segment R P parser → W → Type 0
+  Drains sizes old writer (Ok drained) new writer' = EndsDrain sizes old writer drained.calls drained.end new writer'
+  Drains sizes old writer (Err (r.Read error)) new writer' = DrainFails sizes old writer error new writer'
+  Drains sizes old writer (Err (r.Write fault)) new writer' = DrainUnwritten sizes old writer new writer'
+
+  -- ---- where the bytes are told, and no side fails by itself
+
+  -- the body is told and whole, no fault of it was found, the offset takes it, and the writer has room for it
+  pub record IsDrainable (segment : Segment R P parser) (writer : W) (body written : List ℕ) : Type 0 where
+    pub sound : segment.damaged ≡ false
+    pub steady : IsSteady source segment.reader.now
+    pub body-told : rest source segment ≡ Some body
+    pub whole : length body ≡ left_of segment
+    pub fits : segment.reader.now.offset + segment.unread < offset_limit
+    pub written-told : sink.written writer ≡ Some written
+    pub room : ℕ
+    pub room-told : sink.room writer ≡ Some room
+    pub enough : length body ≤ room
+
+  -- the whole body was written, as soon as the sizes were enough
+  pub record WritesBody (sizes body written : List ℕ) (calls : ℕ) (new : Segment R P parser) (writer' : W) : Type 0 where
+    pub sound : IsWritable parser.kind body
+    pub output : sink.written writer' ≡ Some (written ++ body)
+    pub left : rest source new ≡ Some []
+    pub some_calls : 0 < calls
+    pub no_more : calls ≤ length sizes
+    pub needed : length body ≤ sum (take (calls - 1) sizes)
+    pub soon : (count : ℕ) → IsEnough parser.kind sizes (length body) count → calls ≤ count + 1
+
+  -- a beginning of the body was written and the rest is left, since the sizes were not enough
+  pub record LeavesRest (sizes body written : List ℕ) (calls : ℕ) (old new : Segment R P parser) (writer' : W) : Type 0 where
+    pub all_sizes : calls ≡ length sizes
+    pub given : List ℕ
+    pub behind : List ℕ
+    pub parts : body ≡ given ++ behind
+    pub sound : IsWritable parser.kind given
+    pub output : sink.written writer' ≡ Some (written ++ given)
+    pub left : rest source new ≡ Some behind
+    pub least : (gains parser.kind sizes + new.unread ≤ old.unread) ⊎ (new.unread ≡ 0)
+    pub too_few : (count : ℕ) → IsEnough parser.kind sizes (length body) count → ⊥
+
+  -- the body is no text, and a beginning of it that is one was written
+  pub record FindsNoText (body written : List ℕ) (at : ℕ) (old : Segment R P parser) (writer' : W) : Type 0 where
+    pub textual : parser.kind ≡ Text
+    pub no_text : IsCharacters body → ⊥
+    pub place : at ≡ old.place
+    pub given : List ℕ
+    pub behind : List ℕ
+    pub parts : body ≡ given ++ behind
+    pub sound : IsCharacters given
+    pub output : sink.written writer' ≡ Some (written ++ given)
+
+  -- how a drain ends that meets no error
+  abbrev pub EndsTold : List ℕ → List ℕ → List ℕ → Segment R P parser → ℕ → End → Segment R P parser → W → Type 0
+  EndsTold sizes body written old calls end.Ended new writer' = WritesBody sizes body written calls new writer'
+  EndsTold sizes body written old calls end.OutOfSizes new writer' = LeavesRest sizes body written calls old new writer'
+
+  -- a drain: the body is written, or the sizes are not enough, or the body is no text
+  abbrev pub DrainsTold : List ℕ → List ℕ → List ℕ → Segment R P parser → Result Drained (RecodeError E F) → Segment R P parser → W → Type 0
+  DrainsTold sizes body written old (Ok drained) new writer' = EndsTold sizes body written old drained.calls drained.end new writer'
+  DrainsTold sizes body written old (Err (r.Read (e.Syntax at))) new writer' = FindsNoText body written at old writer'
+  DrainsTold sizes body written old (Err (r.Read (e.Io fault))) new writer' = ⊥
+  DrainsTold sizes body written old (Err (r.Read e.TooLong)) new writer' = ⊥
+  DrainsTold sizes body written old (Err (r.Read e.Waiting)) new writer' = ⊥
+  DrainsTold sizes body written old (Err (r.Write fault)) new writer' = ⊥
+
+-- the answer says that the body has ended
+abbrev pub HasEnded : {E F : Type 0} → Result Drained (RecodeError E F) → Type 0
+HasEnded (Ok drained) = drained.end ≡ end.Ended
+HasEnded (Err error) = ⊥

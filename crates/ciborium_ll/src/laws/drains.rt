@@ -1,0 +1,132 @@
+//! Bodies read through buffers of any sizes.
+
+ghost use Rattle.std.specs.Prelude.{◌≡◌, ◌≤◌, ◌<◌, ◌+◌, ◌↔◌, ℕ, List, All, IfOk, length};
+ghost use Rattle.ciborium_ll.specs.Decoding.{IsSteady, refusals_of};
+ghost use Rattle.ciborium_ll.specs.Encoding.{writer_of};
+ghost use Rattle.ciborium_ll.specs.Strings.{Kind, Text as text_strings};
+ghost use Rattle.ciborium_ll.specs.Text.{IsCharacters};
+ghost use Rattle.ciborium_ll.specs.Faults.{most_kept};
+ghost use Rattle.ciborium_ll.specs.Drains.{calls_for, AddUp, Drains, DrainsTold, HasEnded, IsDrainable, IsEnough};
+
+use crate::enc::Encoder;
+use crate::io::{Read, Write};
+use crate::recode::RecodeError;
+use crate::recode::chunked::Chunked;
+use crate::seg::{Bytes, Segment, Text};
+
+/// How far a drain came.
+#[derive(Debug, PartialEq, Eq, Drop)]
+pub struct Drained {
+    /// How many calls of `pull` succeeded, the one that answered `None` included.
+    pub calls: usize,
+    /// Why it ended.
+    pub end: End,
+}
+
+/// Why a drain ended that met no error.
+#[derive(Debug, PartialEq, Eq, Drop)]
+pub enum End {
+    /// The body had ended.
+    Ended,
+    /// Each size was used, and the end of the body was not seen.
+    OutOfSizes,
+}
+
+/// Pulls once for each size, and writes each chunk.
+fn drain<R: Read, W: Write, P: Chunked>(
+    segment: &mut Segment<'_, R, P>,
+    sizes: &[usize],
+    buffer: &mut [u8],
+    sink: &mut Encoder<W>,
+) -> Result<Drained, RecodeError<R::Error, W::Error>>
+    requires fit { All (λ size. size ≤ length buffer.old) sizes.now }
+    ensures same_reference { segment.new.reader.ghost_name ≡ segment.old.reader.ghost_name }
+    ensures drains { Drains R.Read W.Write sizes.now segment.old (writer_of sink.old) result segment.new (writer_of sink.new) }
+    ensures steady { IsSteady R.Read segment.old.reader.now → IsSteady R.Read segment.new.reader.now }
+    ensures refusals { refusals_of segment.new.reader.now ≡ refusals_of segment.old.reader.now }
+{
+    'sizes: for (index, size) in sizes.iter().enumerate() {
+        let chunk = match P::chunk(segment, &mut buffer[..*size]) {
+            Ok(Some(chunk)) => chunk,
+            Ok(None) => {
+                return Ok(Drained {
+                    calls: index + 1,
+                    end: End::Ended,
+                });
+            }
+            Err(error) => return Err(RecodeError::Read(error)),
+        };
+        if let Err(fault) = sink.write_all(chunk) {
+            return Err(RecodeError::Write(fault));
+        }
+    }
+    Ok(Drained {
+        calls: sizes.len(),
+        end: End::OutOfSizes,
+    })
+}
+
+/// With sizes of at least so many bytes each, 4 for text and 1 for bytes at least, so many calls are enough as the
+/// body's length by that size, of text less 3, rounded up.
+pub fn enough_sizes()
+    ensures { (kind : Kind) (size bytes : ℕ) (sizes : List ℕ) → most_kept kind < size → All (λ other. size ≤ other) sizes
+        → calls_for kind size bytes < length sizes → IsEnough kind sizes bytes (calls_for kind size bytes) }
+{}
+
+/// Reads a body of bytes through buffers of the sizes, one `pull` for each, and writes each chunk, until the body has
+/// ended, a call fails or the sizes are used up. Each size is that of the front of `buffer` that one `pull` gets.
+///
+/// The errors are `Read` with the error of the `pull` that failed, and `Write` with the writer's; the chunks before it
+/// are written.
+///
+/// Where the whole body is there, and the writer has room for it, no call fails. The answer is then `Ended` exactly
+/// where the first few of the sizes add up to the body's length, and one more is there to see its end: the whole body
+/// is written, by the fewest such calls. Else the sizes are used up, and what was written is what was read.
+pub fn drain_bytes<R: Read, W: Write>(
+    segment: &mut Segment<'_, R, Bytes>,
+    sizes: &[usize],
+    buffer: &mut [u8],
+    sink: &mut Encoder<W>,
+) -> Result<Drained, RecodeError<R::Error, W::Error>>
+    requires fit { All (λ size. size ≤ length buffer.old) sizes.now }
+    ensures same_reference { segment.new.reader.ghost_name ≡ segment.old.reader.ghost_name }
+    ensures drains { Drains R.Read W.Write sizes.now segment.old (writer_of sink.old) result segment.new (writer_of sink.new) }
+    ensures steady { IsSteady R.Read segment.old.reader.now → IsSteady R.Read segment.new.reader.now }
+    ensures refusals { refusals_of segment.new.reader.now ≡ refusals_of segment.old.reader.now }
+    ensures told { (body written : List ℕ) → IsDrainable R.Read W.Write segment.old (writer_of sink.old) body written
+        → DrainsTold R.Read W.Write sizes.now body written segment.old result segment.new (writer_of sink.new) }
+    ensures exactly { (body written : List ℕ) → IsDrainable R.Read W.Write segment.old (writer_of sink.old) body written
+        → (HasEnded result ↔ ((count : ℕ) × AddUp sizes.now (length body) count)) }
+    ensures soonest { (body written : List ℕ) (count : ℕ) → IsDrainable R.Read W.Write segment.old (writer_of sink.old) body written
+        → AddUp sizes.now (length body) count → IfOk result (λ drained. drained.calls ≤ count + 1) }
+{
+    drain::<R, W, Bytes>(segment, sizes, buffer, sink)
+}
+
+/// Reads a body of text through buffers of the sizes, one `pull` for each, and writes each chunk, until the body has
+/// ended, a call fails or the sizes are used up. Each size is that of the front of `buffer` that one `pull` gets.
+///
+/// The errors are `Read` with the error of the `pull` that failed, and `Write` with the writer's; the chunks before it
+/// are written.
+///
+/// Where the whole body is there, and the writer has room for it, no call fails but for a body that is no text. Where
+/// what the sizes have above 3 each adds up to the body's length, and one more size is there, the answer is `Ended`
+/// exactly where the body is UTF-8, and then the whole body is written. So it depends on no size.
+pub fn drain_text<R: Read, W: Write>(
+    segment: &mut Segment<'_, R, Text>,
+    sizes: &[usize],
+    buffer: &mut [u8],
+    sink: &mut Encoder<W>,
+) -> Result<Drained, RecodeError<R::Error, W::Error>>
+    requires fit { All (λ size. size ≤ length buffer.old) sizes.now }
+    ensures same_reference { segment.new.reader.ghost_name ≡ segment.old.reader.ghost_name }
+    ensures drains { Drains R.Read W.Write sizes.now segment.old (writer_of sink.old) result segment.new (writer_of sink.new) }
+    ensures steady { IsSteady R.Read segment.old.reader.now → IsSteady R.Read segment.new.reader.now }
+    ensures refusals { refusals_of segment.new.reader.now ≡ refusals_of segment.old.reader.now }
+    ensures told { (body written : List ℕ) → IsDrainable R.Read W.Write segment.old (writer_of sink.old) body written
+        → DrainsTold R.Read W.Write sizes.now body written segment.old result segment.new (writer_of sink.new) }
+    ensures any_sizes { (body written : List ℕ) (count : ℕ) → IsDrainable R.Read W.Write segment.old (writer_of sink.old) body written
+        → IsEnough text_strings sizes.now (length body) count → (HasEnded result ↔ IsCharacters body) }
+{
+    drain::<R, W, Text>(segment, sizes, buffer, sink)
+}
