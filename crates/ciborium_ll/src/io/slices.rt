@@ -116,6 +116,8 @@ impl<'a> Write for SliceWriter<'a> {
 
     ghost failures = { λ w. failures_of w };
 
+    ghost flushed = { λ old new. written_of new ≡ written_of old };
+
     /// Appends the whole of `data`, or nothing where the room is smaller.
     fn write_all(&mut self, data: &[u8]) -> Result<(), OutOfSpace>
         // The trait's.
@@ -145,6 +147,7 @@ impl<'a> Write for SliceWriter<'a> {
         // The trait's.
         ensures bytes { IsSome (room_of self.old) → written_of self.new ≡ written_of self.old }
         ensures room { IsSome (room_of self.old) → room_of self.new ≡ room_of self.old }
+        ensures flushed { OnOk result (written_of self.new ≡ written_of self.old) }
         ensures ok { OnOk result (failures_of self.new ≡ failures_of self.old) }
         ensures err { OnErr result (failures_of self.new ≡ failures_of self.old + 1) }
 
