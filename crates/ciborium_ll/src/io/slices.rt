@@ -131,6 +131,7 @@ impl<'a> Write for SliceWriter<'a> {
 
         // The slice's own.
         ensures nothing { OnErr result (written_of self.new ≡ written_of self.old) }
+        ensures same_reference { self.new.buffer.ghost_name ≡ self.old.buffer.ghost_name }
     {
         if self.room() < data.len() {
             self.failures.raise();
@@ -153,6 +154,7 @@ impl<'a> Write for SliceWriter<'a> {
 
         // The slice's own.
         ensures done { IsOk result }
+        ensures same_reference { self.new.buffer.ghost_name ≡ self.old.buffer.ghost_name }
     {
         // Nothing was kept back.
         Ok(())
