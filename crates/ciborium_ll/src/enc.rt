@@ -34,6 +34,8 @@ impl<W: Write> Write for Encoder<W> {
 
     ghost failures = { λ encoder. W.failures encoder.writer };
 
+    ghost flushed = { λ old new. W.flushed old.writer new.writer };
+
     /// Appends the bytes of a body. The error is the writer's.
     fn write_all(&mut self, data: &[u8]) -> Result<(), W::Error> {
         self.writer.write_all(data)

@@ -63,6 +63,9 @@ pub trait Write {
     /// How many calls failed so far.
     ghost failures: { Self → ℕ };
 
+    /// What a flush that succeeds does to the writer, as it was before and as it is behind.
+    ghost flushed: { Self → Self → Type 0 };
+
     /// Appends the whole of `data`, or fails with a beginning of it appended. It does not fail where the room is
     /// told and covers `data`.
     fn write_all(&mut self, data: &[u8]) -> Result<(), Self::Error>
@@ -79,6 +82,7 @@ pub trait Write {
     fn flush(&mut self) -> Result<(), Self::Error>
         ensures bytes { IsSome (room self.old) → written self.new ≡ written self.old }
         ensures room { IsSome (room self.old) → room self.new ≡ room self.old }
+        ensures flushed { OnOk result (flushed self.old self.new) }
         ensures ok { OnOk result (failures self.new ≡ failures self.old) }
         ensures err { OnErr result (failures self.new ≡ failures self.old + 1) };
 }

@@ -1,3 +1,5 @@
+ghost use Rattle.std.specs.Prelude.{◌≡◌, IsTrue, length, take};
+
 use ciborium_ll::io::{EndOfFile, Failures, OutOfSpace, Read, SliceReader, SliceWriter, Write};
 use ciborium_ll::{Decoder, Encoder, Error, Header};
 use std::process::Abort;
@@ -33,6 +35,15 @@ pub fn writes<W: Write>(writer: &mut W, data: &[u8]) -> Result<(), W::Error> {
     writer.flush()
 }
 
+// Writes bytes to the front of a slice, which has them there behind the writer's end.
+fn fills(space: &mut [u8], bytes: &[u8]) -> bool
+    ensures { IsTrue result → take (length bytes.now) space.new ≡ bytes.now }
+{
+    let mut writer = SliceWriter::new(space);
+    let is_written = writer.write_all(bytes).is_ok();
+    writer.flush().is_ok() && is_written
+}
+
 // Writes the title of a header.
 pub fn pushes<W: Write>(encoder: &mut Encoder<W>, header: Header) -> Result<(), W::Error> {
     encoder.push(header)
@@ -54,6 +65,15 @@ fn slices(rt: HostRuntime) -> Result<(), Fail> {
     assert_eq!(rt; writer.room(), 1);
     assert_eq!(rt; writer.written(), [7, 8].as_slice());
     Ok(())
+}
+
+#[test]
+fn a_slice_behind_its_writer(rt: HostRuntime) {
+    let mut space = [0; 3];
+    assert!(rt; fills(&mut space, &[7, 8]));
+    assert_eq!(rt; space, [7, 8, 0]);
+    assert!(rt; !fills(&mut space, &[9; 4]));
+    assert_eq!(rt; space, [7, 8, 0]);
 }
 
 #[test]

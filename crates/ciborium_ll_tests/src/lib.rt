@@ -12,6 +12,8 @@ mod elements;
 #[cfg(test)]
 mod pieces;
 #[cfg(test)]
+mod readme;
+#[cfg(test)]
 mod streams;
 #[cfg(test)]
 mod strings;

@@ -47,6 +47,8 @@ impl Write for VecWriter {
 
     ghost failures = { λ w. w.failures.count };
 
+    ghost flushed = { λ old new. new.bytes.items ≡ old.bytes.items };
+
     /// Appends the whole of `data`.
     ///
     /// The error comes only where a growth was refused. Nothing was then written.

@@ -116,6 +116,8 @@ impl<'a> Write for SliceWriter<'a> {
 
     ghost failures = { λ w. failures_of w };
 
+    ghost flushed = { λ old new. written_of new ≡ written_of old };
+
     /// Appends the whole of `data`, or nothing where the room is smaller.
     fn write_all(&mut self, data: &[u8]) -> Result<(), OutOfSpace>
         // The trait's.
@@ -129,6 +131,7 @@ impl<'a> Write for SliceWriter<'a> {
 
         // The slice's own.
         ensures nothing { OnErr result (written_of self.new ≡ written_of self.old) }
+        ensures same_reference { self.new.buffer.ghost_name ≡ self.old.buffer.ghost_name }
     {
         if self.room() < data.len() {
             self.failures.raise();
@@ -145,11 +148,13 @@ impl<'a> Write for SliceWriter<'a> {
         // The trait's.
         ensures bytes { IsSome (room_of self.old) → written_of self.new ≡ written_of self.old }
         ensures room { IsSome (room_of self.old) → room_of self.new ≡ room_of self.old }
+        ensures flushed { OnOk result (written_of self.new ≡ written_of self.old) }
         ensures ok { OnOk result (failures_of self.new ≡ failures_of self.old) }
         ensures err { OnErr result (failures_of self.new ≡ failures_of self.old + 1) }
 
         // The slice's own.
         ensures done { IsOk result }
+        ensures same_reference { self.new.buffer.ghost_name ≡ self.old.buffer.ghost_name }
     {
         // Nothing was kept back.
         Ok(())

@@ -179,6 +179,8 @@ impl<T: io::Write> Write for StdWriter<T> {
 
     ghost failures = { λ w. write_failures_of w };
 
+    ghost flushed = { λ old new. Keeps (T.contents (sink_of old)) (T.contents (sink_of new)) };
+
     /// Appends the whole of `data`, by as many single calls of `write` as that takes. An empty `data` takes none.
     ///
     /// The errors are `Zero` where a call moved no byte, and `Failed` where a call failed. The bytes that the calls
@@ -211,6 +213,7 @@ impl<T: io::Write> Write for StdWriter<T> {
     /// Flushes the writer within. The error is `Failed`, where that failed.
     fn flush(&mut self) -> Result<(), WriteFault>
         // The trait's.
+        ensures flushed { OnOk result (Keeps (T.contents (sink_of self.old)) (T.contents (sink_of self.new))) }
         ensures ok { OnOk result (write_failures_of self.new ≡ write_failures_of self.old) }
         ensures err { OnErr result (write_failures_of self.new ≡ write_failures_of self.old + 1) }
 

@@ -1,7 +1,8 @@
 use Rattle.std.proofs.Common.{◌≡◌, List, length}
 use Rattle.ciborium_ll.specs.declared.hdr.Header.{Header}
+use Rattle.ciborium_ll.specs.Decoding.{refusals_of}
 use Rattle.ciborium_ll.specs.Copying.{Copies}
 use Rattle.ciborium_ll.proofs.laws.copy.copy_headers.Given as goal
 
 abbrev pub invariant-headers : goal.invariant-headers
-invariant-headers g l = (headers : List Header) × (length headers ≡ l._copied) × Copies g.R.Read g.W.Write headers l.initial.decoder l.initial.encoder.writer l.decoder l.encoder.writer
+invariant-headers g l = (headers : List Header) × (length headers ≡ l._copied) × Copies g.R.Read g.W.Write headers l.initial.decoder l.initial.encoder.writer l.decoder l.encoder.writer × (refusals_of l.decoder ≡ refusals_of l.initial.decoder)
