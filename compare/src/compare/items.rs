@@ -61,7 +61,7 @@ pub fn item(random: &mut Random, depth: usize, bytes: &mut Vec<u8>) {
 
 /// Adds a title of a number of any size.
 fn number(random: &mut Random, major: u8, bytes: &mut Vec<u8>) {
-    let number = random.next() >> random.below(64);
+    let number = random.number() >> random.below(64);
     title(random, major, number, bytes);
 }
 
@@ -116,7 +116,7 @@ fn definite(random: &mut Random, major: u8, bytes: &mut Vec<u8>) {
     let body = if major == 3 {
         text(random, length).into_bytes()
     } else {
-        (0..length).map(|_| random.next() as u8).collect()
+        (0..length).map(|_| random.number() as u8).collect()
     };
     title(random, major, body.len() as u64, bytes);
     bytes.extend(body);
@@ -139,16 +139,16 @@ fn float(random: &mut Random, bytes: &mut Vec<u8>) {
     let double = if random.one_in(2) {
         random.pick(&DOUBLES)
     } else {
-        random.next() & random.pick(&[u64::MAX, 0xffff_ffff_e000_0000, 0xffff_fc00_0000_0000])
+        random.number() & random.pick(&[u64::MAX, 0xffff_ffff_e000_0000, 0xffff_fc00_0000_0000])
     };
     match random.below(3) {
         0 => {
             bytes.push(0xf9);
-            bytes.extend_from_slice(&(random.next() as u16).to_be_bytes());
+            bytes.extend_from_slice(&(random.number() as u16).to_be_bytes());
         }
         1 => {
             let single = if random.one_in(2) {
-                random.next() as u32 & random.pick(&[u32::MAX, 0xffff_e000, 0xff80_0001])
+                random.number() as u32 & random.pick(&[u32::MAX, 0xffff_e000, 0xff80_0001])
             } else {
                 (f64::from_bits(double) as f32).to_bits()
             };
@@ -167,7 +167,7 @@ fn simple(random: &mut Random, bytes: &mut Vec<u8>) {
     match random.below(9) {
         0 => bytes.push(0xff),
         1..=4 => bytes.push(0xe0 | random.below(24) as u8),
-        _ => bytes.extend_from_slice(&[0xf8, random.next() as u8]),
+        _ => bytes.extend_from_slice(&[0xf8, random.number() as u8]),
     }
 }
 
@@ -199,7 +199,7 @@ pub fn damage(random: &mut Random, bytes: &mut Vec<u8>) {
         1 => bytes[place] = random.pick(&TELLING_BYTES),
         2 => bytes.insert(place, random.pick(&TELLING_BYTES)),
         3 => bytes.truncate(place),
-        4 => bytes[place] = random.next() as u8,
+        4 => bytes[place] = random.number() as u8,
         _ => {
             bytes.remove(place);
         }

@@ -32,13 +32,16 @@ const LIMITS: [&str; 16] = [
 /// Bytes that are put into lines to damage them.
 const LINE_BYTES: &[u8] = b"  0019afAFgx*-+\t\r\xff\xc3headschunkstextbytesrecode";
 
+/// Makes a random line of one kind.
+type MakeLine = fn(&mut Random) -> Vec<u8>;
+
 /// Compares the answers to so many random lines: as many of each kind as its share.
 pub fn compare(
     comparison: &mut Comparison<'_>,
     random: &mut Random,
     count: usize,
 ) -> io::Result<()> {
-    let kinds: [(&'static str, usize, fn(&mut Random) -> Vec<u8>); 6] = [
+    let kinds: [(&'static str, usize, MakeLine); 6] = [
         ("random, heads", 20, heads),
         ("random, chunks", 34, chunks),
         ("random, bytes", 4, bytes),
@@ -82,7 +85,7 @@ fn chunks(random: &mut Random) -> Vec<u8> {
 /// A line `bytes`.
 fn bytes(random: &mut Random) -> Vec<u8> {
     let length = random.below(300);
-    let bytes: Vec<u8> = (0..length).map(|_| random.next() as u8).collect();
+    let bytes: Vec<u8> = (0..length).map(|_| random.number() as u8).collect();
     format!("bytes {} {}", random.pick(&LIMITS), word_of(&bytes)).into_bytes()
 }
 
@@ -105,8 +108,7 @@ fn recode(random: &mut Random) -> Vec<u8> {
 
 /// A line of any kind that is damaged as a line. It may still be one.
 fn damaged(random: &mut Random) -> Vec<u8> {
-    let mut line =
-        random.pick(&[heads, chunks, bytes, text, recode] as &[fn(&mut Random) -> Vec<u8>])(random);
+    let mut line = random.pick(&[heads, chunks, bytes, text, recode] as &[MakeLine])(random);
     for _ in 0..=random.below(2) {
         // Most damage lies in the words in front of the digits.
         let most = if random.one_in(3) {

@@ -1,7 +1,7 @@
 //! What a line is answered, by a plain reading of its bytes, with the ways of either side.
 //!
-//! It is asked only where the two sides differ. It then says whether the ways that are known to differ give exactly
-//! the two answers. It looks at the input alone, and shares no code with either side.
+//! It says whether our answer is what the input gives, and whether the ways that are known to differ give exactly the
+//! other one. It looks at the input alone, and shares no code with either side but the reading of a line.
 
 use crate::float::Float;
 use compare::request::Request;
@@ -31,14 +31,45 @@ pub enum Fault {
     Stuck,
 }
 
-/// The answer to a request, with its line feeds. Of requests that only write strings nothing is said.
-pub fn answer(request: &Request, ways: Ways) -> Option<String> {
+/// The answer to a request, with its line feeds.
+pub fn answer(request: &Request, ways: Ways) -> String {
     match request {
-        Request::Heads(bytes) => Some(heads(bytes, ways)),
-        Request::Chunks(size, bytes) => Some(chunks(*size, bytes, ways)),
-        Request::Recode(count, bytes) => Some(recoded(*count, bytes, ways)),
-        Request::Bytes(..) | Request::Text(..) => None,
+        Request::Heads(bytes) => heads(bytes, ways),
+        Request::Chunks(size, bytes) => chunks(*size, bytes, ways),
+        Request::Recode(count, bytes) => recoded(*count, bytes, ways),
+        Request::Bytes(limit, bytes) => {
+            let limit = limit.unwrap_or(bytes.len()).max(1);
+            word_of(&spelled(2, bytes, limit, |_| true)) + "\n"
+        }
+        Request::Text(limit, bytes) => match std::str::from_utf8(bytes) {
+            Ok(text) => {
+                let limit = limit.unwrap_or(bytes.len()).max(4);
+                word_of(&spelled(3, bytes, limit, |end| text.is_char_boundary(end))) + "\n"
+            }
+            Err(_) => "error: text\n".to_string(),
+        },
     }
+}
+
+/// The spelling of a string in pieces of at most so many bytes, which end where they may.
+fn spelled(major: u8, value: &[u8], limit: usize, may_end: impl Fn(usize) -> bool) -> Vec<u8> {
+    let mut spelling = Vec::new();
+    let mut add = |piece: &[u8]| {
+        spelling.extend(shortest(major, piece.len() as u64));
+        spelling.extend_from_slice(piece);
+    };
+    if value.len() <= limit {
+        add(value);
+        return spelling;
+    }
+    let mut begin = 0;
+    while begin < value.len() {
+        let most = value.len().min(begin + limit);
+        let end = (begin..=most).rfind(|end| may_end(*end)).unwrap_or(most);
+        add(&value[begin..end]);
+        begin = end;
+    }
+    [&[major << 5 | 31], &spelling[..], &[0xff]].concat()
 }
 
 /// Bytes that are read from the front.
@@ -389,7 +420,7 @@ mod tests {
     use compare::request::Request;
 
     /// What our program is to answer, worked by hand.
-    const ROWS: [(&str, &str); 9] = [
+    const ROWS: [(&str, &str); 13] = [
         ("heads 001c", "0 positive 0\nsyntax 1\n"),
         ("heads f97e00f818", "0 half 7e00\n3 simple 24\nend 5\n"),
         ("heads 1903", "short 1\n"),
@@ -399,13 +430,20 @@ mod tests {
         ("recode 1 7f61615fff", "7f6161 syntax 3\n"),
         ("recode 1 780261ff", "6261 syntax 1\n"),
         ("recode 2 5801015f5f420203ffff", "41015f420203ff rest -\n"),
+        ("bytes 0 010203", "5f410141024103ff\n"),
+        (
+            "text 7 61c3a9e282acf09f9880",
+            "7f6661c3a9e282ac64f09f9880ff\n",
+        ),
+        ("text 0 -", "60\n"),
+        ("text 4 e282", "error: text\n"),
     ];
 
     #[test]
     fn rows_worked_by_hand() {
         for (line, want) in ROWS {
             let request = Request::parse(line.as_bytes()).unwrap();
-            let got = answer(&request, Ways::default()).unwrap();
+            let got = answer(&request, Ways::default());
             assert_eq!(got, want, "{line}");
         }
     }

@@ -1,6 +1,7 @@
 //! The differences that are known, each with a rule that says where it explains two answers.
 
 use crate::model::Ways;
+use std::borrow::Borrow;
 
 /// A difference that is known.
 #[derive(Clone, Copy, Debug, PartialEq, Eq, PartialOrd, Ord)]
@@ -39,24 +40,28 @@ pub enum Verdict {
     Equal,
     /// They are just what these rules make of the input.
     Explained(&'static [Rule]),
-    /// No rule gives them.
+    /// No rule gives them, or ours is not what the input gives.
     Unexplained,
 }
 
-/// Judges two answers. `predict` tells what the input gives with some of the original's ways.
+/// Judges two answers. `predict` tells what the input gives with some of the original's ways, where that is known.
 ///
-/// Rules explain a difference only where ours is what the input gives without any of these ways, and the original's is
-/// what it gives with just those of the rules.
-pub fn judge<T: PartialEq>(ours: &T, theirs: &T, predict: impl Fn(Ways) -> Option<T>) -> Verdict {
-    if ours == theirs {
-        return Verdict::Equal;
-    }
-    if predict(Ways::default()).as_ref() != Some(ours) {
-        return Verdict::Unexplained;
+/// Ours has to be what the input gives without any of these ways, also where both answers are the same. Rules explain
+/// a difference only where the original's is what the input gives with just their ways.
+pub fn judge<T, P>(ours: &T, theirs: &T, predict: impl Fn(Ways) -> Option<P>) -> Verdict
+where
+    T: PartialEq + ?Sized,
+    P: Borrow<T>,
+{
+    match predict(Ways::default()) {
+        Some(predicted) if predicted.borrow() != ours => return Verdict::Unexplained,
+        _ if ours == theirs => return Verdict::Equal,
+        _ => {}
     }
     for rules in SETS {
-        if predict(ways_of(rules)).as_ref() == Some(theirs) {
-            return Verdict::Explained(rules);
+        match predict(ways_of(rules)) {
+            Some(predicted) if predicted.borrow() == theirs => return Verdict::Explained(rules),
+            _ => {}
         }
     }
     Verdict::Unexplained

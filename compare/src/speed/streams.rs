@@ -72,7 +72,7 @@ fn titles(size: usize) -> Stream {
     let mut random = Random::new(1);
     while stream.bytes.len() < size {
         let major = random.pick(&[0, 0, 1, 4, 5, 6]);
-        let number = random.next() >> random.pick(&[0, 32, 32, 48, 48, 56, 56, 60, 60, 60]);
+        let number = random.number() >> random.pick(&[0, 32, 32, 48, 48, 56, 56, 60, 60, 60]);
         stream.title_alone(major, number);
     }
     stream
@@ -96,7 +96,7 @@ fn mixed(size: usize) -> Stream {
 fn value(stream: &mut Stream, random: &mut Random) {
     match random.below(6) {
         0 | 1 => {
-            let number = random.next() >> random.pick(&[32, 48, 56, 60]);
+            let number = random.number() >> random.pick(&[32, 48, 56, 60]);
             stream.title_alone(0, number);
         }
         2 => short_string(stream, random, 3, 40),
@@ -108,7 +108,7 @@ fn value(stream: &mut Stream, random: &mut Random) {
         _ => {
             // The greatest exponent is left out, so that the crate writes the half as it is.
             stream.bytes.push(0xf9);
-            let half = random.next() as u16 & 0xbbff;
+            let half = random.number() as u16 & 0xbbff;
             stream.bytes.extend_from_slice(&half.to_be_bytes());
             stream.count += 1;
         }
