@@ -59,7 +59,14 @@ impl<'a> Comparison<'a> {
         if lines.is_empty() {
             return Ok(());
         }
-        let (mut ours, theirs) = self.sides.run(&[], &joined(&lines))?;
+        let answered = self.sides.run(&[], &joined(&lines));
+        let (mut ours, theirs) = answered.map_err(|error| {
+            let (first, kind) = (String::from_utf8_lossy(&lines[0]), self.kind);
+            io::Error::new(
+                error.kind(),
+                format!("{error}: {kind}, from the line {first}"),
+            )
+        })?;
         if std::mem::take(&mut self.is_planted) {
             let place = ours.output.len() - 2;
             ours.output[place] ^= 1;

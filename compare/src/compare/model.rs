@@ -1,7 +1,8 @@
 //! What a line is answered, by a plain reading of its bytes, with the ways of either side.
 //!
 //! It says whether our answer is what the input gives, and whether the ways that are known to differ give exactly the
-//! other one. It looks at the input alone, and shares no code with either side but the reading of a line.
+//! other one. It looks at the input alone. It shares no code with ours, and with the other side only how the words of a
+//! line are read and printed.
 
 use crate::float::Float;
 use compare::request::Request;
