@@ -1,0 +1,99 @@
+//! The two programs, and what they answer.
+
+use std::io::{self, Read, Write};
+use std::process::{Child, Command, Stdio};
+use std::sync::mpsc;
+use std::thread;
+use std::time::Duration;
+
+/// How long one run of a program may take. A run of a batch takes a second or so.
+const PATIENCE: Duration = Duration::from_secs(300);
+
+/// What a run of a program gave.
+#[derive(Clone, Debug, PartialEq)]
+pub struct Outcome {
+    /// The status, or `None` where it was ended by a signal.
+    pub status: Option<i32>,
+    /// What was on standard output.
+    pub output: Vec<u8>,
+    /// What was on standard error.
+    pub errors: Vec<u8>,
+}
+
+/// The paths of the two programs.
+pub struct Sides {
+    /// The program of this repository.
+    pub ours: String,
+    /// The one that calls the Rust crate.
+    pub original: String,
+}
+
+impl Sides {
+    /// Runs both programs at once with these arguments on this input: ours, and then the original.
+    pub fn run(&self, arguments: &[&str], input: &[u8]) -> io::Result<(Outcome, Outcome)> {
+        thread::scope(|scope| {
+            let ours = scope.spawn(|| run(&self.ours, arguments, input));
+            let theirs = run(&self.original, arguments, input);
+            let ours = ours.join().unwrap_or_else(|_| Err(broken("a thread")));
+            Ok((ours?, theirs?))
+        })
+    }
+}
+
+/// An error of this program's own.
+fn broken(what: &str) -> io::Error {
+    io::Error::new(io::ErrorKind::Other, format!("{what} failed"))
+}
+
+/// Runs a program on an input. The error is `TimedOut` where it did not end in time; it is then ended.
+fn run(program: &str, arguments: &[&str], input: &[u8]) -> io::Result<Outcome> {
+    let mut child = Command::new(program)
+        .args(arguments)
+        .stdin(Stdio::piped())
+        .stdout(Stdio::piped())
+        .stderr(Stdio::piped())
+        .spawn()?;
+    thread::scope(|scope| {
+        let mut writer = child.stdin.take().ok_or_else(|| broken("a pipe"))?;
+        // A program that ended before it read all closes the pipe, which is no fault.
+        scope.spawn(move || writer.write_all(input));
+        collect(child, program)
+    })
+}
+
+/// What a running program answers, and how it ends.
+fn collect(mut child: Child, program: &str) -> io::Result<Outcome> {
+    let output = reading(child.stdout.take());
+    let errors = reading(child.stderr.take());
+    let got = output.recv_timeout(PATIENCE);
+    if got.is_err() {
+        child.kill()?;
+    }
+    let status = child.wait()?.code();
+    match (got, errors.recv()) {
+        (Ok(output), Ok(errors)) => Ok(Outcome {
+            status,
+            output: output?,
+            errors: errors?,
+        }),
+        _ => Err(io::Error::new(
+            io::ErrorKind::TimedOut,
+            format!("{program} did not end"),
+        )),
+    }
+}
+
+/// Reads a pipe to its end, in a thread of its own.
+fn reading<R: Read + Send + 'static>(pipe: Option<R>) -> mpsc::Receiver<io::Result<Vec<u8>>> {
+    let (sender, receiver) = mpsc::channel();
+    thread::spawn(move || {
+        let mut bytes = Vec::new();
+        let read = match pipe {
+            Some(mut pipe) => pipe.read_to_end(&mut bytes).map(|_| bytes),
+            None => Ok(bytes),
+        };
+        // Nobody waits any more where the time was over.
+        let _ = sender.send(read);
+    });
+    receiver
+}

@@ -1,0 +1,155 @@
+//! Streams whose copies are timed.
+
+use compare::random::Random;
+
+/// A stream of elements.
+pub struct Stream {
+    /// The name in the table.
+    pub name: &'static str,
+    /// How many elements it has.
+    pub count: usize,
+    /// Their bytes.
+    pub bytes: Vec<u8>,
+}
+
+impl Stream {
+    /// A stream without elements.
+    fn new(name: &'static str, size: usize) -> Stream {
+        Stream {
+            name,
+            count: 0,
+            bytes: Vec::with_capacity(size + 64),
+        }
+    }
+
+    /// Adds the shortest title of a number.
+    fn title(&mut self, major: u8, number: u64) {
+        let (minor, width) = match number {
+            0..=23 => (number as u8, 0),
+            24..=0xff => (24, 1),
+            0x100..=0xffff => (25, 2),
+            0x1_0000..=0xffff_ffff => (26, 4),
+            _ => (27, 8),
+        };
+        self.bytes.push(major << 5 | minor);
+        self.bytes
+            .extend_from_slice(&number.to_be_bytes()[8 - width..]);
+    }
+
+    /// Adds a title that is an element of its own.
+    fn title_alone(&mut self, major: u8, number: u64) {
+        self.title(major, number);
+        self.count += 1;
+    }
+}
+
+/// All streams, each of about so many bytes.
+pub fn all(size: usize) -> Vec<Stream> {
+    vec![
+        titles(size),
+        mixed(size),
+        pieces(size),
+        one_string("one large byte string", 2, b"\x00\x7f\x80\xff", size),
+        one_string(
+            "one large ASCII text",
+            3,
+            b"The quick brown fox jumps over the lazy dog and runs far away.\n ",
+            size,
+        ),
+        // No character lies across a multiple of 64 bytes, where version 0.2.0 of the crate refuses a text.
+        one_string(
+            "one large multibyte text",
+            3,
+            "Größe, été, 😀😀 und Žlutý kůň; ещё съешь же этих булок".as_bytes(),
+            size,
+        ),
+    ]
+}
+
+/// Numbers, tags, and titles of arrays and maps, with affixes of all widths.
+fn titles(size: usize) -> Stream {
+    let mut stream = Stream::new("titles alone", size);
+    let mut random = Random::new(1);
+    while stream.bytes.len() < size {
+        let major = random.pick(&[0, 0, 1, 4, 5, 6]);
+        let number = random.number() >> random.pick(&[0, 32, 32, 48, 48, 56, 56, 60, 60, 60]);
+        stream.title_alone(major, number);
+    }
+    stream
+}
+
+/// What documents have: small maps with short texts as keys, numbers, short strings, halves and simple values.
+fn mixed(size: usize) -> Stream {
+    let mut stream = Stream::new("small mixed items", size);
+    let mut random = Random::new(2);
+    while stream.bytes.len() < size {
+        stream.title_alone(5, 3);
+        for _ in 0..3 {
+            short_string(&mut stream, &mut random, 3, 12);
+            value(&mut stream, &mut random);
+        }
+    }
+    stream
+}
+
+/// Adds a small value.
+fn value(stream: &mut Stream, random: &mut Random) {
+    match random.below(6) {
+        0 | 1 => {
+            let number = random.number() >> random.pick(&[32, 48, 56, 60]);
+            stream.title_alone(0, number);
+        }
+        2 => short_string(stream, random, 3, 40),
+        3 => short_string(stream, random, 2, 40),
+        4 => {
+            stream.bytes.push(0xe0 | random.pick(&[20, 21, 22]));
+            stream.count += 1;
+        }
+        _ => {
+            // The greatest exponent is left out, so that the crate writes the half as it is.
+            stream.bytes.push(0xf9);
+            let half = random.number() as u16 & 0xbbff;
+            stream.bytes.extend_from_slice(&half.to_be_bytes());
+            stream.count += 1;
+        }
+    }
+}
+
+/// Adds a definite string shorter than `bound`, of letters.
+fn short_string(stream: &mut Stream, random: &mut Random, major: u8, bound: usize) {
+    let length = random.below(bound);
+    stream.title_alone(major, length as u64);
+    for _ in 0..length {
+        stream.bytes.push(b'a' + random.below(26) as u8);
+    }
+}
+
+/// Strings of indefinite length, of both kinds, in pieces of at most 15 bytes.
+fn pieces(size: usize) -> Stream {
+    let mut stream = Stream::new("indefinite strings in small pieces", size);
+    let mut random = Random::new(3);
+    while stream.bytes.len() < size {
+        let major = random.pick(&[2, 3]);
+        stream.bytes.push(major << 5 | 31);
+        let count = stream.count;
+        for _ in 0..100 {
+            short_string(&mut stream, &mut random, major, 16);
+        }
+        stream.bytes.push(0xff);
+        stream.count = count + 1;
+    }
+    stream
+}
+
+/// One string that repeats these bytes. They are padded with spaces to a multiple of 64.
+fn one_string(name: &'static str, major: u8, pattern: &[u8], size: usize) -> Stream {
+    let mut pattern = pattern.to_vec();
+    pattern.resize((pattern.len() + 63) / 64 * 64, b' ');
+    let repeated = size / pattern.len();
+    let mut stream = Stream::new(name, size);
+    stream.title_alone(major, (repeated * pattern.len()) as u64);
+    for _ in 0..repeated {
+        stream.bytes.extend_from_slice(&pattern);
+    }
+    stream
+}
