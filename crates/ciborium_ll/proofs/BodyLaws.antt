@@ -30,30 +30,30 @@ use Rattle.ciborium_ll.proofs.CopyingLaws.{Shrinks-zero}
 -- ---- kinds
 
 -- what is split is the front and the rest
-split_parts : (kind : Kind) (bytes front rest : List ℕ) → IsSplit kind bytes front rest → bytes ≡ front ++ rest
+pub split_parts : (kind : Kind) (bytes front rest : List ℕ) → IsSplit kind bytes front rest → bytes ≡ front ++ rest
 split_parts Bytes bytes front rest s = sym s.0 ∙ sym (append-nil front) ∙ ap (λ (z : List ℕ). front ++ z) (sym s.1)
 split_parts Text bytes front rest s = s.parts
 
-writable_nil : (kind : Kind) → IsWritable kind []
+pub writable_nil : (kind : Kind) → IsWritable kind []
 writable_nil Bytes = tt
 writable_nil Text = IsCharacters-nil
 
-writable_chunk : (kind : Kind) (front bytes chunk rest : List ℕ) → IsWritable kind front → IsSplit kind bytes chunk rest → IsWritable kind (front ++ chunk)
+pub writable_chunk : (kind : Kind) (front bytes chunk rest : List ℕ) → IsWritable kind front → IsSplit kind bytes chunk rest → IsWritable kind (front ++ chunk)
 writable_chunk Bytes front bytes chunk rest w s = tt
 writable_chunk Text front bytes chunk rest w s = IsCharacters-append front chunk w s.text
 
-three_kept : (kept : Kept) → length (kept_bytes kept) ≤ 3
+pub three_kept : (kept : Kept) → length (kept_bytes kept) ≤ 3
 three_kept k.Nothing = omega arith
 three_kept (k.One a) = omega arith
 three_kept (k.Two a b) = omega arith
 three_kept (k.Three a b c) = omega arith
 
-few_kept : (kind : Kind) (kept : Kept) → (kind ≡ Bytes → kept_bytes kept ≡ []) → length (kept_bytes kept) ≤ most_kept kind
+pub few_kept : (kind : Kind) (kept : Kept) → (kind ≡ Bytes → kept_bytes kept ≡ []) → length (kept_bytes kept) ≤ most_kept kind
 few_kept Bytes kept none = let l = ap length (none refl) in omega (arith, l)
 few_kept Text kept none = three_kept kept
 
 -- a front of text that is followed by bytes that are stuck is all of the text
-stuck_is_no_text : (read front kept : List ℕ) → read ≡ front ++ kept → IsCharacters front → IsStuck kept → 0 < length kept → IsCharacters read → ⊥
+pub stuck_is_no_text : (read front kept : List ℕ) → read ≡ front ++ kept → IsCharacters front → IsStuck kept → 0 < length kept → IsCharacters read → ⊥
 stuck_is_no_text read front kept e text stuck some whole =
     let behind = IsCharacters-rest front kept text (subst IsCharacters e whole) in
     let none = stuck kept [] (sym (append-nil kept)) behind in
@@ -61,7 +61,7 @@ stuck_is_no_text read front kept e text stuck some whole =
     omega (arith, l)
 
 -- a front of text that is followed by too much is the beginning of no text
-too_much_is_no_text : (read front kept more chunk left : List ℕ) → read ≡ front ++ (kept ++ more) → IsCharacters front → IsFront (kept ++ more) chunk left → 3 < length left → BeginsNoText read
+pub too_much_is_no_text : (read front kept more chunk left : List ℕ) → read ≡ front ++ (kept ++ more) → IsCharacters front → IsFront (kept ++ more) chunk left → 3 < length left → BeginsNoText read
 too_much_is_no_text read front kept more chunk left e text split much = λ others whole.
     let joined : read ++ others ≡ front ++ ((kept ++ more) ++ others) = ap (λ (z : List ℕ). z ++ others) e ∙ append_assoc front (kept ++ more) others in
     no_text_begins (kept ++ more) chunk left others split much (IsCharacters-rest front ((kept ++ more) ++ others) text (subst IsCharacters joined whole))

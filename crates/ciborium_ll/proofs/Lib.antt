@@ -11,6 +11,7 @@ pub mod DecodingLaws
 pub mod ElementLaws
 pub mod EncodingLaws
 pub mod FaultLaws
+pub mod FinishLaws
 pub mod HaltLaws
 pub mod ItemLaws
 pub mod Lists

@@ -5,6 +5,7 @@ pub mod Decoding
 pub mod Elements
 pub mod Encoding
 pub mod Faults
+pub mod Finishing
 pub mod Items
 pub mod Kept
 pub mod Lend
