@@ -1,5 +1,5 @@
 -- What is left of a body, read chunk by chunk.
-use Rattle.std.proofs.Common.{◌≡◌, ℕ, ◌+◌, ◌<◌, ◌≤◌, ◌⊎◌, true, false, List, [], ◌++◌, length, Ok, Err, refl, sym, ap, subst, ◌∙◌, inl, inr, arith, append_assoc, append-nil, length-append}
+use Rattle.std.proofs.Common.{◌≡◌, ℕ, ◌+◌, ◌≤◌, true, List, [], ◌++◌, length, Ok, Err, refl, sym, ap, subst, ◌∙◌, inl, inr, arith, append_assoc, append-nil, length-append}
 use Rattle.ciborium_ll.specs.declared.io.Read.{Ghosts as Reader}
 use Rattle.ciborium_ll.specs.declared.dec.Decoder.{Decoder}
 use Rattle.ciborium_ll.specs.declared.dec.Error.{Error}
@@ -11,7 +11,7 @@ use Rattle.ciborium_ll.specs.Faults.{IsWritable}
 use Rattle.ciborium_ll.specs.Kept.{kept_bytes}
 use Rattle.ciborium_ll.specs.Decoding.{IsSteady, Passes}
 use Rattle.ciborium_ll.specs.Chunks.{IsSplit, SegmentEnds, GivesChunk, FindsDamage, EndsInCharacter, KeepsTooMuch, ChunkFails, ChunkPasses, PullsChunk, read_count}
-use Rattle.ciborium_ll.specs.Finishing.{ReadsRest, BeginsRest, RestFails, RestPasses, RestDamaged, EndsSound, EndsDamaged, Finishes}
+use Rattle.ciborium_ll.specs.Finishing.{BeginsRest, RestFails, RestPasses, RestDamaged, Finishes}
 use Rattle.ciborium_ll.proofs.DecodingLaws.{Passes-none}
 use Rattle.ciborium_ll.proofs.BodyLaws.{split_parts, writable_nil, writable_chunk, three_kept, few_kept, stuck_is_no_text, too_much_is_no_text, Passes-read}
 

@@ -24,6 +24,7 @@ pub mod RecodeLaws
 pub mod RecodingToldLaws
 pub mod RefusedBytes
 pub mod SegmentLaws
+pub mod SkipLaws
 pub mod StepLaws
 pub mod StringLaws
 pub mod TextLaws

@@ -14,6 +14,7 @@ pub mod Pieces
 pub mod Recoding
 pub mod RecodingTold
 pub mod Segments
+pub mod Skipping
 pub mod Slices
 pub mod Steps
 pub mod Streams

@@ -1,13 +1,13 @@
-//! Bodies in chunks, for both kinds of string alike.
+//! Bodies in chunks and read to their end, for both kinds of string alike.
 
-ghost use Rattle.std.specs.Prelude.{◌≡◌, ◌≤◌, length};
-ghost use Rattle.ciborium_ll.specs.Decoding.{IsSteady, offset_of, refusals_of};
+ghost use Rattle.std.specs.Prelude.{◌≡◌, ◌≤◌, [], length, None};
+ghost use Rattle.ciborium_ll.specs.Decoding.{IsSteady, offset_of, refusals_of, waiting_of};
 ghost use Rattle.ciborium_ll.specs.Chunks.{PullsChunk};
-ghost use Rattle.ciborium_ll.specs.Finishing.{Finishes};
+ghost use Rattle.ciborium_ll.specs.Finishing.{EndsBody, Finishes};
 
 use crate::dec::Error;
 use crate::io::Read;
-use crate::seg::{Bytes, Parser, Segment, Text};
+use crate::seg::{Body, Bytes, Parser, Segment, Segments, Text};
 
 /// A kind of string whose bodies are read in chunks.
 pub trait Chunked: Parser {
@@ -97,5 +97,26 @@ impl<'r, R: Read, P: Chunked> Segment<'r, R, P> {
                 Err(error) => return Err(error),
             }
         }
+    }
+}
+
+impl<'r, R: Read, P: Chunked> Segments<'r, R, P> {
+    /// Reads the body that `advance` gave last to its end, by pulls through `buffer`: what `segment` and `finish` do.
+    ///
+    /// `Ok` says that the whole body was read, and that it is UTF-8 where it is of a text: the decoder is then behind
+    /// it. The errors are `Syntax` with the body's place where it is no text; `Io` where the reader failed, and `TooLong`
+    /// where the offset would pass `usize::MAX`. What was read before an error is consumed.
+    pub fn finish(&mut self, body: Body, buffer: &mut [u8]) -> Result<(), Error<R::Error>>
+        requires room { 4 ≤ length buffer.old }
+        requires none_waits { waiting_of self.old.reader.now ≡ None }
+        ensures same_reference { self.new.reader.ghost_name ≡ self.old.reader.ghost_name }
+        ensures progress { self.new.progress ≡ self.old.progress }
+        ensures finishes { EndsBody R.Read P.kind [] body.length (length buffer.old) body.place
+            self.old.reader.now result self.new.reader.now }
+        ensures rises { offset_of self.old.reader.now ≤ offset_of self.new.reader.now }
+        ensures steady { IsSteady R.Read self.old.reader.now → IsSteady R.Read self.new.reader.now }
+        ensures refusals { refusals_of self.new.reader.now ≡ refusals_of self.old.reader.now }
+    {
+        Segment::<R, P>::new(&mut *self.reader, body).finish(buffer)
     }
 }
