@@ -17,3 +17,5 @@ mod strings;
 mod values;
 #[cfg(test)]
 mod vectors;
+#[cfg(test)]
+mod wholes;
