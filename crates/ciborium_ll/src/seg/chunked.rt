@@ -67,18 +67,15 @@ impl<'r, R: Read, P: Chunked> Segment<'r, R, P> {
             damaged,
             parser,
         } = self;
-        let outcome = {
-            let mut segment = Segment {
-                reader: &mut *reader,
-                unread,
-                place,
-                kept,
-                damaged,
-                parser,
-            };
-            segment.drain(buffer)
+        let mut segment = Segment {
+            reader: &mut *reader,
+            unread,
+            place,
+            kept,
+            damaged,
+            parser,
         };
-        outcome
+        segment.drain(buffer)
     }
 
     /// Reads what is left of the body.
