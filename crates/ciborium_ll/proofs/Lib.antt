@@ -13,6 +13,7 @@ pub mod DrainTold
 pub mod ElementLaws
 pub mod EncodingLaws
 pub mod FaultLaws
+pub mod FinishLaws
 pub mod HaltLaws
 pub mod ItemLaws
 pub mod Lists
@@ -25,6 +26,7 @@ pub mod RecodeLaws
 pub mod RecodingToldLaws
 pub mod RefusedBytes
 pub mod SegmentLaws
+pub mod SkipLaws
 pub mod StepLaws
 pub mod StringLaws
 pub mod TextLaws

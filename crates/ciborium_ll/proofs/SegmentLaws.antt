@@ -37,11 +37,11 @@ opens_counted k j u bs (more_open {opens = i} {outer = y} {title = t} {strings =
     omega (arith, opens_counted k i y ds q, title_some t (kind_header k None) p, length-append t x, length-append y (t ++ x))
 
 -- within a string a break is not misplaced
-misplaced_inside : (k : Kind) (opens : ℕ) (header : Header) → 0 < opens → IsMisplacedAt k opens header → IsMisplaced k header
+pub misplaced_inside : (k : Kind) (opens : ℕ) (header : Header) → 0 < opens → IsMisplacedAt k opens header → IsMisplaced k header
 misplaced_inside k opens header some (inl first) = absurd (let none = first.0 in omega (arith, some, none))
 misplaced_inside k opens header some (inr other) = other
 
-some_open : (k : Kind) (opens : ℕ) (u : List ℕ) (bs : List (List ℕ)) → IsInsideAt k opens u bs → 0 < opens
+pub some_open : (k : Kind) (opens : ℕ) (u : List ℕ) (bs : List (List ℕ)) → IsInsideAt k opens u bs → 0 < opens
 some_open k zero u bs i = absurd (never k u bs i)
 some_open k (suc opens) u bs i = omega arith
 

@@ -6,6 +6,7 @@ pub mod Drains
 pub mod Elements
 pub mod Encoding
 pub mod Faults
+pub mod Finishing
 pub mod Items
 pub mod Kept
 pub mod Lend
@@ -14,6 +15,7 @@ pub mod Pieces
 pub mod Recoding
 pub mod RecodingTold
 pub mod Segments
+pub mod Skipping
 pub mod Slices
 pub mod Steps
 pub mod Streams

@@ -163,6 +163,7 @@ impl<R: Read> Decoder<R> {
         ensures same_reference { result.reader.ghost_name ≡ self.entry.ghost_name }
         ensures back { TakesBack R.Read self.old (Header.Text len) result.reader.now }
         ensures fresh { result.progress ≡ Open 0 }
+        ensures refusals { refusals_of result.reader.now ≡ refusals_of self.old }
     {
         self.string(len)
     }

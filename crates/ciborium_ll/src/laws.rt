@@ -14,6 +14,7 @@ mod strings;
 mod text;
 mod titles;
 mod values;
+mod whole;
 
 pub use self::copy::copy_headers;
 pub use self::cuts::full_cuts;
@@ -31,3 +32,4 @@ pub use self::titles::{
     cut_titles, one_title, refused_first_bytes, shortest_titles, title_header, title_length,
 };
 pub use self::values::{fewest_segments, written_values};
+pub use self::whole::{skip_bytes, skip_text};

@@ -10,14 +10,11 @@ ghost use Rattle.ciborium_ll.specs.Faults.{RunInFront};
 ghost use Rattle.ciborium_ll.specs.RecodingTold.{IsReady, RecodesTold};
 ghost use Rattle.ciborium_ll.specs.Recoding.{CopiesBehind, CopiesBody, CopiesElement, CopiesElements, CopiesSegments, WritesHeader};
 
-pub(crate) mod chunked;
-
-use self::chunked::Chunked;
 use crate::dec::{Decoder, Error};
 use crate::enc::Encoder;
 use crate::hdr::Header;
 use crate::io::{Read, Write};
-use crate::seg::{Body, Bytes, Segment, Text};
+use crate::seg::{Body, Bytes, Chunked, Segment, Text};
 
 /// Why a copy stopped.
 #[derive(Debug, Drop)]

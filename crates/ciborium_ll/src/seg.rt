@@ -7,6 +7,9 @@ ghost use Rattle.ciborium_ll.specs.Strings.{Kind, kind_header, Bytes as byte_str
 ghost use Rattle.ciborium_ll.specs.Kept.{IsStuck, kept_bytes};
 ghost use Rattle.ciborium_ll.specs.Faults.{IsMisplaced};
 
+mod chunked;
+
+pub use self::chunked::Chunked;
 use crate::dec::{Decoder, Error};
 use crate::hdr::Header;
 use crate::io::Read;

@@ -21,3 +21,5 @@ mod strings;
 mod values;
 #[cfg(test)]
 mod vectors;
+#[cfg(test)]
+mod wholes;

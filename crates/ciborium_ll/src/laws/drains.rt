@@ -11,8 +11,7 @@ ghost use Rattle.ciborium_ll.specs.Drains.{calls_for, AddUp, Drains, DrainsTold,
 use crate::enc::Encoder;
 use crate::io::{Read, Write};
 use crate::recode::RecodeError;
-use crate::recode::chunked::Chunked;
-use crate::seg::{Bytes, Segment, Text};
+use crate::seg::{Bytes, Chunked, Segment, Text};
 
 /// How far a drain came.
 #[derive(Debug, PartialEq, Eq, Drop)]

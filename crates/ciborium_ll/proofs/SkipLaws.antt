@@ -1,0 +1,320 @@
+-- A string that is read to its end.
+use Rattle.std.proofs.Common.{◌≡◌, ℕ, zero, suc, ◌+◌, ◌-◌, ◌^◌, ◌<◌, ◌⊎◌, List, [], ◌∷◌, ◌++◌, length, Option, Some, None, Result, Ok, Err, refl, sym, ap, subst, ◌∙◌, inl, inr, arith, append_assoc, length-append}
+use Rattle.ciborium_ll.specs.declared.io.Read.{Ghosts as Reader}
+use Rattle.ciborium_ll.specs.declared.io.Write.{Ghosts as Writer}
+use Rattle.ciborium_ll.specs.declared.hdr.Header.TheVariants as h
+use Rattle.ciborium_ll.specs.declared.dec.Decoder.{Decoder}
+use Rattle.ciborium_ll.specs.declared.dec.Error.{Error}
+use Rattle.ciborium_ll.specs.declared.dec.Error.TheVariants as e
+use Rattle.ciborium_ll.specs.declared.seg.Body.{Body}
+use Rattle.ciborium_ll.specs.declared.seg.Progress.{Progress}
+use Rattle.ciborium_ll.specs.declared.seg.Progress.TheVariants as p
+use Rattle.ciborium_ll.specs.Title.{IsTitle, IsInRange, shortest_title, title_len}
+use Rattle.ciborium_ll.specs.Strings.{Kind, Bytes, Text, kind_header, IsString, definite, indefinite}
+use Rattle.ciborium_ll.specs.Steps.{IsInsideAt, one_open, more_open}
+use Rattle.ciborium_ll.specs.Decoding.{Passes, IsSteady, TakesBack}
+use Rattle.ciborium_ll.specs.Encoding.{WritesAll}
+use Rattle.ciborium_ll.specs.Segments.{AdvancesFrom, AdvancesTo}
+use Rattle.ciborium_ll.specs.Recoding.{CopiesWhole}
+use Rattle.ciborium_ll.specs.Finishing.{ReadsRest, BeginsRest, EndsBody}
+use Rattle.ciborium_ll.specs.Skipping.{SkipsWhole, SkipsInside, MeetsBody, StopsInside, SkipsString}
+use Rattle.ciborium_ll.proofs.TitleLaws.{IsTitle-shortest}
+use Rattle.ciborium_ll.proofs.StepLaws.{counted, never}
+use Rattle.ciborium_ll.proofs.DecodingLaws.{Passes-none, Passes-then, Passes-pulled}
+use Rattle.ciborium_ll.proofs.NestLaws.{alone_bytes, title_some, advance_definite, FindsOnly}
+use Rattle.ciborium_ll.proofs.RecodeLaws.{sound_body, passes_same}
+use Rattle.ciborium_ll.proofs.SegmentLaws.{StringSoFar, AdvancesAmong, IsAmong, advances_among, segment_added, so_far_fresh, opens_counted, misplaced_inside, some_open}
+
+-- a writer that tells nothing
+abbrev silent : Writer (Unit {0}) (Unit {0})
+silent = record { written = λ w. None; room = λ w. None; failures = λ w. 0; flushed = λ old new. Unit {0} }
+
+nothing : (bytes : List ℕ) → WritesAll silent tt bytes tt
+nothing bytes = record { appended = tt; room = tt; failures = refl }
+
+-- the last break makes a string
+close_string : (k : Kind) (u : List ℕ) (bs : List (List ℕ)) → IsInsideAt k (suc zero) u bs → IsString k (u ++ 0xff ∷ []) bs
+close_string k u bs (one_open {title = t} {strings = x} p s) = rw (append_assoc t x (0xff ∷ [])) (indefinite p s)
+close_string k u bs (more_open {outer = y} {bodies = ds} i p s) = absurd (never k y ds i)
+
+open_length : (k : Kind) → length (shortest_title (kind_header k None)) ≡ 1
+open_length Bytes = refl
+open_length Text = refl
+
+-- ---- the end of a body
+
+module _ {R E : Type 0} (source : Reader R E) (k : Kind) (len : ℕ) (old new : Decoder R) (passed : Passes source old [] new) where
+  begins_behind : (between : Decoder R) → BeginsRest source k [] len new between → BeginsRest source k [] len old between
+  begins_behind between part = record {
+    read = part.read;
+    front = part.front;
+    left = part.left;
+    parts = part.parts;
+    few = part.few;
+    sound = part.sound;
+    within = part.within;
+    passed = Passes-then source old new between [] part.read passed part.passed;
+  }
+
+  reads_behind : (ended : Decoder R) → ReadsRest source k [] len new ended → ReadsRest source k [] len old ended
+  reads_behind ended reads = record {
+    read = reads.read;
+    all = reads.all;
+    sound = reads.sound;
+    passed = Passes-then source old new ended [] reads.read passed reads.passed;
+  }
+
+  ends_behind : (room place : ℕ) (error : Error E) (ended : Decoder R) → EndsBody source k [] len room place new (Err error) ended → EndsBody source k [] len room place old (Err error) ended
+  unfolding begins_behind
+  ends_behind room place (e.Io fault) ended fails = record {
+    between = fails.between;
+    part = begins_behind fails.between fails.part;
+    count = fails.count;
+    some = fails.some;
+    more = fails.more;
+    fails = fails.fails;
+  }
+  ends_behind room place (e.Syntax at) ended damaged = (
+    damaged.0,
+    record {
+      textual = damaged.1.textual;
+      read = damaged.1.read;
+      within = damaged.1.within;
+      no_text = damaged.1.no_text;
+      passed = Passes-then source old new ended [] damaged.1.read passed damaged.1.passed;
+    },
+  )
+  ends_behind room place e.TooLong ended passes = record {
+    between = passes.between;
+    part = begins_behind passes.between passes.part;
+    count = passes.count;
+    held = passes.held;
+    more = passes.more;
+    full = passes.full;
+    untouched = passes.untouched;
+  }
+  ends_behind room place e.Waiting ended none = absurd none
+
+-- ---- the loop over segments
+
+module _ {R E : Type 0} (source : Reader R E) (k : Kind) where
+  -- a lone body is due, or was read
+  pub record AloneSoFar (len : ℕ) (opened : Decoder R) (progress : Progress) (now : Decoder R) : Type 0 where
+    pub none_waits : opened.waiting ≡ None
+    pub in_range : IsInRange (kind_header k (Some len))
+    pub far : ((progress ≡ p.Open 0) × TakesBack source opened (kind_header k (Some len)) now) ⊎ ((progress ≡ p.Ended) × ReadsRest source k [] len opened now)
+
+  -- what the loop keeps
+  abbrev pub SkipsSoFar : Option ℕ → Decoder R → Progress → Decoder R → Type 0
+  SkipsSoFar None opened progress now = StringSoFar source silent k opened tt progress now tt × (0 < opened.offset)
+  SkipsSoFar (Some len) opened progress now = AloneSoFar len opened progress now
+
+  pub skips_fresh : (len : Option ℕ) (opened now : Decoder R) (progress : Progress) → IsInRange (kind_header k len) → opened.waiting ≡ None → progress ≡ p.Open 0
+      → TakesBack source opened (kind_header k len) now → SkipsSoFar len opened progress now
+  skips_fresh None opened now progress range settled fresh back =
+      (so_far_fresh source silent k opened now tt progress settled fresh back, omega (arith, back.offset, open_length k))
+  skips_fresh (Some len) opened now progress range settled fresh back = record { none_waits = settled; in_range = range; far = inl (fresh, back) }
+
+  -- ---- a lone body
+
+  module _ (len : ℕ) (opened now new : Decoder R) (progress progress' : Progress) (so_far : AloneSoFar len opened progress now) where
+    -- the only answers: the body first, and then the end
+    lone_found : (result : Result (Option Body) (Error E)) → AdvancesTo source k progress now result progress' new
+        → FindsOnly source k len opened result progress' new ⊎ ((result ≡ Ok None) × ReadsRest source k [] len opened new)
+    lone_found result advances = elim so_far.far [
+      | inl due ↦ (
+          let from : AdvancesFrom source k 0 now result progress' new = rw due.0 at advances in
+          inl (advance_definite source k len opened now new result progress' so_far.in_range due.1 from)
+          )
+      | inr read ↦ (
+          let ended : (result ≡ Ok None) × (progress' ≡ p.Ended) × (new ≡ now) = rw read.0 at advances in
+          inr (ended.0, subst (λ (d : Decoder R). ReadsRest source k [] len opened d) (sym ended.2) read.1)
+          )
+    ]
+
+    lone_end : AdvancesTo source k progress now (Ok None) progress' new → SkipsWhole source k (Some len) opened new
+    lone_end advances = elim (lone_found (Ok None) advances) [
+      | inl only ↦ absurd (let found = only.found in cc)
+      | inr read ↦ (
+          let body = read.1.read in
+          let title = shortest_title (kind_header k (Some len)) in
+          record {
+            behind = body;
+            bodies = body ∷ [];
+            is_string = definite (subst (λ (n : ℕ). IsTitle title (kind_header k (Some n))) (sym read.1.all) (IsTitle-shortest (kind_header k (Some len)) so_far.in_range));
+            sound = sound_body k body read.1.sound;
+            passed = read.1.passed;
+          }
+          )
+    ]
+
+    lone_error : (error : Error E) → AdvancesTo source k progress now (Err error) progress' new → ⊥
+    lone_error error advances = elim (lone_found (Err error) advances) [
+      | inl only ↦ (let found = only.found in cc)
+      | inr read ↦ (let none = read.0 in cc)
+    ]
+
+    -- the body, and how the decoder stands before it
+    record LoneBody (body : Body) : Type 0 where
+      pub lengths : body.length ≡ len
+      pub place : body.place ≡ opened.offset - title_len (kind_header k (Some len))
+      pub passed : Passes source opened [] new
+      pub ended : progress' ≡ p.Ended
+      pub rises : now.offset < new.offset
+
+    lone_body : (body : Body) → AdvancesTo source k progress now (Ok (Some body)) progress' new → LoneBody body
+    lone_body body advances = elim (lone_found (Ok (Some body)) advances) [
+      | inl only ↦ (
+          let found = only.found in
+          let same : body ≡ only.body = cc in
+          let lengths = ap (λ (b : Body). b.length) same ∙ only.length-is in
+          let places = ap (λ (b : Body). b.place) same in
+          record {
+            lengths = lengths;
+            place = omega (arith, places, only.place);
+            passed = passes_same source silent opened opened new [] (Passes-none source opened) so_far.none_waits only.reader only.offset only.none_waits;
+            ended = only.ended;
+            rises = elim so_far.far [
+              | inl due ↦ omega (arith, due.1.offset, only.offset, title_some (shortest_title (kind_header k (Some len))) (kind_header k (Some len)) (IsTitle-shortest (kind_header k (Some len)) so_far.in_range))
+              | inr read ↦ absurd (let ended : (Ok (Some body) ≡ Ok None) × (progress' ≡ p.Ended) × (new ≡ now) = rw read.0 at advances in let f = ended.0 in cc)
+            ];
+          }
+          )
+      | inr read ↦ absurd (let f = read.0 in cc)
+    ]
+
+    lone_reads : (body : Body) (ended : Decoder R) → LoneBody body → ReadsRest source k [] body.length new ended → AloneSoFar len opened progress' ended
+    lone_reads body ended lone reads = record {
+      none_waits = so_far.none_waits;
+      in_range = so_far.in_range;
+      far = inr (lone.ended, subst (λ (n : ℕ). ReadsRest source k [] n opened ended) lone.lengths (reads_behind source k body.length opened new lone.passed ended reads));
+    }
+
+    lone_stops : (room : ℕ) (body : Body) (ended : Decoder R) (error : Error E) → LoneBody body → EndsBody source k [] body.length room body.place new (Err error) ended
+        → EndsBody source k [] len room (opened.offset - title_len (kind_header k (Some len))) opened (Err error) ended
+    lone_stops room body ended error lone ends =
+        subst (λ (n : ℕ). EndsBody source k [] len room n opened (Err error) ended) lone.place
+        (subst (λ (n : ℕ). EndsBody source k [] n room body.place opened (Err error) ended) lone.lengths
+        (ends_behind source k body.length opened new lone.passed room body.place error ended ends))
+
+  -- ---- segments behind an open
+
+  body_stops : (room : ℕ) (opened : Decoder R) (error : Error E) (ended : Decoder R) → MeetsBody source k room opened error ended → StopsInside source k room opened error ended
+  body_stops room opened (e.Io fault) ended meets = inr meets
+  body_stops room opened (e.Syntax at) ended meets = inr (inr meets)
+  body_stops room opened e.TooLong ended meets = inr meets
+  body_stops room opened e.Waiting ended meets = meets.ends
+
+  module _ (opened now new : Decoder R) (progress progress' : Progress) (so_far : StringSoFar source silent k opened tt progress now tt) (settled : 0 < opened.offset)
+      (steady : IsSteady source now → IsSteady source new) where
+    among : (result : Result (Option Body) (Error E)) → AdvancesTo source k progress now result progress' new → AdvancesAmong source silent k opened tt now result progress' new tt
+    among result advances = advances_among source silent k opened now tt tt result progress progress' new so_far advances steady
+
+    part_of : (left : ℕ) (between : Decoder R) → IsAmong source silent k left opened tt between tt → SkipsInside source k opened between
+    part_of left between a = record { behind = a.strings; bodies = a.bodies; inside = counted k left _ _ a.within; sound = a.sound; passed = a.passed }
+
+    open_end : AdvancesTo source k progress now (Ok None) progress' new → SkipsWhole source k None opened new
+    open_end advances =
+        let all = among (Ok None) advances in
+        let strings = all.among.strings in
+        let bodies = all.among.bodies in
+        let front = shortest_title (kind_header k None) in
+        let break = alone_bytes all.ends.pulled.title h.Break all.ends.pulled.is_title refl in
+        let last = subst (λ (n : ℕ). IsInsideAt k n (front ++ strings) bodies) all.ends.last all.among.within in
+        record {
+          behind = strings ++ 0xff ∷ [];
+          bodies = bodies;
+          is_string = subst (λ (z : List ℕ). IsString k z bodies) (append_assoc front strings (0xff ∷ [])) (close_string k (front ++ strings) bodies last);
+          sound = all.among.sound;
+          passed = subst (λ (z : List ℕ). Passes source opened z new) (ap (λ (z : List ℕ). strings ++ z) break)
+              (Passes-pulled source opened all.between new strings h.Break all.ends.pulled all.among.passed all.steady);
+        }
+
+    -- so many opens take more bytes than an offset counts
+    not_too_deep : (left : ℕ) (between : Decoder R) (title : List ℕ) → IsAmong source silent k left opened tt between tt → left ≡ 2 ^ 64 - 1 → new.offset ≡ between.offset + length title
+        → IsTitle title (kind_header k None) → new.offset < 2 ^ 64 → ⊥
+    not_too_deep left between title a most moved t less =
+        let front = shortest_title (kind_header k None) in
+        omega (arith, settled, most, moved, less, a.passed.offset, opens_counted k left _ _ a.within, open_length k, length-append front a.strings, title_some title (kind_header k None) t)
+
+    open_error : (room : ℕ) (error : Error E) → new.offset < 2 ^ 64 → AdvancesTo source k progress now (Err error) progress' new → StopsInside source k room opened error new
+    open_error room (e.Io fault) less advances =
+        let all = among (Err (e.Io fault)) advances in
+        inl (record { between = all.between; part = part_of all.left all.between all.among; fails = all.ends.0 })
+    open_error room (e.Syntax at) less advances =
+        let all = among (Err (e.Syntax at)) advances in
+        let part = part_of all.left all.between all.among in
+        elim all.ends [
+          | inl refused ↦ inl (record { between = all.between; part = part; fails = refused.0 })
+          | inr other ↦ inr (inl (record {
+            between = all.between;
+            part = part;
+            header = other.header;
+            pulled = other.pulled;
+            misplaced = misplaced_inside k all.left other.header (some_open k all.left _ _ all.among.within) other.misplaced;
+            place = other.place;
+          }))
+        ]
+    open_error room e.TooLong less advances =
+        let all = among (Err e.TooLong) advances in
+        elim all.ends [
+          | inl passes ↦ inl (record { between = all.between; part = part_of all.left all.between all.among; fails = passes.0 })
+          | inr deep ↦ absurd (not_too_deep all.left all.between deep.pulled.title all.among deep.most deep.pulled.offset deep.pulled.is_title less)
+        ]
+    open_error room e.Waiting less advances = absurd (let all = among (Err e.Waiting) advances in all.ends)
+
+    open_reads : (body : Body) (ended : Decoder R) → AdvancesTo source k progress now (Ok (Some body)) progress' new → (IsSteady source new → IsSteady source ended)
+        → ReadsRest source k [] body.length new ended → StringSoFar source silent k opened tt progress' ended tt
+    open_reads body ended advances steady' reads =
+        let whole : CopiesWhole source silent k body.length new tt ended tt = record { body = reads.read; all = reads.all; sound = reads.sound; passed = reads.passed; written = nothing reads.read } in
+        segment_added source silent k opened now new ended tt tt tt tt body progress' so_far.none_waits (among (Ok (Some body)) advances) (nothing _) whole steady'
+
+    open_stops : (room : ℕ) (body : Body) (ended : Decoder R) (error : Error E) → AdvancesTo source k progress now (Ok (Some body)) progress' new
+        → EndsBody source k [] body.length room body.place new (Err error) ended → StopsInside source k room opened error ended
+    open_stops room body ended error advances ends =
+        let all = among (Ok (Some body)) advances in
+        let meets : MeetsBody source k room opened error ended = record {
+          between = all.between;
+          part = part_of all.left all.between all.among;
+          titled = new;
+          len = body.length;
+          pulled = all.ends.pulled;
+          ends = subst (λ (n : ℕ). EndsBody source k [] body.length room n new (Err error) ended) all.ends.place ends;
+        } in
+        body_stops room opened error ended meets
+
+  -- ---- both
+
+  pub skips_end : (len : Option ℕ) (room : ℕ) (opened now new : Decoder R) (progress progress' : Progress) → SkipsSoFar len opened progress now → (IsSteady source now → IsSteady source new)
+      → AdvancesTo source k progress now (Ok None) progress' new → SkipsString source k len room opened (Ok (tt {0})) new
+  skips_end None room opened now new progress progress' so_far steady advances = open_end opened now new progress progress' so_far.0 so_far.1 steady advances
+  skips_end (Some len) room opened now new progress progress' so_far steady advances = lone_end len opened now new progress progress' so_far advances
+
+  pub skips_error : (len : Option ℕ) (room : ℕ) (opened now new : Decoder R) (progress progress' : Progress) (error : Error E) → new.offset < 2 ^ 64 → SkipsSoFar len opened progress now
+      → (IsSteady source now → IsSteady source new) → AdvancesTo source k progress now (Err error) progress' new → SkipsString source k len room opened (Err error) new
+  skips_error None room opened now new progress progress' error less so_far steady advances = open_error opened now new progress progress' so_far.0 so_far.1 steady room error less advances
+  skips_error (Some len) room opened now new progress progress' error less so_far steady advances = absurd (lone_error len opened now new progress progress' so_far error advances)
+
+  pub skips_body : (len : Option ℕ) (room : ℕ) (opened now new ended : Decoder R) (progress progress' : Progress) (body : Body) → SkipsSoFar len opened progress now
+      → (IsSteady source now → IsSteady source new) → (IsSteady source new → IsSteady source ended) → AdvancesTo source k progress now (Ok (Some body)) progress' new
+      → EndsBody source k [] body.length room body.place new (Ok (tt {0})) ended → SkipsSoFar len opened progress' ended
+  skips_body None room opened now new ended progress progress' body so_far steady steady' advances reads =
+      (open_reads opened now new progress progress' so_far.0 so_far.1 steady body ended advances steady' reads, so_far.1)
+  skips_body (Some len) room opened now new ended progress progress' body so_far steady steady' advances reads =
+      lone_reads len opened now new progress progress' so_far body ended (lone_body len opened now new progress progress' so_far body advances) reads
+
+  pub skips_stop : (len : Option ℕ) (room : ℕ) (opened now new ended : Decoder R) (progress progress' : Progress) (body : Body) (error : Error E) → SkipsSoFar len opened progress now
+      → (IsSteady source now → IsSteady source new) → AdvancesTo source k progress now (Ok (Some body)) progress' new
+      → EndsBody source k [] body.length room body.place new (Err error) ended → SkipsString source k len room opened (Err error) ended
+  skips_stop None room opened now new ended progress progress' body error so_far steady advances ends =
+      open_stops opened now new progress progress' so_far.0 so_far.1 steady room body ended error advances ends
+  skips_stop (Some len) room opened now new ended progress progress' body error so_far steady advances ends =
+      lone_stops len opened now new progress progress' so_far room body ended error (lone_body len opened now new progress progress' so_far body advances) ends
+
+  -- the title of a body takes a byte
+  pub found_rises : (progress progress' : Progress) (now new : Decoder R) (body : Body) → AdvancesTo source k progress now (Ok (Some body)) progress' new → now.offset < new.offset
+  found_rises (p.Open opens) progress' now new body all =
+      omega (arith, all.passed.offset, all.ends.pulled.offset, title_some all.ends.pulled.title (kind_header k (Some body.length)) all.ends.pulled.is_title)
+  found_rises p.Ended progress' now new body ended = absurd (let f = ended.0 in cc)
+  found_rises (p.Damaged at) progress' now new body ended = absurd (let f = ended.0 in cc)
+  found_rises p.TooDeep progress' now new body ended = absurd (let f = ended.0 in cc)

@@ -1,0 +1,70 @@
+-- What `skip_bytes` and `skip_text` do: a string is read to its end, behind its header. The old decoder stands behind
+-- that header, and the bytes of the string are those of the header's shortest title and then those that are consumed.
+use Rattle.std.specs.Prelude.{◌≡◌, ℕ, ◌-◌, ◌⊎◌, List, [], ◌++◌, Option, Some, None, Result, Ok, Err}
+use Rattle.ciborium_ll.specs.declared.io.Read.{Ghosts}
+use Rattle.ciborium_ll.specs.declared.hdr.Header.{Header}
+use Rattle.ciborium_ll.specs.declared.dec.Decoder.{Decoder}
+use Rattle.ciborium_ll.specs.declared.dec.Error.{Error}
+use Rattle.ciborium_ll.specs.declared.dec.Error.TheVariants as e
+use Rattle.ciborium_ll.specs.Title.{shortest_title, title_len}
+use Rattle.ciborium_ll.specs.Strings.{Kind, kind_header, IsString}
+use Rattle.ciborium_ll.specs.Elements.{IsSound}
+use Rattle.ciborium_ll.specs.Faults.{IsInside, IsMisplaced}
+use Rattle.ciborium_ll.specs.Decoding.{Passes, PullsHeader, PullsTitle}
+use Rattle.ciborium_ll.specs.Finishing.{EndsBody}
+
+module _ {R E : Type 0} (source : Ghosts R E) (kind : Kind) where
+  -- all of the string was read: the bytes behind its header make one string, and its bodies are sound
+  pub record SkipsWhole (len : Option ℕ) (old new : Decoder R) : Type 0 where
+    pub behind : List ℕ
+    pub bodies : List (List ℕ)
+    pub is_string : IsString kind (shortest_title (kind_header kind len) ++ behind) bodies
+    pub sound : IsSound kind bodies
+    pub passed : Passes source old behind new
+
+  -- a beginning of a string of indefinite length was read, behind its open: further opens, and whole strings
+  pub record SkipsInside (old between : Decoder R) : Type 0 where
+    pub behind : List ℕ
+    pub bodies : List (List ℕ)
+    pub inside : IsInside kind (shortest_title (kind_header kind None) ++ behind) bodies
+    pub sound : IsSound kind bodies
+    pub passed : Passes source old behind between
+
+  -- there `pull` failed, where a title is due
+  pub record MeetsNoTitle (old : Decoder R) (error : Error E) (new : Decoder R) : Type 0 where
+    pub between : Decoder R
+    pub part : SkipsInside old between
+    pub fails : PullsHeader source between (Err error) new
+
+  -- there a title came that may not stand within the string, at this offset
+  pub record MeetsOther (old : Decoder R) (at : ℕ) (new : Decoder R) : Type 0 where
+    pub between : Decoder R
+    pub part : SkipsInside old between
+    pub header : Header
+    pub pulled : PullsTitle source between header new
+    pub misplaced : IsMisplaced kind header
+    pub place : at ≡ between.offset
+
+  -- there the title of a segment came, and the read of its body failed: its place is the offset of that title
+  pub record MeetsBody (room : ℕ) (old : Decoder R) (error : Error E) (new : Decoder R) : Type 0 where
+    pub between : Decoder R
+    pub part : SkipsInside old between
+    pub titled : Decoder R
+    pub len : ℕ
+    pub pulled : PullsTitle source between (kind_header kind (Some len)) titled
+    pub ends : EndsBody source kind [] len room between.offset titled (Err error) new
+
+  -- how the read of a string of indefinite length fails
+  abbrev pub StopsInside : ℕ → Decoder R → Error E → Decoder R → Type 0
+  StopsInside room old (e.Io fault) new = MeetsNoTitle old (e.Io fault) new ⊎ MeetsBody room old (e.Io fault) new
+  StopsInside room old (e.Syntax at) new = MeetsNoTitle old (e.Syntax at) new ⊎ (MeetsOther old at new ⊎ MeetsBody room old (e.Syntax at) new)
+  StopsInside room old e.TooLong new = MeetsNoTitle old e.TooLong new ⊎ MeetsBody room old e.TooLong new
+  StopsInside room old e.Waiting new = ⊥
+
+  -- a string of this length is read to its end, through a buffer of so much room. The place of a lone body is where the
+  -- header's shortest title would begin
+  abbrev pub SkipsString : Option ℕ → ℕ → Decoder R → Result (Unit {0}) (Error E) → Decoder R → Type 0
+  SkipsString len room old (Ok done) new = SkipsWhole len old new
+  SkipsString None room old (Err error) new = StopsInside room old error new
+  SkipsString (Some len) room old (Err error) new =
+      EndsBody source kind [] len room (old.offset - title_len (kind_header kind (Some len))) old (Err error) new

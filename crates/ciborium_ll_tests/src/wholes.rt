@@ -1,0 +1,158 @@
+ghost use Rattle.std.specs.Prelude.{◌≡◌, None};
+ghost use Rattle.ciborium_ll.specs.Decoding.{refusals_of, waiting_of};
+
+use crate::calls::pulls;
+use ciborium_ll::io::{Read, SliceReader};
+use ciborium_ll::laws::{skip_bytes, skip_text};
+use ciborium_ll::{Decoder, Error, Header, Segments, Text};
+use std::process::Abort;
+
+// How the read of a string ends.
+#[derive(Clone, Copy)]
+enum End {
+    Whole,
+    Cut,
+    Syntax(usize),
+}
+
+// An answer is the one that is wanted.
+fn ends<E>(answer: &Result<(), Error<E>>, want: End) -> bool {
+    match answer {
+        Ok(()) => matches!(want, End::Whole),
+        Err(Error::Io(_)) => matches!(want, End::Cut),
+        Err(Error::Syntax(place)) => matches!(want, End::Syntax(at) if at == *place),
+        Err(_) => false,
+    }
+}
+
+// Pulls the header of a string, reads it to its end, and compares the answer and the offset.
+fn skips<R: Read>(
+    rt: &impl Abort,
+    decoder: &mut Decoder<R>,
+    title: usize,
+    header: Header,
+    want: End,
+    offset: usize,
+)
+where
+    R::Error: Drop,
+{
+    pulls(rt, decoder, header, title);
+    assert!(rt; !decoder.is_waiting());
+    assert!(rt; header.title_len() <= decoder.offset());
+    let mut buffer = [0; 4];
+    let answer = match header {
+        Header::Bytes(length) => skip_bytes(decoder, length, &mut buffer),
+        Header::Text(length) => skip_text(decoder, length, &mut buffer),
+        _ => panic!(rt; "no string"),
+    };
+    assert!(rt; ends(&answer, want));
+    assert_eq!(rt; decoder.offset(), offset);
+    assert!(rt; !decoder.is_waiting());
+}
+
+// Reads a string to its end, and compares how many bytes are left.
+fn whole_row(
+    rt: &impl Abort,
+    bytes: &[u8],
+    title: usize,
+    header: Header,
+    want: End,
+    offset: usize,
+    left: usize,
+) {
+    let mut decoder = Decoder::from(SliceReader::new(bytes));
+    skips(rt, &mut decoder, title, header, want, offset);
+    assert_eq!(rt; decoder.into_inner().left().len(), left);
+}
+
+#[test]
+fn whole_byte_strings(rt: HostRuntime) {
+    let definite = Header::Bytes(Some(3));
+    whole_row(&rt, b"\x43\x01\x02\x03\x00", 1, definite, End::Whole, 4, 1);
+    let nested = b"\x5f\x5f\x41\x01\xff\x41\x02\xff\x00";
+    whole_row(&rt, nested, 1, Header::Bytes(None), End::Whole, 8, 1);
+}
+
+#[test]
+fn broken_byte_strings(rt: HostRuntime) {
+    whole_row(&rt, b"\x5f\x01", 1, Header::Bytes(None), End::Syntax(1), 2, 0);
+    whole_row(&rt, b"\x5f\x61a\xff", 1, Header::Bytes(None), End::Syntax(1), 2, 2);
+    whole_row(&rt, b"\x5f\x42\x01", 1, Header::Bytes(None), End::Cut, 2, 1);
+    whole_row(&rt, b"\x43\x01", 1, Header::Bytes(Some(3)), End::Cut, 1, 1);
+}
+
+#[test]
+fn whole_texts(rt: HostRuntime) {
+    let two = b"\x7f\x62\xc3\xa9\x64\xf0\x9f\x98\x80\xff";
+    whole_row(&rt, two, 1, Header::Text(None), End::Whole, 10, 0);
+    let cut_character = b"\x7f\x61\xc3\x61\xa9\xff";
+    whole_row(&rt, cut_character, 1, Header::Text(None), End::Syntax(1), 3, 3);
+}
+
+// Reads the first segment of a text, partly by hand, and the rest by `finish`.
+fn finishes<R: Read>(rt: &impl Abort, decoder: &mut Decoder<R>, size: usize, want: End)
+where
+    R::Error: Drop,
+{
+    assert!(rt; !decoder.is_waiting());
+    assert!(rt; Header::Text(None).title_len() <= decoder.offset());
+    let mut segments = decoder.text(None);
+    let found = match segments.pull() {
+        Ok(found) => found,
+        Err(_) => panic!(rt; "no segment"),
+    };
+    let Some(mut segment) = found else {
+        panic!(rt; "no segment");
+    };
+    let mut buffer = [0; 8];
+    let size = size.min(8);
+    let is_chunk = matches!(segment.pull(&mut buffer[..size]), Ok(Some(_)));
+    assert!(rt; is_chunk);
+    let answer = segment.finish(&mut buffer);
+    assert!(rt; ends(&answer, want));
+}
+
+#[test]
+fn the_rest_of_a_segment(rt: HostRuntime) {
+    let mut decoder = Decoder::from(SliceReader::new(b"\x7f\x65ab\xc3\xa9c\xff"));
+    pulls(&rt, &mut decoder, Header::Text(None), 1);
+    finishes(&rt, &mut decoder, 3, End::Whole);
+    assert_eq!(rt; decoder.offset(), 7);
+    let mut damaged = Decoder::from(SliceReader::new(b"\x7f\x65ab\xc3cd\xff"));
+    pulls(&rt, &mut damaged, Header::Text(None), 1);
+    finishes(&rt, &mut damaged, 3, End::Syntax(1));
+}
+
+// Reads the next segment of a text to its end. What it does to the decoder is known here, in another crate.
+fn next_segment<R: Read>(
+    segments: &mut Segments<'_, R, Text>,
+    buffer: &mut [u8; 4],
+) -> Result<(), Error<R::Error>>
+    ensures same_reference { segments.new.reader.ghost_name ≡ segments.old.reader.ghost_name }
+    ensures refusals { refusals_of segments.new.reader.now ≡ refusals_of segments.old.reader.now }
+{
+    match segments.advance()? {
+        Some(body) => segments.finish(body, buffer),
+        None => Ok(()),
+    }
+}
+
+#[test]
+fn the_next_segment(rt: HostRuntime) {
+    let mut decoder = Decoder::from(SliceReader::new(b"\x7f\x61a\x62bc\xff"));
+    pulls(&rt, &mut decoder, Header::Text(None), 1);
+    reads_a_segment(&rt, &mut decoder);
+    assert_eq!(rt; decoder.offset(), 3);
+}
+
+// Reads one segment of a text that was just begun.
+fn reads_a_segment<R: Read>(rt: &impl Abort, decoder: &mut Decoder<R>)
+where
+    R::Error: Drop,
+{
+    assert!(rt; !decoder.is_waiting());
+    assert!(rt; Header::Text(None).title_len() <= decoder.offset());
+    let mut segments = decoder.text(None);
+    assert!(rt; next_segment(&mut segments, &mut [0; 4]).is_ok());
+}
