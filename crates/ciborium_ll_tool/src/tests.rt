@@ -599,13 +599,11 @@ fn choice(alloc: Global, text: &str) -> Result<Chosen, Fail> {
 
 #[test]
 fn choices_of_arguments(rt: HostRuntime) -> Result<(), Fail> {
-    assert!(rt; matches!(choice(rt.alloc(), "")?, Chosen::Lines));
-    assert!(rt; matches!(choice(rt.alloc(), "recode 0")?, Chosen::Raw(0)));
-    assert!(rt;
-        matches!(
-            choice(rt.alloc(), "recode 4294967295")?,
-            Chosen::Raw(4_294_967_295)
-        )
+    assert_eq!(rt; choice(rt.alloc(), "")?, Chosen::Lines);
+    assert_eq!(rt; choice(rt.alloc(), "recode 0")?, Chosen::Raw(0));
+    assert_eq!(rt;
+        choice(rt.alloc(), "recode 4294967295")?,
+        Chosen::Raw(4_294_967_295)
     );
     for text in [
         "recode 01",
@@ -615,10 +613,7 @@ fn choices_of_arguments(rt: HostRuntime) -> Result<(), Fail> {
         "heads 1",
         "1 recode",
     ] {
-        assert!(rt;
-            matches!(choice(rt.alloc(), text)?, Chosen::Usage),
-            "at {text}"
-        );
+        assert_eq!(rt; choice(rt.alloc(), text)?, Chosen::Usage, "at {text}");
     }
     Ok(())
 }
