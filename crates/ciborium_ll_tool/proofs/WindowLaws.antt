@@ -66,7 +66,7 @@ part_sent xs start n end within =
     let whole : n + (end - (start + n)) ≡ end - start = omega arith in
     sym (take-append-drop n (take (end - start) rest))
     ∙ ap (λ l. take n (take (end - start) rest) ++ l)
-      (ap (λ k. drop n (take k rest)) (sym whole) ∙ drop-take n (end - (start + n)) rest ∙ ap (take (end - (start + n))) (drop-drop n start xs))
+    (ap (λ k. drop n (take k rest)) (sym whole) ∙ drop-take n (end - (start + n)) rest ∙ ap (take (end - (start + n))) (drop-drop n start xs))
 
 -- a writer that kept its bytes, and then took some
 pub kept_Appends : (a b c : Option (List ℕ)) (bs : List ℕ) → Keeps a b → Appends b c bs → Appends a c bs

@@ -3,8 +3,8 @@
 //! A fault of std has many bytes, and each function that hands one on clears and copies them. So a fault is kept aside
 //! here, and the call answers only that there is one. What a window holds is moved without a call of std.
 
-ghost use Rattle.std.specs.Prelude.{false, ◌≡◌, ◌+◌, ◌-◌, ◌≤◌, ◌<◌, None, Some, IsErr, IfOk, OnOk, OnErr, [], length, take};
-ghost use Rattle.std.specs.Io.KnownBytes.{Appends, Consumes, Keeps, append_known, prepend_known};
+ghost use Rattle.std.specs.Prelude.{false, ◌≡◌, ◌+◌, ◌≤◌, ◌<◌, None, Some, IsErr, IfOk, OnOk, OnErr, [], length, take};
+ghost use Rattle.std.specs.Io.KnownBytes.{Appends, Consumes, Keeps};
 ghost use Rattle.std.proofs.Common.{rules};
 ghost use Rattle.ciborium_ll.specs.Transfer.{AppendsFront};
 ghost use Rattle.ciborium_ll_tool.specs.Window.{held};
@@ -17,7 +17,7 @@ use std::io;
 #[derive(Debug, Drop)]
 pub(crate) struct Aside;
 
-/// Reads from a reader of std, and ahead through a window where it may.
+/// Reads from a reader of std. Where it may, it reads ahead into a window.
 pub(crate) struct AsideReader<T> {
     source: T,
     window: Window,
@@ -29,7 +29,7 @@ pub(crate) struct AsideReader<T> {
 impl<T: io::Read> AsideReader<T> {
     ghost use Rattle.ciborium_ll_tool.specs.Aside.{ahead_of};
 
-    /// A reader of all that is left within.
+    /// A reader of all that is left within, which may read ahead or not.
     pub(crate) fn new(source: T, reads_ahead: bool) -> AsideReader<T> {
         AsideReader {
             source,
@@ -134,7 +134,7 @@ impl<T: io::Read> Read for AsideReader<T> {
     }
 }
 
-/// Writes to a writer of std, and keeps bytes back in a window where it may.
+/// Writes to a writer of std. Where it may, it keeps bytes back in a window.
 pub(crate) struct AsideWriter<T> {
     sink: T,
     window: Window,
@@ -146,7 +146,7 @@ pub(crate) struct AsideWriter<T> {
 impl<T: io::Write> AsideWriter<T> {
     ghost use Rattle.ciborium_ll_tool.specs.Aside.{written_of};
 
-    /// A writer behind all that was written within.
+    /// A writer behind all that was written within, which may keep bytes back or not.
     pub(crate) fn new(sink: T, keeps_back: bool) -> AsideWriter<T> {
         AsideWriter {
             sink,

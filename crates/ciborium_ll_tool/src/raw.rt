@@ -54,7 +54,7 @@ fn copied<R: io::Read, W: io::Write>(
     (reader, writer, outcome)
 }
 
-/// The error of a copy, with the fault that was kept aside.
+/// The error of a copy, with the fault that was kept aside. Each failed call keeps one, so that none is missing.
 fn restored(
     error: RecodeError<Aside, Aside>,
     read_fault: Option<ReadFault>,

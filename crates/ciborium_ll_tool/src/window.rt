@@ -1,7 +1,7 @@
 //! Bytes that wait in a part of an array.
 
-ghost use Rattle.std.specs.Prelude.{◌≡◌, ◌+◌, ◌-◌, ◌≤◌, ◌++◌, [], IfOk, OnErr, length, take};
-ghost use Rattle.std.specs.Io.KnownBytes.{Consumes, IsAtEnd, Keeps};
+ghost use Rattle.std.specs.Prelude.{◌≡◌, ◌-◌, ◌≤◌, ◌++◌, [], IfOk, OnErr, length, take};
+ghost use Rattle.std.specs.Io.KnownBytes.{Consumes};
 
 use std::io;
 
@@ -93,7 +93,6 @@ impl Window {
         requires { held self.old ≡ [] }
         ensures held { held self.new ≡ [] }
         ensures room { self.new.end ≡ 0 }
-        ensures size { length self.new.space ≡ length self.old.space }
     {
         self.start = 0;
         self.end = 0;

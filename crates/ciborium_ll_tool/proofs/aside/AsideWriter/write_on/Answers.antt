@@ -18,7 +18,7 @@ loop-sent-preserved g c =
       empty = search rules;
       failures = search rules;
       bytes = subst (Appends _ _) (sent_more c.loop-sent.sent c.in-Ok.count c.args.«data».now)
-        (Appends-trans _ _ _ _ _ kept.bytes (append_known-sent _ _ _ _ kept.empty c.in-Ok.ensures.bytes));
+          (Appends-trans _ _ _ _ _ kept.bytes (append_known-sent _ _ _ _ kept.empty c.in-Ok.ensures.bytes));
     }
 
 pub returns-in_err-send-clause-front : goal.returns-in_err-send-clause-front
@@ -29,7 +29,7 @@ returns-in-Ok-eq0-clause-front g c =
     let kept = c.loop-sent.invariant in
     let n = c.in-Ok-eq0.field-0 in
     let more = subst (Appends _ _) (sent_more c.loop-sent.sent n c.args.«data».now)
-      (Appends-trans _ _ _ _ _ kept.bytes (append_known-sent _ _ _ _ kept.empty c.in-Ok-eq0.ensures.bytes)) in
+    (Appends-trans _ _ _ _ _ kept.bytes (append_known-sent _ _ _ _ kept.empty c.in-Ok-eq0.ensures.bytes)) in
     rw c.failed.ensures.written (appended_front _ _ _ _ (c.loop-sent.sent + n) (kept_Appends _ _ _ _ c.send.ensures.bytes more) (omega (arith, kept.within, c.in-Ok-eq0.field-0-test)))
 
 pub returns-in-Err-clause-front : goal.returns-in-Err-clause-front
