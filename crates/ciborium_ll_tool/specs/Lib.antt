@@ -1,3 +1,4 @@
+pub mod Aside
 pub mod Choice
 pub mod Fault
 pub mod Line
@@ -5,4 +6,5 @@ pub mod Number
 pub mod Output
 pub mod Request
 pub mod Value
+pub mod Window
 pub mod Word

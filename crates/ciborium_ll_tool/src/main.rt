@@ -6,6 +6,7 @@
 
 mod answer;
 mod arguments;
+mod aside;
 mod choice;
 mod copy;
 mod fault;
@@ -20,16 +21,16 @@ mod string;
 #[cfg(test)]
 mod tests;
 mod value;
+mod window;
 mod word;
 
 pub use crate::arguments::chosen;
 pub use crate::choice::Chosen;
 pub use crate::fault::{Fault, fault_of_raw, fault_of_run};
 pub use crate::memory::{OutOfMemory, VecWriter};
-pub use crate::raw::raw;
+pub use crate::raw::{raw, raw_buffered};
 pub use crate::service::{ToolError, run};
 pub use crate::word::{bytes_of, word_of};
-use std::io::{BufReader, BufWriter};
 use std::process::ExitCode;
 use std::{env, io};
 
@@ -66,13 +67,7 @@ fn words_of(rt: &HostRuntime) -> io::Result<Vec<String>> {
 
 /// Copies so many elements from standard input to standard output.
 fn copied(rt: &HostRuntime, count: usize) -> Result<(), Fault> {
-    let Ok(reader) = BufReader::new(rt.alloc(), rt.reader()) else {
-        return Err(Fault::Memory);
-    };
-    let Ok(writer) = BufWriter::new(rt.alloc(), io::writer(rt)) else {
-        return Err(Fault::Memory);
-    };
-    let (_reader, _writer, outcome) = raw(reader, writer, count);
+    let (_reader, _writer, outcome) = raw_buffered(rt.reader(), io::writer(rt), count);
     outcome.map_err(|error| fault_of_raw(&error))
 }
 

@@ -1,9 +1,10 @@
 //! Elements copied from one stream of bytes to another.
 
+use crate::aside::{Aside, AsideReader, AsideWriter};
 use crate::copy::BUFFER_SIZE;
-use ciborium_ll::io::{ReadFault, StdReader, StdWriter, Write, WriteFault};
+use ciborium_ll::io::{ReadFault, Write, WriteFault};
 use ciborium_ll::recode::recode;
-use ciborium_ll::{Decoder, Encoder, RecodeError};
+use ciborium_ll::{Decoder, Encoder, Error, RecodeError};
 use std::io;
 
 /// Copies so many elements, and flushes the writer. It hands back the reader and the writer.
@@ -15,19 +16,57 @@ pub fn raw<R: io::Read, W: io::Write>(
     writer: W,
     count: usize,
 ) -> (R, W, Result<(), RecodeError<ReadFault, WriteFault>>) {
+    copied(reader, writer, count, false)
+}
+
+/// Copies as `raw` does, and reads ahead and keeps back some 8 KiB at a time.
+///
+/// Bytes behind the last element that were read ahead are given up, as are those that a failed flush kept back.
+pub fn raw_buffered<R: io::Read, W: io::Write>(
+    reader: R,
+    writer: W,
+    count: usize,
+) -> (R, W, Result<(), RecodeError<ReadFault, WriteFault>>) {
+    copied(reader, writer, count, true)
+}
+
+/// Copies and flushes, through windows or without.
+fn copied<R: io::Read, W: io::Write>(
+    reader: R,
+    writer: W,
+    count: usize,
+    is_buffered: bool,
+) -> (R, W, Result<(), RecodeError<ReadFault, WriteFault>>) {
     let mut buffer = [0; BUFFER_SIZE];
-    let mut decoder = Decoder::from(StdReader::new(reader));
-    let mut encoder = Encoder::from(StdWriter::new(writer));
+    let mut decoder = Decoder::from(AsideReader::new(reader, is_buffered));
+    let mut encoder = Encoder::from(AsideWriter::new(writer, is_buffered));
     let copied = recode(&mut decoder, &mut encoder, count, &mut buffer);
+    let (reader, read_fault) = decoder.into_inner().into_parts();
     let mut writer = encoder.into_inner();
+    let write_fault = writer.take_fault();
     let flushed = writer.flush();
-    let outcome = match copied {
-        Ok(()) => flushed.map_err(RecodeError::Write),
-        Err(error) => Err(error),
+    let (writer, flush_fault) = writer.into_parts();
+    let outcome = match (copied, flushed) {
+        (Ok(()), Ok(())) => Ok(()),
+        (Ok(()), Err(Aside)) => Err(restored(RecodeError::Write(Aside), None, flush_fault)),
+        (Err(error), _) => Err(restored(error, read_fault, write_fault)),
     };
-    (
-        decoder.into_inner().into_inner(),
-        writer.into_inner(),
-        outcome,
-    )
+    (reader, writer, outcome)
+}
+
+/// The error of a copy, with the fault that was kept aside. Each failed call keeps one, so that none is missing.
+fn restored(
+    error: RecodeError<Aside, Aside>,
+    read_fault: Option<ReadFault>,
+    write_fault: Option<WriteFault>,
+) -> RecodeError<ReadFault, WriteFault> {
+    match error {
+        RecodeError::Read(Error::Io(Aside)) => {
+            RecodeError::Read(Error::Io(read_fault.unwrap_or(ReadFault::End)))
+        }
+        RecodeError::Read(Error::Syntax(place)) => RecodeError::Read(Error::Syntax(place)),
+        RecodeError::Read(Error::TooLong) => RecodeError::Read(Error::TooLong),
+        RecodeError::Read(Error::Waiting) => RecodeError::Read(Error::Waiting),
+        RecodeError::Write(Aside) => RecodeError::Write(write_fault.unwrap_or(WriteFault::Zero)),
+    }
 }

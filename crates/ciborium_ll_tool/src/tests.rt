@@ -1,6 +1,6 @@
 use crate::{
     Chosen, Fault, OutOfMemory, ToolError, VecWriter, bytes_of, chosen, fault_of_raw, fault_of_run,
-    raw, run, word_of,
+    raw, raw_buffered, run, word_of,
 };
 use ciborium_ll::io::{ReadFault, Write, WriteFault};
 use ciborium_ll::{Error, RecodeError};
@@ -585,6 +585,100 @@ fn raw_copies(rt: HostRuntime) -> Result<(), Fail> {
     let (_, _, outcome) = raw([0].as_slice(), Stuck, 1);
     let fault = outcome.map_err(|error| fault_of_raw(&error));
     assert!(rt; matches!(fault, Err(Fault::Write)));
+    Ok(())
+}
+
+// A string and titles that are longer than a window, in their shortest spelling.
+fn long_elements(alloc: Global) -> Result<Vec<u8>, Fail> {
+    let mut bytes = Vec::new(alloc);
+    bytes.extend_from_slice(&[0x59, 0x4e, 0x20])?;
+    for index in 0..20_000_u16 {
+        bytes.push((index % 251) as u8)?;
+    }
+    for index in 0..5_000_u16 {
+        bytes.push(0x19)?;
+        bytes.extend_from_slice(&index.saturating_add(256).to_be_bytes())?;
+    }
+    Ok(bytes)
+}
+
+#[test]
+fn raw_copies_through_windows(rt: HostRuntime) -> Result<(), Fail> {
+    let bytes = long_elements(rt.alloc())?;
+    let (_, written, outcome) = raw_buffered(bytes.as_slice(), Vec::new(rt.alloc()), 5_001);
+    assert!(rt; outcome.is_ok());
+    assert!(rt; written.as_slice() == bytes.as_slice());
+
+    let slow = SlowReader {
+        left: bytes.as_slice(),
+        calls_before: None,
+        kind: io::ErrorKind::Other,
+    };
+    let (_, written, outcome) = raw_buffered(slow, SlowWriter::new(rt.alloc()), 5_001);
+    assert!(rt; outcome.is_ok());
+    assert!(rt; written.taken.as_slice() == bytes.as_slice());
+    assert_eq!(rt; written.flushes, 1);
+
+    let mut writer = SlowWriter::new(rt.alloc());
+    writer.calls_before = Some(100);
+    writer.kind = Some(io::ErrorKind::TimedOut);
+    let (_, written, outcome) = raw_buffered(bytes.as_slice(), writer, 5_001);
+    assert!(rt; matches!(kind_of_write(outcome), Some(io::ErrorKind::TimedOut)));
+    assert!(rt; bytes.as_slice().starts_with(written.taken.as_slice()));
+    Ok(())
+}
+
+// The kind of the error with which a read failed.
+fn kind_of_read(outcome: Result<(), RecodeError<ReadFault, WriteFault>>) -> Option<io::ErrorKind> {
+    match outcome {
+        Err(RecodeError::Read(Error::Io(ReadFault::Failed(error)))) => Some(error.kind()),
+        _ => None,
+    }
+}
+
+// The kind of the error with which a write failed.
+fn kind_of_write(outcome: Result<(), RecodeError<ReadFault, WriteFault>>) -> Option<io::ErrorKind> {
+    match outcome {
+        Err(RecodeError::Write(WriteFault::Failed(error))) => Some(error.kind()),
+        _ => None,
+    }
+}
+
+fn failing_reader(calls: usize) -> SlowReader<'static> {
+    SlowReader {
+        left: &[0x42, 1, 2],
+        calls_before: Some(calls),
+        kind: io::ErrorKind::TimedOut,
+    }
+}
+
+#[test]
+fn raw_hands_faults_on(rt: HostRuntime) -> Result<(), Fail> {
+    for calls in 0..3_usize {
+        let (_, _, outcome) = raw(failing_reader(calls), Vec::new(rt.alloc()), 1);
+        assert!(rt; matches!(kind_of_read(outcome), Some(io::ErrorKind::TimedOut)));
+        let (_, _, outcome) = raw_buffered(failing_reader(calls), Vec::new(rt.alloc()), 1);
+        assert!(rt; matches!(kind_of_read(outcome), Some(io::ErrorKind::TimedOut)));
+
+        let mut writer = SlowWriter::new(rt.alloc());
+        writer.calls_before = Some(calls);
+        writer.kind = Some(io::ErrorKind::TimedOut);
+        writer.flush_fails = true;
+        let (_, _, outcome) = raw([0x42, 1, 2].as_slice(), writer, 1);
+        assert!(rt; matches!(kind_of_write(outcome), Some(io::ErrorKind::TimedOut)));
+
+        let mut writer = SlowWriter::new(rt.alloc());
+        writer.calls_before = Some(calls);
+        writer.kind = Some(io::ErrorKind::TimedOut);
+        let (_, _, outcome) = raw_buffered([0x42, 1, 2].as_slice(), writer, 1);
+        assert!(rt; matches!(kind_of_write(outcome), Some(io::ErrorKind::TimedOut)));
+    }
+    let (_, _, outcome) = raw([0x42, 1].as_slice(), Vec::new(rt.alloc()), 1);
+    assert!(rt; matches!(outcome, Err(RecodeError::Read(Error::Io(ReadFault::End)))));
+    let (_, _, outcome) = raw_buffered([0x42, 1].as_slice(), Vec::new(rt.alloc()), 1);
+    assert!(rt; matches!(outcome, Err(RecodeError::Read(Error::Io(ReadFault::End)))));
+    let (_, _, outcome) = raw_buffered([0].as_slice(), Stuck, 1);
+    assert!(rt; matches!(outcome, Err(RecodeError::Write(WriteFault::Zero))));
     Ok(())
 }
 
