@@ -6,6 +6,7 @@
 
 use crate::float::Float;
 use compare::request::Request;
+use compare::title::shortest;
 use compare::word::{digits_of, word_of};
 use std::fmt::Write;
 
@@ -130,19 +131,6 @@ impl Title {
         }
         shortest(self.major, self.number)
     }
-}
-
-/// The shortest title of a number.
-fn shortest(major: u8, number: u64) -> Vec<u8> {
-    let bytes = number.to_be_bytes();
-    let (minor, width) = match number {
-        0..=23 => (number as u8, 0),
-        24..=0xff => (24, 1),
-        0x100..=0xffff => (25, 2),
-        0x1_0000..=0xffff_ffff => (26, 4),
-        _ => (27, 8),
-    };
-    [&[major << 5 | minor], &bytes[8 - width..]].concat()
 }
 
 impl<'a> Source<'a> {
@@ -419,6 +407,7 @@ fn copy_element(source: &mut Source<'_>, output: &mut Vec<u8>, ways: Ways) -> Re
 mod tests {
     use super::{answer, Ways};
     use compare::request::Request;
+use compare::title::shortest;
 
     /// What our program is to answer, worked by hand.
     const ROWS: [(&str, &str); 13] = [

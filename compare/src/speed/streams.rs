@@ -1,6 +1,7 @@
 //! Streams whose copies are timed.
 
 use compare::random::Random;
+use compare::title::shortest;
 
 /// A stream of elements.
 pub struct Stream {
@@ -24,16 +25,7 @@ impl Stream {
 
     /// Adds the shortest title of a number.
     fn title(&mut self, major: u8, number: u64) {
-        let (minor, width) = match number {
-            0..=23 => (number as u8, 0),
-            24..=0xff => (24, 1),
-            0x100..=0xffff => (25, 2),
-            0x1_0000..=0xffff_ffff => (26, 4),
-            _ => (27, 8),
-        };
-        self.bytes.push(major << 5 | minor);
-        self.bytes
-            .extend_from_slice(&number.to_be_bytes()[8 - width..]);
+        self.bytes.extend(shortest(major, number));
     }
 
     /// Adds a title that is an element of its own.
