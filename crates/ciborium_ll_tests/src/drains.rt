@@ -63,8 +63,20 @@ fn texts_by_any_sizes(rt: HostRuntime) {
         (b"\x64\xf0\x9f\x98\x80", emoji, &[4], 1, End::OutOfSizes),
         (b"\x64\xf0\x9f\x98\x80", emoji, &[4, 4], 2, End::Ended),
         (b"\x64\xf0\x9f\x98\x80", emoji, &[3, 3, 4, 4], 4, End::Ended),
-        (b"\x66a\xf0\x9f\x98\x80b", letters, &[4, 4, 4, 4, 4], 4, End::Ended),
-        (b"\x66a\xf0\x9f\x98\x80b", letters, &[5, 5, 5, 5, 5], 3, End::Ended),
+        (
+            b"\x66a\xf0\x9f\x98\x80b",
+            letters,
+            &[4, 4, 4, 4, 4],
+            4,
+            End::Ended,
+        ),
+        (
+            b"\x66a\xf0\x9f\x98\x80b",
+            letters,
+            &[5, 5, 5, 5, 5],
+            3,
+            End::Ended,
+        ),
         (b"\x66a\xf0\x9f\x98\x80b", letters, &[64, 64], 2, End::Ended),
         (b"\x60", b"", &[4], 1, End::Ended),
         (b"\x60", b"", &[], 0, End::OutOfSizes),
@@ -76,7 +88,9 @@ fn texts_by_any_sizes(rt: HostRuntime) {
         let mut sink = Encoder::from(SliceWriter::new(&mut space));
         pulls(&rt, &mut decoder, Header::Text(Some(length)), 1);
         let drained = drains_text(&rt, &mut decoder, length, sizes, &mut sink);
-        assert!(rt; matches!(&drained, Ok(drained) if drained.calls == *calls && drained.end == *end));
+        assert!(rt;
+            matches!(&drained, Ok(drained) if drained.calls == *calls && drained.end == *end)
+        );
         assert_eq!(rt; sink.into_inner().written(), *want);
     }
 }
@@ -105,7 +119,9 @@ fn bytes_by_any_sizes(rt: HostRuntime) {
         let mut sink = Encoder::from(SliceWriter::new(&mut space));
         pulls(&rt, &mut decoder, Header::Bytes(Some(3)), 1);
         let drained = drains_bytes(&rt, &mut decoder, 3, sizes, &mut sink);
-        assert!(rt; matches!(&drained, Ok(drained) if drained.calls == *calls && drained.end == *end));
+        assert!(rt;
+            matches!(&drained, Ok(drained) if drained.calls == *calls && drained.end == *end)
+        );
         assert_eq!(rt; sink.into_inner().written(), *want);
     }
 }

@@ -76,8 +76,24 @@ fn whole_byte_strings(rt: HostRuntime) {
 
 #[test]
 fn broken_byte_strings(rt: HostRuntime) {
-    whole_row(&rt, b"\x5f\x01", 1, Header::Bytes(None), End::Syntax(1), 2, 0);
-    whole_row(&rt, b"\x5f\x61a\xff", 1, Header::Bytes(None), End::Syntax(1), 2, 2);
+    whole_row(
+        &rt,
+        b"\x5f\x01",
+        1,
+        Header::Bytes(None),
+        End::Syntax(1),
+        2,
+        0,
+    );
+    whole_row(
+        &rt,
+        b"\x5f\x61a\xff",
+        1,
+        Header::Bytes(None),
+        End::Syntax(1),
+        2,
+        2,
+    );
     whole_row(&rt, b"\x5f\x42\x01", 1, Header::Bytes(None), End::Cut, 2, 1);
     whole_row(&rt, b"\x43\x01", 1, Header::Bytes(Some(3)), End::Cut, 1, 1);
 }
@@ -87,7 +103,15 @@ fn whole_texts(rt: HostRuntime) {
     let two = b"\x7f\x62\xc3\xa9\x64\xf0\x9f\x98\x80\xff";
     whole_row(&rt, two, 1, Header::Text(None), End::Whole, 10, 0);
     let cut_character = b"\x7f\x61\xc3\x61\xa9\xff";
-    whole_row(&rt, cut_character, 1, Header::Text(None), End::Syntax(1), 3, 3);
+    whole_row(
+        &rt,
+        cut_character,
+        1,
+        Header::Text(None),
+        End::Syntax(1),
+        3,
+        3,
+    );
 }
 
 // Reads the first segment of a text, partly by hand, and the rest by `finish`.
