@@ -25,26 +25,6 @@ IsSplit Text bytes front rest = IsFront bytes front rest
 -- ---- what a segment is to its callers
 
 module _ {R P : Type 0} {parser : Parser P} where
-  -- the decoder, as it is now
-  abbrev pub decoder_of : Segment R P parser → Decoder R
-  decoder_of s = s.reader.now
-
-  -- how many bytes of the body were not read yet
-  abbrev pub unread_of : Segment R P parser → ℕ
-  unread_of s = s.unread
-
-  -- bytes that were read and not handed out, since they may begin a character
-  abbrev pub kept_of : Segment R P parser → List ℕ
-  kept_of s = kept_bytes s.kept
-
-  -- the offset of its title, which a damage names
-  abbrev pub place_of : Segment R P parser → ℕ
-  place_of s = s.place
-
-  -- the body was found to be no text
-  abbrev pub IsDamaged : Segment R P parser → Type 0
-  IsDamaged s = s.damaged ≡ true
-
   -- how many bytes of the body were not handed out
   abbrev pub left_of : Segment R P parser → ℕ
   left_of s = s.unread + length (kept_bytes s.kept)

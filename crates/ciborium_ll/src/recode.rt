@@ -3,7 +3,7 @@
 ghost use Rattle.std.specs.Prelude.{◌≡◌, ◌≤◌, ◌↔◌, ℕ, List, length, IsOk, None, Some};
 ghost use Rattle.ciborium_ll.specs.Title.{title_len};
 ghost use Rattle.ciborium_ll.specs.Strings.{kind_header};
-ghost use Rattle.ciborium_ll.specs.Decoding.{IsSteady, offset_of, waiting_of};
+ghost use Rattle.ciborium_ll.specs.Decoding.{IsSteady, offset_of, refusals_of, waiting_of};
 ghost use Rattle.ciborium_ll.specs.Encoding.{writer_of};
 ghost use Rattle.ciborium_ll.specs.Chunks.{IsWhole};
 ghost use Rattle.ciborium_ll.specs.Faults.{RunInFront};
@@ -38,6 +38,7 @@ fn copy_body<R: Read, W: Write, P: Chunked>(
     ensures copied { CopiesBody R.Read W.Write P.kind body.length (length buffer.old) body.place
         segment.old.reader.now (writer_of encoder.old) result segment.new.reader.now (writer_of encoder.new) }
     ensures steady { IsSteady R.Read segment.old.reader.now → IsSteady R.Read segment.new.reader.now }
+    ensures refusals { refusals_of segment.new.reader.now ≡ refusals_of segment.old.reader.now }
 {
     'chunks: loop {
         let chunk = match P::chunk(segment, buffer) {
@@ -77,6 +78,7 @@ fn copy_definite<R: Read, W: Write, P: Chunked>(
     ensures copied { CopiesBehind R.Read W.Write (kind_header P.kind (Some len)) (length buffer.old)
         decoder.old (writer_of encoder.old) result decoder.new (writer_of encoder.new) }
     ensures steady { IsSteady R.Read decoder.old → IsSteady R.Read decoder.new }
+    ensures refusals { refusals_of decoder.new ≡ refusals_of decoder.old }
 {
     write_header::<R::Error, W>(encoder, P::header(Some(len)))?;
     let mut segments = decoder.string::<P>(Some(len));
@@ -102,6 +104,7 @@ fn copy_indefinite<R: Read, W: Write, P: Chunked>(
     ensures copied { CopiesBehind R.Read W.Write (kind_header P.kind None) (length buffer.old)
         decoder.old (writer_of encoder.old) result decoder.new (writer_of encoder.new) }
     ensures steady { IsSteady R.Read decoder.old → IsSteady R.Read decoder.new }
+    ensures refusals { refusals_of decoder.new ≡ refusals_of decoder.old }
 {
     write_header::<R::Error, W>(encoder, P::header(None))?;
     copy_segments::<R, W, P>(decoder, encoder, buffer)?;
@@ -120,6 +123,7 @@ fn copy_segments<R: Read, W: Write, P: Chunked>(
     ensures copied { CopiesSegments R.Read W.Write P.kind (length buffer.old)
         decoder.old (writer_of encoder.old) result decoder.new (writer_of encoder.new) }
     ensures steady { IsSteady R.Read decoder.old → IsSteady R.Read decoder.new }
+    ensures refusals { refusals_of decoder.new ≡ refusals_of decoder.old }
 {
     let mut segments = decoder.string::<P>(None);
     'segments: loop {
@@ -144,6 +148,7 @@ fn copy_element<R: Read, W: Write>(
     ensures copied { CopiesElement R.Read W.Write (length buffer.old)
         decoder.old (writer_of encoder.old) result decoder.new (writer_of encoder.new) }
     ensures steady { IsSteady R.Read decoder.old → IsSteady R.Read decoder.new }
+    ensures refusals { refusals_of decoder.new ≡ refusals_of decoder.old }
 {
     let header = match decoder.pull() {
         Ok(header) => header,
@@ -181,6 +186,7 @@ pub fn recode<R: Read, W: Write>(
     ensures copied { CopiesElements R.Read W.Write count (length buffer.old)
         decoder.old (writer_of encoder.old) result decoder.new (writer_of encoder.new) }
     ensures steady { IsSteady R.Read decoder.old → IsSteady R.Read decoder.new }
+    ensures refusals { refusals_of decoder.new ≡ refusals_of decoder.old }
     ensures told { (due written : List ℕ)
         → IsReady R.Read W.Write (length buffer.old) decoder.old (writer_of encoder.old) due written
         → RecodesTold R.Read W.Write count due written decoder.old result decoder.new (writer_of encoder.new) }

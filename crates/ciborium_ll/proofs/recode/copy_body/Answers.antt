@@ -1,4 +1,4 @@
-use Rattle.std.proofs.Common.{rules, refl, subst, ℕ, Err}
+use Rattle.std.proofs.Common.{rules, refl, subst, ◌∙◌, ℕ, Err}
 use Rattle.ciborium_ll.specs.Chunks.{PullsChunk}
 use Rattle.ciborium_ll.proofs.BodyLaws.{so_far_start, so_far_chunk, so_far_unwritten, so_far_error}
 use Rattle.ciborium_ll.proofs.recode.copy_body.Goals as goal
@@ -8,6 +8,7 @@ chunks-init g c = record {
   same = refl;
   so_far = so_far_start g.R.Read g.W.Write c.args.body c.args.segment.now c.args.encoder.now.writer c.requires.whole;
   steady = λ s. s;
+  refusals = refl;
 }
 
 pub chunks-preserved : goal.chunks-preserved
@@ -20,6 +21,7 @@ chunks-preserved g c =
       same = search rules;
       so_far = so_far_chunk g.R.Read g.W.Write _ _ _ _ _ _ kept.so_far _ _ c.chunk.new.segment _ gives pulled.steady (record { appended = wrote.bytes; room = wrote.fills; failures = wrote.ok });
       steady = λ s. pulled.steady (kept.steady s);
+      refusals = pulled.refusals ∙ kept.refusals;
     }
 
 pub returns-in-Err-clause-copied : goal.returns-in-Err-clause-copied

@@ -1,5 +1,5 @@
 use Rattle.std.proofs.Common.{◌≡◌}
-use Rattle.ciborium_ll.specs.Decoding.{IsSteady}
+use Rattle.ciborium_ll.specs.Decoding.{IsSteady, refusals_of}
 use Rattle.ciborium_ll.proofs.BodyLaws.{BodySoFar}
 use Rattle.ciborium_ll.proofs.recode.copy_body.Given as goal
 
@@ -8,6 +8,7 @@ invariant-chunks g l = record {
   same : l.segment.reader.ghost_name ≡ l.initial.segment.reader.ghost_name;
   so_far : BodySoFar g.R.Read g.W.Write l.fn.body.length l.fn.body.place l.initial.segment.reader.now l.initial.encoder.writer l.segment l.encoder.writer;
   steady : IsSteady g.R.Read l.initial.segment.reader.now → IsSteady g.R.Read l.segment.reader.now;
+  refusals : refusals_of l.segment.reader.now ≡ refusals_of l.initial.segment.reader.now;
 }
 
 abbrev pub decreases-chunks : goal.decreases-chunks

@@ -70,4 +70,5 @@ returns-in_default g c =
           plain_goes_on g.R.Read g.W.Write count before old writer c.pull.new.self c.args.encoder.now.writer (length c.args.buffer.now) c.in-Ok.header pulled.title c.write_header.result c.write_header.new.encoder.writer
           plain pulled.is_title (behind_pulled g.R.Read g.W.Write count before old writer c.args.decoder.now c.args.encoder.now.writer c.pull.new.self c.in-Ok.header behind pulled c.pull.ensures.steady) c.write_header.ensures;
       steady = c.pull.ensures.steady;
+      refusals = c.pull.ensures.refusals;
     }

@@ -67,10 +67,12 @@ segments-preserved g c =
     let whole = subst (λ (d : Decoder g.row.R.Denot). CopiesWhole g.R.Read g.W.Write k c.in-Ok-Some.body.length d c.write_header.new.encoder.writer c.copy_body.new.segment.reader.now c.copy_body.new.encoder.writer)
     c.new-segment.ensures.lent c.in_ok-copy_body.ensures.copied in
     let steady = rw c.new-segment.ensures.lent at c.copy_body.ensures.steady in
+    let refusals = rw c.new-segment.ensures.lent at c.copy_body.ensures.refusals in
     record {
       same = search rules;
       so_far = segment_added g.R.Read g.W.Write k c.args.decoder.now c.segments.segments.reader.now c.advance.new.self.reader.now c.copy_body.new.segment.reader.now c.args.encoder.now.writer
           c.segments.encoder.writer c.write_header.new.encoder.writer c.copy_body.new.encoder.writer c.in-Ok-Some.body c.advance.new.self.progress c.requires.none_waits all titled whole steady;
+      refusals = refusals ∙ (c.advance.ensures.refusals ∙ c.segments.invariant.refusals);
     }
 
 pub returns-in_err-copy_body-clause-copied : goal.returns-in_err-copy_body-clause-copied

@@ -1,4 +1,5 @@
 use Rattle.std.proofs.Common.{◌≡◌, ◌-◌, ◌^◌}
+use Rattle.ciborium_ll.specs.Decoding.{refusals_of}
 use Rattle.ciborium_ll.proofs.SegmentLaws.{StringSoFar}
 use Rattle.ciborium_ll.proofs.recode.copy_segments.Given as goal
 
@@ -6,6 +7,7 @@ abbrev pub invariant-segments : goal.invariant-segments
 invariant-segments g l = record {
   same : l.segments.reader.ghost_name ≡ l.initial.segments.reader.ghost_name;
   so_far : StringSoFar g.R.Read g.W.Write g.P.Parser.kind l.fn.decoder l.fn.encoder.writer l.segments.progress l.segments.reader.now l.encoder.writer;
+  refusals : refusals_of l.segments.reader.now ≡ refusals_of l.fn.decoder;
 }
 
 abbrev pub decreases-segments : goal.decreases-segments

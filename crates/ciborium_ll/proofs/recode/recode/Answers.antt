@@ -1,4 +1,4 @@
-use Rattle.std.proofs.Common.{◌≡◌, ℕ, Ok, Err, length, arith, subst}
+use Rattle.std.proofs.Common.{refl, ◌≡◌, ◌∙◌, ℕ, Ok, Err, length, arith, subst}
 use Rattle.std.proofs.lemmas.Result.{err_from_is_err_and}
 use Rattle.ciborium_ll.specs.Recoding.{CopiesElements, CopiesRun}
 use Rattle.ciborium_ll.proofs.CopyLaws.{run_none, run_behind, added_run}
@@ -9,6 +9,7 @@ pub elements-init : goal.elements-init
 elements-init g c = record {
   so_far = run_none g.R.Read g.W.Write c.args.decoder.now c.args.encoder.now.writer;
   steady = λ s. s;
+  refusals = refl;
 }
 
 pub elements-preserved : goal.elements-preserved
@@ -20,6 +21,7 @@ elements-preserved g c =
     record {
       so_far = added_run g.R.Read g.W.Write c.args.count c.elements._copied old writer _ _ (copied c.args.count c.elements._copied old writer behind);
       steady = λ s. c.copy_element.ensures.steady (c.elements.invariant.steady s);
+      refusals = c.copy_element.ensures.refusals ∙ c.elements.invariant.refusals;
     }
 
 pub returns-in_err-copy_element : goal.returns-in_err-copy_element
@@ -37,6 +39,7 @@ returns-in_err-copy_element g c =
     record {
       copied = all;
       steady = λ s. c.copy_element.ensures.steady (c.elements.invariant.steady s);
+      refusals = c.copy_element.ensures.refusals ∙ c.elements.invariant.refusals;
       told = λ due written ready. recode_told g.R.Read g.W.Write c.args.count (length c.args.buffer.now) old writer due written ready _ _ c.from_residual.result all;
       exactly = λ due written ready. recode_exactly g.R.Read g.W.Write c.args.count (length c.args.buffer.now) old writer due written ready _ _ c.from_residual.result all;
     }
@@ -51,6 +54,7 @@ returns g c =
     record {
       copied = all;
       steady = c.elements.invariant.steady;
+      refusals = c.elements.invariant.refusals;
       told = λ due written ready. recode_told g.R.Read g.W.Write c.args.count (length c.args.buffer.now) old writer due written ready _ _ (Ok (tt {0})) all;
       exactly = λ due written ready. recode_exactly g.R.Read g.W.Write c.args.count (length c.args.buffer.now) old writer due written ready _ _ (Ok (tt {0})) all;
     }

@@ -1,4 +1,5 @@
-use Rattle.ciborium_ll.specs.Decoding.{IsSteady}
+use Rattle.std.proofs.Common.{◌≡◌}
+use Rattle.ciborium_ll.specs.Decoding.{IsSteady, refusals_of}
 use Rattle.ciborium_ll.specs.Recoding.{CopiesRun}
 use Rattle.ciborium_ll.proofs.recode.recode.Given as goal
 
@@ -6,4 +7,5 @@ abbrev pub invariant-elements : goal.invariant-elements
 invariant-elements g l = record {
   so_far : CopiesRun g.R.Read g.W.Write l._copied l.initial.decoder l.initial.encoder.writer l.decoder l.encoder.writer;
   steady : IsSteady g.R.Read l.initial.decoder → IsSteady g.R.Read l.decoder;
+  refusals : refusals_of l.decoder ≡ refusals_of l.initial.decoder;
 }
