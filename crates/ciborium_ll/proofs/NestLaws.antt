@@ -69,6 +69,10 @@ pub open_alone : (k : Kind) → is_alone (kind_header k None) ≡ true
 open_alone Bytes = refl
 open_alone Text = refl
 
+pub open_length : (k : Kind) → length (shortest_title (kind_header k None)) ≡ 1
+open_length Bytes = refl
+open_length Text = refl
+
 -- ---- within a string
 
 -- opens and breaks in a row lead on within a string

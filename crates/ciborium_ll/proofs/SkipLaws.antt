@@ -21,7 +21,7 @@ use Rattle.ciborium_ll.specs.Skipping.{SkipsWhole, SkipsInside, MeetsBody, Stops
 use Rattle.ciborium_ll.proofs.TitleLaws.{IsTitle-shortest}
 use Rattle.ciborium_ll.proofs.StepLaws.{counted, never}
 use Rattle.ciborium_ll.proofs.DecodingLaws.{Passes-none, Passes-then, Passes-pulled}
-use Rattle.ciborium_ll.proofs.NestLaws.{alone_bytes, title_some, advance_definite, FindsOnly}
+use Rattle.ciborium_ll.proofs.NestLaws.{alone_bytes, open_length, title_some, advance_definite, FindsOnly}
 use Rattle.ciborium_ll.proofs.RecodeLaws.{sound_body, passes_same}
 use Rattle.ciborium_ll.proofs.SegmentLaws.{StringSoFar, AdvancesAmong, IsAmong, advances_among, segment_added, so_far_fresh, opens_counted, misplaced_inside, some_open}
 
@@ -36,10 +36,6 @@ nothing bytes = record { appended = tt; room = tt; failures = refl }
 close_string : (k : Kind) (u : List ℕ) (bs : List (List ℕ)) → IsInsideAt k (suc zero) u bs → IsString k (u ++ 0xff ∷ []) bs
 close_string k u bs (one_open {title = t} {strings = x} p s) = rw (append_assoc t x (0xff ∷ [])) (indefinite p s)
 close_string k u bs (more_open {outer = y} {bodies = ds} i p s) = absurd (never k y ds i)
-
-open_length : (k : Kind) → length (shortest_title (kind_header k None)) ≡ 1
-open_length Bytes = refl
-open_length Text = refl
 
 -- ---- the end of a body
 

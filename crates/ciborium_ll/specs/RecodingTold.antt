@@ -1,22 +1,39 @@
--- What a copy of elements means where the bytes are told, and no side fails by itself.
-use Rattle.std.specs.Prelude.{◌≡◌, ℕ, ◌+◌, ◌<◌, ◌≤◌, List, ◌++◌, length, drop, Some, Result, Ok, Err}
+-- What a copy of elements means where the bytes are told: whatever fails, and where no side fails by itself.
+use Rattle.std.specs.Prelude.{◌≡◌, ℕ, ◌+◌, ◌<◌, ◌≤◌, ◌⊎◌, min, List, [], ◌++◌, length, take, drop, Some, Result, Ok, Err}
 use Rattle.ciborium_ll.specs.declared.io.Read.{Ghosts as Reader}
 use Rattle.ciborium_ll.specs.declared.io.Write.{Ghosts as Writer}
 use Rattle.ciborium_ll.specs.declared.dec.Decoder.{Decoder}
 use Rattle.ciborium_ll.specs.declared.dec.Error.TheVariants as e
 use Rattle.ciborium_ll.specs.declared.recode.RecodeError.{RecodeError}
 use Rattle.ciborium_ll.specs.declared.recode.RecodeError.TheVariants as r
-use Rattle.ciborium_ll.specs.Elements.{spelling, IsRun}
-use Rattle.ciborium_ll.specs.Faults.{Answer, Short, Syntax, RunInFront, HasFault}
+use Rattle.ciborium_ll.specs.Title.{shortest_title}
+use Rattle.ciborium_ll.specs.Strings.{kind_header}
+use Rattle.ciborium_ll.specs.Elements.{Mark, spelling, IsRun}
+use Rattle.ciborium_ll.specs.Faults.{Place, Due, In, Body, Reaches, IsWritable, most_kept, Answer, Short, Syntax, RunInFront, HasFault}
 use Rattle.ciborium_ll.specs.Decoding.{offset_limit, view, IsSteady}
+use Rattle.ciborium_ll.specs.Recoding.{IsUnderWay}
+
+-- A side failed at this place, with these bytes ahead. `more` is what is written of a body under way: its shortest title,
+-- and a front of it. The count is that of the bytes ahead that are consumed: of a title the first byte at most, of a text
+-- up to three more than are written
+abbrev pub StopsAt : Place → List ℕ → List ℕ → ℕ → Type 0
+StopsAt Due ahead more consumed = (more ≡ []) × (consumed ≤ min 1 (length ahead))
+StopsAt (In kind) ahead more consumed = (more ≡ []) × (consumed ≤ min 1 (length ahead))
+StopsAt (Body kind len start) ahead more consumed =
+    (front : List ℕ) × (rest : List ℕ) × (ahead ≡ front ++ rest) × (more ≡ shortest_title (kind_header kind (Some len)) ++ front) × IsWritable kind front
+    × (length front ≤ consumed) × (consumed ≤ length front + most_kept kind) × (consumed ≤ min len (length ahead))
 
 module _ {R E W F : Type 0} (source : Reader R E) (sink : Writer W F) where
+  -- the bytes that are due are told, and those that were written
+  pub record IsTold (decoder : Decoder R) (writer : W) (due written : List ℕ) : Type 0 where
+    pub due-told : view source decoder ≡ Some due
+    pub written-told : sink.written writer ≡ Some written
+
   -- the reader gives the bytes that it tells, the writer has room for as many, and the offset takes every read, through
   -- a buffer of so much room
   pub record IsReady (room-in : ℕ) (decoder : Decoder R) (writer : W) (due written : List ℕ) : Type 0 where
     pub steady : IsSteady source decoder
-    pub due-told : view source decoder ≡ Some due
-    pub written-told : sink.written writer ≡ Some written
+    pub told : IsTold decoder writer due written
     pub room : ℕ
     pub room-told : sink.room writer ≡ Some room
     pub enough : length due ≤ room
@@ -49,3 +66,45 @@ module _ {R E W F : Type 0} (source : Reader R E) (sink : Writer W F) where
   RecodesTold count due written old (Err (r.Read e.TooLong)) new writer' = ⊥
   RecodesTold count due written old (Err (r.Read e.Waiting)) new writer' = ⊥
   RecodesTold count due written old (Err (r.Write fault)) new writer' = ⊥
+
+  -- ---- where a side may fail by itself
+
+  -- the reader failed, or the offset is full, behind a beginning of what was due
+  pub record StopsShort (count : ℕ) (due written : List ℕ) (old new : Decoder R) (writer' : W) : Type 0 where
+    pub before : List ℕ
+    pub marks : List Mark
+    pub place : Place
+    pub ahead : List ℕ
+    pub more : List ℕ
+    pub consumed : ℕ
+    pub reach : Reaches count before marks place
+    pub is : due ≡ before ++ ahead
+    pub stop : StopsAt place ahead more consumed
+    pub output : sink.written writer' ≡ Some (written ++ (spelling marks ++ more))
+    pub offset : new.offset ≡ old.offset + length before + consumed
+
+  -- the writer failed, behind a beginning of what was due: of the spelling of that, and of a body under way, it has a
+  -- beginning. What was read and not written yet is that body's
+  pub record StopsUnwritten (count : ℕ) (due written : List ℕ) (old new : Decoder R) (writer' : W) : Type 0 where
+    pub before : List ℕ
+    pub marks : List Mark
+    pub read : List ℕ
+    pub more : List ℕ
+    pub rest : List ℕ
+    pub belongs : (IsRun count before marks × (more ≡ []) × (read ≡ [])) ⊎ ((place : Place) × Reaches count before marks place × IsUnderWay place more read)
+    pub is : due ≡ (before ++ read) ++ rest
+    pub kept : ℕ
+    pub output : sink.written writer' ≡ Some (written ++ take kept (spelling marks ++ more))
+    pub left : view source new ≡ Some rest
+    pub offset : new.offset ≡ old.offset + length before + length read
+
+  -- `recode` through a buffer of so much room, whatever fails: `Ok` and `Syntax` mean the same as where nothing does
+  abbrev pub RecodesAnyhow : ℕ → ℕ → List ℕ → List ℕ → Decoder R → Result (Unit {0}) (RecodeError E F) → Decoder R → W → Type 0
+  RecodesAnyhow count room-in due written old (Ok done) new writer' = CopiesFront count due written old new writer'
+  RecodesAnyhow count room-in due written old (Err (r.Read (e.Io fault))) new writer' = StopsShort count due written old new writer'
+  RecodesAnyhow count room-in due written old (Err (r.Read (e.Syntax place))) new writer' =
+      (start : ℕ) × (place ≡ old.offset + start) × MeetsFault count due written (Syntax start) old new writer'
+  RecodesAnyhow count room-in due written old (Err (r.Read e.TooLong)) new writer' =
+      StopsShort count due written old new writer' × ((offset_limit ≤ new.offset + 8) ⊎ (offset_limit ≤ new.offset + room-in))
+  RecodesAnyhow count room-in due written old (Err (r.Read e.Waiting)) new writer' = ⊥
+  RecodesAnyhow count room-in due written old (Err (r.Write fault)) new writer' = StopsUnwritten count due written old new writer'

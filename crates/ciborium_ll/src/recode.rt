@@ -7,7 +7,7 @@ ghost use Rattle.ciborium_ll.specs.Decoding.{IsSteady, offset_of, refusals_of, w
 ghost use Rattle.ciborium_ll.specs.Encoding.{writer_of};
 ghost use Rattle.ciborium_ll.specs.Chunks.{IsWhole};
 ghost use Rattle.ciborium_ll.specs.Faults.{RunInFront};
-ghost use Rattle.ciborium_ll.specs.RecodingTold.{IsReady, RecodesTold};
+ghost use Rattle.ciborium_ll.specs.RecodingTold.{IsReady, IsTold, RecodesAnyhow, RecodesTold};
 ghost use Rattle.ciborium_ll.specs.Recoding.{CopiesBehind, CopiesBody, CopiesElement, CopiesElements, CopiesSegments, WritesHeader};
 
 use crate::dec::{Decoder, Error};
@@ -193,6 +193,8 @@ pub fn recode<R: Read, W: Write>(
     ensures exactly { (due written : List ℕ)
         → IsReady R.Read W.Write (length buffer.old) decoder.old (writer_of encoder.old) due written
         → (IsOk result ↔ RunInFront count due) }
+    ensures anyhow { (due written : List ℕ) → IsTold R.Read W.Write decoder.old (writer_of encoder.old) due written
+        → RecodesAnyhow R.Read W.Write count (length buffer.old) due written decoder.old result decoder.new (writer_of encoder.new) }
 {
     'elements: for _copied in 0..count {
         copy_element(decoder, encoder, buffer)?;

@@ -2,7 +2,7 @@ use Rattle.std.proofs.Common.{refl, ◌≡◌, ◌∙◌, ℕ, Ok, Err, length, 
 use Rattle.std.proofs.lemmas.Result.{err_from_is_err_and}
 use Rattle.ciborium_ll.specs.Recoding.{CopiesElements, CopiesRun}
 use Rattle.ciborium_ll.proofs.CopyLaws.{run_none, run_behind, added_run}
-use Rattle.ciborium_ll.proofs.RecodingToldLaws.{recode_told, recode_exactly, copies_all}
+use Rattle.ciborium_ll.proofs.RecodingToldLaws.{recode_told, recode_exactly, recode_anyhow, copies_all}
 use Rattle.ciborium_ll.proofs.recode.recode.Goals as goal
 
 pub elements-init : goal.elements-init
@@ -42,6 +42,7 @@ returns-in_err-copy_element g c =
       refusals = c.copy_element.ensures.refusals ∙ c.elements.invariant.refusals;
       told = λ due written ready. recode_told g.R.Read g.W.Write c.args.count (length c.args.buffer.now) old writer due written ready _ _ c.from_residual.result all;
       exactly = λ due written ready. recode_exactly g.R.Read g.W.Write c.args.count (length c.args.buffer.now) old writer due written ready _ _ c.from_residual.result all;
+      anyhow = λ due written told. recode_anyhow g.R.Read g.W.Write c.args.count (length c.args.buffer.now) old writer due written told _ _ c.from_residual.result all;
     }
 
 pub returns : goal.returns
@@ -57,4 +58,5 @@ returns g c =
       refusals = c.elements.invariant.refusals;
       told = λ due written ready. recode_told g.R.Read g.W.Write c.args.count (length c.args.buffer.now) old writer due written ready _ _ (Ok (tt {0})) all;
       exactly = λ due written ready. recode_exactly g.R.Read g.W.Write c.args.count (length c.args.buffer.now) old writer due written ready _ _ (Ok (tt {0})) all;
+      anyhow = λ due written told. recode_anyhow g.R.Read g.W.Write c.args.count (length c.args.buffer.now) old writer due written told _ _ (Ok (tt {0})) all;
     }
