@@ -10,6 +10,8 @@ mod drains;
 #[cfg(test)]
 mod elements;
 #[cfg(test)]
+mod faults;
+#[cfg(test)]
 mod pieces;
 #[cfg(test)]
 mod readme;

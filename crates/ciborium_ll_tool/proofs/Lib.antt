@@ -1,5 +1,6 @@
 mod ArgumentLaws
 pub mod NumberLaws
+mod RawLaws
 mod RequestLaws
 mod Transfers
 mod WindowLaws

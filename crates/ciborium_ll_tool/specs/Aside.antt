@@ -1,8 +1,14 @@
--- What the reader and the writer of raw copies tell.
-use Rattle.std.specs.Prelude.{ℕ, List}
+-- What the reader and the writer of buffered copies tell, and the faults that they keep aside.
+use Rattle.std.specs.Prelude.{◌≡◌, ℕ, List}
 use Rattle.std.specs.declared.option.Option.{Option}
 use Rattle.std.specs.Io.KnownBytes.{append_known, prepend_known}
+use Rattle.ciborium_ll.specs.declared.dec.Error.TheVariants as e
+use Rattle.ciborium_ll.specs.declared.io.streams.ReadFault.{ReadFault}
+use Rattle.ciborium_ll.specs.declared.io.streams.WriteFault.{WriteFault}
+use Rattle.ciborium_ll.specs.declared.recode.RecodeError.{RecodeError}
+use Rattle.ciborium_ll.specs.declared.recode.RecodeError.TheVariants as r
 use Rattle.ciborium_ll_tool.specs.Window.{held}
+use Rattle.ciborium_ll_tool.specs.declared.aside.Aside.{Aside}
 use Rattle.ciborium_ll_tool.specs.declared.aside.AsideReader.{AsideReader}
 use Rattle.ciborium_ll_tool.specs.declared.aside.AsideWriter.{AsideWriter}
 
@@ -14,3 +20,11 @@ module _ {T : Type 0} where
   -- the bytes so far: those of the writer within, where it tells them, and then those that were kept back
   abbrev pub written_of : (T → Option (List ℕ)) → AsideWriter T → Option (List ℕ)
   written_of contents w = append_known (contents w.sink) (held w.window)
+
+-- the error of a copy, with a fault of std in the place of each that was kept aside
+abbrev pub Restores : RecodeError Aside Aside → RecodeError ReadFault WriteFault → Type 0
+Restores (r.Read (e.Io aside)) error = (fault : ReadFault) × (error ≡ r.Read (e.Io fault))
+Restores (r.Read (e.Syntax place)) error = error ≡ r.Read (e.Syntax place)
+Restores (r.Read e.TooLong) error = error ≡ r.Read e.TooLong
+Restores (r.Read e.Waiting) error = error ≡ r.Read e.Waiting
+Restores (r.Write aside) error = (fault : WriteFault) × (error ≡ r.Write fault)

@@ -4,6 +4,7 @@ pub mod Fault
 pub mod Line
 pub mod Number
 pub mod Output
+pub mod Raw
 pub mod Request
 pub mod Value
 pub mod Window

@@ -1,4 +1,4 @@
-//! A reader and a writer for raw copies: through a window, and with small errors.
+//! A reader and a writer for buffered copies: through a window, and with small errors.
 //!
 //! A fault of std has many bytes, and each function that hands one on clears and copies them. So a fault is kept aside
 //! here, and the call answers only that there is one. What a window holds is moved without a call of std.
@@ -17,11 +17,10 @@ use std::io;
 #[derive(Debug, Drop)]
 pub(crate) struct Aside;
 
-/// Reads from a reader of std. Where it may, it reads ahead into a window.
+/// Reads from a reader of std, and reads ahead into a window.
 pub(crate) struct AsideReader<T> {
     source: T,
     window: Window,
-    reads_ahead: bool,
     fault: Option<ReadFault>,
     failures: Failures,
 }
@@ -29,12 +28,13 @@ pub(crate) struct AsideReader<T> {
 impl<T: io::Read> AsideReader<T> {
     ghost use Rattle.ciborium_ll_tool.specs.Aside.{ahead_of};
 
-    /// A reader of all that is left within, which may read ahead or not.
-    pub(crate) fn new(source: T, reads_ahead: bool) -> AsideReader<T> {
+    /// A reader of all that is left within.
+    pub(crate) fn new(source: T) -> AsideReader<T>
+        ensures ahead { ahead_of T.remaining result ≡ T.remaining source }
+    {
         AsideReader {
             source,
             window: Window::new(),
-            reads_ahead,
             fault: None,
             failures: Failures::new(),
         }
@@ -48,7 +48,6 @@ impl<T: io::Read> AsideReader<T> {
             source,
             fault,
             window: _,
-            reads_ahead: _,
             failures: _,
         } = self;
         (source, fault)
@@ -81,13 +80,6 @@ impl<T: io::Read> AsideReader<T> {
         ensures err { OnErr result (self.new.failures.count ≡ self.old.failures.count + 1) }
     {
         if self.window.len() == 0 {
-            if !self.reads_ahead {
-                return match self.source.read(data) {
-                    Ok(0) => self.failed(ReadFault::End),
-                    Ok(count) => Ok(count),
-                    Err(error) => self.failed(ReadFault::Failed(error)),
-                };
-            }
             match self.window.fill(&mut self.source) {
                 Ok(0) => return self.failed(ReadFault::End),
                 Ok(_) => {}
@@ -134,11 +126,10 @@ impl<T: io::Read> Read for AsideReader<T> {
     }
 }
 
-/// Writes to a writer of std. Where it may, it keeps bytes back in a window.
+/// Writes to a writer of std, and keeps bytes back in a window.
 pub(crate) struct AsideWriter<T> {
     sink: T,
     window: Window,
-    keeps_back: bool,
     fault: Option<WriteFault>,
     failures: Failures,
 }
@@ -146,12 +137,13 @@ pub(crate) struct AsideWriter<T> {
 impl<T: io::Write> AsideWriter<T> {
     ghost use Rattle.ciborium_ll_tool.specs.Aside.{written_of};
 
-    /// A writer behind all that was written within, which may keep bytes back or not.
-    pub(crate) fn new(sink: T, keeps_back: bool) -> AsideWriter<T> {
+    /// A writer behind all that was written within.
+    pub(crate) fn new(sink: T) -> AsideWriter<T>
+        ensures written { written_of T.contents result ≡ T.contents sink }
+    {
         AsideWriter {
             sink,
             window: Window::new(),
-            keeps_back,
             fault: None,
             failures: Failures::new(),
         }
@@ -159,13 +151,13 @@ impl<T: io::Write> AsideWriter<T> {
 
     /// The writer within, and the fault of the last call that failed. What was kept back is given up.
     pub(crate) fn into_parts(self) -> (T, Option<WriteFault>)
-        ensures { result.1 ≡ self.fault }
+        ensures sink { result.0 ≡ self.sink }
+        ensures fault { result.1 ≡ self.fault }
     {
         let AsideWriter {
             sink,
             fault,
             window: _,
-            keeps_back: _,
             failures: _,
         } = self;
         (sink, fault)
@@ -179,7 +171,7 @@ impl<T: io::Write> AsideWriter<T> {
         self.fault.take()
     }
 
-    /// Writes `data`, for which the window has no room or isn't used.
+    /// Writes `data`, for which the window has no room.
     #[cold]
     #[inline(never)]
     fn write_on(&mut self, data: &[u8]) -> Result<(), Aside>
@@ -189,7 +181,7 @@ impl<T: io::Write> AsideWriter<T> {
         ensures err { OnErr result (self.new.failures.count ≡ self.old.failures.count + 1) }
     {
         self.send()?;
-        if self.keeps_back && data.len() <= self.window.room() {
+        if data.len() <= self.window.room() {
             self.window.put(data);
             return Ok(());
         }
@@ -250,7 +242,7 @@ impl<T: io::Write> Write for AsideWriter<T> {
 
     #[inline(always)]
     fn write_all(&mut self, data: &[u8]) -> Result<(), Aside> {
-        if self.keeps_back && data.len() <= self.window.room() {
+        if data.len() <= self.window.room() {
             self.window.put(data);
             return Ok(());
         }
@@ -258,7 +250,16 @@ impl<T: io::Write> Write for AsideWriter<T> {
     }
 
     /// Writes what was kept back, and flushes the writer within.
-    fn flush(&mut self) -> Result<(), Aside> {
+    fn flush(&mut self) -> Result<(), Aside>
+        // The trait's.
+        ensures flushed { OnOk result (Keeps (written_of T.contents self.old) (written_of T.contents self.new)) }
+        ensures ok { OnOk result (self.new.failures.count ≡ self.old.failures.count) }
+        ensures err { OnErr result (self.new.failures.count ≡ self.old.failures.count + 1) }
+
+        // The writer's own.
+        ensures keeps { Keeps (written_of T.contents self.old) (written_of T.contents self.new) }
+        ensures sent { OnOk result (held self.new.window ≡ []) }
+    {
         self.send()?;
         match self.sink.flush() {
             Ok(()) => Ok(()),

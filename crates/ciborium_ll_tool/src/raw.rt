@@ -1,8 +1,12 @@
 //! Elements copied from one stream of bytes to another.
 
+ghost use Rattle.std.specs.Prelude.{◌≡◌, ℕ, List, Some};
+ghost use Rattle.ciborium_ll_tool.specs.Raw.{CopiesRaw, Tells, TellsFront, Untold};
+ghost use Rattle.ciborium_ll_tool.specs.Aside.{Restores};
+
 use crate::aside::{Aside, AsideReader, AsideWriter};
 use crate::copy::BUFFER_SIZE;
-use ciborium_ll::io::{ReadFault, Write, WriteFault};
+use ciborium_ll::io::{ReadFault, StdReader, StdWriter, Write, WriteFault};
 use ciborium_ll::recode::recode;
 use ciborium_ll::{Decoder, Encoder, Error, RecodeError};
 use std::io;
@@ -15,8 +19,22 @@ pub fn raw<R: io::Read, W: io::Write>(
     reader: R,
     writer: W,
     count: usize,
-) -> (R, W, Result<(), RecodeError<ReadFault, WriteFault>>) {
-    copied(reader, writer, count, false)
+) -> (R, W, Result<(), RecodeError<ReadFault, WriteFault>>)
+    ensures { (due written : List ℕ) → R.remaining reader ≡ Some due → W.contents writer ≡ Some written
+        → CopiesRaw (Tells R.remaining) W.contents (Tells W.contents) count due written result.2 result.0 result.1 }
+{
+    let mut buffer = [0; BUFFER_SIZE];
+    let mut decoder = Decoder::from(StdReader::new(reader));
+    let mut encoder = Encoder::from(StdWriter::new(writer));
+    let copied = recode(&mut decoder, &mut encoder, count, &mut buffer);
+    let reader = decoder.into_inner().into_inner();
+    let mut writer = encoder.into_inner();
+    let outcome = match (copied, writer.flush()) {
+        (Ok(()), Ok(())) => Ok(()),
+        (Ok(()), Err(fault)) => Err(RecodeError::Write(fault)),
+        (Err(error), _) => Err(error),
+    };
+    (reader, writer.into_inner(), outcome)
 }
 
 /// Copies as `raw` does, and reads ahead and keeps back some 8 KiB at a time.
@@ -26,20 +44,13 @@ pub fn raw_buffered<R: io::Read, W: io::Write>(
     reader: R,
     writer: W,
     count: usize,
-) -> (R, W, Result<(), RecodeError<ReadFault, WriteFault>>) {
-    copied(reader, writer, count, true)
-}
-
-/// Copies and flushes, through windows or without.
-fn copied<R: io::Read, W: io::Write>(
-    reader: R,
-    writer: W,
-    count: usize,
-    is_buffered: bool,
-) -> (R, W, Result<(), RecodeError<ReadFault, WriteFault>>) {
+) -> (R, W, Result<(), RecodeError<ReadFault, WriteFault>>)
+    ensures { (due written : List ℕ) → R.remaining reader ≡ Some due → W.contents writer ≡ Some written
+        → CopiesRaw Untold W.contents (TellsFront W.contents) count due written result.2 result.0 result.1 }
+{
     let mut buffer = [0; BUFFER_SIZE];
-    let mut decoder = Decoder::from(AsideReader::new(reader, is_buffered));
-    let mut encoder = Encoder::from(AsideWriter::new(writer, is_buffered));
+    let mut decoder = Decoder::from(AsideReader::new(reader));
+    let mut encoder = Encoder::from(AsideWriter::new(writer));
     let copied = recode(&mut decoder, &mut encoder, count, &mut buffer);
     let (reader, read_fault) = decoder.into_inner().into_parts();
     let mut writer = encoder.into_inner();
@@ -59,7 +70,9 @@ fn restored(
     error: RecodeError<Aside, Aside>,
     read_fault: Option<ReadFault>,
     write_fault: Option<WriteFault>,
-) -> RecodeError<ReadFault, WriteFault> {
+) -> RecodeError<ReadFault, WriteFault>
+    ensures { Restores error result }
+{
     match error {
         RecodeError::Read(Error::Io(Aside)) => {
             RecodeError::Read(Error::Io(read_fault.unwrap_or(ReadFault::End)))

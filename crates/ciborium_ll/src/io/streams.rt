@@ -219,6 +219,7 @@ impl<T: io::Write> Write for StdWriter<T> {
 
         // The adapter's own.
         ensures keeps { Keeps (T.contents (sink_of self.old)) (T.contents (sink_of self.new)) }
+        ensures failed { IsErrOf result WriteFault.Zero → ⊥ }
     {
         match self.sink.flush() {
             Ok(()) => Ok(()),

@@ -1,0 +1,145 @@
+-- A copy between a reader and a writer of std, from the copy of elements and the flush behind it.
+use Rattle.std.proofs.Common.{◌≡◌, ℕ, ◌+◌, ◌≤◌, ◌^◌, ◌⊎◌, List, [], ◌++◌, length, take, drop, Option, Some, None, Result, Ok, Err, refl, sym, ap, ◌∙◌, inl, inr, subst, arith}
+use Rattle.std.specs.Io.KnownBytes.{Keeps, append_known}
+use Rattle.std.proofs.lemmas.List.{append-nil}
+use Rattle.std.proofs.Math.Seq.{take-length}
+use Rattle.ciborium_ll.specs.declared.io.Read.{Ghosts as Reader}
+use Rattle.ciborium_ll.specs.declared.io.Write.{Ghosts as Writer}
+use Rattle.ciborium_ll.specs.declared.dec.Decoder.{Decoder}
+use Rattle.ciborium_ll.specs.declared.dec.Error.TheVariants as e
+use Rattle.ciborium_ll.specs.declared.io.streams.ReadFault.{ReadFault}
+use Rattle.ciborium_ll.specs.declared.io.streams.WriteFault.{WriteFault}
+use Rattle.ciborium_ll.specs.declared.recode.RecodeError.{RecodeError}
+use Rattle.ciborium_ll.specs.declared.recode.RecodeError.TheVariants as r
+use Rattle.ciborium_ll.specs.Elements.{spelling}
+use Rattle.ciborium_ll.specs.Faults.{Syntax}
+use Rattle.ciborium_ll.specs.Decoding.{Passes, view}
+use Rattle.ciborium_ll.specs.Recoding.{CopiesElements}
+use Rattle.ciborium_ll.specs.RecodingTold.{IsTold, RecodesAnyhow, StopsShort}
+use Rattle.ciborium_ll.proofs.BodyLaws.{view_none}
+use Rattle.ciborium_ll_tool.specs.declared.aside.Aside.{Aside}
+use Rattle.ciborium_ll_tool.specs.Aside.{Restores}
+use Rattle.ciborium_ll_tool.specs.Raw.{CopiesRaw, ReadsShort, WritesShort}
+
+-- known bytes that are kept are known still
+pub kept_known : (old new : Option (List ℕ)) (bytes : List ℕ) → Keeps old new → old ≡ Some bytes → new ≡ Some bytes
+kept_known None new bytes keeps known = absurd cc
+kept_known (Some xs) None bytes keeps known = absurd keeps
+kept_known (Some xs) (Some ys) bytes keeps known = ap Some keeps ∙ known
+
+-- known bytes, of which these are held back
+pub front_known : (known : Option (List ℕ)) (held bytes : List ℕ) → append_known known held ≡ Some bytes → (front : List ℕ) × (lost : List ℕ) × (known ≡ Some front) × (bytes ≡ front ++ lost)
+front_known None held bytes told = absurd cc
+front_known (Some xs) held bytes told = (xs, held, refl, cc)
+
+pub whole_known : (known : Option (List ℕ)) (held bytes : List ℕ) → held ≡ [] → append_known known held ≡ Some bytes → known ≡ Some bytes
+whole_known None held bytes none told = absurd cc
+whole_known (Some xs) held bytes none told = ap Some (sym (append-nil xs) ∙ ap (λ (z : List ℕ). xs ++ z) (sym none)) ∙ told
+
+-- what holds of a copy holds with the faults of std in their places
+pub restored_copies : {R W : Type 0} (left : R → List ℕ → Type 0) (contents : W → Option (List ℕ)) (got : W → List ℕ → Type 0) (count : ℕ) (due written : List ℕ) (reader : R) (writer : W)
+    (error : RecodeError Aside Aside) (error' : RecodeError ReadFault WriteFault) → Restores error error' → CopiesRaw left contents got count due written (Err error) reader writer
+    → CopiesRaw left contents got count due written (Err error') reader writer
+restored_copies left contents got count due written reader writer (r.Read (e.Io aside)) error' is copies = rw is.1 copies
+restored_copies left contents got count due written reader writer (r.Read (e.Syntax place)) error' is copies = rw is copies
+restored_copies left contents got count due written reader writer (r.Read e.TooLong) error' is copies = rw is copies
+restored_copies left contents got count due written reader writer (r.Read e.Waiting) error' is copies = absurd copies
+restored_copies left contents got count due written reader writer (r.Write aside) error' is copies = rw is.1 copies
+
+module _ {D S E F : Type 0} (source : Reader D E) (sink : Writer S F) where
+  -- where no header waits, what is due is what the reader has ahead
+  pub told_ahead : (old : Decoder D) (writer : S) (due written : List ℕ) → old.waiting ≡ None → source.ahead old.reader ≡ Some due → sink.written writer ≡ Some written
+      → IsTold source sink old writer due written
+  told_ahead old writer due written none ahead output = record { due-told = view_none old.waiting (source.ahead old.reader) none ∙ ahead; written-told = output }
+
+  -- where no header waited, none waits behind calls that all succeeded
+  still_none : (old new : Decoder D) (bytes : List ℕ) → Passes source old bytes new → old.waiting ≡ None → new.waiting ≡ None
+  still_none old new bytes passed none =
+      elim passed.waiting [
+        | inl same ↦ ap (λ (d : Decoder D). d.waiting) same.1 ∙ none
+        | inr gone ↦ gone
+      ]
+
+  -- behind a copy that met a syntax no header waits
+  none_behind : (count room place : ℕ) (old new : Decoder D) (writer writer' : S) → CopiesElements source sink count room old writer (Err (r.Read (e.Syntax place))) new writer'
+      → old.waiting ≡ None → new.waiting ≡ None
+  none_behind count room place old new writer writer' (inl stops) none = stops.fails.none_waits
+  none_behind count room place old new writer writer' (inr (inl stops)) none = stops.pulled.none_waits
+  none_behind count room place old new writer writer' (inr (inr stops)) none =
+      still_none stops.between new stops.stopped.1.read stops.stopped.1.passed (still_none old stops.between stops.bytes stops.copied.passed none)
+
+  module _ {R W : Type 0} (left : R → List ℕ → Type 0) (contents : W → Option (List ℕ)) (got : W → List ℕ → Type 0) (count : ℕ) (due written : List ℕ) (old new : Decoder D) (writer writer' : S)
+      (reader : R) (flushed : W) (start : old.offset ≡ 0) (none-waits : old.waiting ≡ None) (leaves : (bytes : List ℕ) → source.ahead new.reader ≡ Some bytes → left reader bytes)
+      (gets : (bytes : List ℕ) → sink.written writer' ≡ Some bytes → got flushed bytes) where
+    -- what is due where no header waits is what the reader has ahead
+    leaves_due : (bytes : List ℕ) → new.waiting ≡ None → view source new ≡ Some bytes → left reader bytes
+    leaves_due bytes none told = leaves bytes (sym (view_none new.waiting (source.ahead new.reader) none) ∙ told)
+
+    abbrev short : StopsShort source sink count due written old new writer' → ReadsShort got count due written flushed
+    short stops = record {
+      before = stops.before;
+      marks = stops.marks;
+      place = stops.place;
+      ahead = stops.ahead;
+      more = stops.more;
+      consumed = stops.consumed;
+      reach = stops.reach;
+      is = stops.is;
+      stop = stops.stop;
+      output = gets _ stops.output;
+    }
+
+    near : (offset consumed : ℕ) → offset ≡ consumed → ((2 ^ 64 ≤ offset + 8) ⊎ (2 ^ 64 ≤ offset + 64)) → 2 ^ 64 ≤ consumed + 64
+    near offset consumed same (inl less) = omega (arith, same, less)
+    near offset consumed same (inr less) = omega (arith, same, less)
+
+    -- all was written, and the flush behind it failed
+    pub raw_unflushed : RecodesAnyhow source sink count 64 due written old (Ok (tt {0})) new writer' → WritesShort got count due written flushed
+    raw_unflushed told = record {
+      before = told.front.elements;
+      marks = told.front.marks;
+      read = [];
+      more = [];
+      rest = told.front.rest;
+      belongs = inl (told.front.run, refl, refl);
+      is = told.front.is ∙ ap (λ (z : List ℕ). z ++ told.front.rest) (sym (append-nil told.front.elements));
+      kept = length (spelling told.front.marks ++ []);
+      output = gets _ (told.output ∙ ap (λ (z : List ℕ). Some (written ++ z)) (sym (append-nil (spelling told.front.marks)) ∙ sym (take-length (spelling told.front.marks ++ []))));
+    }
+
+    -- all was written, and the flush behind it succeeded
+    pub raw_all : CopiesElements source sink count 64 old writer (Ok (tt {0})) new writer' → RecodesAnyhow source sink count 64 due written old (Ok (tt {0})) new writer'
+        → ((bytes : List ℕ) → sink.written writer' ≡ Some bytes → contents flushed ≡ Some bytes) → CopiesRaw {E = E} {F = F} left contents got count due written (Ok (tt {0})) reader flushed
+    raw_all copied told whole = record {
+      front = told.front;
+      output = whole _ told.output;
+      rest = leaves_due _ (still_none old new copied.elements.bytes copied.elements.copied.passed none-waits) told.left;
+    }
+
+    -- the copy stopped: its answer stands, whatever the flush behind it does
+    pub raw_stopped : (error : RecodeError E F) → CopiesElements source sink count 64 old writer (Err error) new writer' → RecodesAnyhow source sink count 64 due written old (Err error) new writer'
+        → CopiesRaw left contents got count due written (Err error) reader flushed
+    raw_stopped (r.Read (e.Io fault)) copied told = short told
+    raw_stopped (r.Read (e.Syntax place)) copied told =
+        let met = told.2 in
+        let here : place ≡ told.0 = omega (arith, told.1, start) in
+        record {
+          fault = met.fault;
+          answered = met.answered ∙ ap Syntax (sym here);
+          output = gets _ met.output;
+          rest = leaves_due _ (none_behind count 64 place old new writer writer' copied none-waits) met.left;
+        }
+    raw_stopped (r.Read e.TooLong) copied told =
+        let stops = told.0 in (short stops, near new.offset (length stops.before + stops.consumed) (omega (arith, start, stops.offset)) told.1)
+    raw_stopped (r.Read e.Waiting) copied told = absurd told
+    raw_stopped (r.Write fault) copied told = record {
+      before = told.before;
+      marks = told.marks;
+      read = told.read;
+      more = told.more;
+      rest = told.rest;
+      belongs = told.belongs;
+      is = told.is;
+      kept = told.kept;
+      output = gets _ told.output;
+    }
