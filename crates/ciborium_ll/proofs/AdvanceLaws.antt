@@ -1,9 +1,8 @@
 -- How the titles of a string lead on, one after the other.
-use Rattle.std.proofs.Common.{Some, ◌≡◌, ℕ, suc, ◌-◌, ◌<◌, ◌⊎◌, List, ◌++◌, Option, None, Result, Ok, Err, refl, ap, subst, ◌∙◌, inl, inr, arith, add-one}
+use Rattle.std.proofs.Common.{Some, ◌≡◌, ℕ, suc, ◌-◌, ◌<◌, ◌⊎◌, List, ◌++◌, Option, None, Result, Ok, refl, ap, subst, ◌∙◌, inl, inr, arith, add-one}
 use Rattle.ciborium_ll.specs.declared.io.Read.{Ghosts}
 use Rattle.ciborium_ll.specs.declared.dec.Decoder.{Decoder}
 use Rattle.ciborium_ll.specs.declared.dec.Error.{Error}
-use Rattle.ciborium_ll.specs.declared.dec.Error.TheVariants as e
 use Rattle.ciborium_ll.specs.declared.seg.Body.{Body}
 use Rattle.ciborium_ll.specs.declared.seg.Progress.{Progress}
 use Rattle.ciborium_ll.specs.declared.seg.Progress.TheVariants as p
@@ -103,29 +102,6 @@ module _ {R E : Type 0} (source : Ghosts R E) (kind : Kind) where
   Reached-ends p.Ended left old now new result after r ends = let f = r.0 in cc
   Reached-ends (p.Damaged place) left old now new result after r ends = let f = r.0 in cc
   Reached-ends p.TooDeep left old now new result after r ends = let f = r.0 in cc
-
-  -- without a title that is due, the answer is the one that stays
-  pub Reached-ended : (first : Progress) (old now : Decoder R) → Reached first old p.Ended now → AdvancesTo source kind first old (Ok None) p.Ended now
-  Reached-ended (p.Open opens) old now (inl led) = let f = led.is in cc
-  Reached-ended (p.Open opens) old now (inr ended) = ended
-  Reached-ended p.Ended old now r = (refl, refl, r.1)
-  Reached-ended (p.Damaged place) old now r = let f = r.0 in cc
-  Reached-ended p.TooDeep old now r = let f = r.0 in cc
-
-  pub Reached-damaged : (first : Progress) (old now : Decoder R) (place : ℕ) → Reached first old (p.Damaged place) now
-      → AdvancesTo source kind first old (Err (e.Syntax place)) (p.Damaged place) now
-  Reached-damaged (p.Open opens) old now place (inl led) = let f = led.is in cc
-  Reached-damaged (p.Open opens) old now place (inr ended) = let f = ended.ends.after in cc
-  Reached-damaged p.Ended old now place r = let f = r.0 in cc
-  Reached-damaged (p.Damaged at) old now place r = let f = r.0 in let same : place ≡ at = cc in (ap (λ (z : ℕ). Err (e.Syntax z)) same, f, r.1)
-  Reached-damaged p.TooDeep old now place r = let f = r.0 in cc
-
-  pub Reached-too_deep : (first : Progress) (old now : Decoder R) → Reached first old p.TooDeep now → AdvancesTo source kind first old (Err e.TooLong) p.TooDeep now
-  Reached-too_deep (p.Open opens) old now (inl led) = let f = led.is in cc
-  Reached-too_deep (p.Open opens) old now (inr ended) = let f = ended.ends.after in cc
-  Reached-too_deep p.Ended old now r = let f = r.0 in cc
-  Reached-too_deep (p.Damaged place) old now r = let f = r.0 in cc
-  Reached-too_deep p.TooDeep old now r = (refl, refl, r.1)
 
   -- behind the title of a body no header waits
   pub none_waits_for_body : (first : Progress) (old : Decoder R) (body : Body) (after : Progress) (new : Decoder R) → AdvancesTo source kind first old (Ok (Some body)) after new → new.waiting ≡ None

@@ -20,8 +20,8 @@ use Rattle.ciborium_ll.specs.Faults.{IsWritable, BeginsNoText, most_kept}
 use Rattle.ciborium_ll.specs.Kept.{IsStuck, kept_bytes}
 use Rattle.ciborium_ll.specs.Decoding.{Begins, behind_waiting, IsSteady, Passes, ReadsAll}
 use Rattle.ciborium_ll.specs.Encoding.{WritesAll, WritesFront}
-use Rattle.ciborium_ll.specs.Chunks.{IsSplit, IsWhole, SegmentEnds, GivesChunk, FindsDamage, EndsInCharacter, KeepsTooMuch, ChunkFails, ChunkPasses, PullsChunk, read_count}
-use Rattle.ciborium_ll.specs.Recoding.{CopiesWhole, CopiesPart, BodyFails, BodyPasses, BodyDamaged, BodyUnwritten, CopiesBody}
+use Rattle.ciborium_ll.specs.Chunks.{IsSplit, IsWhole, GivesChunk, FindsDamage, EndsInCharacter, KeepsTooMuch, ChunkFails, ChunkPasses, PullsChunk, read_count}
+use Rattle.ciborium_ll.specs.Recoding.{CopiesPart, BodyFails, BodyPasses, BodyDamaged, BodyUnwritten, CopiesBody}
 use Rattle.ciborium_ll.proofs.TextLaws.{IsCharacters-append, IsCharacters-rest, IsCharacters-nil, no_text_begins}
 use Rattle.ciborium_ll.proofs.DecodingLaws.{Passes-none}
 use Rattle.ciborium_ll.proofs.EncodingLaws.{WritesBytes-then}
@@ -170,18 +170,6 @@ module _ {R E P W F : Type 0} {parser : Parser P} (source : Reader R E) (sink : 
           sound = writable_chunk parser.kind so_far.front _ chunk _ so_far.sound gives.split;
           written = so_far.written;
           stopped = stopped;
-        }
-
-    pub so_far_end : (new : Segment R P parser) → SegmentEnds source segment new → CopiesWhole source sink parser.kind len old writer new.reader.now now
-    so_far_end new ends =
-        let all : so_far.read ≡ so_far.front = so_far.parts ∙ ap (λ (z : List ℕ). so_far.front ++ z) ends.none_kept ∙ append-nil so_far.front in
-        let counted = ap length all in
-        record {
-          body = so_far.front;
-          all = omega (arith, counted, so_far.counted, ends.none_unread);
-          sound = so_far.sound;
-          passed = subst (λ (z : List ℕ). Passes source old z new.reader.now) all (subst (λ (d : Decoder R). Passes source old so_far.read d) (sym ends.decoder) so_far.passed);
-          written = so_far.written;
         }
 
     part : CopiesPart source sink parser.kind len old writer segment.reader.now now

@@ -5,13 +5,13 @@ use Rattle.std.proofs.Common.{◌≡◌, ℕ, ◌+◌, ◌<◌, ◌≤◌, min, 
 use Rattle.std.proofs.Math.Seq.{drop-length, take-append-add}
 use Rattle.std.specs.Io.KnownBytes.{Consumes, prepend_known}
 use Rattle.std.specs.Option.{option_map}
-use Rattle.std.proofs.KnownBytes.{Consumes-nil}
 use Rattle.ciborium_ll.specs.declared.io.Read.{Ghosts}
 use Rattle.ciborium_ll.specs.declared.seg.Parser.{Ghosts as Parser}
 use Rattle.ciborium_ll.specs.declared.seg.Segment.{Segment}
 use Rattle.ciborium_ll.specs.Text.{IsFront}
 use Rattle.ciborium_ll.specs.Kept.{IsStuck, kept_bytes}
-use Rattle.ciborium_ll.specs.Chunks.{ReadsOn, left_of}
+use Rattle.ciborium_ll.specs.Chunks.{IsSame, ReadsOn, left_of}
+use Rattle.ciborium_ll.specs.Decoding.{ReadsAll}
 use Rattle.ciborium_ll.proofs.TextLaws.{IsCharacters-append, IsCharacters-nil, front_of_text, front_of_valid}
 use Rattle.ciborium_ll.proofs.DecodingLaws.{length_zero}
 use Rattle.ciborium_ll.proofs.Utf8Laws.{from_std}
@@ -51,15 +51,15 @@ IsFront-valid bytes text n e within valid =
 
 module _ {R E P : Type 0} {parser : Parser P} (source : Ghosts R E) where
   -- a pull that can't go beyond the kept bytes reads nothing
-  pub ReadsOn-none : (room : ℕ) (segment : Segment R P parser) → 0 < segment.unread → segment.damaged ≡ false → min room (left_of segment) ≤ length (kept_bytes segment.kept)
-      → ReadsOn source room segment [] segment
-  ReadsOn-none room segment some sound short = record {
+  pub ReadsOn-none : (room : ℕ) (segment new : Segment R P parser) → 0 < segment.unread → segment.damaged ≡ false → min room (left_of segment) ≤ length (kept_bytes segment.kept)
+      → IsSame segment new → ReadsAll source segment.reader.now [] new.reader.now → ReadsOn source room segment [] new
+  ReadsOn-none room segment new some sound short same reads = record {
     some_unread = some;
     sound = sound;
     count = omega (arith, short);
-    reads = record { bytes = Consumes-nil (source.ahead segment.reader.now.reader); offset = omega arith; none_waited = segment.none_waits; none_waits = segment.none_waits; failures = refl };
-    unread = omega arith;
-    place = refl;
+    reads = reads;
+    unread = omega (arith, same.unread);
+    place = same.place;
   }
 
 -- what is left of a body is the chunk, and then what is left behind it

@@ -1,5 +1,5 @@
 -- What is left of a body, read chunk by chunk.
-use Rattle.std.proofs.Common.{◌≡◌, ℕ, ◌+◌, ◌≤◌, true, List, [], ◌++◌, length, Ok, Err, refl, sym, ap, subst, ◌∙◌, inl, inr, arith, append_assoc, append-nil, length-append}
+use Rattle.std.proofs.Common.{◌≡◌, ℕ, ◌+◌, ◌≤◌, true, List, [], ◌++◌, length, Err, refl, sym, ap, subst, ◌∙◌, inl, inr, arith, append_assoc, append-nil, length-append}
 use Rattle.ciborium_ll.specs.declared.io.Read.{Ghosts as Reader}
 use Rattle.ciborium_ll.specs.declared.dec.Decoder.{Decoder}
 use Rattle.ciborium_ll.specs.declared.dec.Error.{Error}
@@ -10,7 +10,7 @@ use Rattle.ciborium_ll.specs.Strings.{Kind, Bytes, Text}
 use Rattle.ciborium_ll.specs.Faults.{IsWritable}
 use Rattle.ciborium_ll.specs.Kept.{kept_bytes}
 use Rattle.ciborium_ll.specs.Decoding.{IsSteady, Passes}
-use Rattle.ciborium_ll.specs.Chunks.{IsSplit, SegmentEnds, GivesChunk, FindsDamage, EndsInCharacter, KeepsTooMuch, ChunkFails, ChunkPasses, PullsChunk, read_count}
+use Rattle.ciborium_ll.specs.Chunks.{IsSplit, GivesChunk, FindsDamage, EndsInCharacter, KeepsTooMuch, ChunkFails, ChunkPasses, PullsChunk, read_count}
 use Rattle.ciborium_ll.specs.Finishing.{BeginsRest, RestFails, RestPasses, RestDamaged, Finishes}
 use Rattle.ciborium_ll.proofs.DecodingLaws.{Passes-none}
 use Rattle.ciborium_ll.proofs.BodyLaws.{split_parts, writable_nil, writable_chunk, three_kept, few_kept, stuck_is_no_text, too_much_is_no_text, Passes-read}
@@ -60,19 +60,6 @@ module _ {R E P : Type 0} {parser : Parser P} (source : Reader R E) where
           damage = gives.still_sound ∙ sym gives.reads.sound ∙ so_far.damage;
           still = λ damaged. absurd (let never = gives.still_sound in cc);
         }
-
-    pub rest_end : (room : ℕ) (new : Segment R P parser) → SegmentEnds source segment new → Finishes source room first (Ok (tt {0})) new.reader.now
-    rest_end room new ends =
-        let all : kept_bytes first.kept ++ so_far.read ≡ so_far.front = so_far.parts ∙ ap (λ (z : List ℕ). so_far.front ++ z) ends.none_kept ∙ append-nil so_far.front in
-        inl (record {
-          undamaged = sym so_far.damage ∙ ends.sound;
-          ends = record {
-            read = so_far.read;
-            all = omega (arith, so_far.counted, ends.none_unread);
-            sound = subst (IsWritable parser.kind) (sym all) so_far.sound;
-            passed = subst (λ (d : Decoder R). Passes source first.reader.now so_far.read d) (sym ends.decoder) so_far.passed;
-          };
-        })
 
     part : BeginsRest source parser.kind (kept_bytes first.kept) first.unread first.reader.now segment.reader.now
     part = record {

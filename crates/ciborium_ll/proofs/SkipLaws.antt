@@ -10,7 +10,7 @@ use Rattle.ciborium_ll.specs.declared.seg.Body.{Body}
 use Rattle.ciborium_ll.specs.declared.seg.Progress.{Progress}
 use Rattle.ciborium_ll.specs.declared.seg.Progress.TheVariants as p
 use Rattle.ciborium_ll.specs.Title.{IsTitle, IsInRange, shortest_title, title_len}
-use Rattle.ciborium_ll.specs.Strings.{Kind, Bytes, Text, kind_header, IsString, definite, indefinite}
+use Rattle.ciborium_ll.specs.Strings.{Kind, kind_header, IsString, definite, indefinite}
 use Rattle.ciborium_ll.specs.Steps.{IsInsideAt, one_open, more_open}
 use Rattle.ciborium_ll.specs.Decoding.{Passes, IsSteady, TakesBack}
 use Rattle.ciborium_ll.specs.Encoding.{WritesAll}
@@ -23,7 +23,7 @@ use Rattle.ciborium_ll.proofs.StepLaws.{counted, never}
 use Rattle.ciborium_ll.proofs.DecodingLaws.{Passes-none, Passes-then, Passes-pulled}
 use Rattle.ciborium_ll.proofs.NestLaws.{alone_bytes, open_length, title_some, advance_definite, FindsOnly}
 use Rattle.ciborium_ll.proofs.RecodeLaws.{sound_body, passes_same}
-use Rattle.ciborium_ll.proofs.SegmentLaws.{StringSoFar, AdvancesAmong, IsAmong, advances_among, segment_added, so_far_fresh, opens_counted, misplaced_inside, some_open}
+use Rattle.ciborium_ll.proofs.SegmentLaws.{StringSoFar, AdvancesAmong, IsAmong, advances_among, segment_added, opens_counted, misplaced_inside, some_open}
 
 -- a writer that tells nothing
 abbrev silent : Writer (Unit {0}) (Unit {0})
@@ -104,12 +104,6 @@ module _ {R E : Type 0} (source : Reader R E) (k : Kind) where
   abbrev pub SkipsSoFar : Option ℕ → Decoder R → Progress → Decoder R → Type 0
   SkipsSoFar None opened progress now = StringSoFar source silent k opened tt progress now tt × (0 < opened.offset)
   SkipsSoFar (Some len) opened progress now = AloneSoFar len opened progress now
-
-  pub skips_fresh : (len : Option ℕ) (opened now : Decoder R) (progress : Progress) → IsInRange (kind_header k len) → opened.waiting ≡ None → progress ≡ p.Open 0
-      → TakesBack source opened (kind_header k len) now → SkipsSoFar len opened progress now
-  skips_fresh None opened now progress range settled fresh back =
-      (so_far_fresh source silent k opened now tt progress settled fresh back, omega (arith, back.offset, open_length k))
-  skips_fresh (Some len) opened now progress range settled fresh back = record { none_waits = settled; in_range = range; far = inl (fresh, back) }
 
   -- ---- a lone body
 

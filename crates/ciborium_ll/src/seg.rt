@@ -391,7 +391,7 @@ impl<'r, R: Read> Segment<'r, R, Bytes> {
 
 impl<'r, R: Read> Segment<'r, R, Text> {
     ghost use Rattle.std.specs.Io.KnownBytes.{Consumes};
-    ghost use Rattle.ciborium_ll.specs.Decoding.{IsSteady, offset_of, refusals_of};
+    ghost use Rattle.ciborium_ll.specs.Decoding.{IsSteady, ReadsBytes, offset_of, refusals_of};
     ghost use Rattle.ciborium_ll.specs.Chunks.{FillsBehind, IsSame, PullsChunk, left_of, rest};
 
     /// Reads the next bytes of the body, as many as there are and the buffer holds, and hands out the longest front of
@@ -422,6 +422,7 @@ impl<'r, R: Read> Segment<'r, R, Text> {
         let kept = self.kept.len();
         let size = buffer.len().min(self.unread + kept);
         if size <= kept {
+            self.read_nothing()?;
             return Ok(Some(""));
         }
         let filled = &mut buffer[..size];
@@ -435,6 +436,18 @@ impl<'r, R: Read> Segment<'r, R, Text> {
             }
             None => Err(self.damage()),
         }
+    }
+
+    /// Reads no bytes, where none fit behind the kept ones. It is a call of the reader all the same.
+    fn read_nothing(&mut self) -> Result<(), Error<R::Error>>
+        ensures same_reference { self.new.reader.ghost_name ≡ self.old.reader.ghost_name }
+        ensures same { IsSame self.old self.new }
+        ensures read { ReadsBytes R.Read self.old.reader.now result [] self.new.reader.now }
+        ensures rises { offset_of self.old.reader.now ≤ offset_of self.new.reader.now }
+        ensures steady { IsSteady R.Read self.old.reader.now → IsSteady R.Read self.new.reader.now }
+        ensures refusals { refusals_of self.new.reader.now ≡ refusals_of self.old.reader.now }
+    {
+        self.reader.read(&mut [])
     }
 
     /// Reads behind the kept bytes, which it writes to the front.

@@ -177,6 +177,26 @@ fn a_segment_whose_reader_fails(rt: HostRuntime) -> Result<(), Fail> {
     Ok(())
 }
 
+// A segment that can't go on, since its buffer is empty or kept bytes fill it, calls the reader all the same.
+#[test]
+fn a_segment_that_waits_is_a_call(rt: HostRuntime) -> Result<(), Fail> {
+    let bytes = [0x78, 2, 0xc3, 0xa9];
+    let mut decoder = Decoder::from(FailingReader::new(&bytes, Failing::Empty));
+    assert!(rt; matches!(decoder.pull(), Ok(Header::Text(Some(2)))));
+    let mut segments = decoder.text(Some(2));
+    let Ok(Some(mut segment)) = segments.pull() else {
+        panic!(rt; "no segment");
+    };
+    let mut buffer = [0; 4];
+    assert!(rt; matches!(segment.pull(&mut []), Err(Error::Io(Refused))));
+    assert!(rt; matches!(segment.pull(&mut buffer[..1]), Ok(Some(""))));
+    assert!(rt; matches!(segment.pull(&mut buffer[..1]), Err(Error::Io(Refused))));
+    assert_eq!(rt; segment.left(), 2);
+    assert!(rt; matches!(segment.pull(&mut buffer), Ok(Some("é"))));
+    assert!(rt; matches!(segment.pull(&mut []), Ok(None)));
+    Ok(())
+}
+
 // Writes by a writer that fails, and compares what was written.
 fn writes(rt: &impl Abort, header: Option<Header>, failing: Failing, written: &[u8]) {
     let mut space = [0; 24];

@@ -1,6 +1,6 @@
 //! A writer in memory.
 
-ghost use Rattle.std.specs.Prelude.{◌≡◌, ◌+◌, ◌<◌, [], Some, None, OnOk, OnErr, length, vec_capacity, vec_len};
+ghost use Rattle.std.specs.Prelude.{◌≡◌, ◌+◌, ◌<◌, [], Some, None, IsOk, OnOk, OnErr, length, vec_capacity, vec_len};
 ghost use Rattle.std.specs.Io.KnownBytes.{Appends};
 ghost use Rattle.ciborium_ll.specs.Transfer.{AppendsFront};
 
@@ -72,7 +72,17 @@ impl Write for VecWriter {
         }
     }
 
-    fn flush(&mut self) -> Result<(), OutOfMemory> {
+    /// Does nothing, and never fails.
+    fn flush(&mut self) -> Result<(), OutOfMemory>
+        // The trait's.
+        ensures flushed { OnOk result (self.new.bytes.items ≡ self.old.bytes.items) }
+        ensures ok { OnOk result (self.new.failures.count ≡ self.old.failures.count) }
+        ensures err { OnErr result (self.new.failures.count ≡ self.old.failures.count + 1) }
+
+        // The writer's own.
+        ensures done { IsOk result }
+    {
+        // Nothing was kept back.
         Ok(())
     }
 }

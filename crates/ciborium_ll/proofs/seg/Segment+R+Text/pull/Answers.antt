@@ -1,17 +1,21 @@
 use Rattle.std.proofs.Common.{rules, arith, sym, ap, subst, inr, ◌∙◌, ◌≡◌, ◌<◌, [], ◌++◌, length, drop, length-append}
 use Rattle.std.proofs.lemmas.List.{take_rest}
+use Rattle.ciborium_ll.specs.declared.seg.Kept.{Kept}
 use Rattle.ciborium_ll.specs.Kept.{IsStuck, kept_bytes}
+use Rattle.ciborium_ll.specs.Text.{IsFront}
 use Rattle.ciborium_ll.proofs.ChunkLaws.{IsFront-stuck, IsStuck-rest, ReadsOn-none, rest_consumed}
 use Rattle.ciborium_ll.proofs.seg.Segment+R+Text.pull.Goals as goal
 
 pub returns-then-size-kept-clause-chunk : goal.returns-then-size-kept-clause-chunk
-returns-then-size-kept-clause-chunk g c = record {
-  read = [];
-  reads = ReadsOn-none g.R.Read (length c.args.buffer.now) c.args.self.now (omega (arith, c.if-self-eq0.false)) c.if-self.false
-      (omega (arith, c.if-size-kept.true, c.min-size.ensures, c.len-kept.ensures));
-  split = IsFront-stuck (kept_bytes c.args.self.now.kept) c.args.self.now.stuck;
-  still_sound = c.if-self.false;
-}
+returns-then-size-kept-clause-chunk g c =
+    let same = c.read_nothing.ensures.same in
+    record {
+      read = [];
+      reads = ReadsOn-none g.R.Read (length c.args.buffer.now) c.args.self.now c.read_nothing.new.self (omega (arith, c.if-self-eq0.false)) c.if-self.false
+          (omega (arith, c.if-size-kept.true, c.min-size.ensures, c.len-kept.ensures)) same c.in_ok-read_nothing.ensures.read;
+      split = subst (λ (k : Kept). IsFront (kept_bytes c.args.self.now.kept ++ []) [] (kept_bytes k)) (sym same.kept) (IsFront-stuck (kept_bytes c.args.self.now.kept) c.args.self.now.stuck);
+      still_sound = same.damaged ∙ c.if-self.false;
+    }
 
 pub invariant_of-self-clause-stuck : goal.invariant_of-self-clause-stuck
 invariant_of-self-clause-stuck g c =
