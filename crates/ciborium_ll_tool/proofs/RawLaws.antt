@@ -38,13 +38,13 @@ whole_known (Some xs) held bytes none told = ap Some (sym (append-nil xs) ∙ ap
 
 -- what holds of a copy holds with the faults of std in their places
 pub restored_copies : {R W : Type 0} (left : R → List ℕ → Type 0) (contents : W → Option (List ℕ)) (got : W → List ℕ → Type 0) (count : ℕ) (due written : List ℕ) (reader : R) (writer : W)
-    (error : RecodeError Aside Aside) (error' : RecodeError ReadFault WriteFault) → Restores error error' → CopiesRaw left contents got count due written (Err error) reader writer
+    (read : Option ReadFault) (write : Option WriteFault) (error : RecodeError Aside Aside) (error' : RecodeError ReadFault WriteFault) → Restores read write error error' → CopiesRaw left contents got count due written (Err error) reader writer
     → CopiesRaw left contents got count due written (Err error') reader writer
-restored_copies left contents got count due written reader writer (r.Read (e.Io aside)) error' is copies = rw is.1 copies
-restored_copies left contents got count due written reader writer (r.Read (e.Syntax place)) error' is copies = rw is copies
-restored_copies left contents got count due written reader writer (r.Read e.TooLong) error' is copies = rw is copies
-restored_copies left contents got count due written reader writer (r.Read e.Waiting) error' is copies = absurd copies
-restored_copies left contents got count due written reader writer (r.Write aside) error' is copies = rw is.1 copies
+restored_copies left contents got count due written reader writer read write (r.Read (e.Io aside)) error' is copies = rw is.1 copies
+restored_copies left contents got count due written reader writer read write (r.Read (e.Syntax place)) error' is copies = rw is copies
+restored_copies left contents got count due written reader writer read write (r.Read e.TooLong) error' is copies = rw is copies
+restored_copies left contents got count due written reader writer read write (r.Read e.Waiting) error' is copies = absurd copies
+restored_copies left contents got count due written reader writer read write (r.Write aside) error' is copies = rw is.1 copies
 
 module _ {D S E F : Type 0} (source : Reader D E) (sink : Writer S F) where
   -- where no header waits, what is due is what the reader has ahead

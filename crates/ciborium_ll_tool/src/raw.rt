@@ -71,7 +71,7 @@ fn restored(
     read_fault: Option<ReadFault>,
     write_fault: Option<WriteFault>,
 ) -> RecodeError<ReadFault, WriteFault>
-    ensures { Restores error result }
+    ensures { Restores read_fault write_fault error result }
 {
     match error {
         RecodeError::Read(Error::Io(Aside)) => {

@@ -1,7 +1,7 @@
 //! Bytes that wait in a part of an array.
 
 ghost use Rattle.std.specs.Prelude.{◌≡◌, ◌-◌, ◌≤◌, ◌++◌, [], IfOk, OnErr, length, take};
-ghost use Rattle.std.specs.Io.KnownBytes.{Consumes};
+ghost use Rattle.std.specs.Io.KnownBytes.{Consumes, IsAtEnd};
 
 use std::io;
 
@@ -98,11 +98,12 @@ impl Window {
         self.end = 0;
     }
 
-    /// Reads once, where nothing is held. It tells how many bytes there are now.
+    /// Reads once, where nothing is held. It tells how many bytes there are now, none only at the end.
     pub(crate) fn fill<R: io::Read>(&mut self, from: &mut R) -> io::Result<usize>
         requires { held self.old ≡ [] }
         ensures count { IfOk result (λ n. n ≡ length (held self.new)) }
         ensures bytes { IfOk result (λ _. Consumes (R.remaining from.old) (R.remaining from.new) (held self.new)) }
+        ensures end { IfOk result (λ n. n ≡ 0 → IsAtEnd (R.remaining from.new)) }
         ensures err { OnErr result (held self.new ≡ []) }
     {
         self.restart();

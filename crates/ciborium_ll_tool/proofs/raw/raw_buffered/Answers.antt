@@ -1,4 +1,4 @@
-use Rattle.std.proofs.Common.{◌≡◌, List, ℕ, Some, subst, sym, ap, ◌∙◌}
+use Rattle.std.proofs.Common.{◌≡◌, List, ℕ, None, Some, subst, sym, ap, ◌∙◌}
 use Rattle.ciborium_ll.specs.declared.recode.RecodeError.TheVariants as r
 use Rattle.ciborium_ll_tool.specs.Aside.{ahead_of, written_of}
 use Rattle.ciborium_ll_tool.specs.Raw.{TellsFront, Untold}
@@ -40,13 +40,13 @@ returns g c = λ due written told-due told-written.
           )
       | in-Ok-Err w ↦ (
           let succeeded = rw w.in-Ok-Err.is-0 at anyhow in
-          rw w.outcome-is (restored_copies Untold contents got c.args.count due written reader writer (r.Write _) w.restored.result w.restored.ensures
+          rw w.outcome-is (restored_copies Untold contents got c.args.count due written reader writer None _ (r.Write _) w.restored.result w.restored.ensures
           (raw_unflushed _ _ Untold contents got c.args.count due written old new first last reader writer c.from-decoder.ensures.offset c.from-decoder.ensures.none_waits leaves gets succeeded))
           )
       | in-Err-default w ↦ (
           let stops = rw w.in-Err-default.is-0 at copied in
           let stopped = rw w.in-Err-default.is-0 at anyhow in
-          rw w.outcome-is (restored_copies Untold contents got c.args.count due written reader writer w.in-Err-default.error w.restored-in-Err-default.result w.restored-in-Err-default.ensures
+          rw w.outcome-is (restored_copies Untold contents got c.args.count due written reader writer _ _ w.in-Err-default.error w.restored-in-Err-default.result w.restored-in-Err-default.ensures
           (raw_stopped _ _ Untold contents got c.args.count due written old new first last reader writer c.from-decoder.ensures.offset c.from-decoder.ensures.none_waits leaves gets
           w.in-Err-default.error stops stopped))
           )
