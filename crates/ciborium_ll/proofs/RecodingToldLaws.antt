@@ -1,6 +1,6 @@
 -- What a copy of elements means where the bytes are told: the premises turn the general statement into an exact one.
 use Rattle.std.proofs.Common.{◌≡◌, ℕ, ◌+◌, ◌-◌, ◌^◌, ◌<◌, ◌≤◌, ◌⊎◌, List, [], ◌∷◌, ◌++◌, length, take, drop, min, Some, None, Result, Ok, Err, IsOk, ◌↔◌, refl, sym, ap, subst, ◌∙◌, inl, inr, arith, append_assoc, length-append}
-use Rattle.std.proofs.lemmas.List.{append-nil, length-take}
+use Rattle.std.proofs.lemmas.List.{append-nil, length-take, take-append-drop}
 use Rattle.std.proofs.Math.Seq.{take-append_seam, take-append-add, drop-append_seam}
 use Rattle.std.proofs.lemmas.Bool.{cases_lt}
 use Rattle.ciborium_ll.specs.declared.io.Read.{Ghosts as Reader}
@@ -442,16 +442,20 @@ module _ {R E W F : Type 0} (source : Reader R E) (sink : Writer W F) (count roo
         let c = came told bytes marks between writer' copied in
         let counted = ap length split in
         record {
-          before = bytes;
-          marks = marks;
-          place = place;
-          ahead = c.rest;
-          more = [];
-          consumed = length read;
-          reach = reach;
-          is = c.parts;
-          stop = at_title place c.rest (length read) title (omega (arith, few, counted, length-append read behind));
-          output = c.output ∙ ap (λ (z : List ℕ). Some (written ++ z)) (sym (append-nil (spelling marks)));
+          stop = record {
+            before = bytes;
+            marks = marks;
+            place = place;
+            ahead = c.rest;
+            more = [];
+            consumed = length read;
+            reach = reach;
+            is = c.parts;
+            stops = at_title place c.rest (length read) title (omega (arith, few, counted, length-append read behind));
+            written = spelling marks;
+            spelled = sym (append-nil (spelling marks));
+          };
+          output = c.output;
           offset = omega (arith, offset, copied.passed.offset);
         }
 
@@ -495,24 +499,28 @@ module _ {R E W F : Type 0} (source : Reader R E) (sink : Writer W F) (count roo
         let parts = ap length part.parts in
         let split : c.rest ≡ part.front ++ (part.kept ++ gone.0) = gone.2 ∙ ap (λ (z : List ℕ). z ++ gone.0) part.parts ∙ append_assoc part.front part.kept gone.0 in
         record {
-          before = bytes;
-          marks = marks;
-          place = Body k len start;
-          ahead = c.rest;
-          more = shortest_title (kind_header k (Some len)) ++ part.front;
-          consumed = length part.read;
-          reach = reach;
-          is = c.parts;
-          stop = (
-            part.front,
-            part.kept ++ gone.0,
-            split,
-            refl,
-            part.sound,
-            omega (arith, parts, length-append part.front part.kept),
-            omega (arith, parts, part.few, length-append part.front part.kept),
-            omega (arith, behind, part.within, length-append part.read gone.0),
-          );
+          stop = record {
+            before = bytes;
+            marks = marks;
+            place = Body k len start;
+            ahead = c.rest;
+            more = shortest_title (kind_header k (Some len)) ++ part.front;
+            consumed = length part.read;
+            reach = reach;
+            is = c.parts;
+            stops = (
+              part.front,
+              part.kept ++ gone.0,
+              split,
+              refl,
+              part.sound,
+              omega (arith, parts, length-append part.front part.kept),
+              omega (arith, parts, part.few, length-append part.front part.kept),
+              omega (arith, behind, part.within, length-append part.read gone.0),
+            );
+            written = spelling marks ++ (shortest_title (kind_header k (Some len)) ++ part.front);
+            spelled = refl;
+          };
           output = front_output told marks bytes part.front k len between writer-between titled writer' copied title part.written;
           offset = omega (arith, offset, part.passed.offset, copied.passed.offset);
         }
@@ -532,14 +540,17 @@ module _ {R E W F : Type 0} (source : Reader R E) (sink : Writer W F) (count roo
         let gone = consumes_told _ _ due (stops.bytes ++ stops.read) told.due-told stops.passed.consumed in
         let front = stops.stopped.front in
         record {
-          before = stops.bytes;
-          marks = stops.marks;
-          read = stops.read;
-          more = stops.more;
-          rest = gone.0;
-          belongs = stops.belongs;
-          is = gone.2;
-          kept = front.0;
+          stop = record {
+            before = stops.bytes;
+            marks = stops.marks;
+            read = stops.read;
+            more = stops.more;
+            rest = gone.0;
+            belongs = stops.belongs;
+            is = gone.2;
+            written = take front.0 (spelling stops.marks ++ stops.more);
+            begun = (drop front.0 (spelling stops.marks ++ stops.more), sym (take-append-drop front.0 (spelling stops.marks ++ stops.more)));
+          };
           output = appends_told _ _ written (take front.0 (spelling stops.marks ++ stops.more)) told.written-told front.1.0;
           left = gone.1;
           offset = omega (arith, stops.passed.offset, length-append stops.bytes stops.read);

@@ -1,5 +1,5 @@
 -- What a copy of elements means where the bytes are told: whatever fails, and where no side fails by itself.
-use Rattle.std.specs.Prelude.{◌≡◌, ℕ, ◌+◌, ◌<◌, ◌≤◌, ◌⊎◌, min, List, [], ◌++◌, length, take, drop, Some, Result, Ok, Err}
+use Rattle.std.specs.Prelude.{◌≡◌, ℕ, ◌+◌, ◌<◌, ◌≤◌, ◌⊎◌, min, List, [], ◌++◌, length, drop, Some, Result, Ok, Err}
 use Rattle.ciborium_ll.specs.declared.io.Read.{Ghosts as Reader}
 use Rattle.ciborium_ll.specs.declared.io.Write.{Ghosts as Writer}
 use Rattle.ciborium_ll.specs.declared.dec.Decoder.{Decoder}
@@ -10,7 +10,7 @@ use Rattle.ciborium_ll.specs.Title.{shortest_title}
 use Rattle.ciborium_ll.specs.Strings.{kind_header}
 use Rattle.ciborium_ll.specs.Elements.{Mark, spelling, IsRun}
 use Rattle.ciborium_ll.specs.Faults.{Place, Due, In, Body, Reaches, IsWritable, most_kept, Answer, Short, Syntax, RunInFront, HasFault}
-use Rattle.ciborium_ll.specs.Decoding.{offset_limit, view, IsSteady}
+use Rattle.ciborium_ll.specs.Decoding.{offset_limit, Begins, view, IsSteady}
 use Rattle.ciborium_ll.specs.Recoding.{IsUnderWay}
 
 -- A side failed at this place, with these bytes ahead. `more` is what is written of a body under way: its shortest title,
@@ -22,6 +22,33 @@ StopsAt (In kind) ahead more consumed = (more ≡ []) × (consumed ≤ min 1 (le
 StopsAt (Body kind len start) ahead more consumed =
     (front : List ℕ) × (rest : List ℕ) × (ahead ≡ front ++ rest) × (more ≡ shortest_title (kind_header kind (Some len)) ++ front) × IsWritable kind front
     × (length front ≤ consumed) × (consumed ≤ length front + most_kept kind) × (consumed ≤ min len (length ahead))
+
+-- a copy of so many elements stops there, since no more can be read: behind a part of them. What is written of it in all
+pub record StopInReading (count : ℕ) (bytes : List ℕ) : Type 0 where
+  pub before : List ℕ
+  pub marks : List Mark
+  pub place : Place
+  pub ahead : List ℕ
+  pub more : List ℕ
+  pub consumed : ℕ
+  pub reach : Reaches count before marks place
+  pub is : bytes ≡ before ++ ahead
+  pub stops : StopsAt place ahead more consumed
+  pub written : List ℕ
+  pub spelled : written ≡ spelling marks ++ more
+
+-- a copy of so many elements stops there, since no more can be written: behind all of them or a part. What is written of
+-- it in all is a beginning of its spelling and of a body under way; what was read and not written yet is that body's
+pub record StopInWriting (count : ℕ) (bytes : List ℕ) : Type 0 where
+  pub before : List ℕ
+  pub marks : List Mark
+  pub read : List ℕ
+  pub more : List ℕ
+  pub rest : List ℕ
+  pub belongs : (IsRun count before marks × (more ≡ []) × (read ≡ [])) ⊎ ((place : Place) × Reaches count before marks place × IsUnderWay place more read)
+  pub is : bytes ≡ (before ++ read) ++ rest
+  pub written : List ℕ
+  pub begun : Begins written (spelling marks ++ more)
 
 module _ {R E W F : Type 0} (source : Reader R E) (sink : Writer W F) where
   -- the bytes that are due are told, and those that were written
@@ -69,34 +96,18 @@ module _ {R E W F : Type 0} (source : Reader R E) (sink : Writer W F) where
 
   -- ---- where a side may fail by itself
 
-  -- the reader failed, or the offset is full, behind a beginning of what was due
+  -- the reader failed, or the offset is full
   pub record StopsShort (count : ℕ) (due written : List ℕ) (old new : Decoder R) (writer' : W) : Type 0 where
-    pub before : List ℕ
-    pub marks : List Mark
-    pub place : Place
-    pub ahead : List ℕ
-    pub more : List ℕ
-    pub consumed : ℕ
-    pub reach : Reaches count before marks place
-    pub is : due ≡ before ++ ahead
-    pub stop : StopsAt place ahead more consumed
-    pub output : sink.written writer' ≡ Some (written ++ (spelling marks ++ more))
-    pub offset : new.offset ≡ old.offset + length before + consumed
+    pub stop : StopInReading count due
+    pub output : sink.written writer' ≡ Some (written ++ stop.written)
+    pub offset : new.offset ≡ old.offset + length stop.before + stop.consumed
 
-  -- the writer failed, behind a beginning of what was due: of the spelling of that, and of a body under way, it has a
-  -- beginning. What was read and not written yet is that body's
+  -- the writer failed
   pub record StopsUnwritten (count : ℕ) (due written : List ℕ) (old new : Decoder R) (writer' : W) : Type 0 where
-    pub before : List ℕ
-    pub marks : List Mark
-    pub read : List ℕ
-    pub more : List ℕ
-    pub rest : List ℕ
-    pub belongs : (IsRun count before marks × (more ≡ []) × (read ≡ [])) ⊎ ((place : Place) × Reaches count before marks place × IsUnderWay place more read)
-    pub is : due ≡ (before ++ read) ++ rest
-    pub kept : ℕ
-    pub output : sink.written writer' ≡ Some (written ++ take kept (spelling marks ++ more))
-    pub left : view source new ≡ Some rest
-    pub offset : new.offset ≡ old.offset + length before + length read
+    pub stop : StopInWriting count due
+    pub output : sink.written writer' ≡ Some (written ++ stop.written)
+    pub left : view source new ≡ Some stop.rest
+    pub offset : new.offset ≡ old.offset + length stop.before + length stop.read
 
   -- `recode` through a buffer of so much room, whatever fails: `Ok` and `Syntax` mean the same as where nothing does
   abbrev pub RecodesAnyhow : ℕ → ℕ → List ℕ → List ℕ → Decoder R → Result (Unit {0}) (RecodeError E F) → Decoder R → W → Type 0

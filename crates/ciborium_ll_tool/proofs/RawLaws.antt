@@ -2,7 +2,6 @@
 use Rattle.std.proofs.Common.{◌≡◌, ℕ, ◌+◌, ◌≤◌, ◌^◌, ◌⊎◌, List, [], ◌++◌, length, Option, Some, None, Ok, Err, refl, sym, ap, ◌∙◌, inl, inr, arith}
 use Rattle.std.specs.Io.KnownBytes.{Keeps, append_known}
 use Rattle.std.proofs.lemmas.List.{append-nil}
-use Rattle.std.proofs.Math.Seq.{take-length}
 use Rattle.ciborium_ll.specs.declared.io.Read.{Ghosts as Reader}
 use Rattle.ciborium_ll.specs.declared.io.Write.{Ghosts as Writer}
 use Rattle.ciborium_ll.specs.declared.dec.Decoder.{Decoder}
@@ -76,18 +75,7 @@ module _ {D S E F : Type 0} (source : Reader D E) (sink : Writer S F) where
     leaves_due bytes none told = leaves bytes (sym (view_none new.waiting (source.ahead new.reader) none) ∙ told)
 
     abbrev short : StopsShort source sink count due written old new writer' → ReadsShort got count due written flushed
-    short stops = record {
-      before = stops.before;
-      marks = stops.marks;
-      place = stops.place;
-      ahead = stops.ahead;
-      more = stops.more;
-      consumed = stops.consumed;
-      reach = stops.reach;
-      is = stops.is;
-      stop = stops.stop;
-      output = gets _ stops.output;
-    }
+    short stops = record { stop = stops.stop; output = gets _ stops.output }
 
     near : (offset consumed : ℕ) → offset ≡ consumed → ((2 ^ 64 ≤ offset + 8) ⊎ (2 ^ 64 ≤ offset + 64)) → 2 ^ 64 ≤ consumed + 64
     near offset consumed same (inl less) = omega (arith, same, less)
@@ -96,15 +84,18 @@ module _ {D S E F : Type 0} (source : Reader D E) (sink : Writer S F) where
     -- all was written, and the flush behind it failed
     pub raw_unflushed : RecodesAnyhow source sink count 64 due written old (Ok (tt {0})) new writer' → WritesShort got count due written flushed
     raw_unflushed told = record {
-      before = told.front.elements;
-      marks = told.front.marks;
-      read = [];
-      more = [];
-      rest = told.front.rest;
-      belongs = inl (told.front.run, refl, refl);
-      is = told.front.is ∙ ap (λ (z : List ℕ). z ++ told.front.rest) (sym (append-nil told.front.elements));
-      kept = length (spelling told.front.marks ++ []);
-      output = gets _ (told.output ∙ ap (λ (z : List ℕ). Some (written ++ z)) (sym (append-nil (spelling told.front.marks)) ∙ sym (take-length (spelling told.front.marks ++ []))));
+      stop = record {
+        before = told.front.elements;
+        marks = told.front.marks;
+        read = [];
+        more = [];
+        rest = told.front.rest;
+        belongs = inl (told.front.run, refl, refl);
+        is = told.front.is ∙ ap (λ (z : List ℕ). z ++ told.front.rest) (sym (append-nil told.front.elements));
+        written = spelling told.front.marks;
+        begun = ([], refl);
+      };
+      output = gets _ told.output;
     }
 
     -- all was written, and the flush behind it succeeded
@@ -130,16 +121,6 @@ module _ {D S E F : Type 0} (source : Reader D E) (sink : Writer S F) where
           rest = leaves_due _ (none_behind count 64 place old new writer writer' copied none-waits) met.left;
         }
     raw_stopped (r.Read e.TooLong) copied told =
-        let stops = told.0 in (short stops, near new.offset (length stops.before + stops.consumed) (omega (arith, start, stops.offset)) told.1)
+        let stop = told.0.stop in (short told.0, near new.offset (length stop.before + stop.consumed) (omega (arith, start, told.0.offset)) told.1)
     raw_stopped (r.Read e.Waiting) copied told = absurd told
-    raw_stopped (r.Write fault) copied told = record {
-      before = told.before;
-      marks = told.marks;
-      read = told.read;
-      more = told.more;
-      rest = told.rest;
-      belongs = told.belongs;
-      is = told.is;
-      kept = told.kept;
-      output = gets _ told.output;
-    }
+    raw_stopped (r.Write fault) copied told = record { stop = told.stop; output = gets _ told.output }

@@ -1,15 +1,14 @@
 -- What a copy of elements between a reader and a writer of std does, where both tell their bytes.
 --
 -- `got writer bytes` says what the writer has where the copy stopped, and `left reader bytes` what the reader has still.
-use Rattle.std.specs.Prelude.{◌≡◌, ℕ, ◌+◌, ◌≤◌, ◌⊎◌, List, [], ◌++◌, length, take, drop, Option, Some, Result, Ok, Err}
+use Rattle.std.specs.Prelude.{◌≡◌, ℕ, ◌+◌, ◌≤◌, List, ◌++◌, length, drop, Option, Some, Result, Ok, Err}
 use Rattle.ciborium_ll.specs.declared.dec.Error.TheVariants as e
 use Rattle.ciborium_ll.specs.declared.recode.RecodeError.{RecodeError}
 use Rattle.ciborium_ll.specs.declared.recode.RecodeError.TheVariants as r
-use Rattle.ciborium_ll.specs.Elements.{Mark, spelling, IsRun}
-use Rattle.ciborium_ll.specs.Faults.{Place, Reaches, Syntax, RunInFront, HasFault}
+use Rattle.ciborium_ll.specs.Elements.{spelling}
+use Rattle.ciborium_ll.specs.Faults.{Syntax, RunInFront, HasFault}
 use Rattle.ciborium_ll.specs.Decoding.{offset_limit}
-use Rattle.ciborium_ll.specs.Recoding.{IsUnderWay}
-use Rattle.ciborium_ll.specs.RecodingTold.{StopsAt}
+use Rattle.ciborium_ll.specs.RecodingTold.{StopInReading, StopInWriting}
 
 -- the bytes are told, and are just these
 abbrev pub Tells : {T : Type 0} → (T → Option (List ℕ)) → T → List ℕ → Type 0
@@ -24,30 +23,15 @@ abbrev pub Untold : {T : Type 0} → T → List ℕ → Type 0
 Untold value bytes = Unit {0}
 
 module _ {W : Type 0} (got : W → List ℕ → Type 0) where
-  -- the reader failed or the offset was full behind a part of the elements: the writer got the spelling of that part
+  -- the reader failed or the offset was full: the writer got the spelling of a part of the elements
   pub record ReadsShort (count : ℕ) (due written : List ℕ) (writer : W) : Type 0 where
-    pub before : List ℕ
-    pub marks : List Mark
-    pub place : Place
-    pub ahead : List ℕ
-    pub more : List ℕ
-    pub consumed : ℕ
-    pub reach : Reaches count before marks place
-    pub is : due ≡ before ++ ahead
-    pub stop : StopsAt place ahead more consumed
-    pub output : got writer (written ++ (spelling marks ++ more))
+    pub stop : StopInReading count due
+    pub output : got writer (written ++ stop.written)
 
   -- the writer failed: it got a beginning of the spelling of all elements, or of a part of them
   pub record WritesShort (count : ℕ) (due written : List ℕ) (writer : W) : Type 0 where
-    pub before : List ℕ
-    pub marks : List Mark
-    pub read : List ℕ
-    pub more : List ℕ
-    pub rest : List ℕ
-    pub belongs : (IsRun count before marks × (more ≡ []) × (read ≡ [])) ⊎ ((place : Place) × Reaches count before marks place × IsUnderWay place more read)
-    pub is : due ≡ (before ++ read) ++ rest
-    pub kept : ℕ
-    pub output : got writer (written ++ take kept (spelling marks ++ more))
+    pub stop : StopInWriting count due
+    pub output : got writer (written ++ stop.written)
 
 module _ {R W : Type 0} (left : R → List ℕ → Type 0) (got : W → List ℕ → Type 0) where
   -- a syntax stopped the copy: the writer got what stands before that fault, and what is behind it is left
@@ -70,6 +54,6 @@ module _ {R W E F : Type 0} (left : R → List ℕ → Type 0) (contents : W →
   CopiesRaw count due written (Err (r.Read (e.Io fault))) reader writer = ReadsShort got count due written writer
   CopiesRaw count due written (Err (r.Read (e.Syntax place))) reader writer = MeetsSyntax left got count place due written reader writer
   CopiesRaw count due written (Err (r.Read e.TooLong)) reader writer =
-      (short : ReadsShort got count due written writer) × (offset_limit ≤ length short.before + short.consumed + 64)
+      (short : ReadsShort got count due written writer) × (offset_limit ≤ length short.stop.before + short.stop.consumed + 64)
   CopiesRaw count due written (Err (r.Read e.Waiting)) reader writer = ⊥
   CopiesRaw count due written (Err (r.Write fault)) reader writer = WritesShort got count due written writer
