@@ -55,11 +55,12 @@ impl<R: Read> From<R> for Decoder<R> {
 }
 
 impl<R: Read> Decoder<R> {
-    ghost use Rattle.std.specs.Prelude.{◌<◌, ◌^◌, IsTrue, ◌↔◌, None, IsErrOf};
+    ghost use Rattle.std.specs.Prelude.{◌<◌, ◌^◌, IsTrue, ◌↔◌, None, Some, Err, IfOk, MatchResult, IsErrOf};
     ghost use Rattle.ciborium_ll.specs.declared.seg.Progress.TheVariants.{Open};
-    ghost use Rattle.ciborium_ll.specs.Title.{title_len};
+    ghost use Rattle.ciborium_ll.specs.Title.{title_len, IsTitle};
+    ghost use Rattle.ciborium_ll.specs.Parts.{IsParts, title_bytes};
     ghost use Rattle.ciborium_ll.specs.Strings.{kind_header};
-    ghost use Rattle.ciborium_ll.specs.Decoding.{IsFresh, IsSteady, IsWaiting, PullsHeader, ReadsBytes, ReadsMinor, TakesBack, offset_of, reader_of, refusals_of, waiting_of};
+    ghost use Rattle.ciborium_ll.specs.Decoding.{IsFresh, IsSteady, IsWaiting, PullsHeader, PullsTitle, ReadsBytes, ReadsMinor, TakesBack, offset_of, reader_of, refusals_of, waiting_of};
 
     /// A decoder that counts from this offset, in bytes.
     pub fn with_offset(reader: R, offset: usize) -> Decoder<R>
@@ -107,9 +108,24 @@ impl<R: Read> Decoder<R> {
         ensures steady { IsSteady R.Read self.old → IsSteady R.Read self.new }
         ensures refusals { refusals_of self.new ≡ refusals_of self.old }
     {
-        if let Some(header) = self.waiting.take() {
-            self.offset += header.title_len();
-            return Ok(header);
+        match self.pull_title() {
+            Ok((header, _title)) => Ok(header),
+            Err(error) => Err(error),
+        }
+    }
+
+    /// Takes the next header, and a title of it in its parts.
+    #[inline(always)]
+    pub(crate) fn pull_title(&mut self) -> Result<(Header, Title), Error<R::Error>>
+        ensures header { MatchResult result (λ pulled. PullsTitle R.Read self.old pulled.0 self.new) (λ error. PullsHeader R.Read self.old (Err error) self.new) }
+        ensures parts { IfOk result (λ pulled. IsParts pulled.1) }
+        ensures title { IfOk result (λ pulled. IsTitle (title_bytes pulled.1) pulled.0) }
+        ensures full { waiting_of self.old ≡ None → offset_of self.old ≡ usize.MAX → IsErrOf result Error.TooLong }
+        ensures steady { IsSteady R.Read self.old → IsSteady R.Read self.new }
+        ensures refusals { refusals_of self.new ≡ refusals_of self.old }
+    {
+        if let Some(header) = self.waiting {
+            return Ok(self.pull_waiting(header));
         }
         let start = self.offset;
         let mut first = [0; 1];
@@ -122,9 +138,25 @@ impl<R: Read> Decoder<R> {
             minor,
         };
         match title.header() {
-            Some(header) => Ok(header),
+            Some(header) => Ok((header, title)),
             None => Err(Error::Syntax(start)),
         }
+    }
+
+    /// Takes the header that waits, and its shortest title.
+    #[cold]
+    #[inline(never)]
+    fn pull_waiting(&mut self, header: Header) -> (Header, Title)
+        requires waits { waiting_of self.old ≡ Some header }
+        ensures header { PullsTitle R.Read self.old result.0 self.new }
+        ensures parts { IsParts result.1 }
+        ensures title { IsTitle (title_bytes result.1) result.0 }
+        ensures steady { IsSteady R.Read self.old → IsSteady R.Read self.new }
+        ensures refusals { refusals_of self.new ≡ refusals_of self.old }
+    {
+        self.waiting = None;
+        self.offset += header.title_len();
+        (header, header.shortest())
     }
 
     /// Gives a header back, to be pulled next. The offset falls by the length of its shortest title.
@@ -182,6 +214,7 @@ impl<R: Read> Decoder<R> {
     }
 
     /// Reads the affix that a minor announces, or nothing for a reserved one.
+    #[inline(always)]
     fn minor(&mut self, bits: u8) -> Result<Option<Minor>, Error<R::Error>>
         requires bits { bits < 32 }
         requires none_waits { waiting_of self.old ≡ None }
@@ -192,22 +225,22 @@ impl<R: Read> Decoder<R> {
         Ok(Some(match bits {
             0..=23 => {
                 self.read(&mut [])?;
-                Minor::Small(bits)
+                Minor::Small(u64::from(bits))
             }
             24 => {
                 let mut affix = [0; 1];
                 self.read(&mut affix)?;
-                Minor::One(one(affix))
+                Minor::One(u64::from(one(affix)))
             }
             25 => {
                 let mut affix = [0; 2];
                 self.read(&mut affix)?;
-                Minor::Two(two(affix))
+                Minor::Two(u64::from(two(affix)))
             }
             26 => {
                 let mut affix = [0; 4];
                 self.read(&mut affix)?;
-                Minor::Four(four(affix))
+                Minor::Four(u64::from(four(affix)))
             }
             27 => {
                 let mut affix = [0; 8];
@@ -223,6 +256,7 @@ impl<R: Read> Decoder<R> {
     }
 
     /// Reads bytes while no header waits.
+    #[inline(always)]
     pub(crate) fn read(&mut self, data: &mut [u8]) -> Result<(), Error<R::Error>>
         requires { waiting_of self.old ≡ None }
         ensures bytes { ReadsBytes R.Read self.old result «data».new self.new }

@@ -2,7 +2,7 @@
 
 mod values;
 
-use crate::hdr::{Header, Minor};
+use crate::hdr::{Header, Minor, Title};
 use crate::io::Write;
 
 /// Writes headers, each as its shortest title, and values of bytes and of text.
@@ -50,7 +50,7 @@ impl<W: Write> Write for Encoder<W> {
 impl<W: Write> Encoder<W> {
     ghost use Rattle.std.specs.Prelude.{◌≡◌, ◌<◌, ◌⊎◌, ℕ, List, length};
     ghost use Rattle.ciborium_ll.specs.Title.{IsTitle, shortest_title};
-    ghost use Rattle.ciborium_ll.specs.Parts.{minor_affix};
+    ghost use Rattle.ciborium_ll.specs.Parts.{IsMinor, IsParts, minor_affix, title_bytes};
     ghost use Rattle.ciborium_ll.specs.Encoding.{WritesBytes, writer_of};
 
     /// The writer.
@@ -69,20 +69,30 @@ impl<W: Write> Encoder<W> {
         ensures shortest { (other : List ℕ) → IsTitle other header
             → (other ≡ shortest_title header) ⊎ (length (shortest_title header) < length other) }
     {
-        let title = header.shortest();
+        self.push_title(header.shortest())
+    }
+
+    /// Writes a title, as its first byte and its affix.
+    #[inline(always)]
+    pub(crate) fn push_title(&mut self, title: Title) -> Result<(), W::Error>
+        requires { IsParts title }
+        ensures { WritesBytes W.Write (writer_of self.old) result (title_bytes title) (writer_of self.new) }
+    {
         self.writer.write_all(&[title.first_byte()])?;
         self.affix(title.minor)
     }
 
     /// Writes the bytes behind a first byte.
+    #[inline(always)]
     fn affix(&mut self, minor: Minor) -> Result<(), W::Error>
+        requires { IsMinor minor }
         ensures { WritesBytes W.Write (writer_of self.old) result (minor_affix minor) (writer_of self.new) }
     {
         match minor {
             Minor::Small(_) | Minor::Open => self.writer.write_all(&[]),
-            Minor::One(n) => self.writer.write_all(&n.to_be_bytes()),
-            Minor::Two(n) => self.writer.write_all(&n.to_be_bytes()),
-            Minor::Four(n) => self.writer.write_all(&n.to_be_bytes()),
+            Minor::One(n) => self.writer.write_all(&(n as u8).to_be_bytes()),
+            Minor::Two(n) => self.writer.write_all(&(n as u16).to_be_bytes()),
+            Minor::Four(n) => self.writer.write_all(&(n as u32).to_be_bytes()),
             Minor::Eight(n) => self.writer.write_all(&n.to_be_bytes()),
         }
     }

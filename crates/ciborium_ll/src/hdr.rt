@@ -1,6 +1,6 @@
 //! Headers, and the parts of a title.
 
-ghost use Rattle.std.specs.Prelude.{◌≡◌, ◌+◌, ◌*◌, ◌<◌, length, IfSome, IfNone, [], ◌∷◌};
+ghost use Rattle.std.specs.Prelude.{ℕ, ◌≡◌, ◌+◌, ◌*◌, ◌<◌, length, IfSome, IfNone, [], ◌∷◌};
 ghost use Rattle.ciborium_ll.specs.Title.{IsInRange, IsTitle, IsNeverOpen, Major, least_size, minor_of, affix_of, shortest_title, title_len, shortest_with_length, major_code};
 ghost use Rattle.ciborium_ll.specs.Parts.{IsMinor, IsParts, minor_affix, minor_code, minor_number, parts_bytes, parts_first, title_bytes};
 
@@ -48,13 +48,13 @@ pub enum Header {
 #[derive(Clone, Copy)]
 pub(crate) enum Minor {
     /// The number itself, below 24.
-    Small(u8),
+    Small(u64),
     /// A number in one byte behind.
-    One(u8),
+    One(u64),
     /// A number in two bytes behind.
-    Two(u16),
+    Two(u64),
     /// A number in four bytes behind.
-    Four(u32),
+    Four(u64),
     /// A number in eight bytes behind.
     Eight(u64),
     /// No number: an indefinite form or a break.
@@ -67,10 +67,9 @@ impl Minor {
         ensures { result ≡ minor_number self }
     {
         match self {
-            Minor::Small(n) | Minor::One(n) => Some(u64::from(n)),
-            Minor::Two(n) => Some(u64::from(n)),
-            Minor::Four(n) => Some(u64::from(n)),
-            Minor::Eight(n) => Some(n),
+            Minor::Small(n) | Minor::One(n) | Minor::Two(n) | Minor::Four(n) | Minor::Eight(n) => {
+                Some(n)
+            }
             Minor::Open => None,
         }
     }
@@ -82,13 +81,13 @@ impl Minor {
         ensures affix { minor_affix result ≡ affix_of (least_size number) number }
     {
         if number < 24 {
-            Minor::Small(number as u8)
+            Minor::Small(number)
         } else if number < 0x100 {
-            Minor::One(number as u8)
+            Minor::One(number)
         } else if number < 0x1_0000 {
-            Minor::Two(number as u16)
+            Minor::Two(number)
         } else if number < 0x1_0000_0000 {
-            Minor::Four(number as u32)
+            Minor::Four(number)
         } else {
             Minor::Eight(number)
         }
@@ -112,12 +111,38 @@ impl Minor {
         ensures bits { result < 32 }
     {
         match self {
-            Minor::Small(n) => n,
+            Minor::Small(n) => n as u8,
             Minor::One(_) => 24,
             Minor::Two(_) => 25,
             Minor::Four(_) => 26,
             Minor::Eight(_) => 27,
             Minor::Open => 31,
+        }
+    }
+
+    /// The smallest form of what this one means under the major type 7.
+    #[inline(always)]
+    fn shortest_other(self) -> Minor
+        requires { IsMinor self }
+        ensures minor { IsMinor result }
+        ensures bytes { (header : Header) → IsTitle (parts_bytes 7 self) header → parts_bytes 7 result ≡ shortest_title header }
+    {
+        match self {
+            Minor::Small(n) | Minor::One(n) => Minor::holding(n),
+            _ => self,
+        }
+    }
+
+    /// The smallest form of what this one means under the other major types.
+    #[inline(always)]
+    fn shortest_number(self) -> Minor
+        requires { IsMinor self }
+        ensures minor { IsMinor result }
+        ensures bytes { (major : ℕ) (header : Header) → major < 7 → IsTitle (parts_bytes major self) header → parts_bytes major result ≡ shortest_title header }
+    {
+        match self.number() {
+            Some(n) => Minor::holding(n),
+            None => Minor::Open,
         }
     }
 
@@ -172,6 +197,25 @@ impl Title {
             _ => other_header(self.minor),
         })
     }
+
+    /// The shortest title of what this one means, which is no float.
+    #[inline(always)]
+    pub(crate) fn shortest(self, header: Header) -> Title
+        requires parts { IsParts self }
+        requires title { IsTitle (title_bytes self) header }
+        ensures parts { IsParts result }
+        ensures bytes { title_bytes result ≡ shortest_title header }
+    {
+        let minor = if self.major == 7 {
+            self.minor.shortest_other()
+        } else {
+            self.minor.shortest_number()
+        };
+        Title {
+            major: self.major,
+            minor,
+        }
+    }
 }
 
 /// What the minor 31 means.
@@ -196,9 +240,9 @@ fn other_header(minor: Minor) -> Header
     ensures { IsTitle (parts_bytes 7 minor) result }
 {
     match minor {
-        Minor::Small(n) | Minor::One(n) => Header::Simple(n),
-        Minor::Two(n) => Header::Float(Float::Half(n)),
-        Minor::Four(n) => Header::Float(Float::Single(n)),
+        Minor::Small(n) | Minor::One(n) => Header::Simple(n as u8),
+        Minor::Two(n) => Header::Float(Float::Half(n as u16)),
+        Minor::Four(n) => Header::Float(Float::Single(n as u32)),
         Minor::Eight(n) => Header::Float(Float::Double(n)),
         Minor::Open => Header::Break,
     }
@@ -206,6 +250,7 @@ fn other_header(minor: Minor) -> Header
 
 impl Header {
     /// The length in bytes of the header's shortest title, from 1 to 9.
+    #[inline(always)]
     pub fn title_len(&self) -> usize
         ensures value { result ≡ title_len self.now }
         ensures least { 0 < result }
@@ -216,6 +261,7 @@ impl Header {
     }
 
     /// The shortest title in its parts.
+    #[inline(always)]
     pub(crate) fn shortest(self) -> Title
         ensures parts { IsParts result }
         ensures bytes { title_bytes result ≡ shortest_title self }
@@ -230,8 +276,8 @@ impl Header {
             Header::Map(length) => (5, Minor::holding_length(length)),
             Header::Tag(n) => (6, Minor::holding(n)),
             Header::Simple(n) => (7, Minor::holding(u64::from(n))),
-            Header::Float(Float::Half(bits)) => (7, Minor::Two(bits)),
-            Header::Float(Float::Single(bits)) => (7, Minor::Four(bits)),
+            Header::Float(Float::Half(bits)) => (7, Minor::Two(u64::from(bits))),
+            Header::Float(Float::Single(bits)) => (7, Minor::Four(u64::from(bits))),
             Header::Float(Float::Double(bits)) => (7, Minor::Eight(bits)),
             Header::Break => (7, Minor::Open),
         };

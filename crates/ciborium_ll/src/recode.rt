@@ -26,6 +26,7 @@ pub enum RecodeError<E, F> {
 }
 
 /// Copies the body of a segment, each chunk as soon as it is handed out.
+#[inline(always)]
 fn copy_body<R: Read, W: Write, P: Chunked>(
     segment: &mut Segment<'_, R, P>,
     encoder: &mut Encoder<W>,
@@ -53,6 +54,7 @@ fn copy_body<R: Read, W: Write, P: Chunked>(
 }
 
 /// Writes a header.
+#[inline(always)]
 fn write_header<E, W: Write>(
     encoder: &mut Encoder<W>,
     header: Header,
@@ -66,6 +68,7 @@ fn write_header<E, W: Write>(
 }
 
 /// Copies a string of a definite length, behind its header.
+#[inline(always)]
 fn copy_definite<R: Read, W: Write, P: Chunked>(
     decoder: &mut Decoder<R>,
     encoder: &mut Encoder<W>,
@@ -81,15 +84,12 @@ fn copy_definite<R: Read, W: Write, P: Chunked>(
     ensures refusals { refusals_of decoder.new ≡ refusals_of decoder.old }
 {
     write_header::<R::Error, W>(encoder, P::header(Some(len)))?;
-    let mut segments = decoder.string::<P>(Some(len));
-    match segments.advance() {
-        Ok(Some(body)) => {
-            let mut segment = Segment::<R, P>::new(&mut *segments.reader, body);
-            copy_body(&mut segment, encoder, body, buffer)
-        }
-        Ok(None) => unreachable!(),
-        Err(error) => Err(RecodeError::Read(error)),
-    }
+    let body = Body {
+        length: len,
+        place: decoder.offset() - P::header(Some(len)).title_len(),
+    };
+    let mut segment = Segment::<R, P>::new(decoder, body);
+    copy_body(&mut segment, encoder, body, buffer)
 }
 
 /// Copies a string of indefinite length, behind its open.
@@ -150,8 +150,8 @@ fn copy_element<R: Read, W: Write>(
     ensures steady { IsSteady R.Read decoder.old → IsSteady R.Read decoder.new }
     ensures refusals { refusals_of decoder.new ≡ refusals_of decoder.old }
 {
-    let header = match decoder.pull() {
-        Ok(header) => header,
+    let (header, title) = match decoder.pull_title() {
+        Ok(pulled) => pulled,
         Err(error) => return Err(RecodeError::Read(error)),
     };
     match header {
@@ -161,7 +161,10 @@ fn copy_element<R: Read, W: Write>(
         Header::Bytes(None) => copy_indefinite::<R, W, Bytes>(decoder, encoder, buffer),
         Header::Text(Some(length)) => copy_definite::<R, W, Text>(decoder, encoder, length, buffer),
         Header::Text(None) => copy_indefinite::<R, W, Text>(decoder, encoder, buffer),
-        _ => write_header(encoder, header),
+        _ => match encoder.push_title(title.shortest(header)) {
+            Ok(()) => Ok(()),
+            Err(fault) => Err(RecodeError::Write(fault)),
+        },
     }
 }
 

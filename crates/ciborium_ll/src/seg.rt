@@ -128,6 +128,7 @@ impl<'r, R: Read, P: Parser> Segments<'r, R, P> {
     /// not stand there or is none, which stays; `Io` where the reader failed, and `TooLong` where the offset can't
     /// take the next read: the opens so far stay counted, and the next call reads on; and `TooLong` for an open that
     /// can't be counted, which stays. An answer that stays reads nothing.
+    #[inline(always)]
     pub fn advance(&mut self) -> Result<Option<Body>, Error<R::Error>>
         ensures same_reference { self.new.reader.ghost_name ≡ self.old.reader.ghost_name }
         ensures advances { AdvancesTo R.Read P.kind self.old.progress self.old.reader.now result
@@ -184,6 +185,7 @@ impl<'r, R: Read, P: Parser> Segments<'r, R, P> {
     }
 
     /// Pulls one title, with so many opens that aren't closed.
+    #[inline(always)]
     fn step(&mut self, opens: usize) -> Result<Option<Body>, Error<R::Error>>
         requires { self.old.progress ≡ Open opens }
         ensures same_reference { self.new.reader.ghost_name ≡ self.old.reader.ghost_name }

@@ -21,10 +21,3 @@ returns-in-Small c =
       | inl e ↦ rw e (numbered Other Small c.in-Small.n (rw e at c.requires))
       | inr e ↦ rw e (numbered Other One c.in-Small.n (rw e at c.requires))
     ]
-
-pub returns-in-Small-2 : goal.returns-in-Small-2
-returns-in-Small-2 c =
-    elim c.in-Small.is [
-      | inl e ↦ rw e (numbered Other Small c.in-Small.n (rw e at c.requires))
-      | inr e ↦ rw e (numbered Other One c.in-Small.n (rw e at c.requires))
-    ]

@@ -1,28 +1,11 @@
-use Rattle.std.proofs.Common.{ap, ◌∙◌, subst, List, ℕ, [], ◌∷◌}
-use Rattle.ciborium_ll.specs.Parts.{minor_affix}
+use Rattle.std.proofs.Common.{subst, List, ℕ}
 use Rattle.ciborium_ll.specs.Encoding.{WritesBytes}
-use Rattle.ciborium_ll.proofs.EncodingLaws.{WritesBytes-stopped, WritesBytes-then}
 use Rattle.ciborium_ll.proofs.TitleLaws.{shortest_or_longer}
 use Rattle.ciborium_ll.proofs.enc.Encoder.push.Goals as goal
 
-pub returns-in_err-write_all-clause-title : goal.returns-in_err-write_all-clause-title
-returns-in_err-write_all-clause-title g c =
-    let affix = minor_affix c.shortest-title.result.minor in
-    let whole = ap (λ byte. byte ∷ affix) c.first_byte.ensures ∙ c.shortest-title.ensures.bytes in
-    let written = c.in_err-write_all.ensures in
-    subst (λ (bytes : List ℕ). WritesBytes g.W.Write c.args.self.now.writer c.from_residual.result bytes c.write_all.new.self) whole
-    (WritesBytes-stopped g.W.Write _ _ _ (c.first_byte.result ∷ []) affix c.from_residual.ensures.0 (record { front = written.front; full = written.full; failures = written.err }))
-
 pub returns-clause-title : goal.returns-clause-title
 returns-clause-title g c =
-    let affix = minor_affix c.shortest-title.result.minor in
-    let whole = ap (λ byte. byte ∷ affix) c.first_byte.ensures ∙ c.shortest-title.ensures.bytes in
-    let written = c.in_ok-write_all.ensures in
-    subst (λ (bytes : List ℕ). WritesBytes g.W.Write c.args.self.now.writer c.affix.result bytes c.affix.new.self.writer) whole
-    (WritesBytes-then g.W.Write _ _ _ _ (c.first_byte.result ∷ []) affix (record { appended = written.bytes; room = written.fills; failures = written.ok }) c.affix.ensures)
-
-pub returns-in_err-write_all-clause-shortest : goal.returns-in_err-write_all-clause-shortest
-returns-in_err-write_all-clause-shortest g c = shortest_or_longer c.args.header
+    subst (λ (bytes : List ℕ). WritesBytes g.W.Write c.args.self.now.writer c.push_title.result bytes c.push_title.new.self.writer) c.shortest.ensures.bytes c.push_title.ensures
 
 pub returns-clause-shortest : goal.returns-clause-shortest
 returns-clause-shortest g c = shortest_or_longer c.args.header
