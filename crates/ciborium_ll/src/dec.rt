@@ -114,10 +114,12 @@ impl<R: Read> Decoder<R> {
         }
     }
 
-    /// Takes the next header, and a title of it in its parts.
+    /// Takes the next header, and a title of it in its parts: the one that was read, or of a waiting header the
+    /// shortest.
     #[inline(always)]
     pub(crate) fn pull_title(&mut self) -> Result<(Header, Title), Error<R::Error>>
-        ensures header { MatchResult result (λ pulled. PullsTitle R.Read self.old pulled.0 self.new) (λ error. PullsHeader R.Read self.old (Err error) self.new) }
+        ensures header { MatchResult result (λ pulled. PullsTitle R.Read self.old pulled.0 self.new)
+            (λ error. PullsHeader R.Read self.old (Err error) self.new) }
         ensures parts { IfOk result (λ pulled. IsParts pulled.1) }
         ensures title { IfOk result (λ pulled. IsTitle (title_bytes pulled.1) pulled.0) }
         ensures full { waiting_of self.old ≡ None → offset_of self.old ≡ usize.MAX → IsErrOf result Error.TooLong }
@@ -143,7 +145,7 @@ impl<R: Read> Decoder<R> {
         }
     }
 
-    /// Takes the header that waits, and its shortest title.
+    /// Takes the header that waits, and its shortest title. It is kept apart from the path of a title that is read.
     #[cold]
     #[inline(never)]
     fn pull_waiting(&mut self, header: Header) -> (Header, Title)

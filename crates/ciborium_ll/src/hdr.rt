@@ -45,6 +45,8 @@ pub enum Header {
 }
 
 /// The lower five bits of a first byte, with the number that they hold or announce.
+///
+/// Each variant has its number as a `u64`, so that a `Minor` is a variant and one number, whichever the variant is.
 #[derive(Clone, Copy)]
 pub(crate) enum Minor {
     /// The number itself, below 24.
@@ -120,12 +122,14 @@ impl Minor {
         }
     }
 
-    /// The smallest form of what this one means under the major type 7.
+    /// The smallest form of what this one means under the major type 7: a simple value is a number, and a float and
+    /// the break stay.
     #[inline(always)]
     fn shortest_other(self) -> Minor
         requires { IsMinor self }
         ensures minor { IsMinor result }
-        ensures bytes { (header : Header) → IsTitle (parts_bytes 7 self) header → parts_bytes 7 result ≡ shortest_title header }
+        ensures bytes { (header : Header) → IsTitle (parts_bytes 7 self) header
+            → parts_bytes 7 result ≡ shortest_title header }
     {
         match self {
             Minor::Small(n) | Minor::One(n) => Minor::holding(n),
@@ -133,12 +137,13 @@ impl Minor {
         }
     }
 
-    /// The smallest form of what this one means under the other major types.
+    /// The smallest form of what this one means under the other major types, where it holds a number.
     #[inline(always)]
     fn shortest_number(self) -> Minor
         requires { IsMinor self }
         ensures minor { IsMinor result }
-        ensures bytes { (major : ℕ) (header : Header) → major < 7 → IsTitle (parts_bytes major self) header → parts_bytes major result ≡ shortest_title header }
+        ensures bytes { (major : ℕ) (header : Header) → major < 7 → IsTitle (parts_bytes major self) header
+            → parts_bytes major result ≡ shortest_title header }
     {
         match self.number() {
             Some(n) => Minor::holding(n),
@@ -198,7 +203,8 @@ impl Title {
         })
     }
 
-    /// The shortest title of what this one means, which is no float.
+    /// The shortest title of the header that this one means. It is made of the parts alone, so a copy need not tell
+    /// the kinds of headers apart. A float keeps its width.
     #[inline(always)]
     pub(crate) fn shortest(self, header: Header) -> Title
         requires parts { IsParts self }

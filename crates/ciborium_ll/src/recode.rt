@@ -84,6 +84,7 @@ fn copy_definite<R: Read, W: Write, P: Chunked>(
     ensures refusals { refusals_of decoder.new ≡ refusals_of decoder.old }
 {
     write_header::<R::Error, W>(encoder, P::header(Some(len)))?;
+    // What `advance` would answer for the header pushed back, which counts as its shortest title.
     let body = Body {
         length: len,
         place: decoder.offset() - P::header(Some(len)).title_len(),
@@ -161,6 +162,7 @@ fn copy_element<R: Read, W: Write>(
         Header::Bytes(None) => copy_indefinite::<R, W, Bytes>(decoder, encoder, buffer),
         Header::Text(Some(length)) => copy_definite::<R, W, Text>(decoder, encoder, length, buffer),
         Header::Text(None) => copy_indefinite::<R, W, Text>(decoder, encoder, buffer),
+        // What `push` of the header would write, without a look at which header it is.
         _ => match encoder.push_title(title.shortest(header)) {
             Ok(()) => Ok(()),
             Err(fault) => Err(RecodeError::Write(fault)),
