@@ -1,7 +1,7 @@
 -- A value written piece by piece.
-use Rattle.std.proofs.Common.{◌≡◌, ℕ, ◌+◌, ◌<◌, ◌≤◌, max, List, [], ◌∷◌, ◌++◌, length, take, drop, Option, Some, None, Result, Ok, Err, IsErr, OnOk, Bool, true, false, IsTrue, sym, ap, ◌∙◌, subst, inl, inr, arith, append_assoc}
+use Rattle.std.proofs.Common.{◌≡◌, ℕ, zero, suc, get_or, ◌+◌, ◌<◌, ◌≤◌, max, List, [], ◌∷◌, ◌++◌, length, take, drop, Option, Some, None, Result, Ok, Err, IsErr, OnOk, sym, ap, ◌∙◌, subst, inl, inr, arith, append_assoc}
 use Rattle.std.proofs.lemmas.Bool.{cases_lt}
-use Rattle.std.proofs.lemmas.List.{append-nil, take-append-drop, length-take-le}
+use Rattle.std.proofs.lemmas.List.{append-nil, take-append-drop, length-take-le, length-drop}
 use Rattle.std.proofs.lemmas.Str.{IsUtf8-take, IsUtf8-drop, IsCharBoundary-past_char, IsCharBoundary-start, length-encode}
 use Rattle.std.proofs.Math.Utf8.{encode}
 use Rattle.std.specs.Option.{unwrap_or}
@@ -9,7 +9,7 @@ use Rattle.std.specs.Str.{IsUtf8, IsCharBoundary}
 use Rattle.ciborium_ll.specs.declared.io.Write.{Ghosts}
 use Rattle.ciborium_ll.specs.Title.{shortest_title}
 use Rattle.ciborium_ll.specs.Strings.{Kind, Bytes, Text, kind_header}
-use Rattle.ciborium_ll.specs.Text.{joined, IsCharacter}
+use Rattle.ciborium_ll.specs.Text.{joined, IsCharacter, IsTail}
 use Rattle.ciborium_ll.specs.Elements.{IsSound, Whole, body_spelling, spelling, pieces, open_marks}
 use Rattle.ciborium_ll.specs.Cuts.{IsFilled, AreFilled}
 use Rattle.ciborium_ll.specs.Values.{least_limit, value_limit, ArePieces, in_one, in_pieces}
@@ -52,17 +52,6 @@ next_place text character rest n u b p e =
     subst (λ (z : ℕ). IsCharBoundary text (n + z)) (sym (length-encode w.char) ∙ ap length w.is)
     (IsCharBoundary-past_char text rest n w.char b.0 (IsUtf8-drop text n u b) same)
 
--- what is no place isn't the start
-pub past_start : (text : List ℕ) (n : ℕ) (found : Bool) → IsUtf8 text → (IsCharBoundary text n → IsTrue found) → found ≡ false → 0 < n
-past_start text n found u test missed =
-    elim (cases_lt 0 n) [
-      | inl some ↦ some
-      | inr none ↦
-          (let at : 0 ≡ n = omega arith in
-          let hit : found ≡ true = test (subst (IsCharBoundary text) at (IsCharBoundary-start text u)) in
-          absurd (cc (missed, hit)))
-    ]
-
 -- no place behind n is within the limit
 abbrev pub IsLastWithin : ℕ → List ℕ → ℕ → Type 0
 IsLastWithin limit text n = (other : ℕ) → n < other → other ≤ limit → ¬ (IsCharBoundary text other)
@@ -75,6 +64,33 @@ some_within limit text n u l four last =
     elim (cases_lt 0 n) [
       | inl some ↦ some
       | inr none ↦ absurd (last (0 + length s.char) (omega (arith, m.0)) (omega (arith, m.1)) (next_place text s.char s.rest 0 u (IsCharBoundary-start text u) s.ok s.is))
+    ]
+
+-- no text begins with a later byte of a character
+pub past_tail : (text : List ℕ) (n : ℕ) → IsUtf8 text → n < length text → IsTail (get_or text n 0) → 0 < n
+past_tail text zero u l tail = let start = IsCharBoundary-start text u in absurd (omega (arith, start.1 l tail.0, tail.1))
+past_tail text (suc n) u l tail = omega arith
+
+-- where no later byte of a character stands is a place
+pub at_no_tail : (text : List ℕ) (n : ℕ) → n ≤ length text → ¬ (IsTail (get_or text n 0)) → IsCharBoundary text n
+at_no_tail text n within none = (
+  within,
+  λ l above. elim (cases_lt (get_or text n 0) 192) [
+    | inl below ↦ absurd (none (above, omega arith))
+    | inr lead ↦ lead
+  ],
+)
+
+-- the last place within the limit is at most three bytes in front of it
+pub near_limit : (limit : ℕ) (text : List ℕ) (n : ℕ) → IsUtf8 text → IsCharBoundary text n → n ≤ limit → limit < length text
+    → IsLastWithin limit text n → limit ≤ n + 3
+near_limit limit text n u b within longer last =
+    let left : 0 < length (drop n text) = omega (arith, length-drop n text) in
+    let s = starts (drop n text) (from_std (drop n text) (IsUtf8-drop text n u b)) left in
+    let m = character_length s.char s.ok in
+    elim (cases_lt limit (n + length s.char)) [
+      | inl cut ↦ omega (arith, m.1)
+      | inr fits ↦ absurd (last (n + length s.char) (omega (arith, m.0)) fits (next_place text s.char s.rest n u b s.ok s.is))
     ]
 
 -- the first character behind the last place within the limit doesn't fit

@@ -1,9 +1,10 @@
 //! Values of bytes and of text, in pieces of limited length.
 
-ghost use Rattle.std.specs.Prelude.{◌<◌, ◌≤◌, ◌++◌, ℕ, length, OnOk};
+ghost use Rattle.std.specs.Prelude.{◌<◌, ◌≤◌, ◌+◌, ◌++◌, ◌↔◌, ℕ, length, IsTrue, OnOk};
 ghost use Rattle.std.specs.Str.{IsCharBoundary};
 ghost use Rattle.ciborium_ll.specs.Title.{shortest_title};
 ghost use Rattle.ciborium_ll.specs.Strings.{Bytes, Text};
+ghost use Rattle.ciborium_ll.specs.Text.{IsTail};
 ghost use Rattle.ciborium_ll.specs.Values.{value_limit};
 ghost use Rattle.ciborium_ll.specs.Encoding.{WritesBytes, WritesPieces, WritesValue, WritesFewest, writer_of};
 
@@ -93,17 +94,29 @@ impl<W: Write> Encoder<W> {
 }
 
 /// How many bytes the first piece of a text has that is longer than the limit.
+///
+/// The piece ends at the limit, or else in front of the character that lies across it. Such a character has at most
+/// three later bytes, so no more are stepped over, however long the text is.
 fn piece_len(text: &str, limit: usize) -> usize
     requires four { 4 ≤ limit }
     requires longer { limit < length text.now }
     ensures boundary { IsCharBoundary text.now result }
     ensures within { result ≤ limit }
     ensures some { 0 < result }
+    ensures back { limit ≤ result + 3 }
     ensures longest { (other : ℕ) → result < other → other ≤ limit → ¬ (IsCharBoundary text.now other) }
 {
+    let bytes = text.as_bytes();
     let mut len = limit;
-    'shorter: while !text.is_char_boundary(len) {
+    'shorter: while is_continuation(bytes[len]) {
         len -= 1;
     }
     len
+}
+
+/// Whether a byte stands behind the first one of a character (Unicode, Table 3-7).
+fn is_continuation(byte: u8) -> bool
+    ensures { IsTrue result ↔ IsTail byte }
+{
+    matches!(byte, 0x80..=0xbf)
 }

@@ -1,4 +1,4 @@
-use Rattle.std.proofs.Common.{rules, sym, ap, subst, ◌∙◌, ◌≡◌, ◌++◌, ◌+◌, ◌-◌, Err, Some, length, ℕ, arith}
+use Rattle.std.proofs.Common.{sym, ap, subst, ◌∙◌, ◌≡◌, ◌+◌, ◌-◌, Err, Some, length, arith}
 use Rattle.std.proofs.lemmas.Result.{err_from_is_err_and}
 use Rattle.ciborium_ll.specs.declared.dec.Decoder.{Decoder}
 use Rattle.ciborium_ll.specs.Recoding.{CopiesBody, GoesOn}

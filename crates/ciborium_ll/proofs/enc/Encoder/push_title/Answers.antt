@@ -1,4 +1,4 @@
-use Rattle.std.proofs.Common.{ap, ◌∙◌, subst, List, ℕ, [], ◌∷◌}
+use Rattle.std.proofs.Common.{ap, subst, List, ℕ, [], ◌∷◌}
 use Rattle.ciborium_ll.specs.Parts.{minor_affix}
 use Rattle.ciborium_ll.specs.Encoding.{WritesBytes}
 use Rattle.ciborium_ll.proofs.EncodingLaws.{WritesBytes-stopped, WritesBytes-then}

@@ -1,4 +1,3 @@
-use Rattle.std.proofs.Common.{rules}
 use Rattle.ciborium_ll.proofs.PartsLaws.{keeps_other, shortens_simple}
 use Rattle.ciborium_ll.proofs.hdr.Minor.shortest_other.Goals as goal
 
