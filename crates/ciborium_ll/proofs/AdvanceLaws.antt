@@ -1,15 +1,16 @@
 -- How the titles of a string lead on, one after the other.
-use Rattle.std.proofs.Common.{Some, ◌≡◌, ℕ, suc, ◌-◌, ◌<◌, ◌⊎◌, List, ◌++◌, Option, None, Result, Ok, refl, ap, subst, ◌∙◌, inl, inr, arith, add-one}
+use Rattle.std.proofs.Common.{Some, IsTrue, ◌≤◌, ◌≡◌, ℕ, suc, ◌+◌, ◌-◌, ◌<◌, ◌⊎◌, List, [], ◌++◌, length, Option, None, Result, Ok, refl, ap, subst, ◌∙◌, inl, inr, arith, add-one, length-append}
 use Rattle.ciborium_ll.specs.declared.io.Read.{Ghosts}
 use Rattle.ciborium_ll.specs.declared.dec.Decoder.{Decoder}
 use Rattle.ciborium_ll.specs.declared.dec.Error.{Error}
 use Rattle.ciborium_ll.specs.declared.seg.Body.{Body}
 use Rattle.ciborium_ll.specs.declared.seg.Progress.{Progress}
 use Rattle.ciborium_ll.specs.declared.seg.Progress.TheVariants as p
-use Rattle.ciborium_ll.specs.Strings.{Kind}
+use Rattle.ciborium_ll.specs.Strings.{Kind, kind_header}
 use Rattle.ciborium_ll.specs.Decoding.{IsSteady, Passes}
 use Rattle.ciborium_ll.specs.Segments.{Nests, in_place, deeper, back, AdvancesFrom, AdvancesTo, EndsAdvance, StepsOver, Deepens, ClosesInner}
 use Rattle.ciborium_ll.proofs.DecodingLaws.{Passes-none, Passes-pull}
+use Rattle.ciborium_ll.proofs.NestLaws.{alone_bytes, open_alone, open_length, nests_zero, nests_counted}
 
 two_or_more : (n : ℕ) → 1 < n → (m : ℕ) × (n ≡ suc (suc m))
 two_or_more n l = (n - 2, omega arith)
@@ -21,6 +22,7 @@ module _ {R E : Type 0} (source : Ghosts R E) (kind : Kind) where
     pub left : ℕ
     pub nests : Nests kind opens nest left
     pub passed : Passes source old nest now
+    pub shallow : IsTrue old.strict → opens ≤ 1 → opens + length nest ≤ 1
     pub is : progress ≡ p.Open left
 
   -- what the loop over titles keeps: they lead on or ended the string; and where it has an answer that stays, it is as before
@@ -31,7 +33,7 @@ module _ {R E : Type 0} (source : Ghosts R E) (kind : Kind) where
   Reached p.TooDeep old progress now = (progress ≡ p.TooDeep) × (now ≡ old)
 
   pub Reached-start : (progress : Progress) (decoder : Decoder R) → Reached progress decoder progress decoder
-  Reached-start (p.Open opens) decoder = inl (record { nest = _; left = opens; nests = in_place; passed = Passes-none source decoder; is = refl })
+  Reached-start (p.Open opens) decoder = inl (record { nest = _; left = opens; nests = in_place; passed = Passes-none source decoder; shallow = λ on few. omega (arith, few); is = refl })
   Reached-start p.Ended decoder = (refl, refl)
   Reached-start (p.Damaged place) decoder = (refl, refl)
   Reached-start p.TooDeep decoder = (refl, refl)
@@ -47,6 +49,12 @@ module _ {R E : Type 0} (source : Ghosts R E) (kind : Kind) where
         left = suc left;
         nests = deeper (subst (λ (z : ℕ). Nests kind opens led.nest z) same led.nests) step.pulled.is_title;
         passed = Passes-pull source old now new led.nest _ step.pulled led.passed steady;
+        shallow = λ on few.
+            let first = nests_zero kind opens led.nest led.left led.nests (same ∙ step.level (led.passed.mode ∙ on)) in
+            let one = ap length (alone_bytes step.pulled.title (kind_header kind None) step.pulled.is_title (open_alone kind)) in
+            let none = ap length first.0 in
+            let zero = first.1 in
+            omega (arith, one, none, zero, open_length kind, length-append led.nest step.pulled.title);
         is = rw (← add-one) step.after;
       }
 
@@ -62,6 +70,7 @@ module _ {R E : Type 0} (source : Ghosts R E) (kind : Kind) where
         left = suc two.0;
         nests = back (subst (λ (z : ℕ). Nests kind opens led.nest z) (same ∙ two.1) led.nests) step.pulled.is_title;
         passed = Passes-pull source old now new led.nest _ step.pulled led.passed steady;
+        shallow = λ on few. let shallow = led.shallow on few in let inner = step.inner in absurd (omega (arith, shallow, inner, same, nests_counted kind opens led.nest led.left led.nests));
         is = step.after ∙ ap p.Open one;
       }
 
@@ -77,6 +86,7 @@ module _ {R E : Type 0} (source : Ghosts R E) (kind : Kind) where
         nests = subst (λ (z : ℕ). Nests kind opens led.nest z) same led.nests;
         between = now;
         passed = led.passed;
+        shallow = led.shallow;
         ends = ends;
       }
 

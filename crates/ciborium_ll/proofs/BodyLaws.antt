@@ -92,6 +92,7 @@ Passes-read source old now new bytes read passed reads steady =
       waited = waited_read old now new bytes read old.waiting refl reads.none_waited passed.waited;
       failures = cc (passed.failures, reads.failures);
       steady = λ s. steady (passed.steady s);
+      mode = reads.mode ∙ passed.mode;
     }
 
 -- ---- the loop over chunks

@@ -1,5 +1,5 @@
 -- The copy of one element, by its parts.
-use Rattle.std.proofs.Common.{◌≡◌, ℕ, suc, ◌+◌, ◌<◌, ◌≤◌, List, [], ◌∷◌, ◌++◌, None, Result, Ok, Err, refl, sym, subst, inl, inr, arith, append_assoc, append-nil}
+use Rattle.std.proofs.Common.{◌≡◌, ℕ, suc, ◌+◌, ◌<◌, ◌≤◌, List, [], ◌∷◌, ◌++◌, None, Result, Ok, Err, refl, sym, subst, ◌∙◌, inl, inr, arith, append_assoc, append-nil}
 use Rattle.ciborium_ll.specs.declared.io.Read.{Ghosts as Reader}
 use Rattle.ciborium_ll.specs.declared.io.Write.{Ghosts as Writer}
 use Rattle.ciborium_ll.specs.declared.hdr.Header.{Header}
@@ -9,11 +9,11 @@ use Rattle.ciborium_ll.specs.declared.dec.Error.{Error}
 use Rattle.ciborium_ll.specs.declared.dec.Error.TheVariants as e
 use Rattle.ciborium_ll.specs.declared.recode.RecodeError.{RecodeError}
 use Rattle.ciborium_ll.specs.declared.recode.RecodeError.TheVariants as r
-use Rattle.ciborium_ll.specs.Title.{IsTitle, shortest_title, title_len}
+use Rattle.ciborium_ll.specs.Title.{IsTitle, IsStrictTitle, shortest_title, title_len}
 use Rattle.ciborium_ll.specs.Strings.{Kind, kind_header, none}
 use Rattle.ciborium_ll.specs.Elements.{IsPlain, Mark, Plain, Open, Close, spelling, pieces, open_marks, plain, IsRun, done}
 use Rattle.ciborium_ll.specs.Faults.{Due, In, Reaches, due, inside, opened}
-use Rattle.ciborium_ll.specs.Decoding.{Passes, IsSteady, PullsHeader, PullsTitle}
+use Rattle.ciborium_ll.specs.Decoding.{Passes, Strictly, IsSteady, PullsHeader, PullsTitle}
 use Rattle.ciborium_ll.specs.Encoding.{WritesAll, WritesFront}
 use Rattle.ciborium_ll.specs.Recoding.{WritesHeader, CopiesRun, StopsWriting, StopsCopy, IsBehind, AddsElement, GoesOn, IsWithin, ReadsString}
 use Rattle.ciborium_ll.proofs.TitleLaws.{shortest_no_longer}
@@ -23,6 +23,7 @@ use Rattle.ciborium_ll.proofs.CopyingLaws.{Copies-none}
 use Rattle.ciborium_ll.proofs.NestLaws.{alone_bytes, open_alone}
 use Rattle.ciborium_ll.proofs.RecodeLaws.{marks_then, mark_unwritten, element_unwritten, header_error}
 use Rattle.ciborium_ll.proofs.SegmentLaws.{sound_none}
+use Rattle.ciborium_ll.proofs.SpelledLaws.{spelled_none, spelled_then, passes_settled}
 
 module _ {R E W F : Type 0} (source : Reader R E) (sink : Writer W F) where
   -- ---- the title of an element
@@ -42,7 +43,13 @@ module _ {R E W F : Type 0} (source : Reader R E) (sink : Writer W F) where
       run = behind.run;
       passed = Passes-pull source old now new behind.bytes header pulled (subst (λ (z : List ℕ). Passes source old z now) (append-nil behind.bytes) behind.passed) steady;
       written = behind.written;
+      strict = behind.strict;
     }
+
+    -- of a strict decoder it is a strict title
+    pub title_taken : (new : Decoder R) (header : Header) → IsBehind source sink count before [] old writer now writer' → (pulled : PullsTitle source now header new)
+        → Strictly old (IsStrictTitle pulled.title header)
+    title_taken new header behind pulled = λ on none. pulled.strict (behind.passed.mode ∙ on) (passes_settled source old now (behind.bytes ++ []) behind.passed none)
 
     -- the title of an element was not pulled
     pub pull_stops : (room : ℕ) (new : Decoder R) (error : Error E) → IsBehind source sink count before [] old writer now writer' → PullsHeader source now (Err error) new
@@ -56,6 +63,7 @@ module _ {R E W F : Type 0} (source : Reader R E) (sink : Writer W F) where
       between = now;
       copied = record { passed = subst (λ (z : List ℕ). Passes source old z now) (append-nil behind.bytes) behind.passed; written = behind.written };
       fails = fails;
+      strict = behind.strict;
     })
     pull_stops room new (e.Syntax at) behind fails = inl (record {
       bytes = behind.bytes;
@@ -66,6 +74,7 @@ module _ {R E W F : Type 0} (source : Reader R E) (sink : Writer W F) where
       between = now;
       copied = record { passed = subst (λ (z : List ℕ). Passes source old z now) (append-nil behind.bytes) behind.passed; written = behind.written };
       fails = fails;
+      strict = behind.strict;
     })
     pull_stops room new e.TooLong behind fails = inl (record {
       bytes = behind.bytes;
@@ -76,14 +85,15 @@ module _ {R E W F : Type 0} (source : Reader R E) (sink : Writer W F) where
       between = now;
       copied = record { passed = subst (λ (z : List ℕ). Passes source old z now) (append-nil behind.bytes) behind.passed; written = behind.written };
       fails = fails;
+      strict = behind.strict;
     })
     pull_stops room new e.Waiting behind fails = absurd fails
 
     -- ---- a header that begins no string
 
-    plain_added : (header : Header) (title : List ℕ) (new : W) → IsPlain header → IsTitle title header → IsBehind source sink count before title old writer now writer'
+    plain_added : (header : Header) (title : List ℕ) (new : W) → IsPlain header → IsTitle title header → Strictly old (IsStrictTitle title header) → IsBehind source sink count before title old writer now writer'
         → WritesAll sink writer' (shortest_title header) new → AddsElement source sink before old writer now new
-    plain_added header title new p t behind wrote = record {
+    plain_added header title new p t only behind wrote = record {
       bytes = behind.bytes ++ title;
       marks = behind.marks ++ Plain header ∷ [];
       run = add_element before behind.bytes behind.marks behind.run title (Plain header ∷ []) (plain header t p);
@@ -92,6 +102,9 @@ module _ {R E W F : Type 0} (source : Reader R E) (sink : Writer W F) where
         written = marks_then source sink writer writer' new behind.marks (Plain header ∷ []) behind.written
             (subst (λ (z : List ℕ). WritesAll sink writer' z new) (sym (append-nil (shortest_title header))) wrote);
       };
+      strict = λ on none.
+          let first = only on none in
+          spelled_then behind.bytes behind.marks title (Plain header ∷ []) (behind.strict on none) (first.shortest ∙ sym (append-nil (shortest_title header))) (first.meant, tt);
     }
 
     plain_unwritten : (header : Header) (title : List ℕ) (new : W) (fault : F) → IsPlain header → IsTitle title header → IsBehind source sink count before title old writer now writer'
@@ -102,9 +115,9 @@ module _ {R E W F : Type 0} (source : Reader R E) (sink : Writer W F) where
         (subst (λ (z : List ℕ). WritesFront sink writer' z new) (sym (append-nil (shortest_title header))) stopped)
 
     pub plain_goes_on : (room : ℕ) (header : Header) (title : List ℕ) (result : Result (Unit {0}) (RecodeError E F)) (new : W) → IsPlain header → IsTitle title header
-        → IsBehind source sink count before title old writer now writer' → WritesHeader sink writer' result header new → GoesOn source sink count before room old writer result now new
-    plain_goes_on room header title (Ok unit) new p t behind wrote = plain_added header title new p t behind wrote
-    plain_goes_on room header title (Err error) new p t behind wrote =
+        → Strictly old (IsStrictTitle title header) → IsBehind source sink count before title old writer now writer' → WritesHeader sink writer' result header new → GoesOn source sink count before room old writer result now new
+    plain_goes_on room header title (Ok unit) new p t only behind wrote = plain_added header title new p t only behind wrote
+    plain_goes_on room header title (Err error) new p t only behind wrote =
         header_error source sink count room old now writer writer' new header error wrote (λ fault stopped. plain_unwritten header title new fault p t behind stopped)
 
     -- ---- a string of indefinite length
@@ -120,6 +133,7 @@ module _ {R E W F : Type 0} (source : Reader R E) (sink : Writer W F) where
       passed = subst (λ (z : List ℕ). Passes source old (behind.bytes ++ z) now) (alone_bytes title (kind_header k None) t (open_alone k)) behind.passed;
       written = marks_then source sink writer writer' titled behind.marks (Open k ∷ []) behind.written
           (subst (λ (z : List ℕ). WritesAll sink writer' z titled) (sym (append-nil (shortest_title (kind_header k None)))) wrote);
+      strict = behind.strict;
     }
 
     -- its open was not written
@@ -146,6 +160,7 @@ module _ {R E W F : Type 0} (source : Reader R E) (sink : Writer W F) where
         written = subst (λ (z : List Mark). WritesAll sink writer (spelling z) new) (close_marks k string.marks string.bodies)
             (marks_then source sink writer writer' new (string.marks ++ Open k ∷ pieces k string.bodies) (Close ∷ []) string.written wrote);
       };
+      strict = string.strict;
     }
 
     unclosed : (k : Kind) (new : W) (fault : F) → before < count → ReadsString source sink before k old writer now writer' → WritesFront sink writer' (shortest_title h.Break) new
@@ -173,6 +188,7 @@ module _ {R E W F : Type 0} (source : Reader R E) (sink : Writer W F) where
       run = run.run;
       passed = subst (λ (z : List ℕ). Passes source old z now) (sym (append-nil run.bytes)) run.copied.passed;
       written = run.copied.written;
+      strict = run.strict;
     }
 
     pub added_run : AddsElement source sink before old writer now writer' → CopiesRun source sink (before + 1) old writer now writer'
@@ -181,6 +197,7 @@ module _ {R E W F : Type 0} (source : Reader R E) (sink : Writer W F) where
       marks = added.marks;
       run = subst (λ (n : ℕ). IsRun n added.bytes added.marks) (omega arith) added.run;
       copied = added.copied;
+      strict = added.strict;
     }
 
   -- no element
@@ -190,4 +207,5 @@ module _ {R E W F : Type 0} (source : Reader R E) (sink : Writer W F) where
     marks = [];
     run = done;
     copied = record { passed = Passes-none source decoder; written = copied.written };
+    strict = λ on none. spelled_none;
   }

@@ -14,6 +14,7 @@ use Rattle.ciborium_ll.specs.Title.{IsTitle, shortest_title, BeginsRefused, IsCu
 use Rattle.ciborium_ll.specs.Transfer.{Shrinks}
 use Rattle.ciborium_ll.specs.Decoding.{view, next_read}
 use Rattle.ciborium_ll.specs.Copying.{AreTitles, none, next, shortest_titles, TitlesInFront, Copies, CopiesAll, StopsReading, StopsWriting, CopiesHeaders, IsReady, CopiesFront, CopiesCount, CopiesTold}
+use Rattle.ciborium_ll.proofs.DecodingLaws.{lenient_refuses}
 use Rattle.ciborium_ll.proofs.TitleLaws.{one_title, shortest_no_longer, title_refused}
 use Rattle.ciborium_ll.proofs.AffixLaws.{title_not_cut}
 
@@ -123,16 +124,17 @@ module _ {R E W F : Type 0} (source : Reader R E) (sink : Writer W F) where
       }
   told_stop count old new writer writer' due written (e.Syntax place) ready stops =
       let f = copies_front stops.headers old stops.between writer writer' due written ready stops.copied in
-      let byte = stops.stopped.byte in
-      let gone = consumes_told _ _ f.0.rest (byte ∷ []) f.1 stops.stopped.bytes in
+      let stopped = lenient_refuses source stops.between place new (stops.copied.passed.mode ∙ ready.lenient) stops.stopped in
+      let byte = stopped.byte in
+      let gone = consumes_told _ _ f.0.rest (byte ∷ []) f.1 stopped.bytes in
       record {
         headers = stops.headers;
         fewer = stops.fewer;
         copied = f.0;
-        refused = subst BeginsRefused (sym gone.2) stops.stopped.refused;
-        at = stops.stopped.place ∙ stops.copied.passed.offset;
+        refused = subst BeginsRefused (sym gone.2) stopped.refused;
+        at = stopped.place ∙ stops.copied.passed.offset;
         left = gone.1 ∙ ap Some (refused_byte f.0.rest gone.0 byte gone.2);
-        offset = omega (arith, stops.stopped.place, stops.stopped.offset);
+        offset = omega (arith, stopped.place, stopped.offset);
       }
   told_stop count old new writer writer' due written e.TooLong ready stops =
       let f = copies_front stops.headers old stops.between writer writer' due written ready stops.copied in

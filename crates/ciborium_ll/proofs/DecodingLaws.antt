@@ -1,5 +1,5 @@
 -- What the relations of the decoder's calls have in common.
-use Rattle.std.proofs.Common.{◌≡◌, ℕ, ◌⊎◌, List, [], ◌∷◌, ◌++◌, length, Option, Some, None, IfSome, Result, Ok, Err, refl, sym, ap, subst, ◌∙◌, inl, inr, arith, append_assoc, append-nil, length-append}
+use Rattle.std.proofs.Common.{◌≡◌, ℕ, false, ◌⊎◌, List, [], ◌∷◌, ◌++◌, length, Option, Some, None, IfSome, Result, Ok, Err, refl, sym, ap, subst, ◌∙◌, inl, inr, arith, append_assoc, append-nil, length-append}
 use Rattle.std.proofs.KnownBytes.{Consumes-nil, Consumes-trans}
 use Rattle.std.specs.Io.KnownBytes.{Consumes, prepend_known}
 use Rattle.ciborium_ll.specs.declared.hdr.Header.{Header}
@@ -8,7 +8,7 @@ use Rattle.ciborium_ll.specs.declared.dec.Decoder.{Decoder}
 use Rattle.ciborium_ll.specs.declared.dec.Error.{Error}
 use Rattle.ciborium_ll.specs.declared.dec.Error.TheVariants as e
 use Rattle.ciborium_ll.specs.Title.{shortest_title, title_len}
-use Rattle.ciborium_ll.specs.Decoding.{Begins, behind_waiting, view, IsSteady, Passes, PullsTitle, PullsHeader, TakesBack, PullsAgain}
+use Rattle.ciborium_ll.specs.Decoding.{Begins, behind_waiting, view, IsSteady, Passes, PullsTitle, PullsHeader, RefusesTitle, TakesBack, PullsAgain}
 
 -- bytes put in front are the next ones
 pub Consumes-prepended : (known : Option (List ℕ)) (front : List ℕ) → Consumes (prepend_known front known) known front
@@ -42,7 +42,8 @@ pulls_again source old pulled pushed new header (Ok again) first back second =
       none_waits = second.none_waits;
     }
 pulls_again source old pulled pushed new header (Err (e.Io fault)) first back second = let a = back.waits in let b = second.none_waited in absurd cc
-pulls_again source old pulled pushed new header (Err (e.Syntax place)) first back second = let a = back.waits in let b = second.none_waited in absurd cc
+pulls_again source old pulled pushed new header (Err (e.Syntax place)) first back (inl second) = let a = back.waits in let b = second.none_waited in absurd cc
+pulls_again source old pulled pushed new header (Err (e.Syntax place)) first back (inr second) = let a = back.waits in let b = second.none_waited in absurd cc
 pulls_again source old pulled pushed new header (Err e.TooLong) first back second = let a = back.waits in let b = second.none_waited in absurd cc
 pulls_again source old pulled pushed new header (Err e.Waiting) first back second = absurd second
 
@@ -104,6 +105,7 @@ module _ {R E : Type 0} (source : Ghosts R E) where
     waited = IfSome-all decoder.waiting _ (λ h. inl refl);
     failures = refl;
     steady = λ s. s;
+    mode = refl;
   }
 
   -- one title more
@@ -117,6 +119,7 @@ module _ {R E : Type 0} (source : Ghosts R E) where
         (λ same. length_zero bytes (let moved = ap (λ d. d.offset) same in omega (arith, moved, passed.offset))) title.waited;
     failures = cc (passed.failures, title.failures);
     steady = steady;
+    mode = title.mode ∙ passed.mode;
   }
 
   pub Passes-pull : (old between new : Decoder R) (bytes : List ℕ) (header : Header) (title : PullsTitle source between header new) → Passes source old bytes between
@@ -134,4 +137,10 @@ module _ {R E : Type 0} (source : Ghosts R E) where
         (λ same. length_zero bytes (let moved = ap (λ d. d.offset) same in omega (arith, moved, first.offset))) second.waited;
     failures = cc (first.failures, second.failures);
     steady = λ s. second.steady (first.steady s);
+    mode = second.mode ∙ first.mode;
   }
+
+  -- a decoder that isn't strict refuses first bytes alone
+  pub lenient_refuses : (old : Decoder R) (place : ℕ) (new : Decoder R) → old.strict ≡ false → PullsHeader source old (Err (e.Syntax place)) new → RefusesTitle source old place new
+  lenient_refuses old place new lenient (inl refused) = refused
+  lenient_refuses old place new lenient (inr longer) = absurd (let on = longer.strict in cc)

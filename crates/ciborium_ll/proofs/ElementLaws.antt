@@ -151,7 +151,7 @@ AreStrings-append k w bs (more {first = x} {rest = y} {bodies = ds} {others = es
 
 mutual
   -- a string is spelled again as its pieces, no longer
-  respell_one : (k : Kind) (w : List ℕ) (bs : List (List ℕ)) → IsString k w bs → Respelled k w bs
+  pub respell_one : (k : Kind) (w : List ℕ) (bs : List (List ℕ)) → IsString k w bs → Respelled k w bs
   respell_one k w bs (definite_str {title = t} {body = b} p) =
       record {
         strings = more (definite_str (IsTitle-shortest_of t (kind_header k (Some (length b))) p)) none;

@@ -25,10 +25,15 @@ pub mod PiecesWritten
 pub mod RecodeLaws
 pub mod RecodingToldLaws
 pub mod RefusedBytes
+pub mod RoomLaws
 pub mod SegmentLaws
 pub mod SkipLaws
+pub mod SpelledLaws
 pub mod StepLaws
+pub mod StrictFaultLaws
+pub mod StrictLaws
 pub mod StringLaws
+pub mod TightLaws
 pub mod TextLaws
 pub mod TitleLaws
 pub mod Utf8Laws

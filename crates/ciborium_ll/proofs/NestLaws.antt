@@ -1,6 +1,6 @@
 -- Opens and breaks in a row, and the first title of a string.
 use Rattle.std.specs.Prelude.{is_none}
-use Rattle.std.proofs.Common.{◌≡◌, ℕ, suc, ◌+◌, ◌^◌, ◌<◌, Bool, true, false, ◌⊎◌, List, [], ◌++◌, length, Option, Some, None, IfSome, IsTrue, Result, Ok, Err, refl, sym, ap, subst, ◌∙◌, inl, inr, arith, append_assoc, append-nil, length-append}
+use Rattle.std.proofs.Common.{◌≡◌, ℕ, suc, ◌+◌, ◌^◌, ◌<◌, ◌≤◌, Bool, true, false, ◌⊎◌, List, [], ◌++◌, length, Option, Some, None, IfSome, IsTrue, Result, Ok, Err, refl, sym, ap, subst, ◌∙◌, inl, inr, arith, append_assoc, append-nil, length-append}
 use Rattle.std.specs.Io.KnownBytes.{Consumes, prepend_known}
 use Rattle.ciborium_ll.specs.declared.io.Read.{Ghosts}
 use Rattle.ciborium_ll.specs.declared.hdr.Header.{Header}
@@ -72,6 +72,27 @@ open_alone Text = refl
 pub open_length : (k : Kind) → length (shortest_title (kind_header k None)) ≡ 1
 open_length Bytes = refl
 open_length Text = refl
+
+-- ---- opens and breaks in a row
+
+-- where nothing is open behind them there are none
+pub nests_zero : (k : Kind) (opens : ℕ) (nest : List ℕ) (left : ℕ) → Nests k opens nest left → left ≡ 0 → (nest ≡ []) × (opens ≡ 0)
+nests_zero k opens nest left in_place e = (refl, e)
+nests_zero k opens nest left (deeper n p) e = absurd (omega (arith, e))
+nests_zero k opens nest left (back n p) e = absurd (omega (arith, e))
+
+-- each open takes a byte
+pub nests_counted : (k : Kind) (opens : ℕ) (nest : List ℕ) (left : ℕ) → Nests k opens nest left → left ≤ opens + length nest
+nests_counted k opens nest left in_place = omega arith
+nests_counted k opens nest left (deeper {bytes = x} {title = t} {left = j} n p) =
+    omega (arith, nests_counted k opens x j n, title_some t (kind_header k None) p, length-append x t)
+nests_counted k opens nest left (back {bytes = x} {title = t} {left = j} n p) = omega (arith, nests_counted k opens x (suc (suc j)) n, length-append x t)
+
+-- none leads nowhere
+pub nests_none : (k : Kind) (opens : ℕ) (nest : List ℕ) (left : ℕ) → Nests k opens nest left → length nest ≡ 0 → (nest ≡ []) × (left ≡ opens)
+nests_none k opens nest left in_place e = (refl, refl)
+nests_none k opens nest left (deeper {bytes = x} {title = t} n p) e = absurd (omega (arith, e, title_some t (kind_header k None) p, length-append x t))
+nests_none k opens nest left (back {bytes = x} {title = t} n p) e = absurd (omega (arith, e, title_some t h.Break p, length-append x t))
 
 -- ---- within a string
 
@@ -180,6 +201,7 @@ module _ {R E : Type 0} (source : Ghosts R E) (k : Kind) where
     pub reader : new.reader ≡ pulled.reader
     pub offset : new.offset ≡ pulled.offset
     pub none_waits : new.waiting ≡ None
+    pub mode : new.strict ≡ pulled.strict
     pub ended : progress ≡ p.Ended
 
   only_body : (len : ℕ) (pulled pushed between new : Decoder R) (result : Result (Option Body) (Error E)) (progress : Progress) → TakesBack source pulled (kind_header k (Some len)) pushed
@@ -200,17 +222,23 @@ module _ {R E : Type 0} (source : Ghosts R E) (k : Kind) where
         reader = waited.2 ∙ ap (λ d. d.reader) same ∙ taken.reader;
         offset = omega (arith, ends.pulled.offset, counted, shortest, moved, taken.offset);
         none_waits = ends.pulled.none_waits;
+        mode = ends.pulled.mode ∙ (ap (λ d. d.strict) same ∙ taken.mode);
         ended = elim ends.after [ inl lone ↦ lone.1 | inr more ↦ absurd (omega (arith, more.0)) ];
       }
   only_body len pulled pushed between new (Ok None) progress taken same ends = absurd (let f = ends.last in omega (arith, f))
   only_body len pulled pushed between new (Err (e.Io fault)) progress taken same ends =
       absurd (let a = ap (λ d. d.waiting) same ∙ taken.waits in let b = ends.0.none_waited in cc)
-  only_body len pulled pushed between new (Err (e.Syntax place)) progress taken same (inl ends) =
-      absurd (let a = ap (λ d. d.waiting) same ∙ taken.waits in let b = ends.0.none_waited in cc)
+  only_body len pulled pushed between new (Err (e.Syntax place)) progress taken same (inl (inl refused, after)) =
+      absurd (let a = ap (λ d. d.waiting) same ∙ taken.waits in let b = refused.none_waited in cc)
+  only_body len pulled pushed between new (Err (e.Syntax place)) progress taken same (inl (inr refused, after)) =
+      absurd (let a = ap (λ d. d.waiting) same ∙ taken.waits in let b = refused.none_waited in cc)
   only_body len pulled pushed between new (Err (e.Syntax place)) progress taken same (inr other) =
       let waits : between.waiting ≡ Some (kind_header k (Some len)) = ap (λ d. d.waiting) same ∙ taken.waits in
       let waited = rw waits at other.pulled.waited in
-      absurd (well_placed k (Some len) (subst (IsMisplacedAt k 0) (sym waited.0) other.misplaced))
+      elim other.misplaced [
+        | inl misplaced ↦ absurd (well_placed k (Some len) (subst (IsMisplacedAt k 0) (sym waited.0) misplaced))
+        | inr nested ↦ absurd (let some = nested.0 in omega (arith, some))
+      ]
   only_body len pulled pushed between new (Err e.TooLong) progress taken same (inl ends) =
       absurd (let a = ap (λ d. d.waiting) same ∙ taken.waits in let b = ends.0.none_waited in cc)
   only_body len pulled pushed between new (Err e.TooLong) progress taken same (inr deep) = absurd (let f = deep.most in omega (arith, f))
@@ -244,12 +272,17 @@ module _ {R E : Type 0} (source : Ghosts R E) (k : Kind) where
   not_at_once pulled pushed between new (Ok None) progress taken same ends = let f = ends.last in omega (arith, f)
   not_at_once pulled pushed between new (Err (e.Io fault)) progress taken same ends =
       let a = ap (λ d. d.waiting) same ∙ taken.waits in let b = ends.0.none_waited in cc
-  not_at_once pulled pushed between new (Err (e.Syntax place)) progress taken same (inl ends) =
-      let a = ap (λ d. d.waiting) same ∙ taken.waits in let b = ends.0.none_waited in cc
+  not_at_once pulled pushed between new (Err (e.Syntax place)) progress taken same (inl (inl refused, after)) =
+      let a = ap (λ d. d.waiting) same ∙ taken.waits in let b = refused.none_waited in cc
+  not_at_once pulled pushed between new (Err (e.Syntax place)) progress taken same (inl (inr refused, after)) =
+      let a = ap (λ d. d.waiting) same ∙ taken.waits in let b = refused.none_waited in cc
   not_at_once pulled pushed between new (Err (e.Syntax place)) progress taken same (inr other) =
       let waits : between.waiting ≡ Some (kind_header k None) = ap (λ d. d.waiting) same ∙ taken.waits in
       let waited = rw waits at other.pulled.waited in
-      well_placed k None (subst (IsMisplacedAt k 0) (sym waited.0) other.misplaced)
+      elim other.misplaced [
+        | inl misplaced ↦ well_placed k None (subst (IsMisplacedAt k 0) (sym waited.0) misplaced)
+        | inr nested ↦ let some = nested.0 in omega (arith, some)
+      ]
   not_at_once pulled pushed between new (Err e.TooLong) progress taken same (inl ends) =
       let a = ap (λ d. d.waiting) same ∙ taken.waits in let b = ends.0.none_waited in cc
   not_at_once pulled pushed between new (Err e.TooLong) progress taken same (inr deep) = let f = deep.most in omega (arith, f)
@@ -275,6 +308,7 @@ module _ {R E : Type 0} (source : Ghosts R E) (k : Kind) where
         waited = IfSome-none pulled.waiting none _;
         failures = passed.failures ∙ ap source.failures taken.reader;
         steady = λ s. passed.steady (subst (λ (r : R). IsTrue (source.steady r)) (sym taken.reader) s);
+        mode = passed.mode ∙ taken.mode;
       }
 
   -- `advance` over the waiting open of a string of indefinite length goes on behind it
@@ -296,6 +330,10 @@ module _ {R E : Type 0} (source : Ghosts R E) (k : Kind) where
               nests = first.behind;
               between = all.between;
               passed = passes_behind pulled pushed all.between first.title first.more none taken one.1 passed (title_some first.title (kind_header k None) first.is_title);
+              shallow = λ on few.
+                  let one = all.shallow (taken.mode ∙ on) (omega arith) in
+                  let counted = ap length first.whole in
+                  omega (arith, one, counted, title_some first.title (kind_header k None) first.is_title, length-append first.title first.more);
               ends = all.ends;
             }
             )

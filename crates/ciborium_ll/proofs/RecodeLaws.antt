@@ -9,16 +9,17 @@ use Rattle.ciborium_ll.specs.declared.dec.Decoder.{Decoder}
 use Rattle.ciborium_ll.specs.declared.dec.Error.TheVariants as e
 use Rattle.ciborium_ll.specs.declared.recode.RecodeError.{RecodeError}
 use Rattle.ciborium_ll.specs.declared.recode.RecodeError.TheVariants as r
-use Rattle.ciborium_ll.specs.Title.{IsTitle, shortest_title, title_len}
+use Rattle.ciborium_ll.specs.Title.{IsTitle, IsStrictTitle, shortest_title, title_len}
 use Rattle.ciborium_ll.specs.Strings.{Kind, Bytes, Text, kind_header}
-use Rattle.ciborium_ll.specs.Elements.{IsSound, Mark, Whole, spelling, definite, IsRun}
+use Rattle.ciborium_ll.specs.Elements.{IsSound, Mark, Whole, spelling, definite, IsRun, IsSpelled}
 use Rattle.ciborium_ll.specs.Faults.{Place, Due, Body, Reaches, due, body, IsWritable}
-use Rattle.ciborium_ll.specs.Decoding.{Begins, behind_waiting, view, Passes}
+use Rattle.ciborium_ll.specs.Decoding.{Begins, behind_waiting, view, Passes, Strictly}
 use Rattle.ciborium_ll.specs.Encoding.{WritesAll, WritesFront}
 use Rattle.ciborium_ll.specs.Recoding.{WritesHeader, CopiesBody, CopiesWhole, BodyUnwritten, IsUnderWay, Copied, StopsWriting, StopsCopy, AddsElement, GoesOn}
 use Rattle.ciborium_ll.proofs.TitleLaws.{shortest_no_longer}
 use Rattle.ciborium_ll.proofs.ElementLaws.{spelling-append}
 use Rattle.ciborium_ll.proofs.StepLaws.{add_element}
+use Rattle.ciborium_ll.proofs.SpelledLaws.{spelled_then, spelled_title}
 use Rattle.ciborium_ll.proofs.DecodingLaws.{Passes-then}
 use Rattle.ciborium_ll.proofs.EncodingLaws.{WritesBytes-then}
 
@@ -119,11 +120,12 @@ module _ {R E W F : Type 0} (source : Reader R E) (sink : Writer W F) where
 
     -- the copy of a body stops the copy of elements
     pub body_stops : (bytes : List ℕ) (marks : List Mark) (k : Kind) (len start : ℕ) (between new : Decoder R) (writer-between titled writer' : W) (error : RecodeError E F) → Reaches count bytes marks (Body k len start)
+        → Strictly old (IsSpelled bytes marks (shortest_title (kind_header k (Some len))))
         → Copied source sink old writer bytes marks between writer-between → WritesAll sink writer-between (shortest_title (kind_header k (Some len))) titled
         → CopiesBody source sink k len room (old.offset + start) between titled (Err error) new writer' → StopsCopy source sink count room old writer error new writer'
-    body_stops bytes marks k len start between new writer-between titled writer' (r.Write fault) reach copied title stops =
+    body_stops bytes marks k len start between new writer-between titled writer' (r.Write fault) reach strict copied title stops =
         body_unwritten bytes marks k len start between new writer-between titled writer' fault reach copied title stops
-    body_stops bytes marks k len start between new writer-between titled writer' (r.Read (e.Io fault)) reach copied title stops = inr (record {
+    body_stops bytes marks k len start between new writer-between titled writer' (r.Read (e.Io fault)) reach strict copied title stops = inr (record {
       bytes = bytes;
       marks = marks;
       kind = k;
@@ -136,8 +138,9 @@ module _ {R E W F : Type 0} (source : Reader R E) (sink : Writer W F) where
       copied = copied;
       titled = title;
       stopped = stops;
+      strict = strict;
     })
-    body_stops bytes marks k len start between new writer-between titled writer' (r.Read (e.Syntax at)) reach copied title stops = inr (inr (record {
+    body_stops bytes marks k len start between new writer-between titled writer' (r.Read (e.Syntax at)) reach strict copied title stops = inr (inr (record {
       bytes = bytes;
       marks = marks;
       kind = k;
@@ -150,8 +153,9 @@ module _ {R E W F : Type 0} (source : Reader R E) (sink : Writer W F) where
       copied = copied;
       titled = title;
       stopped = stops;
+      strict = strict;
     }))
-    body_stops bytes marks k len start between new writer-between titled writer' (r.Read e.TooLong) reach copied title stops = inr (inr (record {
+    body_stops bytes marks k len start between new writer-between titled writer' (r.Read e.TooLong) reach strict copied title stops = inr (inr (record {
       bytes = bytes;
       marks = marks;
       kind = k;
@@ -164,8 +168,9 @@ module _ {R E W F : Type 0} (source : Reader R E) (sink : Writer W F) where
       copied = copied;
       titled = title;
       stopped = stops;
+      strict = strict;
     }))
-    body_stops bytes marks k len start between new writer-between titled writer' (r.Read e.Waiting) reach copied title stops = stops
+    body_stops bytes marks k len start between new writer-between titled writer' (r.Read e.Waiting) reach strict copied title stops = stops
 
     -- the place of a body is where its shortest title would begin, behind a title of any length
     body_start : (before : ℕ) (title : List ℕ) (k : Kind) (len : ℕ) → IsTitle title (kind_header k (Some len)) → (bytes : List ℕ) → before + title_len (kind_header k (Some len)) ≡ old.offset + length (bytes ++ title)
@@ -176,8 +181,8 @@ module _ {R E W F : Type 0} (source : Reader R E) (sink : Writer W F) where
     definite_added : (before : ℕ) (bytes title : List ℕ) (marks : List Mark) (k : Kind) (len : ℕ) (between new : Decoder R) (writer-between titled writer' : W) → IsTitle title (kind_header k (Some len))
         → IsRun before bytes marks → Passes source old (bytes ++ title) between → WritesAll sink writer (spelling marks) writer-between
         → WritesAll sink writer-between (shortest_title (kind_header k (Some len))) titled → CopiesWhole source sink k len between titled new writer'
-        → AddsElement source sink before old writer new writer'
-    definite_added before bytes title marks k len between new writer-between titled writer' t run passed written title-written whole =
+        → Strictly old (IsStrictTitle title (kind_header k (Some len))) → Strictly old (IsSpelled bytes marks []) → AddsElement source sink before old writer new writer'
+    definite_added before bytes title marks k len between new writer-between titled writer' t run passed written title-written whole only strict =
         let b = whole.body in
         let lengths : len ≡ length b = sym whole.all in
         let t' = subst (λ (n : ℕ). IsTitle title (kind_header k (Some n))) lengths t in
@@ -193,6 +198,9 @@ module _ {R E W F : Type 0} (source : Reader R E) (sink : Writer W F) where
             passed = subst (λ (z : List ℕ). Passes source old z new) (append_assoc bytes title b) (Passes-then source old between new (bytes ++ title) b passed whole.passed);
             written = marks_then writer writer-between writer' marks mark written one;
           };
+          strict = λ on none.
+              let first = (only on none).shortest ∙ ap (λ (n : ℕ). shortest_title (kind_header k (Some n))) lengths in
+              spelled_then bytes marks (title ++ b) mark (strict on none) (ap (λ (z : List ℕ). z ++ b) first ∙ sym (append-nil (shortest_title (kind_header k (Some (length b))) ++ b))) (tt, tt);
         }
 
     -- a body of a definite string, with its answer
@@ -200,13 +208,14 @@ module _ {R E W F : Type 0} (source : Reader R E) (sink : Writer W F) where
         (result : Result (Unit {0}) (RecodeError E F)) → before < count → IsTitle title (kind_header k (Some len)) → IsRun before bytes marks → Passes source old (bytes ++ title) between
         → place + title_len (kind_header k (Some len)) ≡ between.offset → WritesAll sink writer (spelling marks) writer-between
         → WritesAll sink writer-between (shortest_title (kind_header k (Some len))) titled → CopiesBody source sink k len room place between titled result new writer'
-        → GoesOn source sink count before room old writer result new writer'
-    definite_goes_on before bytes title marks k len place between new writer-between titled writer' (Ok done) less t run passed at written title-written copied =
-        definite_added before bytes title marks k len between new writer-between titled writer' t run passed written title-written copied
-    definite_goes_on before bytes title marks k len place between new writer-between titled writer' (Err error) less t run passed at written title-written copied =
+        → Strictly old (IsStrictTitle title (kind_header k (Some len))) → Strictly old (IsSpelled bytes marks []) → GoesOn source sink count before room old writer result new writer'
+    definite_goes_on before bytes title marks k len place between new writer-between titled writer' (Ok done) less t run passed at written title-written copied only strict =
+        definite_added before bytes title marks k len between new writer-between titled writer' t run passed written title-written copied only strict
+    definite_goes_on before bytes title marks k len place between new writer-between titled writer' (Err error) less t run passed at written title-written copied only strict =
         let start = length (bytes ++ title) - title_len (kind_header k (Some len)) in
         let placed : old.offset + start ≡ place = body_start place title k len t bytes (at ∙ passed.offset) in
-        body_stops (bytes ++ title) marks k len start between new writer-between titled writer' error (body k (due less run) t) (record { passed = passed; written = written }) title-written
+        body_stops (bytes ++ title) marks k len start between new writer-between titled writer' error (body k (due less run) t)
+        (λ on none. spelled_title bytes marks title (shortest_title (kind_header k (Some len))) (strict on none) (only on none).shortest) (record { passed = passed; written = written }) title-written
         (subst (λ (n : ℕ). CopiesBody source sink k len room n between titled (Err error) new writer') (sym placed) copied)
 
     -- the writer failed at the title of a definite string
@@ -218,9 +227,9 @@ module _ {R E W F : Type 0} (source : Reader R E) (sink : Writer W F) where
         (record { passed = passed; written = written }) stopped
 
   -- a decoder with the same reader and offset, and with no header that waits either
-  pub passes_same : (old now now' : Decoder R) (bytes : List ℕ) → Passes source old bytes now → now.waiting ≡ None → now'.reader ≡ now.reader → now'.offset ≡ now.offset → now'.waiting ≡ None
+  pub passes_same : (old now now' : Decoder R) (bytes : List ℕ) → Passes source old bytes now → now.waiting ≡ None → now'.reader ≡ now.reader → now'.offset ≡ now.offset → now'.waiting ≡ None → now'.strict ≡ now.strict
       → Passes source old bytes now'
-  passes_same old now now' bytes passed none reader offset none' =
+  passes_same old now now' bytes passed none reader offset none' mode =
       let same : view source now' ≡ view source now = ap (λ (w : Option Header). behind_waiting w (source.ahead now'.reader)) (none' ∙ sym none)
       ∙ ap (λ (r : R). behind_waiting now.waiting (source.ahead r)) reader in
       record {
@@ -230,6 +239,7 @@ module _ {R E W F : Type 0} (source : Reader R E) (sink : Writer W F) where
         waited = waited_same old now now' bytes old.waiting refl none passed.waited;
         failures = ap source.failures reader ∙ passed.failures;
         steady = λ s. subst (λ (r : R). IsTrue (source.steady r)) (sym reader) (passed.steady s);
+        mode = mode ∙ passed.mode;
       }
 
   -- the only error of a header's write is the writer's

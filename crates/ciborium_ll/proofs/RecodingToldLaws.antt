@@ -1,5 +1,5 @@
 -- What a copy of elements means where the bytes are told: the premises turn the general statement into an exact one.
-use Rattle.std.proofs.Common.{◌≡◌, ℕ, ◌+◌, ◌-◌, ◌^◌, ◌<◌, ◌≤◌, ◌⊎◌, List, [], ◌∷◌, ◌++◌, length, take, drop, min, Some, None, Result, Ok, Err, IsOk, ◌↔◌, refl, sym, ap, subst, ◌∙◌, inl, inr, arith, append_assoc, length-append}
+use Rattle.std.proofs.Common.{◌≡◌, ℕ, Bool, true, false, IsTrue, ◌+◌, ◌-◌, ◌^◌, ◌<◌, ◌≤◌, ◌⊎◌, List, [], ◌∷◌, ◌++◌, length, take, drop, min, Some, None, Result, Ok, Err, IsOk, ◌↔◌, refl, sym, ap, subst, ◌∙◌, inl, inr, arith, append_assoc, length-append}
 use Rattle.std.proofs.lemmas.List.{append-nil, length-take, take-append-drop}
 use Rattle.std.proofs.Math.Seq.{take-append_seam, take-append-add, drop-append_seam}
 use Rattle.std.proofs.lemmas.Bool.{cases_lt}
@@ -9,22 +9,27 @@ use Rattle.ciborium_ll.specs.declared.dec.Decoder.{Decoder}
 use Rattle.ciborium_ll.specs.declared.dec.Error.TheVariants as e
 use Rattle.ciborium_ll.specs.declared.recode.RecodeError.{RecodeError}
 use Rattle.ciborium_ll.specs.declared.recode.RecodeError.TheVariants as r
-use Rattle.ciborium_ll.specs.Title.{shortest_title, title_len, BeginsRefused}
+use Rattle.ciborium_ll.specs.Title.{IsTitle, shortest_title, title_len, BeginsRefused}
 use Rattle.ciborium_ll.specs.Strings.{Kind, Text, kind_header}
 use Rattle.ciborium_ll.specs.Text.{IsCharacters}
-use Rattle.ciborium_ll.specs.Elements.{Mark, Open, pieces, spelling, IsElement, plain, definite, indefinite, IsRun, done, next}
-use Rattle.ciborium_ll.specs.Faults.{Place, Due, In, Body, IsAtTitle, IsInside, opened, deeper, Reaches, due, inside, body, body_inside, Short, Syntax, CutTitle, NoTitle, OtherTitle, DamagedText, CutBody, CutDamagedText, BeginsNoText, RunInFront, HasFault}
-use Rattle.ciborium_ll.specs.Decoding.{offset_limit, view, next_read}
+use Rattle.ciborium_ll.specs.Elements.{Mark, Open, pieces, spelling, IsElement, plain, definite, indefinite, IsRun, done, next, IsSpelled}
+use Rattle.ciborium_ll.specs.Faults.{Place, Due, In, Body, IsAtTitle, IsMisplaced, IsInside, opened, deeper, Reaches, due, inside, body, body_inside, Answer, Short, Syntax, CutTitle, NoTitle, OtherTitle, DamagedText, CutBody, CutDamagedText, BeginsNoText, RunInFront, HasFault}
+use Rattle.ciborium_ll.specs.Decoding.{offset_limit, view, next_read, RefusesTitle, RefusesLonger}
 use Rattle.ciborium_ll.specs.Encoding.{WritesAll}
 use Rattle.ciborium_ll.specs.Recoding.{IsUnderWay, IsNoText, Copied, CopiesRun, CopiesAll, CopiesElements, CopiesPart, StopsAtTitle, StopsAtOther, StopsTooDeep, StopsInBody, StopsWriting}
-use Rattle.ciborium_ll.specs.RecodingTold.{IsTold, IsReady, CopiesFront, MeetsFault, RecodesTold, StopsAt, StopsShort, StopsUnwritten, RecodesAnyhow}
+use Rattle.ciborium_ll.specs.RecodingTold.{IsToldAs, IsReadyAs, CopiesFront, MeetsFault, RecodesTold, StopsAt, StopsShort, StopsUnwritten, RecodesAnyhow}
+use Rattle.ciborium_ll.specs.StrictRecoding.{due_title, Fault, LongTitle, NestedOpen, StrictRunInFront, HasStrictFault, CopiesStrictly, MeetsStrictFault, RecodesStrictly}
+use Rattle.ciborium_ll.proofs.DecodingLaws.{lenient_refuses}
+use Rattle.ciborium_ll.proofs.SpelledLaws.{spelled_alone}
 use Rattle.ciborium_ll.proofs.TitleLaws.{shortest_no_longer}
-use Rattle.ciborium_ll.proofs.ElementLaws.{respell_all, pieces-append, spelling-append, run_again}
+use Rattle.ciborium_ll.proofs.ElementLaws.{respell_all, pieces-append, spelling-append, run_again, one_run}
 use Rattle.ciborium_ll.proofs.FaultLaws.{no_fault}
+use Rattle.ciborium_ll.proofs.StrictFaultLaws.{inside_shorter, no_strict_fault}
 use Rattle.ciborium_ll.proofs.BodyLaws.{view_none}
 use Rattle.ciborium_ll.proofs.CopyingTold.{consumes_told, appends_told, next_read_small, first_gone, refused_byte}
 use Rattle.ciborium_ll.proofs.NestLaws.{alone_bytes, open_alone, open_length, title_some}
 use Rattle.ciborium_ll.proofs.RecodeLaws.{writes_then}
+use Rattle.ciborium_ll.proofs.RoomLaws.{spelled_within}
 
 -- ---- what is written is no longer than what was read
 
@@ -33,14 +38,6 @@ abbrev under_way : Place → ℕ
 under_way Due = 0
 under_way (In kind) = 0
 under_way (Body kind len start) = title_len (kind_header kind (Some len))
-
-inside_shorter : (k : Kind) (u : List ℕ) (bs : List (List ℕ)) → IsInside k u bs → title_len (kind_header k None) + length (spelling (pieces k bs)) ≤ length u
-inside_shorter k u bs (opened {title = t} {strings = y} p s) =
-    let rest = respell_all k y bs s in
-    omega (arith, shortest_no_longer t (kind_header k None) p, rest.shorter, length-append t y)
-inside_shorter k u bs (deeper {outer = x} {inner = y} {bodies = cs} {others = ds} i j) =
-    let spelled = ap length (ap spelling (pieces-append k cs ds) ∙ spelling-append (pieces k cs) (pieces k ds)) in
-    omega (arith, inside_shorter k x cs i, inside_shorter k y ds j, spelled, length-append (spelling (pieces k cs)) (spelling (pieces k ds)), length-append x y)
 
 reach_shorter : (count : ℕ) (bytes : List ℕ) (marks : List Mark) (place : Place) → Reaches count bytes marks place → length (spelling marks) + under_way place ≤ length bytes
 reach_shorter count bytes marks place (due {before = j} less run) = let again = run_again j bytes marks run in omega (arith, again.shorter)
@@ -104,8 +101,14 @@ front_behind len rest read more e l =
 no_text_behind : (read more : List ℕ) → BeginsNoText read → BeginsNoText (read ++ more)
 no_text_behind read more none = λ others text. none (more ++ others) (subst IsCharacters (append_assoc read more others) text)
 
-module _ {R E W F : Type 0} (source : Reader R E) (sink : Writer W F) (count room : ℕ) (old : Decoder R) (writer : W) (due written : List ℕ) where
-  module _ (told : IsTold source sink old writer due written) where
+-- where a title is due no body's title is under way
+spelled_at : (place : Place) (bytes : List ℕ) (marks : List Mark) → IsAtTitle place → IsSpelled bytes marks [] → IsSpelled bytes marks (due_title place)
+spelled_at Due bytes marks title spelled = spelled
+spelled_at (In kind) bytes marks title spelled = spelled
+spelled_at (Body kind len start) bytes marks title spelled = absurd title
+
+module _ {R E W F : Type 0} {strict : Bool} (source : Reader R E) (sink : Writer W F) (count room : ℕ) (old : Decoder R) (writer : W) (due written : List ℕ) where
+  module _ (told : IsToldAs source sink strict old writer due written) where
     -- how far a copy came
     record Came (bytes : List ℕ) (marks : List Mark) (between : Decoder R) (writer' : W) : Type 0 where
       rest : List ℕ
@@ -130,14 +133,14 @@ module _ {R E W F : Type 0} (source : Reader R E) (sink : Writer W F) (count roo
           offset = all.copied.passed.offset;
         }
 
-    no_title_told : (at : ℕ) (new : Decoder R) (writer' : W) → StopsAtTitle source sink count old writer (e.Syntax at) new writer'
-        → (start : ℕ) × (at ≡ old.offset + start) × MeetsFault source sink count due written (Syntax start) old new writer'
-    no_title_told at new writer' stops =
+    no_title_told : (at : ℕ) (new : Decoder R) (writer' : W) (stops : StopsAtTitle source sink count old writer (e.Syntax at) new writer')
+        → RefusesTitle source stops.between at new → (start : ℕ) × (at ≡ old.offset + start) × MeetsFault source sink count due written (Syntax start) old new writer'
+    no_title_told at new writer' stops refused =
         let c = came stops.bytes stops.marks stops.between writer' stops.copied in
-        let byte = stops.fails.byte in
-        let gone = consumes_told _ _ c.rest (byte ∷ []) c.left stops.fails.bytes in (
+        let byte = refused.byte in
+        let gone = consumes_told _ _ c.rest (byte ∷ []) c.left refused.bytes in (
           length stops.bytes,
-          stops.fails.place ∙ stops.copied.passed.offset,
+          refused.place ∙ stops.copied.passed.offset,
           record {
             fault = record {
               before = stops.bytes;
@@ -149,18 +152,18 @@ module _ {R E W F : Type 0} (source : Reader R E) (sink : Writer W F) (count roo
               consumed = 1;
               reach = stops.reaches;
               is = c.parts;
-              fault = NoTitle stops.at_title (subst BeginsRefused (sym gone.2) stops.fails.refused);
+              fault = NoTitle stops.at_title (subst BeginsRefused (sym gone.2) refused.refused);
             };
             answered = refl;
             output = c.output;
             left = gone.1 ∙ ap Some (refused_byte c.rest gone.0 byte gone.2);
-            offset = omega (arith, stops.fails.offset, stops.copied.passed.offset);
+            offset = omega (arith, refused.offset, stops.copied.passed.offset);
           },
         )
 
-    other_title_told : (at : ℕ) (new : Decoder R) (writer' : W) → StopsAtOther source sink count old writer at new writer'
-        → (start : ℕ) × (at ≡ old.offset + start) × MeetsFault source sink count due written (Syntax start) old new writer'
-    other_title_told at new writer' stops =
+    other_title_told : (at : ℕ) (new : Decoder R) (writer' : W) (stops : StopsAtOther source sink count old writer at new writer')
+        → IsMisplaced stops.kind stops.header → (start : ℕ) × (at ≡ old.offset + start) × MeetsFault source sink count due written (Syntax start) old new writer'
+    other_title_told at new writer' stops other =
         let c = came stops.bytes stops.marks stops.between writer' stops.copied in
         let title = stops.pulled.title in
         let gone = consumes_told _ _ c.rest title c.left stops.pulled.bytes in (
@@ -177,7 +180,7 @@ module _ {R E W F : Type 0} (source : Reader R E) (sink : Writer W F) (count roo
               consumed = length title;
               reach = stops.reaches;
               is = c.parts;
-              fault = OtherTitle stops.header gone.0 stops.pulled.is_title stops.misplaced gone.2;
+              fault = OtherTitle stops.header gone.0 stops.pulled.is_title other gone.2;
             };
             answered = refl;
             output = c.output;
@@ -185,6 +188,14 @@ module _ {R E W F : Type 0} (source : Reader R E) (sink : Writer W F) (count roo
             offset = omega (arith, stops.pulled.offset, stops.copied.passed.offset);
           },
         )
+
+    -- a decoder that isn't strict refuses no more
+    refused_leniently : strict ≡ false → (at : ℕ) (new : Decoder R) (writer' : W) (stops : StopsAtTitle source sink count old writer (e.Syntax at) new writer') → RefusesTitle source stops.between at new
+    refused_leniently off at new writer' stops = lenient_refuses source stops.between at new (stops.copied.passed.mode ∙ (told.mode ∙ off)) stops.fails
+
+    misplaced_leniently : strict ≡ false → (at : ℕ) (new : Decoder R) (writer' : W) (stops : StopsAtOther source sink count old writer at new writer') → IsMisplaced stops.kind stops.header
+    misplaced_leniently off at new writer' stops =
+        elim stops.misplaced [ inl other ↦ other | inr nested ↦ absurd (let on = nested.0 in let none = stops.copied.passed.mode ∙ (told.mode ∙ off) in cc) ]
 
     -- what is written up to a front of a body
     front_output : (marks : List Mark) (bytes front : List ℕ) (k : Kind) (len : ℕ) (between : Decoder R) (writer-between titled writer' : W) → Copied source sink old writer bytes marks between writer-between
@@ -200,6 +211,7 @@ module _ {R E W F : Type 0} (source : Reader R E) (sink : Writer W F) (count roo
         → rest ≡ read ++ behind → read ≡ front ++ more → IsCharacters front → length read ≤ len → IsNoText len read
         → (fault : HasFault count due) × (fault.answer ≡ Syntax start) × (fault.written ≡ spelling marks ++ (shortest_title (kind_header Text (Some len)) ++ front)) × (fault.before ≡ bytes)
         × (fault.ahead ≡ rest) × (fault.consumed ≡ length read)
+        × (IsSpelled bytes marks (shortest_title (kind_header Text (Some len))) → IsSpelled fault.before fault.marks (due_title fault.place))
     damage bytes marks len start read front more rest behind reach parts split e text within (inl whole) =
         let taken : take len rest ≡ read = front_of len rest read behind split whole.0 in
         let counted = ap length split in (
@@ -220,6 +232,7 @@ module _ {R E W F : Type 0} (source : Reader R E) (sink : Writer W F) (count roo
           refl,
           refl,
           refl,
+          λ spelled. spelled,
         )
     damage bytes marks len start read front more rest behind reach parts split e text within (inr begins) =
         elim (cases_lt (length rest) len) [
@@ -242,6 +255,7 @@ module _ {R E W F : Type 0} (source : Reader R E) (sink : Writer W F) (count roo
             refl,
             refl,
             refl,
+            λ spelled. spelled,
           )
           | inr all ↦ (
               let taken : take len rest ≡ read ++ take (len - length read) behind = front_behind len rest read behind split within in (
@@ -263,6 +277,7 @@ module _ {R E W F : Type 0} (source : Reader R E) (sink : Writer W F) (count roo
                 refl,
                 refl,
                 refl,
+                λ spelled. spelled,
               )
               )
         ]
@@ -290,7 +305,7 @@ module _ {R E W F : Type 0} (source : Reader R E) (sink : Writer W F) (count roo
 
   -- ---- no side fails by itself
 
-  module _ (ready : IsReady source sink room old writer due written) where
+  module _ (ready : IsReadyAs source sink strict count room old writer due written) where
     cut_title_told : (fault : E) (new : Decoder R) (writer' : W) → StopsAtTitle source sink count old writer (e.Io fault) new writer' → MeetsFault source sink count due written Short old new writer'
     cut_title_told fault new writer' stops =
         let c = came ready.told stops.bytes stops.marks stops.between writer' stops.copied in
@@ -383,11 +398,9 @@ module _ {R E W F : Type 0} (source : Reader R E) (sink : Writer W F) (count roo
         let full : 2 ^ 64 ≤ stops.stopped.between.offset + stops.stopped.count = stops.stopped.full in
         omega (arith, behind, whole, fits, full, stops.stopped.held, part.passed.offset, stops.copied.passed.offset, length-append part.read gone.0, length-append stops.bytes c.rest)
 
-    writer_fits : (new : Decoder R) (writer' : W) → StopsWriting source sink count old writer new writer' → ⊥
-    writer_fits new writer' stops =
-        let gone = consumes_told _ _ due (stops.bytes ++ stops.read) ready.told.due-told stops.passed.consumed in
-        let less : ready.room < length (spelling stops.marks ++ stops.more) = rw ready.room-told at stops.stopped.full in
-        let shorter : length (spelling stops.marks ++ stops.more) ≤ length (stops.bytes ++ stops.read) =
+    -- what was to be written is no longer than what was read
+    writer_shorter : (new : Decoder R) (writer' : W) (stops : StopsWriting source sink count old writer new writer') → length (spelling stops.marks ++ stops.more) ≤ length (stops.bytes ++ stops.read)
+    writer_shorter new writer' stops =
         elim stops.belongs [
           | inl all ↦ (
               let again = run_again count stops.bytes stops.marks all.0 in
@@ -395,24 +408,55 @@ module _ {R E W F : Type 0} (source : Reader R E) (sink : Writer W F) (count roo
               omega (arith, again.shorter, none, length-append (spelling stops.marks) stops.more, length-append stops.bytes stops.read)
               )
           | inr way ↦ way_shorter count stops.bytes stops.marks way.0 stops.more stops.read way.1 way.2
-        ] in
-        let whole = ap length gone.2 in
-        let enough : length due ≤ ready.room = ready.enough in
-        omega (arith, less, shorter, whole, enough, length-append (stops.bytes ++ stops.read) gone.0)
+        ]
 
-    pub recode_told : (new : Decoder R) (writer' : W) (result : Result (Unit {0}) (RecodeError E F)) → CopiesElements source sink count room old writer result new writer'
+    writer_fits : (new : Decoder R) (writer' : W) → StopsWriting source sink count old writer new writer' → ⊥
+    writer_fits new writer' stops =
+        let gone = consumes_told _ _ due (stops.bytes ++ stops.read) ready.told.due-told stops.passed.consumed in
+        let less : ready.room < length (spelling stops.marks ++ stops.more) = rw ready.room-told at stops.stopped.full in
+        let whole = ap length gone.2 in
+        elim ready.enough [
+          | inl fits ↦ (
+              let front = fits.0 in
+              let enough : length (spelling front.marks) ≤ ready.room = fits.1 in
+              elim stops.belongs [
+                | inl all ↦ (
+                    let none = ap length all.1 in
+                    let one = one_run count front.elements front.marks front.run stops.bytes front.rest (stops.read ++ gone.0) stops.marks all.0
+                    (sym front.is ∙ gone.2 ∙ append_assoc stops.bytes stops.read gone.0) in
+                    let same = ap (λ (z : List Mark). length (spelling z)) one.1 in
+                    omega (arith, less, none, same, enough, length-append (spelling stops.marks) stops.more)
+                    )
+                | inr way ↦ omega (
+                    arith,
+                    less,
+                    enough,
+                    length-append (spelling stops.marks) stops.more,
+                    spelled_within count stops.bytes stops.marks way.0 way.1 stops.more stops.read way.2 (stops.read ++ gone.0) front.elements front.rest front.marks front.run
+                        (sym (append_assoc stops.bytes stops.read gone.0) ∙ sym gone.2 ∙ front.is),
+                  )
+              ]
+              )
+          | inr fits ↦ (
+              let enough : length due ≤ ready.room = fits in
+              let shorter = writer_shorter new writer' stops in
+              omega (arith, less, shorter, whole, enough, length-append (stops.bytes ++ stops.read) gone.0)
+              )
+        ]
+
+    pub recode_told : strict ≡ false → (new : Decoder R) (writer' : W) (result : Result (Unit {0}) (RecodeError E F)) → CopiesElements source sink count room old writer result new writer'
         → RecodesTold source sink count due written old result new writer'
-    recode_told new writer' (Ok unit) all = all_told ready.told new writer' all.elements
-    recode_told new writer' (Err (r.Read (e.Io fault))) (inl stops) = cut_title_told fault new writer' stops
-    recode_told new writer' (Err (r.Read (e.Io fault))) (inr stops) = cut_body_told fault new writer' stops
-    recode_told new writer' (Err (r.Read (e.Syntax at))) (inl stops) = no_title_told ready.told at new writer' stops
-    recode_told new writer' (Err (r.Read (e.Syntax at))) (inr (inl stops)) = other_title_told ready.told at new writer' stops
-    recode_told new writer' (Err (r.Read (e.Syntax at))) (inr (inr stops)) = damaged_told ready.told at new writer' stops
-    recode_told new writer' (Err (r.Read e.TooLong)) (inl stops) = absurd (title_fits new writer' stops)
-    recode_told new writer' (Err (r.Read e.TooLong)) (inr (inl stops)) = absurd (opens_fit new writer' stops)
-    recode_told new writer' (Err (r.Read e.TooLong)) (inr (inr stops)) = absurd (body_fits new writer' stops)
-    recode_told new writer' (Err (r.Read e.Waiting)) stops = absurd stops
-    recode_told new writer' (Err (r.Write fault)) stops = absurd (writer_fits new writer' stops)
+    recode_told off new writer' (Ok unit) all = all_told ready.told new writer' all.elements
+    recode_told off new writer' (Err (r.Read (e.Io fault))) (inl stops) = cut_title_told fault new writer' stops
+    recode_told off new writer' (Err (r.Read (e.Io fault))) (inr stops) = cut_body_told fault new writer' stops
+    recode_told off new writer' (Err (r.Read (e.Syntax at))) (inl stops) = no_title_told ready.told at new writer' stops (refused_leniently ready.told off at new writer' stops)
+    recode_told off new writer' (Err (r.Read (e.Syntax at))) (inr (inl stops)) = other_title_told ready.told at new writer' stops (misplaced_leniently ready.told off at new writer' stops)
+    recode_told off new writer' (Err (r.Read (e.Syntax at))) (inr (inr stops)) = damaged_told ready.told at new writer' stops
+    recode_told off new writer' (Err (r.Read e.TooLong)) (inl stops) = absurd (title_fits new writer' stops)
+    recode_told off new writer' (Err (r.Read e.TooLong)) (inr (inl stops)) = absurd (opens_fit new writer' stops)
+    recode_told off new writer' (Err (r.Read e.TooLong)) (inr (inr stops)) = absurd (body_fits new writer' stops)
+    recode_told off new writer' (Err (r.Read e.Waiting)) stops = absurd stops
+    recode_told off new writer' (Err (r.Write fault)) stops = absurd (writer_fits new writer' stops)
 
     exactly_told : (new : Decoder R) (writer' : W) (result : Result (Unit {0}) (RecodeError E F)) → RecodesTold source sink count due written old result new writer' → IsOk result ↔ RunInFront count due
     exactly_told new writer' (Ok unit) told = (λ ok. told.front, λ front. refl)
@@ -422,13 +466,13 @@ module _ {R E W F : Type 0} (source : Reader R E) (sink : Writer W F) (count roo
     exactly_told new writer' (Err (r.Read e.Waiting)) told = absurd told
     exactly_told new writer' (Err (r.Write fault)) told = absurd told
 
-    pub recode_exactly : (new : Decoder R) (writer' : W) (result : Result (Unit {0}) (RecodeError E F)) → CopiesElements source sink count room old writer result new writer'
+    pub recode_exactly : strict ≡ false → (new : Decoder R) (writer' : W) (result : Result (Unit {0}) (RecodeError E F)) → CopiesElements source sink count room old writer result new writer'
         → IsOk result ↔ RunInFront count due
-    recode_exactly new writer' result copied = exactly_told new writer' result (recode_told new writer' result copied)
+    recode_exactly off new writer' result copied = exactly_told new writer' result (recode_told off new writer' result copied)
 
   -- ---- a side may fail by itself
 
-  module _ (told : IsTold source sink old writer due written) where
+  module _ (told : IsToldAs source sink strict old writer due written) where
     at_title : (place : Place) (ahead : List ℕ) (n : ℕ) → IsAtTitle place → n ≤ min 1 (length ahead) → StopsAt place ahead [] n
     at_title Due ahead n title less = (refl, less)
     at_title (In k) ahead n title less = (refl, less)
@@ -556,22 +600,186 @@ module _ {R E W F : Type 0} (source : Reader R E) (sink : Writer W F) (count roo
           offset = omega (arith, stops.passed.offset, length-append stops.bytes stops.read);
         }
 
-    pub recode_anyhow : (new : Decoder R) (writer' : W) (result : Result (Unit {0}) (RecodeError E F)) → CopiesElements source sink count room old writer result new writer'
+    pub recode_anyhow : strict ≡ false → (new : Decoder R) (writer' : W) (result : Result (Unit {0}) (RecodeError E F)) → CopiesElements source sink count room old writer result new writer'
         → RecodesAnyhow source sink count room due written old result new writer'
-    recode_anyhow new writer' (Ok unit) all = all_told told new writer' all.elements
-    recode_anyhow new writer' (Err (r.Read (e.Io fault))) (inl stops) = title_fails fault new writer' stops
-    recode_anyhow new writer' (Err (r.Read (e.Io fault))) (inr stops) =
+    recode_anyhow off new writer' (Ok unit) all = all_told told new writer' all.elements
+    recode_anyhow off new writer' (Err (r.Read (e.Io fault))) (inl stops) = title_fails fault new writer' stops
+    recode_anyhow off new writer' (Err (r.Read (e.Io fault))) (inr stops) =
         let fails = stops.stopped in
         body_short stops.bytes stops.marks stops.kind stops.len stops.start stops.between fails.between new stops.writer-between stops.writer-titled writer' stops.reaches stops.copied
         stops.titled fails.part fails.fails.offset
-    recode_anyhow new writer' (Err (r.Read (e.Syntax at))) (inl stops) = no_title_told told at new writer' stops
-    recode_anyhow new writer' (Err (r.Read (e.Syntax at))) (inr (inl stops)) = other_title_told told at new writer' stops
-    recode_anyhow new writer' (Err (r.Read (e.Syntax at))) (inr (inr stops)) = damaged_told told at new writer' stops
-    recode_anyhow new writer' (Err (r.Read e.TooLong)) (inl stops) = title_passes new writer' stops
-    recode_anyhow new writer' (Err (r.Read e.TooLong)) (inr (inl stops)) = opens_pass new writer' stops
-    recode_anyhow new writer' (Err (r.Read e.TooLong)) (inr (inr stops)) = body_passes new writer' stops
-    recode_anyhow new writer' (Err (r.Read e.Waiting)) stops = absurd stops
-    recode_anyhow new writer' (Err (r.Write fault)) stops = unwritten new writer' stops
+    recode_anyhow off new writer' (Err (r.Read (e.Syntax at))) (inl stops) = no_title_told told at new writer' stops (refused_leniently told off at new writer' stops)
+    recode_anyhow off new writer' (Err (r.Read (e.Syntax at))) (inr (inl stops)) = other_title_told told at new writer' stops (misplaced_leniently told off at new writer' stops)
+    recode_anyhow off new writer' (Err (r.Read (e.Syntax at))) (inr (inr stops)) = damaged_told told at new writer' stops
+    recode_anyhow off new writer' (Err (r.Read e.TooLong)) (inl stops) = title_passes new writer' stops
+    recode_anyhow off new writer' (Err (r.Read e.TooLong)) (inr (inl stops)) = opens_pass new writer' stops
+    recode_anyhow off new writer' (Err (r.Read e.TooLong)) (inr (inr stops)) = body_passes new writer' stops
+    recode_anyhow off new writer' (Err (r.Read e.Waiting)) stops = absurd stops
+    recode_anyhow off new writer' (Err (r.Write fault)) stops = unwritten new writer' stops
+
+  -- ---- a strict decoder on which no header waits
+
+  module _ (ready : IsReadyAs source sink strict count room old writer due written) (on : IsTrue strict) (none : old.waiting ≡ None) where
+    all_strictly : (new : Decoder R) (writer' : W) → CopiesRun source sink count old writer new writer' → CopiesStrictly source sink count due written old new writer'
+    all_strictly new writer' all =
+        let c = came ready.told all.bytes all.marks new writer' all.copied in
+        let spelled = all.strict (ready.told.mode ∙ on) none in
+        let same = spelled_alone all.bytes all.marks spelled in
+        record {
+          front = record { elements = all.bytes; marks = all.marks; rest = c.rest; run = record { run = all.run; same = same; meant = spelled.meant }; is = c.parts };
+          output = c.output ∙ ap (λ (z : List ℕ). Some (written ++ z)) (sym same);
+          left = c.left;
+          offset = all.copied.passed.offset;
+        }
+
+    -- a fault for any decoder, behind a strict beginning
+    met_strictly : (new : Decoder R) (writer' : W) (answer : Answer) (meets : MeetsFault source sink count due written answer old new writer')
+        → IsSpelled meets.fault.before meets.fault.marks (due_title meets.fault.place) → MeetsStrictFault source sink count due written answer old new writer'
+    met_strictly new writer' answer meets spelled = record {
+      fault = record {
+        before = meets.fault.before;
+        marks = meets.fault.marks;
+        place = meets.fault.place;
+        ahead = meets.fault.ahead;
+        answer = meets.fault.answer;
+        written = meets.fault.written;
+        consumed = meets.fault.consumed;
+        reach = record { reaches = meets.fault.reach; spelled = spelled };
+        is = meets.fault.is;
+        fault = Fault meets.fault.fault;
+      };
+      answered = meets.answered;
+      output = meets.output;
+      left = meets.left;
+      offset = meets.offset;
+    }
+
+    -- a title that a strict decoder refuses
+    longer_strictly : (at : ℕ) (new : Decoder R) (writer' : W) (stops : StopsAtTitle source sink count old writer (e.Syntax at) new writer') → RefusesLonger source stops.between at new
+        → (start : ℕ) × (at ≡ old.offset + start) × MeetsStrictFault source sink count due written (Syntax start) old new writer'
+    longer_strictly at new writer' stops refused =
+        let c = came ready.told stops.bytes stops.marks stops.between writer' stops.copied in
+        let gone = consumes_told _ _ c.rest refused.title c.left refused.bytes in (
+          length stops.bytes,
+          refused.place ∙ stops.copied.passed.offset,
+          record {
+            fault = record {
+              before = stops.bytes;
+              marks = stops.marks;
+              place = stops.place;
+              ahead = c.rest;
+              answer = Syntax (length stops.bytes);
+              written = spelling stops.marks;
+              consumed = length refused.title;
+              reach = record { reaches = stops.reaches; spelled = spelled_at stops.place stops.bytes stops.marks stops.at_title (stops.strict (ready.told.mode ∙ on) none) };
+              is = c.parts;
+              fault = LongTitle refused.header gone.0 stops.at_title refused.is_title refused.not_strict gone.2;
+            };
+            answered = refl;
+            output = c.output;
+            left = gone.1 ∙ ap Some (sym (ap (drop (length refused.title)) gone.2 ∙ drop-append_seam refused.title gone.0));
+            offset = omega (arith, refused.offset, stops.copied.passed.offset);
+          },
+        )
+
+    -- a further open within a string
+    nested_strictly : (at : ℕ) (new : Decoder R) (writer' : W) (stops : StopsAtOther source sink count old writer at new writer') → stops.header ≡ kind_header stops.kind None
+        → (start : ℕ) × (at ≡ old.offset + start) × MeetsStrictFault source sink count due written (Syntax start) old new writer'
+    nested_strictly at new writer' stops further =
+        let c = came ready.told stops.bytes stops.marks stops.between writer' stops.copied in
+        let title = stops.pulled.title in
+        let gone = consumes_told _ _ c.rest title c.left stops.pulled.bytes in (
+          length stops.bytes,
+          stops.at-start ∙ stops.copied.passed.offset,
+          record {
+            fault = record {
+              before = stops.bytes;
+              marks = stops.marks;
+              place = In stops.kind;
+              ahead = c.rest;
+              answer = Syntax (length stops.bytes);
+              written = spelling stops.marks;
+              consumed = length title;
+              reach = record { reaches = stops.reaches; spelled = stops.strict (ready.told.mode ∙ on) none };
+              is = c.parts;
+              fault = NestedOpen gone.0 (subst (IsTitle title) further stops.pulled.is_title) gone.2;
+            };
+            answered = refl;
+            output = c.output;
+            left = gone.1 ∙ ap Some (sym (ap (drop (length title)) gone.2 ∙ drop-append_seam title gone.0));
+            offset = omega (arith, stops.pulled.offset, stops.copied.passed.offset);
+          },
+        )
+
+    no_title_strictly : (at : ℕ) (new : Decoder R) (writer' : W) → StopsAtTitle source sink count old writer (e.Syntax at) new writer'
+        → (start : ℕ) × (at ≡ old.offset + start) × MeetsStrictFault source sink count due written (Syntax start) old new writer'
+    unfolding no_title_told
+    no_title_strictly at new writer' stops = elim stops.fails [
+      | inl refused ↦ (
+          let met = no_title_told ready.told at new writer' stops refused in
+          (met.0, met.1, met_strictly new writer' (Syntax met.0) met.2 (spelled_at stops.place stops.bytes stops.marks stops.at_title (stops.strict (ready.told.mode ∙ on) none)))
+          )
+      | inr longer ↦ longer_strictly at new writer' stops longer
+    ]
+
+    other_title_strictly : (at : ℕ) (new : Decoder R) (writer' : W) → StopsAtOther source sink count old writer at new writer'
+        → (start : ℕ) × (at ≡ old.offset + start) × MeetsStrictFault source sink count due written (Syntax start) old new writer'
+    unfolding other_title_told
+    other_title_strictly at new writer' stops = elim stops.misplaced [
+      | inl other ↦ (
+          let met = other_title_told ready.told at new writer' stops other in
+          (met.0, met.1, met_strictly new writer' (Syntax met.0) met.2 (stops.strict (ready.told.mode ∙ on) none))
+          )
+      | inr nested ↦ nested_strictly at new writer' stops nested.1
+    ]
+
+    cut_title_strictly : (fault : E) (new : Decoder R) (writer' : W) → StopsAtTitle source sink count old writer (e.Io fault) new writer' → MeetsStrictFault source sink count due written Short old new writer'
+    unfolding cut_title_told
+    cut_title_strictly fault new writer' stops =
+        met_strictly new writer' Short (cut_title_told ready fault new writer' stops) (spelled_at stops.place stops.bytes stops.marks stops.at_title (stops.strict (ready.told.mode ∙ on) none))
+
+    cut_body_strictly : (fault : E) (new : Decoder R) (writer' : W) → StopsInBody source sink count room old writer (e.Io fault) new writer' → MeetsStrictFault source sink count due written Short old new writer'
+    unfolding cut_body_told
+    cut_body_strictly fault new writer' stops = met_strictly new writer' Short (cut_body_told ready fault new writer' stops) (stops.strict (ready.told.mode ∙ on) none)
+
+    damaged_strictly : (at : ℕ) (new : Decoder R) (writer' : W) → StopsInBody source sink count room old writer (e.Syntax at) new writer'
+        → (start : ℕ) × (at ≡ old.offset + start) × MeetsStrictFault source sink count due written (Syntax start) old new writer'
+    unfolding damaged_told
+    damaged_strictly at new writer' stops =
+        let c = came ready.told stops.bytes stops.marks stops.between stops.writer-between stops.copied in
+        let body = stops.stopped.1 in
+        let gone = consumes_told _ _ c.rest body.read c.left body.passed.consumed in
+        let reach = subst (λ (k : Kind). Reaches count stops.bytes stops.marks (Body k stops.len stops.start)) body.textual stops.reaches in
+        let f = damage ready.told stops.bytes stops.marks stops.len stops.start body.read body.front body.rest c.rest gone.0 reach c.parts gone.2 body.parts body.sound body.within body.no_text in
+        let met = damaged_told ready.told at new writer' stops in
+        let spelled = subst (λ (k : Kind). IsSpelled stops.bytes stops.marks (shortest_title (kind_header k (Some stops.len)))) body.textual (stops.strict (ready.told.mode ∙ on) none) in
+        (met.0, met.1, met_strictly new writer' (Syntax met.0) met.2 (f.6 spelled))
+
+    pub recode_strictly : (new : Decoder R) (writer' : W) (result : Result (Unit {0}) (RecodeError E F)) → CopiesElements source sink count room old writer result new writer'
+        → RecodesStrictly source sink count due written old result new writer'
+    recode_strictly new writer' (Ok unit) all = all_strictly new writer' all.elements
+    recode_strictly new writer' (Err (r.Read (e.Io fault))) (inl stops) = cut_title_strictly fault new writer' stops
+    recode_strictly new writer' (Err (r.Read (e.Io fault))) (inr stops) = cut_body_strictly fault new writer' stops
+    recode_strictly new writer' (Err (r.Read (e.Syntax at))) (inl stops) = no_title_strictly at new writer' stops
+    recode_strictly new writer' (Err (r.Read (e.Syntax at))) (inr (inl stops)) = other_title_strictly at new writer' stops
+    recode_strictly new writer' (Err (r.Read (e.Syntax at))) (inr (inr stops)) = damaged_strictly at new writer' stops
+    recode_strictly new writer' (Err (r.Read e.TooLong)) (inl stops) = absurd (title_fits ready new writer' stops)
+    recode_strictly new writer' (Err (r.Read e.TooLong)) (inr (inl stops)) = absurd (opens_fit ready new writer' stops)
+    recode_strictly new writer' (Err (r.Read e.TooLong)) (inr (inr stops)) = absurd (body_fits ready new writer' stops)
+    recode_strictly new writer' (Err (r.Read e.Waiting)) stops = absurd stops
+    recode_strictly new writer' (Err (r.Write fault)) stops = absurd (writer_fits ready new writer' stops)
+
+    strictly_told : (new : Decoder R) (writer' : W) (result : Result (Unit {0}) (RecodeError E F)) → RecodesStrictly source sink count due written old result new writer' → IsOk result ↔ StrictRunInFront count due
+    strictly_told new writer' (Ok unit) told = (λ ok. told.front, λ front. refl)
+    strictly_told new writer' (Err (r.Read (e.Io fault))) told = (λ ok. absurd cc, λ front. absurd (no_strict_fault count due front told.fault))
+    strictly_told new writer' (Err (r.Read (e.Syntax at))) told = (λ ok. absurd cc, λ front. absurd (no_strict_fault count due front told.2.fault))
+    strictly_told new writer' (Err (r.Read e.TooLong)) told = absurd told
+    strictly_told new writer' (Err (r.Read e.Waiting)) told = absurd told
+    strictly_told new writer' (Err (r.Write fault)) told = absurd told
+
+    pub recode_strictly_exactly : (new : Decoder R) (writer' : W) (result : Result (Unit {0}) (RecodeError E F)) → CopiesElements source sink count room old writer result new writer'
+        → IsOk result ↔ StrictRunInFront count due
+    recode_strictly_exactly new writer' result copied = strictly_told new writer' result (recode_strictly new writer' result copied)
 
 -- an element has a byte
 element_some : (w : List ℕ) (ms : List Mark) → IsElement w ms → 0 < length w

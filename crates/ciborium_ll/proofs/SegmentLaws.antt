@@ -1,5 +1,5 @@
 -- The copy of a string's segments, behind its open.
-use Rattle.std.proofs.Common.{◌≡◌, ℕ, zero, suc, ◌+◌, ◌<◌, ◌≤◌, ◌⊎◌, List, [], ◌∷◌, ◌++◌, length, Option, Some, None, IsTrue, Result, Ok, Err, refl, sym, ap, subst, ◌∙◌, inl, inr, arith, append_assoc, append-nil, length-append}
+use Rattle.std.proofs.Common.{◌≡◌, ℕ, Bool, true, zero, suc, ◌+◌, ◌<◌, ◌≤◌, ◌⊎◌, List, [], ◌∷◌, ◌++◌, length, Option, Some, None, IsTrue, Result, Ok, Err, refl, sym, ap, subst, ◌∙◌, inl, inr, arith, append_assoc, append-nil, length-append}
 use Rattle.std.proofs.KnownBytes.{Appends-nil}
 use Rattle.ciborium_ll.specs.declared.io.Read.{Ghosts as Reader}
 use Rattle.ciborium_ll.specs.declared.io.Write.{Ghosts as Writer}
@@ -16,18 +16,19 @@ use Rattle.ciborium_ll.specs.declared.recode.RecodeError.TheVariants as r
 use Rattle.ciborium_ll.specs.Title.{IsTitle, shortest_title}
 use Rattle.ciborium_ll.specs.Strings.{Kind, Bytes, Text, kind_header, definite, none}
 use Rattle.ciborium_ll.specs.Steps.{IsInsideAt, one_open, more_open}
-use Rattle.ciborium_ll.specs.Elements.{IsSound, Mark, Open, Piece, spelling, pieces, body_spelling}
-use Rattle.ciborium_ll.specs.Faults.{In, Body as BodyDue, Reaches, inside, body_inside, IsMisplaced}
-use Rattle.ciborium_ll.specs.Decoding.{Passes, IsSteady, TakesBack}
+use Rattle.ciborium_ll.specs.Elements.{IsSound, Mark, Open, Piece, spelling, pieces, open_marks, body_spelling, IsSpelled}
+use Rattle.ciborium_ll.specs.Faults.{In, Body as BodyDue, Reaches, inside, body_inside, IsRefusedIn}
+use Rattle.ciborium_ll.specs.Decoding.{Passes, Strictly, IsSteady, TakesBack}
 use Rattle.ciborium_ll.specs.Encoding.{WritesAll, WritesFront}
 use Rattle.ciborium_ll.specs.Segments.{IsMisplacedAt, EndsAdvance, AdvancesFrom, AdvancesTo}
 use Rattle.ciborium_ll.specs.Recoding.{CopiesBody, CopiesWhole, Copied, StopsWriting, StopsCopy, IsWithin, ReadsString}
 use Rattle.ciborium_ll.proofs.TitleLaws.{IsTitle-shortest}
 use Rattle.ciborium_ll.proofs.StepLaws.{counted, add_string, close_last, never}
-use Rattle.ciborium_ll.proofs.ElementLaws.{IsSound-append, pieces-append}
+use Rattle.ciborium_ll.proofs.ElementLaws.{IsSound-append, pieces-append, spelling-append, open_spelled}
 use Rattle.ciborium_ll.proofs.DecodingLaws.{Passes-none, Passes-pulled, Passes-then}
 use Rattle.ciborium_ll.proofs.CopyingLaws.{Shrinks-zero}
-use Rattle.ciborium_ll.proofs.NestLaws.{alone_bytes, title_some, nest_inside, advance_opened, open_in_range}
+use Rattle.ciborium_ll.proofs.NestLaws.{alone_bytes, title_some, nests_none, nest_inside, advance_opened, open_in_range}
+use Rattle.ciborium_ll.proofs.SpelledLaws.{pieces_meant, open_meant, spelled_then, spelled_title, passes_settled}
 use Rattle.ciborium_ll.proofs.RecodeLaws.{sound_body, marks_then, writes_then, title_unwritten, body_stops}
 
 -- each open takes a byte
@@ -37,9 +38,10 @@ opens_counted k j u bs (more_open {opens = i} {outer = y} {title = t} {strings =
     omega (arith, opens_counted k i y ds q, title_some t (kind_header k None) p, length-append t x, length-append y (t ++ x))
 
 -- within a string a break is not misplaced
-pub misplaced_inside : (k : Kind) (opens : ℕ) (header : Header) → 0 < opens → IsMisplacedAt k opens header → IsMisplaced k header
-misplaced_inside k opens header some (inl first) = absurd (let none = first.0 in omega (arith, some, none))
-misplaced_inside k opens header some (inr other) = other
+pub misplaced_inside : (strict : Bool) (k : Kind) (opens : ℕ) (header : Header) → 0 < opens → IsMisplacedAt k opens header ⊎ ((0 < opens) × (strict ≡ true) × (header ≡ kind_header k None)) → IsRefusedIn strict k header
+misplaced_inside strict k opens header some (inl (inl first)) = absurd (let none = first.0 in omega (arith, some, none))
+misplaced_inside strict k opens header some (inl (inr other)) = inl other
+misplaced_inside strict k opens header some (inr nested) = inr (nested.1, nested.2)
 
 pub some_open : (k : Kind) (opens : ℕ) (u : List ℕ) (bs : List (List ℕ)) → IsInsideAt k opens u bs → 0 < opens
 some_open k zero u bs i = absurd (never k u bs i)
@@ -58,6 +60,8 @@ module _ {R E W F : Type 0} (source : Reader R E) (sink : Writer W F) (k : Kind)
     pub sound : IsSound k bodies
     pub passed : Passes source opened strings now
     pub written : WritesAll sink writer (spelling (pieces k bodies)) writer'
+    -- a strict decoder has no open within, and its bytes are the pieces' spelling
+    pub tight : IsTrue opened.strict → (opens ≡ 1) × (strings ≡ spelling (pieces k bodies))
 
   -- the open waits
   pub record IsAtFront (opened : Decoder R) (writer : W) (progress : Progress) (now : Decoder R) (writer' : W) : Type 0 where
@@ -95,6 +99,7 @@ module _ {R E W F : Type 0} (source : Reader R E) (sink : Writer W F) (k : Kind)
     passed = Passes-none source opened;
     written = subst (λ (w : W). WritesAll sink writer [] w) (sym nothing)
         (record { appended = Appends-nil (sink.written writer); room = Shrinks-zero (sink.room writer); failures = refl });
+    tight = λ on. (refl, refl);
   }
 
   -- opens and breaks further
@@ -110,6 +115,12 @@ module _ {R E W F : Type 0} (source : Reader R E) (sink : Writer W F) (k : Kind)
         sound = among.sound;
         passed = Passes-then source opened now all.between among.strings all.nest among.passed all.passed;
         written = among.written;
+        tight = λ on.
+            let before = among.tight on in
+            let one = before.0 in
+            let few = all.shallow (among.passed.mode ∙ on) (omega (arith, one)) in
+            let still = nests_none k opens all.nest all.left all.nests (omega (arith, one, few)) in
+            (still.1 ∙ one, ap (λ (z : List ℕ). among.strings ++ z) still.0 ∙ append-nil among.strings ∙ before.1);
       }
 
   pub advances_among : (opened now : Decoder R) (writer writer' : W) (result : Result (Option Body) (Error E)) (progress progress' : Progress) (new : Decoder R)
@@ -166,6 +177,14 @@ module _ {R E W F : Type 0} (source : Reader R E) (sink : Writer W F) (k : Kind)
               (marks_then source sink writer0 writer writer' (outer.marks ++ Open k ∷ []) (pieces k among.bodies) outer.written among.written);
         }
 
+    -- of a strict decoder it is the spelling of what is written
+    inside_strict : (left : ℕ) (between : Decoder R) (writer' : W) (among : IsAmong left opened writer between writer')
+        → Strictly old (IsSpelled (so_far_bytes among.strings) (so_far_marks among.bodies) [])
+    inside_strict left between writer' among = λ on none.
+        let front = shortest_title (kind_header k None) in
+        let tight = among.tight (outer.passed.mode ∙ on) in
+        spelled_then outer.bytes outer.marks (front ++ among.strings) (Open k ∷ pieces k among.bodies) (outer.strict on none) (ap (λ (z : List ℕ). front ++ z) tight.1) (tt, pieces_meant k among.bodies)
+
     -- `advance` failed
     pub segments_stop : (room : ℕ) (now new : Decoder R) (writer' : W) (error : Error E) (progress : Progress) → AdvancesAmong opened writer now (Err error) progress new writer'
         → StopsCopy source sink count room old writer0 (r.Read error) new writer'
@@ -178,6 +197,7 @@ module _ {R E W F : Type 0} (source : Reader R E) (sink : Writer W F) (k : Kind)
       between = all.between;
       copied = copied_inside all.left all.between writer' all.among;
       fails = all.ends.0;
+      strict = inside_strict all.left all.between writer' all.among;
     })
     segments_stop room now new writer' (e.Syntax at) progress all = elim all.ends [
       | inl refused ↦ inl (record {
@@ -189,6 +209,7 @@ module _ {R E W F : Type 0} (source : Reader R E) (sink : Writer W F) (k : Kind)
         between = all.between;
         copied = copied_inside all.left all.between writer' all.among;
         fails = refused.0;
+        strict = inside_strict all.left all.between writer' all.among;
       })
       | inr other ↦ inr (inl (record {
         bytes = so_far_bytes all.among.strings;
@@ -199,8 +220,9 @@ module _ {R E W F : Type 0} (source : Reader R E) (sink : Writer W F) (k : Kind)
         copied = copied_inside all.left all.between writer' all.among;
         header = other.header;
         pulled = other.pulled;
-        misplaced = misplaced_inside k all.left other.header (some_open k all.left _ _ all.among.within) other.misplaced;
+        misplaced = misplaced_inside all.between.strict k all.left other.header (some_open k all.left _ _ all.among.within) other.misplaced;
         at-start = other.place;
+        strict = inside_strict all.left all.between writer' all.among;
       }))
     ]
     segments_stop room now new writer' e.TooLong progress all = elim all.ends [
@@ -213,6 +235,7 @@ module _ {R E W F : Type 0} (source : Reader R E) (sink : Writer W F) (k : Kind)
         between = all.between;
         copied = copied_inside all.left all.between writer' all.among;
         fails = passes.0;
+        strict = inside_strict all.left all.between writer' all.among;
       })
       | inr deep ↦ inr (inl (record {
         bytes = so_far_bytes all.among.strings;
@@ -257,6 +280,10 @@ module _ {R E W F : Type 0} (source : Reader R E) (sink : Writer W F) (k : Kind)
           is_element = close_last k (front ++ among.strings) among.bodies last among.sound;
           passed = subst (λ (z : List ℕ). Passes source old z new) (ap (λ (z : List ℕ). so_far_bytes among.strings ++ z) break ∙ append_assoc outer.bytes (front ++ among.strings) (0xff ∷ [])) passed;
           written = copied.written;
+          strict = λ on none.
+              let tight = among.tight (outer.passed.mode ∙ on) in
+              spelled_then outer.bytes outer.marks ((front ++ among.strings) ++ 0xff ∷ []) (open_marks k among.bodies) (outer.strict on none)
+              (ap (λ (z : List ℕ). (front ++ z) ++ 0xff ∷ []) tight.1 ∙ append_assoc front (spelling (pieces k among.bodies)) (0xff ∷ []) ∙ sym (open_spelled k among.bodies)) (open_meant k among.bodies);
         }
 
     -- the title of a segment that was announced
@@ -273,6 +300,14 @@ module _ {R E W F : Type 0} (source : Reader R E) (sink : Writer W F) (k : Kind)
           written = copied.written;
         }
 
+    announced_strict : (now new : Decoder R) (writer' : W) (body : Body) (progress : Progress) (all : AdvancesAmong opened writer now (Ok (Some body)) progress new writer')
+        → Strictly old (IsSpelled (so_far_bytes all.among.strings ++ all.ends.pulled.title) (so_far_marks all.among.bodies) (shortest_title (kind_header k (Some body.length))))
+    announced_strict now new writer' body progress all = λ on none.
+        let settled = passes_settled source old opened (outer.bytes ++ shortest_title (kind_header k None)) outer.passed none in
+        let only = all.ends.pulled.strict (all.among.passed.mode ∙ (outer.passed.mode ∙ on)) (passes_settled source opened all.between all.among.strings all.among.passed settled) in
+        spelled_title (so_far_bytes all.among.strings) (so_far_marks all.among.bodies) all.ends.pulled.title (shortest_title (kind_header k (Some body.length)))
+        (inside_strict all.left all.between writer' all.among on none) only.shortest
+
     -- the writer failed at the title of a segment
     pub segment_unwritten : (now new : Decoder R) (writer' writer'' : W) (fault : F) (body : Body) (progress : Progress) → AdvancesAmong opened writer now (Ok (Some body)) progress new writer'
         → WritesFront sink writer' (shortest_title (kind_header k (Some body.length))) writer'' → StopsWriting source sink count old writer0 new writer''
@@ -287,7 +322,7 @@ module _ {R E W F : Type 0} (source : Reader R E) (sink : Writer W F) (k : Kind)
         let copied = copied_inside all.left all.between writer' all.among in
         let placed : body.place ≡ old.offset + length (so_far_bytes all.among.strings) = all.ends.place ∙ copied.passed.offset in
         body_stops source sink count room old writer0 _ _ k body.length _ new ended writer' titled writer'' error (announced_reach now new writer' body progress all)
-        (announced_copied now new writer' body progress all) title
+        (announced_strict now new writer' body progress all) (announced_copied now new writer' body progress all) title
         (subst (λ (n : ℕ). CopiesBody source sink k body.length room n new titled (Err error) ended writer'') placed stops)
 
   -- ---- one segment more
@@ -325,6 +360,15 @@ module _ {R E W F : Type 0} (source : Reader R E) (sink : Writer W F) (k : Kind)
             passed = subst (λ (z : List ℕ). Passes source opened z ended) (append_assoc among.strings t b) (Passes-then source opened new ended (among.strings ++ t) b pulled whole.passed);
             written = subst (λ (z : List ℕ). WritesAll sink writer z writer'') (sym (piece_spelled among.bodies b))
                 (marks_then source sink writer writer' writer'' (pieces k among.bodies) (Piece k b ∷ []) among.written one);
+            tight = λ on.
+                let before = among.tight on in
+                let only = all.ends.pulled.strict (among.passed.mode ∙ on) (passes_settled source opened all.between among.strings among.passed settled) in
+                let first = only.shortest ∙ ap (λ (n : ℕ). shortest_title (kind_header k (Some n))) lengths in
+                let so_far = spelling (pieces k among.bodies) in (
+                  before.0,
+                  ap (λ (z : List ℕ). z ++ (t ++ b)) before.1 ∙ ap (λ (z : List ℕ). so_far ++ (z ++ b)) first ∙ ap (λ (z : List ℕ). so_far ++ z) (sym (append-nil (body_spelling k b)))
+                      ∙ sym (spelling-append (pieces k among.bodies) (Piece k b ∷ [])) ∙ sym (piece_spelled among.bodies b),
+                );
           };
         });
         steady = λ s. steady (all.steady s);

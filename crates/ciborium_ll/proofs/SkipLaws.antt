@@ -162,7 +162,7 @@ module _ {R E : Type 0} (source : Reader R E) (k : Kind) where
           record {
             lengths = lengths;
             place = omega (arith, places, only.place);
-            passed = passes_same source silent opened opened new [] (Passes-none source opened) so_far.none_waits only.reader only.offset only.none_waits;
+            passed = passes_same source silent opened opened new [] (Passes-none source opened) so_far.none_waits only.reader only.offset only.none_waits only.mode;
             ended = only.ended;
             rises = elim so_far.far [
               | inl due ↦ omega (arith, due.1.offset, only.offset, title_some (shortest_title (kind_header k (Some len))) (kind_header k (Some len)) (IsTitle-shortest (kind_header k (Some len)) so_far.in_range))
@@ -241,7 +241,7 @@ module _ {R E : Type 0} (source : Reader R E) (k : Kind) where
             part = part;
             header = other.header;
             pulled = other.pulled;
-            misplaced = misplaced_inside k all.left other.header (some_open k all.left _ _ all.among.within) other.misplaced;
+            misplaced = misplaced_inside all.between.strict k all.left other.header (some_open k all.left _ _ all.among.within) other.misplaced;
             place = other.place;
           }))
         ]
@@ -269,6 +269,7 @@ module _ {R E : Type 0} (source : Reader R E) (k : Kind) where
           titled = new;
           len = body.length;
           pulled = all.ends.pulled;
+          steady = all.steady;
           ends = subst (λ (n : ℕ). EndsBody source k [] body.length room n new (Err error) ended) all.ends.place ends;
         } in
         body_stops room opened error ended meets

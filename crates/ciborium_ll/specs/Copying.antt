@@ -1,5 +1,5 @@
 -- Headers copied from a decoder to a writer.
-use Rattle.std.specs.Prelude.{◌≡◌, ℕ, ◌+◌, ◌<◌, ◌≤◌, List, [], ◌∷◌, ◌++◌, length, take, drop, Some, Result, Ok, Err}
+use Rattle.std.specs.Prelude.{◌≡◌, ℕ, false, ◌+◌, ◌<◌, ◌≤◌, List, [], ◌∷◌, ◌++◌, length, take, drop, Some, Result, Ok, Err}
 use Rattle.ciborium_ll.specs.declared.io.Read.{Ghosts as Reader}
 use Rattle.ciborium_ll.specs.declared.io.Write.{Ghosts as Writer}
 use Rattle.ciborium_ll.specs.declared.hdr.Header.{Header}
@@ -76,6 +76,7 @@ module _ {R E W F : Type 0} (source : Reader R E) (sink : Writer W F) where
 
   -- the reader gives the bytes that it tells, the writer has room for as many, and the offset fits
   pub record IsReady (decoder : Decoder R) (writer : W) (due written : List ℕ) : Type 0 where
+    pub lenient : decoder.strict ≡ false
     pub steady : IsSteady source decoder
     pub due-told : view source decoder ≡ Some due
     pub written-told : sink.written writer ≡ Some written

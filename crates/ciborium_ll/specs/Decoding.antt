@@ -2,7 +2,7 @@
 --
 -- Bytes are spoken of where the reader tells them: `Consumes` says nothing of bytes that are not told. All else holds
 -- over any reader.
-use Rattle.std.specs.Prelude.{◌≡◌, ℕ, ◌+◌, ◌<◌, ◌≤◌, ◌^◌, List, [], ◌∷◌, ◌++◌, length, take, Option, Some, None, Result, Ok, Err, ◌⊎◌, IfSome, IsSome, IsTrue, ◌%◌}
+use Rattle.std.specs.Prelude.{◌≡◌, ℕ, ◌+◌, ◌<◌, ◌≤◌, ◌^◌, List, [], ◌∷◌, ◌++◌, length, take, Bool, true, false, Option, Some, None, Result, Ok, Err, ◌⊎◌, IfSome, IsSome, IsTrue, ◌%◌, ◌/◌}
 use Rattle.std.specs.Io.KnownBytes.{Consumes, prepend_known}
 use Rattle.ciborium_ll.specs.declared.io.Read.{Ghosts}
 use Rattle.ciborium_ll.specs.declared.hdr.Header.{Header}
@@ -10,8 +10,8 @@ use Rattle.ciborium_ll.specs.declared.hdr.Minor.{Minor}
 use Rattle.ciborium_ll.specs.declared.dec.Decoder.{Decoder}
 use Rattle.ciborium_ll.specs.declared.dec.Error.{Error}
 use Rattle.ciborium_ll.specs.declared.dec.Error.TheVariants as e
-use Rattle.ciborium_ll.specs.Title.{IsTitle, IsRefused, IsReserved, IsCutTitle, affix_len, shortest_title, title_len}
-use Rattle.ciborium_ll.specs.Parts.{IsMinor, minor_code, minor_affix}
+use Rattle.ciborium_ll.specs.Title.{IsTitle, IsStrictTitle, IsRefused, IsReserved, IsCutTitle, affix_len, shortest_title, title_len}
+use Rattle.ciborium_ll.specs.Parts.{IsMinor, longer_parts, minor_code, minor_affix}
 
 -- offsets are below this one: at most usize::MAX
 abbrev pub offset_limit : ℕ
@@ -46,6 +46,14 @@ module _ {R : Type 0} where
   abbrev pub IsWaiting : Decoder R → Type 0
   IsWaiting d = IsSome d.waiting
 
+  -- whether the decoder takes strict titles alone
+  abbrev pub strict_of : Decoder R → Bool
+  strict_of d = d.strict
+
+  -- it holds where the decoder is strict and no header waits
+  abbrev pub Strictly : Decoder R → Type 0 → Type 0
+  Strictly d Holds = IsTrue d.strict → d.waiting ≡ None → Holds
+
   -- how many reads the decoder refused by itself
   abbrev pub refusals_of : Decoder R → ℕ
   refusals_of d = d.refusals.count
@@ -55,13 +63,19 @@ module _ {R : Type 0} where
     pub reader : new.reader ≡ old.reader
     pub offset : new.offset ≡ old.offset
     pub waiting : new.waiting ≡ old.waiting
+    pub mode : new.strict ≡ old.strict
 
   -- nothing was pulled yet
-  pub record IsFresh (r : R) (start : ℕ) (d : Decoder R) : Type 0 where
+  pub record IsFreshAs (strict : Bool) (r : R) (start : ℕ) (d : Decoder R) : Type 0 where
+    pub mode : d.strict ≡ strict
     pub reader : d.reader ≡ r
     pub offset : d.offset ≡ start
     pub none_waits : d.waiting ≡ None
     pub refusals : d.refusals.count ≡ 0
+
+  -- nothing was pulled yet, and the decoder isn't strict
+  abbrev pub IsFresh : R → ℕ → Decoder R → Type 0
+  IsFresh r start d = IsFreshAs false r start d
 
 module _ {E : Type 0} where
   -- the errors by which a decoder refuses a read are counted, and no others
@@ -105,6 +119,9 @@ module _ {R E : Type 0} (source : Ghosts R E) where
     pub failures : failures_of new ≡ failures_of old
     -- a header that waited is the one given, and nothing was read
     pub waited : IfSome old.waiting (λ kept. (kept ≡ header) × (title ≡ shortest_title header) × (new.reader ≡ old.reader))
+    pub mode : new.strict ≡ old.strict
+    -- a strict decoder takes a strict title alone; a header that waited is given as it was pushed
+    pub strict : IsTrue old.strict → old.waiting ≡ None → IsStrictTitle title header
 
   -- `pull` refused a first byte, which is gone; the place is that of the title's start
   pub record RefusesTitle (old : Decoder R) (at : ℕ) (new : Decoder R) : Type 0 where
@@ -113,6 +130,20 @@ module _ {R E : Type 0} (source : Ghosts R E) where
     pub place : at ≡ old.offset
     pub bytes : Consumes (view old) (view new) (byte ∷ [])
     pub offset : new.offset ≡ old.offset + 1
+    pub none_waited : old.waiting ≡ None
+    pub none_waits : new.waiting ≡ None
+    pub failures : failures_of new ≡ failures_of old
+
+  -- a strict decoder refused a whole title, which is gone; the place is that of its start
+  pub record RefusesLonger (old : Decoder R) (at : ℕ) (new : Decoder R) : Type 0 where
+    pub strict : IsTrue old.strict
+    pub header : Header
+    pub title : List ℕ
+    pub is_title : IsTitle title header
+    pub not_strict : IsStrictTitle title header → ⊥
+    pub place : at ≡ old.offset
+    pub bytes : Consumes (view old) (view new) title
+    pub offset : new.offset ≡ old.offset + length title
     pub none_waited : old.waiting ≡ None
     pub none_waits : new.waiting ≡ None
     pub failures : failures_of new ≡ failures_of old
@@ -146,7 +177,7 @@ module _ {R E : Type 0} (source : Ghosts R E) where
   abbrev pub PullsHeader : Decoder R → Result Header (Error E) → Decoder R → Type 0
   PullsHeader old (Ok header) new = PullsTitle old header new
   PullsHeader old (Err (e.Io fault)) new = StopsInTitle old new
-  PullsHeader old (Err (e.Syntax place)) new = RefusesTitle old place new
+  PullsHeader old (Err (e.Syntax place)) new = RefusesTitle old place new ⊎ RefusesLonger old place new
   PullsHeader old (Err e.TooLong) new = PassesOffset old new
   PullsHeader old (Err e.Waiting) new = ⊥
 
@@ -160,6 +191,7 @@ module _ {R E : Type 0} (source : Ghosts R E) where
     pub waited : IfSome old.waiting (λ header. (new ≡ old) ⊎ Begins (shortest_title header) bytes)
     pub failures : failures_of new ≡ failures_of old
     pub steady : IsSteady old → IsSteady new
+    pub mode : new.strict ≡ old.strict
 
   -- ---- push
 
@@ -169,6 +201,7 @@ module _ {R E : Type 0} (source : Ghosts R E) where
     pub due : view new ≡ prepend_known (shortest_title header) (view old)
     pub offset : new.offset + title_len header ≡ old.offset
     pub reader : new.reader ≡ old.reader
+    pub mode : new.strict ≡ old.strict
 
   -- ---- pull, push of what it gave, and pull again
 
@@ -198,6 +231,7 @@ module _ {R E : Type 0} (source : Ghosts R E) where
     pub none_waited : old.waiting ≡ None
     pub none_waits : new.waiting ≡ None
     pub failures : failures_of new ≡ failures_of old
+    pub mode : new.strict ≡ old.strict
 
   -- the reader failed
   pub record ReadFails (old : Decoder R) (count : ℕ) (new : Decoder R) : Type 0 where
@@ -219,17 +253,27 @@ module _ {R E : Type 0} (source : Ghosts R E) where
 
   -- ---- the affix of a title, inside `pull`
 
-  -- the affix that a minor announces was read
-  pub record ReadsAffix (minor : ℕ) (old : Decoder R) (read : Minor) (new : Decoder R) : Type 0 where
+  -- the affix that a first byte announces was read
+  pub record ReadsAffix (first : ℕ) (old : Decoder R) (read : Minor) (new : Decoder R) : Type 0 where
     pub is_minor : IsMinor read
-    pub code : minor ≡ minor_code read
+    pub code : first % 32 ≡ minor_code read
     pub all : ReadsAll old (minor_affix read) new
+    pub taken : IsTrue old.strict → longer_parts (first / 32) read ≡ false
+
+  -- it was read, and a strict decoder refused its number
+  pub record RefusesAffix (first : ℕ) (old new : Decoder R) : Type 0 where
+    pub read : Minor
+    pub is_minor : IsMinor read
+    pub code : first % 32 ≡ minor_code read
+    pub all : ReadsAll old (minor_affix read) new
+    pub strict : IsTrue old.strict
+    pub longer : longer_parts (first / 32) read ≡ true
 
   -- the read of an affix, by its answer
   abbrev pub ReadsMinor : ℕ → Decoder R → Result (Option Minor) (Error E) → Decoder R → Type 0
-  ReadsMinor minor old (Ok (Some read)) new = ReadsAffix minor old read new
-  ReadsMinor minor old (Ok None) new = IsReserved minor × (new ≡ old)
-  ReadsMinor minor old (Err (e.Io fault)) new = ReadFails old (affix_len minor) new
-  ReadsMinor minor old (Err e.TooLong) new = (offset_limit ≤ old.offset + affix_len minor) × (new ≡ old)
-  ReadsMinor minor old (Err e.Waiting) new = ⊥
-  ReadsMinor minor old (Err (e.Syntax place)) new = ⊥
+  ReadsMinor first old (Ok (Some read)) new = ReadsAffix first old read new
+  ReadsMinor first old (Ok None) new = (IsReserved (first % 32) × (new ≡ old)) ⊎ RefusesAffix first old new
+  ReadsMinor first old (Err (e.Io fault)) new = ReadFails old (affix_len (first % 32)) new
+  ReadsMinor first old (Err e.TooLong) new = (offset_limit ≤ old.offset + affix_len (first % 32)) × (new ≡ old)
+  ReadsMinor first old (Err e.Waiting) new = ⊥
+  ReadsMinor first old (Err (e.Syntax place)) new = ⊥

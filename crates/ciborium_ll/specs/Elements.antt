@@ -1,9 +1,9 @@
 -- Elements, which are titles and whole strings, the marks that they leave, and the marks' shortest spelling.
-use Rattle.std.specs.Prelude.{ℕ, zero, suc, List, [], ◌∷◌, ◌++◌, length, Some, None}
+use Rattle.std.specs.Prelude.{◌≡◌, ℕ, zero, suc, List, [], ◌∷◌, ◌++◌, length, Some, None}
 use Rattle.std.specs.List.{AllByRecursion}
 use Rattle.ciborium_ll.specs.declared.hdr.Header.{Header}
 use Rattle.ciborium_ll.specs.declared.hdr.Header.TheVariants as h
-use Rattle.ciborium_ll.specs.Title.{IsTitle, shortest_title}
+use Rattle.ciborium_ll.specs.Title.{IsTitle, IsSmallSimple, shortest_title}
 use Rattle.ciborium_ll.specs.Strings.{Kind, Bytes, Text, kind_header, AreStrings}
 use Rattle.ciborium_ll.specs.Text.{IsCharacters}
 
@@ -67,3 +67,15 @@ pub data IsRun : ℕ → List ℕ → List Mark → Type 0 where
   done : IsRun zero [] []
   next : {count : ℕ} {first rest : List ℕ} {marks others : List Mark} → IsElement first marks → IsRun count rest others
       → IsRun (suc count) (first ++ rest) (marks ++ others)
+
+-- ---- the elements of a strict decoder
+
+-- the mark is no small simple value in two bytes (RFC 7049, 2.3)
+abbrev pub IsMeant : Mark → Type 0
+IsMeant (Plain header) = IsSmallSimple header → ⊥
+IsMeant mark = Unit {0}
+
+-- the bytes are the marks' shortest spelling, with more behind it, and no mark is a small simple value
+pub record IsSpelled (bytes : List ℕ) (marks : List Mark) (more : List ℕ) : Type 0 where
+  pub same : bytes ≡ spelling marks ++ more
+  pub meant : AllByRecursion IsMeant marks

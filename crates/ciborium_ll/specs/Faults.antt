@@ -1,5 +1,5 @@
 -- How far a copy of elements comes in bytes, what is due there, and the first fault, which stops it.
-use Rattle.std.specs.Prelude.{◌≡◌, ℕ, ◌+◌, ◌-◌, ◌<◌, ◌≤◌, min, List, ◌∷◌, ◌++◌, length, take, Some, None}
+use Rattle.std.specs.Prelude.{◌≡◌, ℕ, ◌+◌, ◌-◌, ◌<◌, ◌≤◌, ◌⊎◌, Bool, true, min, List, ◌∷◌, ◌++◌, length, take, Some, None}
 use Rattle.ciborium_ll.specs.declared.hdr.Header.{Header}
 use Rattle.ciborium_ll.specs.declared.hdr.Header.TheVariants as h
 use Rattle.ciborium_ll.specs.Title.{IsTitle, shortest_title, title_len, IsCutTitle, BeginsRefused}
@@ -52,6 +52,10 @@ IsMisplaced Bytes (h.Bytes len) = ⊥
 IsMisplaced Text (h.Text len) = ⊥
 IsMisplaced kind h.Break = ⊥
 IsMisplaced kind header = Unit {0}
+
+-- a header that a decoder refuses within a string of the kind: a strict one a further open too
+abbrev pub IsRefusedIn : Bool → Kind → Header → Type 0
+IsRefusedIn strict kind header = IsMisplaced kind header ⊎ ((strict ≡ true) × (header ≡ kind_header kind None))
 
 -- the bytes end too early, or what stands at this offset is none of the grammar
 pub data Answer : Type 0 where

@@ -19,6 +19,7 @@ pub mod Skipping
 pub mod Slices
 pub mod Steps
 pub mod Streams
+pub mod StrictRecoding
 pub mod Strings
 pub mod Text
 pub mod Title

@@ -1,5 +1,5 @@
 -- A title in the parts in which the code handles it.
-use Rattle.std.specs.Prelude.{ℕ, ◌+◌, ◌*◌, ◌<◌, ◌^◌, List, [], ◌∷◌, Option, Some, None}
+use Rattle.std.specs.Prelude.{ℕ, ◌+◌, ◌*◌, ◌<◌, ◌^◌, List, [], ◌∷◌, Option, Some, None, Bool, true, false, if◌then◌else◌, nat_lt, ◌==◌}
 use Rattle.std.specs.Int.{to_be_bytes, w8, w16, w32, w64}
 use Rattle.ciborium_ll.specs.declared.hdr.Minor.{Minor}
 use Rattle.ciborium_ll.specs.declared.hdr.Minor.TheVariants as m
@@ -57,3 +57,12 @@ title_bytes t = parts_bytes t.major t.minor
 pub record IsParts (t : Title) : Type 0 where
   pub major : t.major < 8
   pub minor : IsMinor t.minor
+
+-- a smaller form holds the number, or it is a simple value below 32 in two bytes (RFC 7049, 2.3 and 3.9)
+abbrev pub longer_parts : ℕ → Minor → Bool
+longer_parts major (m.Small n) = false
+longer_parts major (m.One n) = nat_lt n (if major == 7 then 32 else 24)
+longer_parts major (m.Two n) = if major == 7 then false else nat_lt n (2 ^ 8)
+longer_parts major (m.Four n) = if major == 7 then false else nat_lt n (2 ^ 16)
+longer_parts major (m.Eight n) = if major == 7 then false else nat_lt n (2 ^ 32)
+longer_parts major m.Open = false

@@ -1,5 +1,5 @@
 -- What a copy of elements means where the bytes are told: whatever fails, and where no side fails by itself.
-use Rattle.std.specs.Prelude.{◌≡◌, ℕ, ◌+◌, ◌<◌, ◌≤◌, ◌⊎◌, min, List, [], ◌++◌, length, drop, Some, Result, Ok, Err}
+use Rattle.std.specs.Prelude.{◌≡◌, ℕ, Bool, false, ◌+◌, ◌<◌, ◌≤◌, ◌⊎◌, min, List, [], ◌++◌, length, drop, Some, Result, Ok, Err}
 use Rattle.ciborium_ll.specs.declared.io.Read.{Ghosts as Reader}
 use Rattle.ciborium_ll.specs.declared.io.Write.{Ghosts as Writer}
 use Rattle.ciborium_ll.specs.declared.dec.Decoder.{Decoder}
@@ -52,20 +52,30 @@ pub record StopInWriting (count : ℕ) (bytes : List ℕ) : Type 0 where
 
 module _ {R E W F : Type 0} (source : Reader R E) (sink : Writer W F) where
   -- the bytes that are due are told, and those that were written
-  pub record IsTold (decoder : Decoder R) (writer : W) (due written : List ℕ) : Type 0 where
+  pub record IsToldAs (strict : Bool) (decoder : Decoder R) (writer : W) (due written : List ℕ) : Type 0 where
+    pub mode : decoder.strict ≡ strict
     pub due-told : view source decoder ≡ Some due
     pub written-told : sink.written writer ≡ Some written
 
-  -- the reader gives the bytes that it tells, the writer has room for as many, and the offset takes every read, through
+  -- they are told, and the decoder isn't strict
+  abbrev pub IsTold : Decoder R → W → List ℕ → List ℕ → Type 0
+  IsTold decoder writer due written = IsToldAs false decoder writer due written
+
+  -- the reader gives the bytes that it tells, the writer has room, and the offset takes every read, through
   -- a buffer of so much room
-  pub record IsReady (room-in : ℕ) (decoder : Decoder R) (writer : W) (due written : List ℕ) : Type 0 where
+  pub record IsReadyAs (strict : Bool) (count room-in : ℕ) (decoder : Decoder R) (writer : W) (due written : List ℕ) : Type 0 where
     pub steady : IsSteady source decoder
-    pub told : IsTold decoder writer due written
+    pub told : IsToldAs strict decoder writer due written
     pub room : ℕ
     pub room-told : sink.room writer ≡ Some room
-    pub enough : length due ≤ room
+    -- for the spelling of the elements where they stand in front, else for as many bytes as are due
+    pub enough : ((front : RunInFront count due) × (length (spelling front.marks) ≤ room)) ⊎ (length due ≤ room)
     pub fits-title : decoder.offset + length due + 8 < offset_limit
     pub fits-chunk : decoder.offset + length due + room-in < offset_limit
+
+  -- all that, and the decoder isn't strict
+  abbrev pub IsReady : ℕ → ℕ → Decoder R → W → List ℕ → List ℕ → Type 0
+  IsReady count room-in decoder writer due written = IsReadyAs false count room-in decoder writer due written
 
   -- that many elements stood in front of what was due: just their shortest spelling was written and just what follows
   -- them is left. The spelling is the same elements again, so a copy of it changes nothing

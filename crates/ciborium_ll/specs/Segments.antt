@@ -1,5 +1,5 @@
 -- What the calls on strings do, which lend a decoder piece by piece.
-use Rattle.std.specs.Prelude.{◌≡◌, ℕ, suc, ◌+◌, ◌-◌, ◌<◌, ◌^◌, ◌⊎◌, List, [], ◌++◌, Option, Some, None, Result, Ok, Err}
+use Rattle.std.specs.Prelude.{◌≡◌, ℕ, ◌≤◌, IsTrue, suc, ◌+◌, ◌-◌, ◌<◌, ◌^◌, ◌⊎◌, Bool, true, List, [], ◌++◌, length, Option, Some, None, Result, Ok, Err}
 use Rattle.ciborium_ll.specs.declared.io.Read.{Ghosts}
 use Rattle.ciborium_ll.specs.declared.hdr.Header.{Header}
 use Rattle.ciborium_ll.specs.declared.hdr.Header.TheVariants as h
@@ -53,7 +53,7 @@ module _ {R E : Type 0} (source : Ghosts R E) (kind : Kind) where
   pub record FindsOther (opens : ℕ) (old : Decoder R) (at : ℕ) (progress : Progress) (new : Decoder R) : Type 0 where
     pub header : Header
     pub pulled : PullsTitle source old header new
-    pub misplaced : IsMisplacedAt kind opens header
+    pub misplaced : IsMisplacedAt kind opens header ⊎ ((0 < opens) × (old.strict ≡ true) × (header ≡ kind_header kind None))
     pub place : at ≡ old.offset
     pub after : progress ≡ p.Damaged at
 
@@ -78,6 +78,8 @@ module _ {R E : Type 0} (source : Ghosts R E) (kind : Kind) where
   pub record Deepens (opens : ℕ) (old : Decoder R) (progress : Progress) (new : Decoder R) : Type 0 where
     pub pulled : PullsTitle source old (kind_header kind None) new
     pub after : progress ≡ p.Open (opens + 1)
+    -- a strict decoder takes the first open alone
+    pub level : IsTrue old.strict → opens ≡ 0
 
   -- a break behind which an open is left
   pub record ClosesInner (opens : ℕ) (old : Decoder R) (progress : Progress) (new : Decoder R) : Type 0 where
@@ -98,6 +100,8 @@ module _ {R E : Type 0} (source : Ghosts R E) (kind : Kind) where
     pub nests : Nests kind opens nest left
     pub between : Decoder R
     pub passed : Passes source old nest between
+    -- of a strict decoder no title leads on but the first open
+    pub shallow : IsTrue old.strict → opens ≤ 1 → opens + length nest ≤ 1
     pub ends : EndsAdvance left between result progress new
 
   -- `advance`: an answer that stays is given again, and nothing is read

@@ -9,8 +9,8 @@ use Rattle.ciborium_ll.specs.declared.dec.Error.TheVariants as e
 use Rattle.ciborium_ll.specs.Title.{shortest_title, title_len}
 use Rattle.ciborium_ll.specs.Strings.{Kind, kind_header, IsString}
 use Rattle.ciborium_ll.specs.Elements.{IsSound}
-use Rattle.ciborium_ll.specs.Faults.{IsInside, IsMisplaced}
-use Rattle.ciborium_ll.specs.Decoding.{Passes, PullsHeader, PullsTitle}
+use Rattle.ciborium_ll.specs.Faults.{IsInside, IsRefusedIn}
+use Rattle.ciborium_ll.specs.Decoding.{IsSteady, Passes, PullsHeader, PullsTitle}
 use Rattle.ciborium_ll.specs.Finishing.{EndsBody}
 
 module _ {R E : Type 0} (source : Ghosts R E) (kind : Kind) where
@@ -42,7 +42,7 @@ module _ {R E : Type 0} (source : Ghosts R E) (kind : Kind) where
     pub part : SkipsInside old between
     pub header : Header
     pub pulled : PullsTitle source between header new
-    pub misplaced : IsMisplaced kind header
+    pub misplaced : IsRefusedIn between.strict kind header
     pub place : at ≡ between.offset
 
   -- there the title of a segment came, and the read of its body failed: its place is the offset of that title
@@ -52,6 +52,7 @@ module _ {R E : Type 0} (source : Ghosts R E) (kind : Kind) where
     pub titled : Decoder R
     pub len : ℕ
     pub pulled : PullsTitle source between (kind_header kind (Some len)) titled
+    pub steady : IsSteady source old → IsSteady source titled
     pub ends : EndsBody source kind [] len room between.offset titled (Err error) new
 
   -- how the read of a string of indefinite length fails

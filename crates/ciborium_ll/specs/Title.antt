@@ -134,6 +134,16 @@ shortest_title (h.Map len) = shortest_with_length Map len
 abbrev pub title_len : Header → ℕ
 title_len header = length (shortest_title header)
 
+-- a simple value to which RFC 7049, 2.3, gives no meaning: 24 to 31, in two bytes
+abbrev pub IsSmallSimple : Header → Type 0
+IsSmallSimple (h.Simple n) = (24 ≤ n) × (n < 32)
+IsSmallSimple header = ⊥
+
+-- a title that a strict decoder takes: the shortest one of its header (RFC 7049, 3.9), of no small simple value in two bytes
+pub record IsStrictTitle (title : List ℕ) (header : Header) : Type 0 where
+  pub shortest : title ≡ shortest_title header
+  pub meant : IsSmallSimple header → ⊥
+
 -- the length of the title of a waiting header
 abbrev pub waiting_len : Option Header → ℕ
 waiting_len None = 0

@@ -39,6 +39,7 @@ pub struct Decoder<R> {
     reader: R,
     offset: usize,
     waiting: Option<Header>,
+    strict: bool,
     refusals: Failures,
     ghost covered: { offset + waiting_len waiting < 2 ^ 64 },
 }
@@ -55,12 +56,12 @@ impl<R: Read> From<R> for Decoder<R> {
 }
 
 impl<R: Read> Decoder<R> {
-    ghost use Rattle.std.specs.Prelude.{◌<◌, ◌^◌, IsTrue, ◌↔◌, None, Some, Err, IfOk, MatchResult, IsErrOf};
+    ghost use Rattle.std.specs.Prelude.{◌<◌, ◌^◌, IsTrue, ◌↔◌, None, Some, Err, IfOk, MatchResult, IsErrOf, true};
     ghost use Rattle.ciborium_ll.specs.declared.seg.Progress.TheVariants.{Open};
     ghost use Rattle.ciborium_ll.specs.Title.{title_len, IsTitle};
     ghost use Rattle.ciborium_ll.specs.Parts.{IsParts, title_bytes};
     ghost use Rattle.ciborium_ll.specs.Strings.{kind_header};
-    ghost use Rattle.ciborium_ll.specs.Decoding.{IsFresh, IsSteady, IsWaiting, PullsHeader, PullsTitle, ReadsBytes, ReadsMinor, TakesBack, offset_of, reader_of, refusals_of, waiting_of};
+    ghost use Rattle.ciborium_ll.specs.Decoding.{IsFresh, IsFreshAs, IsSteady, IsWaiting, PullsHeader, PullsTitle, ReadsBytes, ReadsMinor, TakesBack, offset_of, reader_of, refusals_of, strict_of, waiting_of};
 
     /// A decoder that counts from this offset, in bytes.
     pub fn with_offset(reader: R, offset: usize) -> Decoder<R>
@@ -70,6 +71,21 @@ impl<R: Read> Decoder<R> {
             reader,
             offset,
             waiting: None,
+            strict: false,
+            refusals: Failures::new(),
+        }
+    }
+
+    /// A strict decoder at the offset 0: it takes each header by its shortest title alone, no simple value from 24 to 31,
+    /// and no string of indefinite length within another one.
+    pub fn strict(reader: R) -> Decoder<R>
+        ensures { IsFreshAs true reader 0 result }
+    {
+        Decoder {
+            reader,
+            offset: 0,
+            waiting: None,
+            strict: true,
             refusals: Failures::new(),
         }
     }
@@ -96,6 +112,13 @@ impl<R: Read> Decoder<R> {
         self.waiting.is_some()
     }
 
+    /// Whether the decoder is strict.
+    pub(crate) fn is_strict(&self) -> bool
+        ensures { result ≡ strict_of self.now }
+    {
+        self.strict
+    }
+
     /// Takes the next header (RFC 7049, 2.1 to 2.3): the waiting one, or else one title from the reader.
     ///
     /// The errors are `Syntax` with the offset of the title's start, for one of the 27 first bytes with which no
@@ -104,6 +127,7 @@ impl<R: Read> Decoder<R> {
     #[inline(always)]
     pub fn pull(&mut self) -> Result<Header, Error<R::Error>>
         ensures header { PullsHeader R.Read self.old result self.new }
+        ensures mode { strict_of self.new ≡ strict_of self.old }
         ensures full { waiting_of self.old ≡ None → offset_of self.old ≡ usize.MAX → IsErrOf result Error.TooLong }
         ensures steady { IsSteady R.Read self.old → IsSteady R.Read self.new }
         ensures refusals { refusals_of self.new ≡ refusals_of self.old }
@@ -122,6 +146,7 @@ impl<R: Read> Decoder<R> {
             (λ error. PullsHeader R.Read self.old (Err error) self.new) }
         ensures parts { IfOk result (λ pulled. IsParts pulled.1) }
         ensures title { IfOk result (λ pulled. IsTitle (title_bytes pulled.1) pulled.0) }
+        ensures mode { strict_of self.new ≡ strict_of self.old }
         ensures full { waiting_of self.old ≡ None → offset_of self.old ≡ usize.MAX → IsErrOf result Error.TooLong }
         ensures steady { IsSteady R.Read self.old → IsSteady R.Read self.new }
         ensures refusals { refusals_of self.new ≡ refusals_of self.old }
@@ -132,7 +157,7 @@ impl<R: Read> Decoder<R> {
         let start = self.offset;
         let mut first = [0; 1];
         self.read(&mut first)?;
-        let Some(minor) = self.minor(first[0] % 32)? else {
+        let Some(minor) = self.minor(first[0])? else {
             return Err(Error::Syntax(start));
         };
         let title = Title {
@@ -153,6 +178,7 @@ impl<R: Read> Decoder<R> {
         ensures header { PullsTitle R.Read self.old result.0 self.new }
         ensures parts { IsParts result.1 }
         ensures title { IsTitle (title_bytes result.1) result.0 }
+        ensures mode { strict_of self.new ≡ strict_of self.old }
         ensures steady { IsSteady R.Read self.old → IsSteady R.Read self.new }
         ensures refusals { refusals_of self.new ≡ refusals_of self.old }
     {
@@ -215,19 +241,21 @@ impl<R: Read> Decoder<R> {
         Segments::new(self)
     }
 
-    /// Reads the affix that a minor announces, or nothing for a reserved one.
+    /// Reads the affix that a first byte announces: nothing for a reserved minor, nor for a number that a strict
+    /// decoder refuses there.
     #[inline(always)]
-    fn minor(&mut self, bits: u8) -> Result<Option<Minor>, Error<R::Error>>
-        requires bits { bits < 32 }
+    fn minor(&mut self, first: u8) -> Result<Option<Minor>, Error<R::Error>>
         requires none_waits { waiting_of self.old ≡ None }
-        ensures minor { ReadsMinor R.Read bits self.old result self.new }
+        ensures minor { ReadsMinor R.Read first self.old result self.new }
+        ensures mode { strict_of self.new ≡ strict_of self.old }
         ensures steady { IsSteady R.Read self.old → IsSteady R.Read self.new }
         ensures refusals { refusals_of self.new ≡ refusals_of self.old }
     {
-        Ok(Some(match bits {
+        let bits = first % 32;
+        let minor = match bits {
             0..=23 => {
                 self.read(&mut [])?;
-                Minor::Small(u64::from(bits))
+                return Ok(Some(Minor::Small(u64::from(bits))));
             }
             24 => {
                 let mut affix = [0; 1];
@@ -251,10 +279,14 @@ impl<R: Read> Decoder<R> {
             }
             31 => {
                 self.read(&mut [])?;
-                Minor::Open
+                return Ok(Some(Minor::Open));
             }
             _ => return Ok(None),
-        }))
+        };
+        if self.strict && minor.is_longer(first / 32) {
+            return Ok(None);
+        }
+        Ok(Some(minor))
     }
 
     /// Reads bytes while no header waits.
@@ -262,6 +294,7 @@ impl<R: Read> Decoder<R> {
     pub(crate) fn read(&mut self, data: &mut [u8]) -> Result<(), Error<R::Error>>
         requires { waiting_of self.old ≡ None }
         ensures bytes { ReadsBytes R.Read self.old result «data».new self.new }
+        ensures mode { strict_of self.new ≡ strict_of self.old }
         ensures steady { IsSteady R.Read self.old → IsSteady R.Read self.new }
         ensures refusals { refusals_of self.new ≡ refusals_of self.old }
     {

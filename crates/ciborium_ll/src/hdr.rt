@@ -2,7 +2,7 @@
 
 ghost use Rattle.std.specs.Prelude.{ℕ, ◌≡◌, ◌+◌, ◌*◌, ◌<◌, length, IfSome, IfNone, [], ◌∷◌};
 ghost use Rattle.ciborium_ll.specs.Title.{IsInRange, IsTitle, IsNeverOpen, Major, least_size, minor_of, affix_of, shortest_title, title_len, shortest_with_length, major_code};
-ghost use Rattle.ciborium_ll.specs.Parts.{IsMinor, IsParts, minor_affix, minor_code, minor_number, parts_bytes, parts_first, title_bytes};
+ghost use Rattle.ciborium_ll.specs.Parts.{IsMinor, IsParts, minor_affix, minor_code, minor_number, longer_parts, parts_bytes, parts_first, title_bytes};
 
 /// A float by its width and its raw bits (RFC 7049, 2.3).
 ///
@@ -119,6 +119,20 @@ impl Minor {
             Minor::Four(_) => 26,
             Minor::Eight(_) => 27,
             Minor::Open => 31,
+        }
+    }
+
+    /// Whether a strict decoder refuses it under a major type: a smaller form holds the number, or it is a simple value
+    /// below 32 in two bytes.
+    pub(crate) fn is_longer(self, major: u8) -> bool
+        ensures { result ≡ longer_parts major self }
+    {
+        match self {
+            Minor::Small(_) | Minor::Open => false,
+            Minor::One(n) => n < if major == 7 { 32 } else { 24 },
+            Minor::Two(n) => major != 7 && n < 0x100,
+            Minor::Four(n) => major != 7 && n < 0x1_0000,
+            Minor::Eight(n) => major != 7 && n < 0x1_0000_0000,
         }
     }
 

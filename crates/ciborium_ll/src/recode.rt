@@ -1,13 +1,14 @@
 //! Elements copied from a decoder to an encoder, each in its shortest spelling.
 
-ghost use Rattle.std.specs.Prelude.{◌≡◌, ◌≤◌, ◌↔◌, ℕ, List, length, IsOk, None, Some};
+ghost use Rattle.std.specs.Prelude.{◌≡◌, ◌≤◌, ◌↔◌, ℕ, true, List, length, IsOk, None, Some};
 ghost use Rattle.ciborium_ll.specs.Title.{title_len};
 ghost use Rattle.ciborium_ll.specs.Strings.{kind_header};
 ghost use Rattle.ciborium_ll.specs.Decoding.{IsSteady, offset_of, refusals_of, waiting_of};
 ghost use Rattle.ciborium_ll.specs.Encoding.{writer_of};
 ghost use Rattle.ciborium_ll.specs.Chunks.{IsWhole};
 ghost use Rattle.ciborium_ll.specs.Faults.{RunInFront};
-ghost use Rattle.ciborium_ll.specs.RecodingTold.{IsReady, IsTold, RecodesAnyhow, RecodesTold};
+ghost use Rattle.ciborium_ll.specs.RecodingTold.{IsReady, IsReadyAs, IsTold, RecodesAnyhow, RecodesTold};
+ghost use Rattle.ciborium_ll.specs.StrictRecoding.{RecodesStrictly, StrictRunInFront};
 ghost use Rattle.ciborium_ll.specs.Recoding.{CopiesBehind, CopiesBody, CopiesElement, CopiesElements, CopiesSegments, WritesHeader};
 
 use crate::dec::{Decoder, Error};
@@ -181,6 +182,9 @@ fn copy_element<R: Read, W: Write>(
 /// body that is no text the offset of its title, or, where a whole string's title is longer than its shortest one, of
 /// the byte from which the shortest would reach the body. `Io` says that the reader failed, `TooLong` that the offset
 /// can't take the next read. `Write` carries the writer's error. The titles and chunks before the error are written.
+///
+/// A strict decoder gives elements in their shortest spelling alone, with no string of indefinite length inside another,
+/// and they are written as they are.
 pub fn recode<R: Read, W: Write>(
     decoder: &mut Decoder<R>,
     encoder: &mut Encoder<W>,
@@ -193,13 +197,21 @@ pub fn recode<R: Read, W: Write>(
     ensures steady { IsSteady R.Read decoder.old → IsSteady R.Read decoder.new }
     ensures refusals { refusals_of decoder.new ≡ refusals_of decoder.old }
     ensures told { (due written : List ℕ)
-        → IsReady R.Read W.Write (length buffer.old) decoder.old (writer_of encoder.old) due written
+        → IsReady R.Read W.Write count (length buffer.old) decoder.old (writer_of encoder.old) due written
         → RecodesTold R.Read W.Write count due written decoder.old result decoder.new (writer_of encoder.new) }
     ensures exactly { (due written : List ℕ)
-        → IsReady R.Read W.Write (length buffer.old) decoder.old (writer_of encoder.old) due written
+        → IsReady R.Read W.Write count (length buffer.old) decoder.old (writer_of encoder.old) due written
         → (IsOk result ↔ RunInFront count due) }
     ensures anyhow { (due written : List ℕ) → IsTold R.Read W.Write decoder.old (writer_of encoder.old) due written
         → RecodesAnyhow R.Read W.Write count (length buffer.old) due written decoder.old result decoder.new (writer_of encoder.new) }
+    ensures strictly { (due written : List ℕ)
+        → IsReadyAs R.Read W.Write true count (length buffer.old) decoder.old (writer_of encoder.old) due written
+        → waiting_of decoder.old ≡ None
+        → RecodesStrictly R.Read W.Write count due written decoder.old result decoder.new (writer_of encoder.new) }
+    ensures strictly_exactly { (due written : List ℕ)
+        → IsReadyAs R.Read W.Write true count (length buffer.old) decoder.old (writer_of encoder.old) due written
+        → waiting_of decoder.old ≡ None
+        → (IsOk result ↔ StrictRunInFront count due) }
 {
     'elements: for _copied in 0..count {
         copy_element(decoder, encoder, buffer)?;

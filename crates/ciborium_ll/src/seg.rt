@@ -218,6 +218,10 @@ impl<'r, R: Read, P: Parser> Segments<'r, R, P> {
                 self.progress = Progress::TooDeep;
                 Err(Error::TooLong)
             }
+            Some(None) if opens > 0 && self.reader.is_strict() => {
+                self.progress = Progress::Damaged(place);
+                Err(Error::Syntax(place))
+            }
             Some(None) => {
                 self.progress = Progress::Open(opens + 1);
                 Ok(None)

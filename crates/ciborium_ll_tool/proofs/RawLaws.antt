@@ -1,5 +1,5 @@
 -- A copy between a reader and a writer of std, from the copy of elements and the flush behind it.
-use Rattle.std.proofs.Common.{◌≡◌, ℕ, ◌+◌, ◌≤◌, ◌^◌, ◌⊎◌, List, [], ◌++◌, length, Option, Some, None, Ok, Err, refl, sym, ap, ◌∙◌, inl, inr, arith}
+use Rattle.std.proofs.Common.{◌≡◌, ℕ, false, ◌+◌, ◌≤◌, ◌^◌, ◌⊎◌, List, [], ◌++◌, length, Option, Some, None, Ok, Err, refl, sym, ap, ◌∙◌, inl, inr, arith}
 use Rattle.std.specs.Io.KnownBytes.{Keeps, append_known}
 use Rattle.std.proofs.lemmas.List.{append-nil}
 use Rattle.ciborium_ll.specs.declared.io.Read.{Ghosts as Reader}
@@ -47,9 +47,9 @@ restored_copies left contents got count due written reader writer read write (r.
 
 module _ {D S E F : Type 0} (source : Reader D E) (sink : Writer S F) where
   -- where no header waits, what is due is what the reader has ahead
-  pub told_ahead : (old : Decoder D) (writer : S) (due written : List ℕ) → old.waiting ≡ None → source.ahead old.reader ≡ Some due → sink.written writer ≡ Some written
+  pub told_ahead : (old : Decoder D) (writer : S) (due written : List ℕ) → old.strict ≡ false → old.waiting ≡ None → source.ahead old.reader ≡ Some due → sink.written writer ≡ Some written
       → IsTold source sink old writer due written
-  told_ahead old writer due written none ahead output = record { due-told = view_none old.waiting (source.ahead old.reader) none ∙ ahead; written-told = output }
+  told_ahead old writer due written lenient none ahead output = record { mode = lenient; due-told = view_none old.waiting (source.ahead old.reader) none ∙ ahead; written-told = output }
 
   -- where no header waited, none waits behind calls that all succeeded
   still_none : (old new : Decoder D) (bytes : List ℕ) → Passes source old bytes new → old.waiting ≡ None → new.waiting ≡ None
@@ -62,7 +62,7 @@ module _ {D S E F : Type 0} (source : Reader D E) (sink : Writer S F) where
   -- behind a copy that met a syntax no header waits
   none_behind : (count room place : ℕ) (old new : Decoder D) (writer writer' : S) → CopiesElements source sink count room old writer (Err (r.Read (e.Syntax place))) new writer'
       → old.waiting ≡ None → new.waiting ≡ None
-  none_behind count room place old new writer writer' (inl stops) none = stops.fails.none_waits
+  none_behind count room place old new writer writer' (inl stops) none = elim stops.fails [ inl refused ↦ refused.none_waits | inr longer ↦ longer.none_waits ]
   none_behind count room place old new writer writer' (inr (inl stops)) none = stops.pulled.none_waits
   none_behind count room place old new writer writer' (inr (inr stops)) none =
       still_none stops.between new stops.stopped.1.read stops.stopped.1.passed (still_none old stops.between stops.bytes stops.copied.passed none)

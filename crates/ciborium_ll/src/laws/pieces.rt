@@ -103,7 +103,7 @@ pub fn copy_spelled<R: Read, W: Write>(
 ) -> Result<(), RecodeError<R::Error, W::Error>>
     requires room { 4 ≤ length buffer.old }
     ensures { (marks : List Mark) (rest written : List ℕ) → IsRun count (spelling marks) marks
-        → IsReady R.Read W.Write (length buffer.old) decoder.old (writer_of encoder.old) (spelling marks ++ rest) written
+        → IsReady R.Read W.Write count (length buffer.old) decoder.old (writer_of encoder.old) (spelling marks ++ rest) written
         → CopiesSame R.Read W.Write (spelling marks) rest written result decoder.new (writer_of encoder.new) }
 {
     recode(decoder, encoder, count, buffer)

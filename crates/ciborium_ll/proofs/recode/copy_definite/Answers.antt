@@ -8,7 +8,7 @@ use Rattle.ciborium_ll.proofs.RecodeLaws.{definite_goes_on, definite_unwritten, 
 use Rattle.ciborium_ll.proofs.recode.copy_definite.Goals as goal
 
 pub returns-in_err-write_header-clause-copied : goal.returns-in_err-write_header-clause-copied
-returns-in_err-write_header-clause-copied g c = λ count before old writer title t behind.
+returns-in_err-write_header-clause-copied g c = λ count before old writer title t taken behind.
     let p = err_from_is_err_and c.from_residual.result c.from_residual.ensures.1 in
     let q = p.1 in
     let r = p.2 in
@@ -18,7 +18,7 @@ returns-in_err-write_header-clause-copied g c = λ count before old writer title
     definite_unwritten g.R.Read g.W.Write count (length c.args.buffer.now) old writer before behind.bytes title behind.marks g.P.Parser.kind c.args.len _ _ _ fault behind.due t behind.run behind.passed behind.written stopped))
 
 pub returns-clause-copied : goal.returns-clause-copied
-returns-clause-copied g c = λ count before old writer title t behind.
+returns-clause-copied g c = λ count before old writer title t taken behind.
     let k = g.P.Parser.kind in
     let lent = c.args.decoder.now in
     let titled = rw c.header.ensures at c.in_ok-write_header.ensures in
@@ -30,4 +30,4 @@ returns-clause-copied g c = λ count before old writer title t behind.
     let placed : (c.offset.result - c.title_len.result) + title_len (kind_header k (Some c.args.len)) ≡ lent.offset = omega (arith, size, at, covered) in
     let ended = c.decoder-1.given.1 (sym c.new-segment.ensures.same_reference ∙ sym c.copy_body.ensures.same_reference) in
     subst (λ (d : Decoder g.row.R.Denot). GoesOn g.R.Read g.W.Write count before (length c.args.buffer.now) old writer c.copy_body.result d c.copy_body.new.encoder.writer) (sym ended)
-    (definite_goes_on g.R.Read g.W.Write count (length c.args.buffer.now) old writer before behind.bytes title behind.marks k c.args.len (c.offset.result - c.title_len.result) lent _ _ _ _ c.copy_body.result behind.due t behind.run behind.passed placed behind.written titled copied)
+    (definite_goes_on g.R.Read g.W.Write count (length c.args.buffer.now) old writer before behind.bytes title behind.marks k c.args.len (c.offset.result - c.title_len.result) lent _ _ _ _ c.copy_body.result behind.due t behind.run behind.passed placed behind.written titled copied taken behind.strict)

@@ -6,7 +6,7 @@ use Rattle.ciborium_ll.specs.Title.{title_len}
 use Rattle.ciborium_ll.specs.Encoding.{WritesAll, WritesFront}
 use Rattle.ciborium_ll.specs.Elements.{IsPlain}
 use Rattle.ciborium_ll.specs.Decoding.{PullsTitle}
-use Rattle.ciborium_ll.proofs.CopyLaws.{pulled_covers, behind_pulled, pull_stops, plain_goes_on}
+use Rattle.ciborium_ll.proofs.CopyLaws.{pulled_covers, behind_pulled, title_taken, pull_stops, plain_goes_on}
 use Rattle.ciborium_ll.proofs.recode.copy_element.Goals as goal
 
 pub returns-in-Err-clause-copied : goal.returns-in-Err-clause-copied
@@ -34,6 +34,7 @@ returns-in-Bytes-Some-clause-copied g c = λ count before old writer behind.
     let is : c.in-Ok.pulled.0 ≡ h.Bytes (Some arm.length) = arm.is ∙ ap h.Bytes len in
     let pulled = subst (λ (x : Header). PullsTitle g.R.Read c.args.decoder.now x c.pull_title.new.self) is c.in-Ok.ensures.header in
     c.copy_definite.ensures.copied count before old writer pulled.title pulled.is_title
+    (title_taken g.R.Read g.W.Write count before old writer c.args.decoder.now c.args.encoder.now.writer c.pull_title.new.self (h.Bytes (Some arm.length)) behind pulled)
     (behind_pulled g.R.Read g.W.Write count before old writer c.args.decoder.now c.args.encoder.now.writer c.pull_title.new.self (h.Bytes (Some arm.length)) behind pulled c.pull_title.ensures.steady)
 
 pub returns-in-Bytes-None-clause-copied : goal.returns-in-Bytes-None-clause-copied
@@ -43,6 +44,7 @@ returns-in-Bytes-None-clause-copied g c = λ count before old writer behind.
     let is : c.in-Ok.pulled.0 ≡ h.Bytes None = arm.is ∙ ap h.Bytes len in
     let pulled = subst (λ (x : Header). PullsTitle g.R.Read c.args.decoder.now x c.pull_title.new.self) is c.in-Ok.ensures.header in
     c.copy_indefinite.ensures.copied count before old writer pulled.title pulled.is_title
+    (title_taken g.R.Read g.W.Write count before old writer c.args.decoder.now c.args.encoder.now.writer c.pull_title.new.self (h.Bytes None) behind pulled)
     (behind_pulled g.R.Read g.W.Write count before old writer c.args.decoder.now c.args.encoder.now.writer c.pull_title.new.self (h.Bytes None) behind pulled c.pull_title.ensures.steady)
 
 pub returns-in-Text-Some-clause-copied : goal.returns-in-Text-Some-clause-copied
@@ -52,6 +54,7 @@ returns-in-Text-Some-clause-copied g c = λ count before old writer behind.
     let is : c.in-Ok.pulled.0 ≡ h.Text (Some arm.length) = arm.is ∙ ap h.Text len in
     let pulled = subst (λ (x : Header). PullsTitle g.R.Read c.args.decoder.now x c.pull_title.new.self) is c.in-Ok.ensures.header in
     c.copy_definite-in-Text-Some.ensures.copied count before old writer pulled.title pulled.is_title
+    (title_taken g.R.Read g.W.Write count before old writer c.args.decoder.now c.args.encoder.now.writer c.pull_title.new.self (h.Text (Some arm.length)) behind pulled)
     (behind_pulled g.R.Read g.W.Write count before old writer c.args.decoder.now c.args.encoder.now.writer c.pull_title.new.self (h.Text (Some arm.length)) behind pulled c.pull_title.ensures.steady)
 
 pub returns-in-Text-None-clause-copied : goal.returns-in-Text-None-clause-copied
@@ -61,6 +64,7 @@ returns-in-Text-None-clause-copied g c = λ count before old writer behind.
     let is : c.in-Ok.pulled.0 ≡ h.Text None = arm.is ∙ ap h.Text len in
     let pulled = subst (λ (x : Header). PullsTitle g.R.Read c.args.decoder.now x c.pull_title.new.self) is c.in-Ok.ensures.header in
     c.copy_indefinite-in-Text-None.ensures.copied count before old writer pulled.title pulled.is_title
+    (title_taken g.R.Read g.W.Write count before old writer c.args.decoder.now c.args.encoder.now.writer c.pull_title.new.self (h.Text None) behind pulled)
     (behind_pulled g.R.Read g.W.Write count before old writer c.args.decoder.now c.args.encoder.now.writer c.pull_title.new.self (h.Text None) behind pulled c.pull_title.ensures.steady)
 
 pub returns-in-Ok-push_title : goal.returns-in-Ok-push_title
@@ -71,7 +75,8 @@ returns-in-Ok-push_title g c =
           let plain : IsPlain c.in-Ok.pulled.0 = search rules in
           let wrote = subst (λ (bytes : List ℕ). WritesAll g.W.Write c.args.encoder.now.writer bytes c.push_title.new.self.writer) c.shortest.ensures.bytes c.in-Ok-push_title.ensures in
           plain_goes_on g.R.Read g.W.Write count before old writer c.pull_title.new.self c.args.encoder.now.writer (length c.args.buffer.now) c.in-Ok.pulled.0 pulled.title (Ok c.in-Ok-push_title.field-0) c.push_title.new.self.writer
-          plain pulled.is_title (behind_pulled g.R.Read g.W.Write count before old writer c.args.decoder.now c.args.encoder.now.writer c.pull_title.new.self c.in-Ok.pulled.0 behind pulled c.pull_title.ensures.steady) wrote;
+          plain pulled.is_title (title_taken g.R.Read g.W.Write count before old writer c.args.decoder.now c.args.encoder.now.writer c.pull_title.new.self c.in-Ok.pulled.0 behind pulled)
+          (behind_pulled g.R.Read g.W.Write count before old writer c.args.decoder.now c.args.encoder.now.writer c.pull_title.new.self c.in-Ok.pulled.0 behind pulled c.pull_title.ensures.steady) wrote;
       steady = c.pull_title.ensures.steady;
       refusals = c.pull_title.ensures.refusals;
     }
@@ -84,7 +89,8 @@ returns-in-Err-push_title g c =
           let plain : IsPlain c.in-Ok.pulled.0 = search rules in
           let wrote = subst (λ (bytes : List ℕ). WritesFront g.W.Write c.args.encoder.now.writer bytes c.push_title.new.self.writer) c.shortest.ensures.bytes c.in-Err-push_title.ensures in
           plain_goes_on g.R.Read g.W.Write count before old writer c.pull_title.new.self c.args.encoder.now.writer (length c.args.buffer.now) c.in-Ok.pulled.0 pulled.title (Err (r.Write c.in-Err-push_title.fault)) c.push_title.new.self.writer
-          plain pulled.is_title (behind_pulled g.R.Read g.W.Write count before old writer c.args.decoder.now c.args.encoder.now.writer c.pull_title.new.self c.in-Ok.pulled.0 behind pulled c.pull_title.ensures.steady) wrote;
+          plain pulled.is_title (title_taken g.R.Read g.W.Write count before old writer c.args.decoder.now c.args.encoder.now.writer c.pull_title.new.self c.in-Ok.pulled.0 behind pulled)
+          (behind_pulled g.R.Read g.W.Write count before old writer c.args.decoder.now c.args.encoder.now.writer c.pull_title.new.self c.in-Ok.pulled.0 behind pulled c.pull_title.ensures.steady) wrote;
       steady = c.pull_title.ensures.steady;
       refusals = c.pull_title.ensures.refusals;
     }

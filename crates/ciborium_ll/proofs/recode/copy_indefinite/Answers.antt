@@ -5,7 +5,7 @@ use Rattle.ciborium_ll.proofs.CopyLaws.{opened_within, open_unwritten, close_goe
 use Rattle.ciborium_ll.proofs.recode.copy_indefinite.Goals as goal
 
 pub returns-in_err-write_header-clause-copied : goal.returns-in_err-write_header-clause-copied
-returns-in_err-write_header-clause-copied g c = λ count before old writer title t behind.
+returns-in_err-write_header-clause-copied g c = λ count before old writer title t only behind.
     let p = err_from_is_err_and c.from_residual.result c.from_residual.ensures.1 in
     let q = p.1 in
     let r = p.2 in
@@ -15,7 +15,7 @@ returns-in_err-write_header-clause-copied g c = λ count before old writer title
     open_unwritten g.R.Read g.W.Write count before old writer c.args.decoder.now _ g.P.Parser.kind title _ fault t behind stopped))
 
 pub returns-in_err-copy_segments-clause-copied : goal.returns-in_err-copy_segments-clause-copied
-returns-in_err-copy_segments-clause-copied g c = λ count before old writer title t behind.
+returns-in_err-copy_segments-clause-copied g c = λ count before old writer title t only behind.
     let p = err_from_is_err_and c.from_residual-in_err-copy_segments.result c.from_residual-in_err-copy_segments.ensures.1 in
     let q = p.1 in
     let r = p.2 in
@@ -25,7 +25,7 @@ returns-in_err-copy_segments-clause-copied g c = λ count before old writer titl
     rw same (copied count before old writer (opened_within g.R.Read g.W.Write count before old writer c.args.decoder.now _ g.P.Parser.kind title _ t behind titled))
 
 pub returns-clause-copied : goal.returns-clause-copied
-returns-clause-copied g c = λ count before old writer title t behind.
+returns-clause-copied g c = λ count before old writer title t only behind.
     let titled = rw c.header.ensures at c.in_ok-write_header.ensures in
     let copied = rw c.in_ok-copy_segments.was at c.copy_segments.ensures.copied in
     let string = copied count before old writer (opened_within g.R.Read g.W.Write count before old writer c.args.decoder.now _ g.P.Parser.kind title _ t behind titled) in

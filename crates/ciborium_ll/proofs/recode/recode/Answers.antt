@@ -2,7 +2,7 @@ use Rattle.std.proofs.Common.{refl, ◌≡◌, ◌∙◌, ℕ, Ok, Err, length, 
 use Rattle.std.proofs.lemmas.Result.{err_from_is_err_and}
 use Rattle.ciborium_ll.specs.Recoding.{CopiesElements, CopiesRun}
 use Rattle.ciborium_ll.proofs.CopyLaws.{run_none, run_behind, added_run}
-use Rattle.ciborium_ll.proofs.RecodingToldLaws.{recode_told, recode_exactly, recode_anyhow, copies_all}
+use Rattle.ciborium_ll.proofs.RecodingToldLaws.{recode_told, recode_exactly, recode_anyhow, recode_strictly, recode_strictly_exactly, copies_all}
 use Rattle.ciborium_ll.proofs.recode.recode.Goals as goal
 
 pub elements-init : goal.elements-init
@@ -40,9 +40,11 @@ returns-in_err-copy_element g c =
       copied = all;
       steady = λ s. c.copy_element.ensures.steady (c.elements.invariant.steady s);
       refusals = c.copy_element.ensures.refusals ∙ c.elements.invariant.refusals;
-      told = λ due written ready. recode_told g.R.Read g.W.Write c.args.count (length c.args.buffer.now) old writer due written ready _ _ c.from_residual.result all;
-      exactly = λ due written ready. recode_exactly g.R.Read g.W.Write c.args.count (length c.args.buffer.now) old writer due written ready _ _ c.from_residual.result all;
-      anyhow = λ due written told. recode_anyhow g.R.Read g.W.Write c.args.count (length c.args.buffer.now) old writer due written told _ _ c.from_residual.result all;
+      told = λ due written ready. recode_told g.R.Read g.W.Write c.args.count (length c.args.buffer.now) old writer due written ready refl _ _ c.from_residual.result all;
+      exactly = λ due written ready. recode_exactly g.R.Read g.W.Write c.args.count (length c.args.buffer.now) old writer due written ready refl _ _ c.from_residual.result all;
+      anyhow = λ due written told. recode_anyhow g.R.Read g.W.Write c.args.count (length c.args.buffer.now) old writer due written told refl _ _ c.from_residual.result all;
+      strictly = λ due written ready none. recode_strictly g.R.Read g.W.Write c.args.count (length c.args.buffer.now) old writer due written ready refl none _ _ c.from_residual.result all;
+      strictly_exactly = λ due written ready none. recode_strictly_exactly g.R.Read g.W.Write c.args.count (length c.args.buffer.now) old writer due written ready refl none _ _ c.from_residual.result all;
     }
 
 pub returns : goal.returns
@@ -56,7 +58,9 @@ returns g c =
       copied = all;
       steady = c.elements.invariant.steady;
       refusals = c.elements.invariant.refusals;
-      told = λ due written ready. recode_told g.R.Read g.W.Write c.args.count (length c.args.buffer.now) old writer due written ready _ _ (Ok (tt {0})) all;
-      exactly = λ due written ready. recode_exactly g.R.Read g.W.Write c.args.count (length c.args.buffer.now) old writer due written ready _ _ (Ok (tt {0})) all;
-      anyhow = λ due written told. recode_anyhow g.R.Read g.W.Write c.args.count (length c.args.buffer.now) old writer due written told _ _ (Ok (tt {0})) all;
+      told = λ due written ready. recode_told g.R.Read g.W.Write c.args.count (length c.args.buffer.now) old writer due written ready refl _ _ (Ok (tt {0})) all;
+      exactly = λ due written ready. recode_exactly g.R.Read g.W.Write c.args.count (length c.args.buffer.now) old writer due written ready refl _ _ (Ok (tt {0})) all;
+      anyhow = λ due written told. recode_anyhow g.R.Read g.W.Write c.args.count (length c.args.buffer.now) old writer due written told refl _ _ (Ok (tt {0})) all;
+      strictly = λ due written ready none. recode_strictly g.R.Read g.W.Write c.args.count (length c.args.buffer.now) old writer due written ready refl none _ _ (Ok (tt {0})) all;
+      strictly_exactly = λ due written ready none. recode_strictly_exactly g.R.Read g.W.Write c.args.count (length c.args.buffer.now) old writer due written ready refl none _ _ (Ok (tt {0})) all;
     }

@@ -1,4 +1,4 @@
-use Rattle.std.proofs.Common.{rules, sym, refl, subst, List, ℕ}
+use Rattle.std.proofs.Common.{rules, sym, refl, subst, ◌∙◌, List, ℕ}
 use Rattle.ciborium_ll.specs.Title.{shortest_title, IsTitle}
 use Rattle.ciborium_ll.proofs.TitleLaws.{IsTitle-shortest}
 use Rattle.ciborium_ll.proofs.DecodingLaws.{Consumes-waiting}
@@ -15,6 +15,8 @@ returns-clause-header g c =
       none_waits = refl;
       failures = refl;
       waited = rw c.requires.waits (refl, refl, refl);
+      mode = refl;
+      strict = λ on none. absurd (let some = sym c.requires.waits ∙ none in cc);
     }
 
 pub returns-clause-title : goal.returns-clause-title
