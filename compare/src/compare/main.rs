@@ -20,6 +20,7 @@ mod vectors;
 use crate::batch::Comparison;
 use crate::sides::Sides;
 use crate::tally::Tally;
+use compare::command::status_of;
 use compare::random::Random;
 use std::io;
 use std::process::ExitCode;
@@ -27,7 +28,7 @@ use std::time::{Instant, SystemTime, UNIX_EPOCH};
 
 /// How the program is used.
 const USAGE: &str =
-    "usage: compare OURS ORIGINAL [--quick] [--seed N] [--lines N] [--streams N] [--plant]";
+    "OURS ORIGINAL [--quick] [--seed N] [--lines N] [--streams N] [--plant]";
 
 /// What the arguments ask for.
 struct Asked {
@@ -68,21 +69,7 @@ fn seed_of_the_clock() -> u64 {
 }
 
 fn main() -> ExitCode {
-    let asked = match asked(std::env::args().skip(1)) {
-        Some(asked) => asked,
-        None => {
-            eprintln!("{USAGE}");
-            return ExitCode::from(2);
-        }
-    };
-    match compare_all(&asked) {
-        Ok(true) => ExitCode::SUCCESS,
-        Ok(false) => ExitCode::FAILURE,
-        Err(error) => {
-            eprintln!("compare: {error}");
-            ExitCode::FAILURE
-        }
-    }
+    status_of("compare", USAGE, asked(std::env::args().skip(1)), compare_all)
 }
 
 /// Compares all inputs, and tells whether all differences are explained.

@@ -1,5 +1,6 @@
 //! The two programs, and what they answer.
 
+use compare::command::failed;
 use std::io::{self, Read, Write};
 use std::process::{Child, Command, Stdio};
 use std::sync::mpsc;
@@ -34,15 +35,10 @@ impl Sides {
         thread::scope(|scope| {
             let ours = scope.spawn(|| run(&self.ours, arguments, input));
             let theirs = run(&self.original, arguments, input);
-            let ours = ours.join().unwrap_or_else(|_| Err(broken("a thread")));
+            let ours = ours.join().unwrap_or_else(|_| Err(failed("a thread failed")));
             Ok((ours?, theirs?))
         })
     }
-}
-
-/// An error of this program's own.
-fn broken(what: &str) -> io::Error {
-    io::Error::new(io::ErrorKind::Other, format!("{what} failed"))
 }
 
 /// Runs a program on an input. The error is `TimedOut` where it did not end in time; it is then ended.
@@ -54,7 +50,7 @@ fn run(program: &str, arguments: &[&str], input: &[u8]) -> io::Result<Outcome> {
         .stderr(Stdio::piped())
         .spawn()?;
     thread::scope(|scope| {
-        let mut writer = child.stdin.take().ok_or_else(|| broken("a pipe"))?;
+        let mut writer = child.stdin.take().ok_or_else(|| failed("a pipe failed"))?;
         // A program that ended before it read all closes the pipe, which is no fault.
         scope.spawn(move || writer.write_all(input));
         collect(child, program)

@@ -6,8 +6,8 @@ use ciborium_ll::{Decoder, Encoder, Header};
 use compare::word::word_of;
 use std::fmt;
 
-/// How many bytes of a string are copied at a time, at most. It is that of our program, since what was written before
-/// a fault depends on it.
+/// How many bytes of a string a raw copy and a line copy at a time, at most. It is that of our program, since what was
+/// written before a fault depends on it.
 const BUFFER_SIZE: usize = 64;
 
 /// Why a copy of raw bytes failed, printed as one line.
@@ -56,24 +56,24 @@ fn write_header<W: Write>(encoder: &mut Encoder<W>, header: Header) -> Result<()
 }
 
 /// Copies so many elements. An element is a header that begins no string, or a whole string.
-fn recode<R: Read, W: Write>(
+pub fn recode<R: Read, W: Write>(
     decoder: &mut Decoder<R>,
     encoder: &mut Encoder<W>,
     count: usize,
+    buffer: &mut [u8],
 ) -> Result<(), Stop> {
-    let mut buffer = [0; BUFFER_SIZE];
     for _ in 0..count {
         match decoder.pull()? {
             Header::Bytes(length) => {
                 let parts = open(encoder, length, Header::Bytes)?;
                 copy_string(length, parts, |parts| {
-                    read_bytes(decoder, length, &mut buffer, parts)
+                    read_bytes(decoder, length, buffer, parts)
                 })?;
             }
             Header::Text(length) => {
                 let parts = open(encoder, length, Header::Text)?;
                 copy_string(length, parts, |parts| {
-                    read_text(decoder, length, &mut buffer, parts)
+                    read_text(decoder, length, buffer, parts)
                 })?;
             }
             header => write_header(encoder, header)?,
@@ -112,7 +112,8 @@ pub fn answer(count: usize, bytes: &[u8]) -> String {
     let mut rest = bytes;
     let mut output = Vec::new();
     let mut decoder = Decoder::from(&mut rest);
-    let outcome = recode(&mut decoder, &mut Encoder::from(&mut output), count);
+    let mut encoder = Encoder::from(&mut output);
+    let outcome = recode(&mut decoder, &mut encoder, count, &mut [0; BUFFER_SIZE]);
     let offset = decoder.offset();
     let output = word_of(&output);
     match outcome {
@@ -130,7 +131,8 @@ pub fn raw<R: std::io::Read, W: std::io::Write>(
     count: usize,
 ) -> Result<(), RawFault> {
     let mut decoder = Decoder::from(reader);
-    let copied = recode(&mut decoder, &mut Encoder::from(&mut writer), count);
+    let mut encoder = Encoder::from(&mut writer);
+    let copied = recode(&mut decoder, &mut encoder, count, &mut [0; BUFFER_SIZE]);
     let flushed = std::io::Write::flush(&mut writer);
     match copied {
         Ok(()) => flushed.map_err(|_| RawFault::Write),

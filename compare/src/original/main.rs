@@ -1,18 +1,21 @@
 //! The lines and the raw copy of this repository's program, answered by the calls of the Rust crate.
 //!
 //! It reads lines from standard input and answers each on standard output. With the arguments `recode COUNT` it copies
-//! so many elements from standard input to standard output. It is the program that `compare` holds ours against.
+//! so many elements from standard input to standard output. It is the program that `compare` holds ours against. With
+//! the arguments `WORK SIZE COUNT ROUNDS` it does a work of the bench over standard input.
 
+mod bench;
 mod copy;
 mod heads;
 mod lines;
 mod string;
 mod value;
 
+use crate::bench::Task;
 use crate::copy::RawFault;
 use compare::request::number_of;
 use std::fs::File;
-use std::io::{self, BufReader, BufWriter};
+use std::io::{self, BufReader, BufWriter, Read};
 use std::os::unix::io::AsFd;
 use std::process::ExitCode;
 
@@ -25,6 +28,7 @@ fn main() -> ExitCode {
             Some(count) => copy_raw(count),
             None => return usage(),
         },
+        [work, size, count, rounds] => return work_through(work, &[size, count, rounds]),
         _ => return usage(),
     };
     match outcome {
@@ -38,8 +42,25 @@ fn main() -> ExitCode {
 
 /// Says how the program is used.
 fn usage() -> ExitCode {
-    eprintln!("usage: original [recode COUNT]");
+    eprintln!("usage: original [recode COUNT | WORK SIZE COUNT ROUNDS]");
     ExitCode::from(2)
+}
+
+/// Does a work of the bench over standard input, and prints its sum.
+fn work_through(work: &str, words: &[&str]) -> ExitCode {
+    let numbers: Vec<usize> = words.iter().filter_map(|word| word.parse().ok()).collect();
+    let mut input = Vec::new();
+    let (&[size, count, rounds], Ok(_)) = (&numbers[..], io::stdin().read_to_end(&mut input)) else {
+        return usage();
+    };
+    let task = Task { work, size, count, rounds };
+    match task.rounds_over(&input) {
+        Some(sum) => {
+            println!("{sum}");
+            ExitCode::SUCCESS
+        }
+        None => usage(),
+    }
 }
 
 /// Answers each line of standard input.

@@ -35,43 +35,78 @@ impl Stream {
     }
 }
 
-/// All streams, each of about so many bytes.
+/// How many times as long as the others a stream is that has no more than one body. It takes less time.
+const BODY: usize = 8;
+
+/// All streams that are copied, each of about so many bytes, or some times as many where it is one body.
 pub fn all(size: usize) -> Vec<Stream> {
     vec![
         titles(size),
         mixed(size),
         pieces(size),
-        one_string("one large byte string", 2, b"\x00\x7f\x80\xff", size),
-        one_string(
-            "one large ASCII text",
-            3,
-            b"The quick brown fox jumps over the lazy dog and runs far away.\n ",
-            size,
-        ),
-        // No character lies across a multiple of 64 bytes, where version 0.2.0 of the crate refuses a text.
-        one_string(
-            "one large multibyte text",
-            3,
-            "Größe, été, 😀😀 und Žlutý kůň; ещё съешь же этих булок".as_bytes(),
-            size,
-        ),
+        byte_string(BODY * size),
+        ascii_text(BODY * size),
+        multibyte_text(BODY * size),
     ]
 }
 
 /// Numbers, tags, and titles of arrays and maps, with affixes of all widths.
-fn titles(size: usize) -> Stream {
-    let mut stream = Stream::new("titles alone", size);
+pub fn titles(size: usize) -> Stream {
+    titles_of("titles alone", size, |_| true)
+}
+
+/// Such titles without the tags that libcbor refuses: those below 24 to which it knew no meaning.
+pub fn assigned_titles(size: usize) -> Stream {
+    titles_of("titles that libcbor takes", size, |tag| !(6..=20).contains(&tag))
+}
+
+/// Such titles with the tags that are taken.
+fn titles_of(name: &'static str, size: usize, is_taken: fn(u64) -> bool) -> Stream {
+    let mut stream = Stream::new(name, size);
     let mut random = Random::new(1);
     while stream.bytes.len() < size {
         let major = random.pick(&[0, 0, 1, 4, 5, 6]);
         let number = random.number() >> random.pick(&[0, 32, 32, 48, 48, 56, 56, 60, 60, 60]);
-        stream.title_alone(major, number);
+        if major != 6 || is_taken(number) {
+            stream.title_alone(major, number);
+        }
     }
     stream
 }
 
+/// One byte string.
+pub fn byte_string(size: usize) -> Stream {
+    one_string("one large byte string", 2, b"\x00\x7f\x80\xff", size)
+}
+
+/// What an ASCII text repeats.
+const ASCII: &str = "The quick brown fox jumps over the lazy dog and runs far away.\n ";
+
+/// What a multibyte text repeats. With the spaces behind it no character lies across a multiple of 64 bytes, where
+/// version 0.2.0 of the crate refuses a text.
+const MULTIBYTE: &str = "Größe, été, 😀😀 und Žlutý kůň; ещё съешь же этих булок";
+
+/// One text of ASCII.
+pub fn ascii_text(size: usize) -> Stream {
+    one_string("one large ASCII text", 3, ASCII.as_bytes(), size)
+}
+
+/// One text with characters of one, two and four bytes.
+pub fn multibyte_text(size: usize) -> Stream {
+    one_string("one large multibyte text", 3, MULTIBYTE.as_bytes(), size)
+}
+
+/// A text with characters of one, two and four bytes, without a title.
+pub fn plain_text(size: usize) -> Stream {
+    Stream {
+        name: "a multibyte text",
+        count: 0,
+        bytes: MULTIBYTE.repeat(size / MULTIBYTE.len()).into_bytes(),
+    }
+}
+
 /// What documents have: small maps with short texts as keys, numbers, short strings, halves and simple values.
-fn mixed(size: usize) -> Stream {
+pub fn mixed(size: usize) -> Stream {
     let mut stream = Stream::new("small mixed items", size);
     let mut random = Random::new(2);
     while stream.bytes.len() < size {
@@ -117,20 +152,42 @@ fn short_string(stream: &mut Stream, random: &mut Random, major: u8, bound: usiz
 }
 
 /// Strings of indefinite length, of both kinds, in pieces of at most 15 bytes.
-fn pieces(size: usize) -> Stream {
+pub fn pieces(size: usize) -> Stream {
     let mut stream = Stream::new("indefinite strings in small pieces", size);
     let mut random = Random::new(3);
     while stream.bytes.len() < size {
         let major = random.pick(&[2, 3]);
-        stream.bytes.push(major << 5 | 31);
-        let count = stream.count;
-        for _ in 0..100 {
-            short_string(&mut stream, &mut random, major, 16);
-        }
-        stream.bytes.push(0xff);
-        stream.count = count + 1;
+        indefinite_string(&mut stream, &mut random, major, 100);
     }
     stream
+}
+
+/// One byte string of indefinite length, in pieces of at most 15 bytes.
+pub fn byte_pieces(size: usize) -> Stream {
+    string_in_pieces("a byte string in small pieces", 2, size)
+}
+
+/// One text of indefinite length, in pieces of at most 15 bytes.
+pub fn text_pieces(size: usize) -> Stream {
+    string_in_pieces("a text in small pieces", 3, size)
+}
+
+/// One string of indefinite length. A piece has 7.5 bytes and its title on average.
+fn string_in_pieces(name: &'static str, major: u8, size: usize) -> Stream {
+    let mut stream = Stream::new(name, size);
+    indefinite_string(&mut stream, &mut Random::new(4), major, size * 2 / 17);
+    stream
+}
+
+/// Adds a string of indefinite length, in so many pieces of at most 15 bytes.
+fn indefinite_string(stream: &mut Stream, random: &mut Random, major: u8, pieces: usize) {
+    stream.bytes.push(major << 5 | 31);
+    let count = stream.count;
+    for _ in 0..pieces {
+        short_string(stream, random, major, 16);
+    }
+    stream.bytes.push(0xff);
+    stream.count = count + 1;
 }
 
 /// One string that repeats these bytes. They are padded with spaces to a multiple of 64.

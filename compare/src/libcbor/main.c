@@ -1,0 +1,87 @@
+/*
+ * The first work of this repository's bench, done by the streaming decoder of libcbor.
+ *
+ * usage: libcbor pull SIZE COUNT ROUNDS
+ *
+ * It reads standard input whole, pulls the titles in it so many times, and prints the sum that the bench prints.
+ */
+#include <cbor.h>
+#include <inttypes.h>
+#include <stdio.h>
+#include <stdlib.h>
+#include <string.h>
+
+/* The context of each call is the sum. A number without a sign is added, and 1 for each other title. */
+static void add_8(void *sum, uint8_t number) { *(uint64_t *)sum += number; }
+static void add_16(void *sum, uint16_t number) { *(uint64_t *)sum += number; }
+static void add_32(void *sum, uint32_t number) { *(uint64_t *)sum += number; }
+static void add_64(void *sum, uint64_t number) { *(uint64_t *)sum += number; }
+
+static void one(void *sum) { *(uint64_t *)sum += 1; }
+static void one_8(void *sum, uint8_t number) { (void)number, one(sum); }
+static void one_16(void *sum, uint16_t number) { (void)number, one(sum); }
+static void one_32(void *sum, uint32_t number) { (void)number, one(sum); }
+static void one_64(void *sum, uint64_t number) { (void)number, one(sum); }
+static void one_count(void *sum, size_t count) { (void)count, one(sum); }
+
+/* Adds the titles of the bytes to the sum. */
+static void add_titles(const unsigned char *bytes, size_t size, const struct cbor_callbacks *callbacks,
+                       uint64_t *sum) {
+    size_t offset = 0;
+    while (offset < size) {
+        struct cbor_decoder_result result =
+            cbor_stream_decode(bytes + offset, size - offset, callbacks, sum);
+        if (result.status == CBOR_DECODER_NEDATA)
+            return;
+        if (result.status == CBOR_DECODER_ERROR) {
+            *sum += 1;
+            offset += 1;
+        }
+        offset += result.read;
+    }
+}
+
+/* Reads standard input whole. */
+static unsigned char *input(size_t *size) {
+    size_t room = 1 << 20;
+    unsigned char *bytes = malloc(room);
+    *size = 0;
+    while (bytes) {
+        size_t count = fread(bytes + *size, 1, room - *size, stdin);
+        *size += count;
+        if (count == 0)
+            return bytes;
+        if (*size == room)
+            bytes = realloc(bytes, room *= 2);
+    }
+    return NULL;
+}
+
+int main(int count, char **words) {
+    if (count != 5 || strcmp(words[1], "pull") != 0) {
+        fputs("usage: libcbor pull SIZE COUNT ROUNDS\n", stderr);
+        return 2;
+    }
+    struct cbor_callbacks callbacks = cbor_empty_callbacks;
+    callbacks.uint8 = add_8;
+    callbacks.uint16 = add_16;
+    callbacks.uint32 = add_32;
+    callbacks.uint64 = add_64;
+    callbacks.negint8 = one_8;
+    callbacks.negint16 = one_16;
+    callbacks.negint32 = one_32;
+    callbacks.negint64 = one_64;
+    callbacks.array_start = one_count;
+    callbacks.map_start = one_count;
+    callbacks.tag = one_64;
+    size_t size;
+    unsigned char *bytes = input(&size);
+    if (!bytes)
+        return 1;
+    uint64_t sum = 0;
+    for (long round = strtol(words[4], NULL, 10); round > 0; round--)
+        add_titles(bytes, size, &callbacks, &sum);
+    printf("%" PRIu64 "\n", sum);
+    free(bytes);
+    return 0;
+}

@@ -1,0 +1,139 @@
+//! The works of this repository's bench, done by the calls of the Rust crate.
+//!
+//! Each gives the sum that the bench's gives, so that both can be held against each other.
+
+use crate::copy::recode;
+use crate::string::{read_bytes, read_text, Parts, Stop};
+use ciborium_ll::{Decoder, Encoder, Error, Header};
+
+/// The greatest buffer that bodies of strings are read through.
+const MOST_SIZE: usize = 4096;
+
+/// How a work is done.
+pub struct Task<'a> {
+    /// The name of the work.
+    pub work: &'a str,
+    /// The size of the buffer of `recode` and `skip`, and the limit of the segments of `text`.
+    pub size: usize,
+    /// How many elements are copied.
+    pub count: usize,
+    /// How often it is done.
+    pub rounds: usize,
+}
+
+impl Task<'_> {
+    /// Does the work so many times, and gives the sum of what each round gave, if there is such a work.
+    pub fn rounds_over(&self, input: &[u8]) -> Option<u64> {
+        let mut space = [0; MOST_SIZE];
+        let buffer = &mut space[..self.size.clamp(4, MOST_SIZE)];
+        let mut output = vec![0; input.len() * 2];
+        let text = std::str::from_utf8(input).unwrap_or("");
+        let mut sum = 0;
+        for _ in 0..self.rounds {
+            sum = match self.work {
+                "pull" => pulled(input, sum),
+                "push" => pushed(input, &mut output, sum),
+                "recode" => recoded(input, &mut output, self.count, buffer, sum),
+                "skip" => skipped(input, buffer, sum),
+                "text" => written(text, self.size, &mut output, sum),
+                _ => return None,
+            };
+        }
+        Some(sum)
+    }
+}
+
+/// Adds the numbers of the positive headers, and 1 for each other title.
+#[inline(never)]
+fn pulled(input: &[u8], before: u64) -> u64 {
+    let mut decoder = Decoder::from(input);
+    let mut sum = before;
+    for _ in 0..input.len() {
+        match decoder.pull() {
+            Ok(Header::Positive(number)) => sum = sum.wrapping_add(number),
+            Ok(_) | Err(Error::Syntax(_)) => sum = sum.wrapping_add(1),
+            Err(_) => break,
+        }
+    }
+    sum
+}
+
+/// Adds how many titles were written.
+#[inline(never)]
+fn pushed(input: &[u8], output: &mut [u8], before: u64) -> u64 {
+    let mut decoder = Decoder::from(input);
+    let mut encoder = Encoder::from(output);
+    let mut sum = before;
+    for _ in 0..input.len() {
+        match decoder.pull() {
+            Ok(header) => {
+                if encoder.push(header).is_err() {
+                    break;
+                }
+                sum = sum.wrapping_add(1);
+            }
+            Err(Error::Syntax(_)) => {}
+            Err(_) => break,
+        }
+    }
+    sum
+}
+
+/// Adds how many bytes the elements have, where they were copied.
+#[inline(never)]
+fn recoded(
+    input: &[u8],
+    output: &mut [u8],
+    count: usize,
+    buffer: &mut [u8],
+    before: u64,
+) -> u64 {
+    let mut decoder = Decoder::from(input);
+    match recode(&mut decoder, &mut Encoder::from(output), count, buffer) {
+        Ok(()) => before.wrapping_add(decoder.offset() as u64),
+        Err(_) => before,
+    }
+}
+
+/// Drops the parts of a string.
+struct Dropped;
+
+impl Parts for Dropped {
+    fn segment(&mut self, _length: usize) -> Result<(), Stop> {
+        Ok(())
+    }
+
+    fn chunk(&mut self, _chunk: &[u8]) -> Result<(), Stop> {
+        Ok(())
+    }
+
+    fn end(&mut self) -> Result<(), Stop> {
+        Ok(())
+    }
+}
+
+/// Adds how many bytes the string in front has, where it was read to its end.
+#[inline(never)]
+fn skipped(input: &[u8], buffer: &mut [u8], before: u64) -> u64 {
+    let mut decoder = Decoder::from(input);
+    let outcome = match decoder.pull() {
+        Ok(Header::Bytes(length)) => read_bytes(&mut decoder, length, buffer, &mut Dropped),
+        Ok(Header::Text(length)) => read_text(&mut decoder, length, buffer, &mut Dropped),
+        _ => return before,
+    };
+    match outcome {
+        Ok(()) => before.wrapping_add(decoder.offset() as u64),
+        Err(_) => before,
+    }
+}
+
+/// Adds how many bytes the text has in segments.
+#[inline(never)]
+fn written(text: &str, limit: usize, output: &mut [u8], before: u64) -> u64 {
+    let room = output.len();
+    let mut rest = output;
+    match Encoder::from(&mut rest).text(text, Some(limit)) {
+        Ok(()) => before.wrapping_add((room - rest.len()) as u64),
+        Err(_) => before,
+    }
+}

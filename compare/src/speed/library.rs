@@ -1,0 +1,135 @@
+//! The calls of the library in memory, beside the same of another one.
+
+use crate::measure::{best_times, ratio, speed, Input, Origin, Run};
+use crate::streams::{self, Stream};
+use crate::Asked;
+use compare::command::failed;
+use std::io;
+
+/// The bytes in memory that the calls go over, again and again.
+const SIZE: usize = 1 << 20;
+
+/// A row of the table.
+struct Row {
+    /// What is done.
+    name: &'static str,
+    /// What the bench calls it.
+    work: &'static str,
+    /// The size of a buffer, or the limit of segments.
+    size: usize,
+    /// The bytes.
+    stream: fn(usize) -> Stream,
+    /// How often it is done for each megabyte that was asked for.
+    times: usize,
+}
+
+/// A row of titles, of which many are done.
+const fn titles(name: &'static str, work: &'static str, stream: fn(usize) -> Stream) -> Row {
+    Row { name, work, size: 64, stream, times: 2 }
+}
+
+/// A row of large bodies, which take less time.
+const fn bodies(
+    name: &'static str,
+    work: &'static str,
+    size: usize,
+    stream: fn(usize) -> Stream,
+) -> Row {
+    Row { name, work, size, stream, times: 8 }
+}
+
+/// What is done beside the original.
+const ROWS: &[Row] = &[
+    titles("headers pulled", "pull", streams::titles),
+    titles("headers pulled", "pull", streams::mixed),
+    titles("headers pulled", "pull", streams::pieces),
+    titles("headers pulled and pushed", "push", streams::titles),
+    titles("headers pulled and pushed", "push", streams::mixed),
+    titles("headers pulled and pushed", "push", streams::pieces),
+    titles("`recode` by 64 bytes", "recode", streams::titles),
+    titles("`recode` by 64 bytes", "recode", streams::mixed),
+    titles("`recode` by 64 bytes", "recode", streams::pieces),
+    bodies("`recode` by 64 bytes", "recode", 64, streams::byte_string),
+    bodies("`recode` by 64 bytes", "recode", 64, streams::ascii_text),
+    bodies("`recode` by 64 bytes", "recode", 64, streams::multibyte_text),
+    bodies("`recode` by 4,096 bytes", "recode", 4096, streams::byte_string),
+    bodies("`recode` by 4,096 bytes", "recode", 4096, streams::ascii_text),
+    bodies("`recode` by 4,096 bytes", "recode", 4096, streams::multibyte_text),
+    titles("`skip_bytes` by 64 bytes", "skip", streams::byte_pieces),
+    titles("`skip_text` by 64 bytes", "skip", streams::text_pieces),
+    bodies("`skip_bytes` by 4,096 bytes", "skip", 4096, streams::byte_string),
+    bodies("`skip_text` by 4,096 bytes", "skip", 4096, streams::ascii_text),
+    bodies("`skip_text` by 4,096 bytes", "skip", 4096, streams::multibyte_text),
+    bodies("`Encoder::text`, limit 8", "text", 8, streams::plain_text),
+    bodies("`Encoder::text`, limit 64", "text", 64, streams::plain_text),
+    bodies("`Encoder::text`, limit 4,096", "text", 4096, streams::plain_text),
+];
+
+/// What is done beside libcbor.
+const BESIDE_LIBCBOR: Row = titles("headers pulled", "pull", streams::assigned_titles);
+
+/// Measures all rows, and prints the table.
+pub fn measure(asked: &Asked) -> io::Result<()> {
+    println!("| work | over | beside | ours, MB/s | other, MB/s | by time | by instructions |");
+    println!("|---|---|---|---|---|---|---|");
+    for row in ROWS {
+        measure_row(asked, row, "the Rust crate", &asked.original)?;
+    }
+    measure_row(asked, &BESIDE_LIBCBOR, "libcbor", &asked.libcbor)
+}
+
+/// Measures a row beside another program, and prints it.
+fn measure_row(asked: &Asked, row: &Row, beside: &str, other: &str) -> io::Result<()> {
+    let stream = (row.stream)(SIZE);
+    let input = Input::new(&stream.bytes)?;
+    let runs = |rounds: usize| {
+        [&asked.bench, other].map(|program| Run {
+            program,
+            arguments: arguments(row, &stream, rounds),
+        })
+    };
+    check(row, &stream, &runs(1), &input)?;
+    let rounds = row.times * asked.megabytes;
+    let [ours, others] = best_times(&runs(rounds), &input, Origin::File, asked.rounds)?;
+    let [ours_once, others_once] = runs(1);
+    let [ours_twice, others_twice] = runs(2);
+    println!(
+        "| {} | {} | {beside} | {} | {} | {} | {} |",
+        row.name,
+        stream.name,
+        speed(rounds * stream.bytes.len(), ours),
+        speed(rounds * stream.bytes.len(), others),
+        ratio(Some(ours), Some(others)),
+        ratio(
+            instructions_between(&ours_once, &ours_twice, &input)?,
+            instructions_between(&others_once, &others_twice, &input)?,
+        ),
+    );
+    Ok(())
+}
+
+/// The words behind a program's name.
+fn arguments(row: &Row, stream: &Stream, rounds: usize) -> Vec<String> {
+    let numbers = [row.size, stream.count, rounds].map(|number| number.to_string());
+    [row.work.to_string()].into_iter().chain(numbers).collect()
+}
+
+/// Checks that both programs print the same sum, and not 0, which says that the work failed.
+fn check(row: &Row, stream: &Stream, sides: &[Run; 2], input: &Input) -> io::Result<()> {
+    let sums = [sides[0].output(input)?, sides[1].output(input)?];
+    if sums[0] == sums[1] && sums[0] != b"0\n" {
+        return Ok(());
+    }
+    let sums = sums.map(|sum| String::from_utf8_lossy(&sum).into_owned());
+    let (name, over) = (row.name, stream.name);
+    Err(failed(&format!("{name} over {over}: the sums are {sums:?}")))
+}
+
+/// The instructions of one round, by two runs that differ by it.
+fn instructions_between(once: &Run, twice: &Run, input: &Input) -> io::Result<Option<f64>> {
+    let counts = (once.instructions(input)?, twice.instructions(input)?);
+    Ok(match counts {
+        (Some(once), Some(twice)) => Some(twice - once),
+        _ => None,
+    })
+}

@@ -1,0 +1,148 @@
+//! How long a program takes for its input.
+
+use compare::command::failed;
+use std::fs::{self, File};
+use std::io::{self, Write};
+use std::path::PathBuf;
+use std::process::{Command, Output, Stdio};
+use std::thread;
+
+/// Bytes that are in memory and in a file.
+pub struct Input<'a> {
+    bytes: &'a [u8],
+    path: PathBuf,
+}
+
+impl Drop for Input<'_> {
+    fn drop(&mut self) {
+        // A file that stays in the folder of temporary files does no harm.
+        let _ = fs::remove_file(&self.path);
+    }
+}
+
+impl<'a> Input<'a> {
+    /// Writes the bytes to a file too.
+    pub fn new(bytes: &'a [u8]) -> io::Result<Input<'a>> {
+        let name = format!("cbor-speed-{}", std::process::id());
+        let path = std::env::temp_dir().join(name);
+        fs::write(&path, bytes)?;
+        Ok(Input { bytes, path })
+    }
+
+    /// The file.
+    fn file(&self) -> io::Result<File> {
+        File::open(&self.path)
+    }
+}
+
+/// Where a program's input comes from.
+#[derive(Clone, Copy)]
+pub enum Origin {
+    /// From a file.
+    File,
+    /// From a pipe, which a thread fills.
+    Pipe,
+}
+
+/// A program with its arguments.
+pub struct Run<'a> {
+    /// The path of the program.
+    pub program: &'a str,
+    /// The words behind its name.
+    pub arguments: Vec<String>,
+}
+
+impl Run<'_> {
+    /// What the program writes.
+    pub fn output(&self, input: &Input) -> io::Result<Vec<u8>> {
+        let mut command = Command::new(self.program);
+        let outcome = command.args(&self.arguments).stdin(input.file()?).output()?;
+        self.checked(outcome).map(|outcome| outcome.stdout)
+    }
+
+    /// The outcome of the program, where it succeeded.
+    fn checked(&self, outcome: Output) -> io::Result<Output> {
+        if outcome.status.success() {
+            return Ok(outcome);
+        }
+        let errors = String::from_utf8_lossy(&outcome.stderr);
+        let (program, arguments) = (self.program, &self.arguments);
+        Err(failed(&format!("{program} {arguments:?}: {errors}")))
+    }
+
+    /// The seconds that a processor worked for the program itself, and not for the system. What is written goes
+    /// nowhere. A shell tells the time, to the millisecond.
+    pub fn user_time(&self, input: &Input, origin: Origin) -> io::Result<f64> {
+        let mut command = Command::new("bash");
+        command
+            .args(["-c", "TIMEFORMAT=%3U; time \"$0\" \"$@\" > /dev/null"])
+            .arg(self.program)
+            .args(&self.arguments)
+            .stdout(Stdio::null())
+            .stderr(Stdio::piped());
+        match origin {
+            Origin::File => command.stdin(input.file()?),
+            Origin::Pipe => command.stdin(Stdio::piped()),
+        };
+        let mut child = command.spawn()?;
+        let writer = child.stdin.take();
+        let outcome = thread::scope(|scope| {
+            if let Some(mut writer) = writer {
+                scope.spawn(move || writer.write_all(input.bytes));
+            }
+            child.wait_with_output()
+        })?;
+        let outcome = self.checked(outcome)?;
+        let errors = String::from_utf8_lossy(&outcome.stderr);
+        let time = errors.lines().last().and_then(|line| line.parse().ok());
+        time.ok_or_else(|| failed("the shell tells no time"))
+    }
+
+    /// How many instructions the program took, the system's not counted, if valgrind is there.
+    pub fn instructions(&self, input: &Input) -> io::Result<Option<f64>> {
+        let mut command = Command::new("valgrind");
+        command
+            .args(["--tool=cachegrind", "--cache-sim=no", "--cachegrind-out-file=/dev/null"])
+            .arg(self.program)
+            .args(&self.arguments)
+            .stdin(input.file()?);
+        let outcome = match command.output() {
+            Err(error) if error.kind() == io::ErrorKind::NotFound => return Ok(None),
+            outcome => self.checked(outcome?)?,
+        };
+        let errors = String::from_utf8_lossy(&outcome.stderr);
+        let counted = errors.lines().find_map(|line| line.split_once("refs:"));
+        let count = counted.and_then(|(_, count)| count.trim().replace(',', "").parse().ok());
+        Ok(count)
+    }
+}
+
+/// The least seconds of two programs that run by turns, so many rounds.
+pub fn best_times(
+    sides: &[Run; 2],
+    input: &Input,
+    origin: Origin,
+    rounds: usize,
+) -> io::Result<[f64; 2]> {
+    let mut best = [f64::INFINITY; 2];
+    for _ in 0..rounds {
+        for (best, side) in best.iter_mut().zip(sides) {
+            *best = best.min(side.user_time(input, origin)?);
+        }
+    }
+    // No time is less than a millisecond, as far as the shell can tell.
+    Ok(best.map(|time| time.max(0.001)))
+}
+
+/// A ratio for a table, or `-` for none.
+pub fn ratio(ours: Option<f64>, other: Option<f64>) -> String {
+    match (ours, other) {
+        (Some(ours), Some(other)) => format!("{:.2}", other / ours),
+        _ => "-".to_string(),
+    }
+}
+
+/// The speed for a table, in MB/s.
+pub fn speed(bytes: usize, time: f64) -> String {
+    format!("{:.0}", bytes as f64 / 1e6 / time)
+}

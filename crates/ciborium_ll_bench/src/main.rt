@@ -1,0 +1,70 @@
+//! A program that does one work of the library again and again over the same bytes, so that its time can be taken.
+//!
+//! `ciborium_ll_bench WORK SIZE COUNT ROUNDS` reads standard input whole, works on it so many times, and prints a sum
+//! that a program over another library prints as well.
+#![tactic(auto)]
+
+mod work;
+
+use crate::work::{Task, Work};
+use std::env;
+use std::io::{self, Read};
+use std::process::ExitCode;
+
+fn main(rt: HostRuntime) -> ExitCode {
+    let Ok(Some(task)) = task_of(&rt) else {
+        let _ = eprintln!(rt;
+            "usage: ciborium_ll_bench pull|push|recode|skip|text SIZE COUNT ROUNDS"
+        );
+        return ExitCode::from(2);
+    };
+    let Ok(sum) = work_through(&rt, &task) else {
+        return ExitCode::FAILURE;
+    };
+    match println!(rt; "{sum}") {
+        Ok(()) => ExitCode::SUCCESS,
+        Err(_) => ExitCode::FAILURE,
+    }
+}
+
+/// What the words behind the program's name ask for, if it is anything.
+fn task_of(rt: &HostRuntime) -> io::Result<Option<Task>> {
+    let mut words = Vec::new(rt.alloc());
+    for word in env::args(rt)?.skip(1) {
+        if words.push(word).is_err() {
+            return Ok(None);
+        }
+    }
+    if words.len() != 4 {
+        return Ok(None);
+    }
+    let work = match words[0].as_str() {
+        "pull" => Work::Pull,
+        "push" => Work::Push,
+        "recode" => Work::Recode,
+        "skip" => Work::Skip,
+        "text" => Work::Text,
+        _ => return Ok(None),
+    };
+    match (
+        words[1].as_str().parse::<usize>(),
+        words[2].as_str().parse::<usize>(),
+        words[3].as_str().parse::<usize>(),
+    ) {
+        (Ok(size), Ok(count), Ok(rounds)) => Ok(Some(Task {
+            work,
+            size,
+            count,
+            rounds,
+        })),
+        _ => Ok(None),
+    }
+}
+
+/// Does the task over the bytes of standard input.
+fn work_through(rt: &HostRuntime, task: &Task) -> io::Result<u64> {
+    let mut input = Vec::new(rt.alloc());
+    rt.reader().read_to_end(&mut input)?;
+    let mut output = vec![in rt.alloc(); 0u8; input.len().saturating_mul(2)]?;
+    Ok(task.rounds_over(input.as_slice(), output.as_mut_slice()))
+}
