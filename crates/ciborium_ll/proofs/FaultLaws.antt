@@ -27,7 +27,7 @@ follows i u ms (next {count = j} {first = a} {rest = b} {marks = os} {others = p
     follows j b ps r m b' ps' r' (omega arith) x v o.2
 
 -- what is due can't come
-data Stuck : Place → List ℕ → Type 0 where
+pub data Stuck : Place → List ℕ → Type 0 where
   stop : {s : List ℕ} → Stop s → Stuck Due s
   halt : {s : List ℕ} (k : Kind) → Halt k s → Stuck (In k) s
   bad_body : {s : List ℕ} {k : Kind} {l p : ℕ} → IsBad k l s → Stuck (Body k l p) s
@@ -53,7 +53,7 @@ too_short Bytes l s f = f
 too_short Text l s f = inl f
 
 -- at a fault what is due cannot come
-stuck : (u : List ℕ) (ms : List Mark) (at : Place) (s : List ℕ) (a : Answer) (out : List ℕ) (c : ℕ) → FirstFault u ms at s a out c
+pub stuck : (u : List ℕ) (ms : List Mark) (at : Place) (s : List ℕ) (a : Answer) (out : List ℕ) (c : ℕ) → FirstFault u ms at s a out c
     → Stuck at s
 stuck u ms at s a out c (CutTitle {place = Due} d f) = stop (stop_cut f)
 stuck u ms at s a out c (CutTitle {place = In k} d f) = halt k (halt_cut f)

@@ -83,22 +83,23 @@ way_shorter count bytes marks (Body k len start) more read reach way =
 
 -- ---- lists
 
-first_counted : (rest : List ℕ) → drop (min 1 (length rest)) rest ≡ drop 1 rest
+-- a first byte is counted where there is one
+pub first_counted : (rest : List ℕ) → drop (min 1 (length rest)) rest ≡ drop 1 rest
 first_counted [] = refl
 first_counted (b ∷ rest) = let one : min 1 (length (b ∷ rest)) ≡ 1 = omega arith in ap (λ (n : ℕ). drop n (b ∷ rest)) one
 
 -- a list as long as the front asked for is that front
-front_of : (len : ℕ) (rest read more : List ℕ) → rest ≡ read ++ more → length read ≡ len → take len rest ≡ read
+pub front_of : (len : ℕ) (rest read more : List ℕ) → rest ≡ read ++ more → length read ≡ len → take len rest ≡ read
 front_of len rest read more e l = ap (take len) e ∙ ap (λ (n : ℕ). take n (read ++ more)) (sym l) ∙ take-append_seam read more
 
 -- a front that goes on behind what was read
-front_behind : (len : ℕ) (rest read more : List ℕ) → rest ≡ read ++ more → length read ≤ len → take len rest ≡ read ++ take (len - length read) more
+pub front_behind : (len : ℕ) (rest read more : List ℕ) → rest ≡ read ++ more → length read ≤ len → take len rest ≡ read ++ take (len - length read) more
 front_behind len rest read more e l =
     let sum : len ≡ length read + (len - length read) = omega (arith, l) in
     ap (take len) e ∙ ap (λ (n : ℕ). take n (read ++ more)) sum ∙ take-append-add read more (len - length read)
 
 -- bytes that begin no text begin none with more behind them
-no_text_behind : (read more : List ℕ) → BeginsNoText read → BeginsNoText (read ++ more)
+pub no_text_behind : (read more : List ℕ) → BeginsNoText read → BeginsNoText (read ++ more)
 no_text_behind read more none = λ others text. none (more ++ others) (subst IsCharacters (append_assoc read more others) text)
 
 -- where a title is due no body's title is under way

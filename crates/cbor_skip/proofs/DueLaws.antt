@@ -1,0 +1,255 @@
+-- Where an item is due in a whole one, it comes. So a whole item in front excludes whatever stops the read of it.
+use Rattle.std.proofs.Common.{◌≡◌, ℕ, suc, ◌*◌, ◌%◌, ◌==◌, ◌<◌, ◌⊎◌, Bool, true, false, List, [], ◌∷◌, ◌++◌, Some, refl, sym, ap, subst, ◌∙◌, inl, inr, arith, append_assoc, append-nil}
+use Rattle.ciborium_ll.specs.declared.hdr.Header.{Header}
+use Rattle.ciborium_ll.specs.declared.hdr.Header.TheVariants as h
+use Rattle.ciborium_ll.specs.Title.{IsTitle}
+use Rattle.ciborium_ll.specs.Strings.{Bytes, Text}
+use Rattle.ciborium_ll.specs.Elements.{Mark, Plain, Whole, open_marks, IsElement, plain, definite, indefinite}
+use Rattle.ciborium_ll.specs.Faults.{Place, Due, In}
+use Rattle.ciborium_ll.specs.Items.{Completes, positive, negative, float, simple, byte_string, text_string, open_bytes, open_text, tag, array, pairs, open_array, open_pairs, AreItems, no_items, more_items, IsItem}
+use Rattle.ciborium_ll.proofs.TitleLaws.{one_title}
+use Rattle.ciborium_ll.proofs.StringLaws.{break_title}
+use Rattle.ciborium_ll.proofs.ItemLaws.{one_item}
+use Rattle.ciborium_ll.proofs.HaltLaws.{opens_of, stop_bad, halt_bad, element_stops, element_inside}
+use Rattle.ciborium_ll.proofs.FaultLaws.{Stuck, stop, halt, bad_body, stuck}
+use Rattle.cbor_skip.specs.Due.{IsNest, TakesMore, may_close, ItemDue, here, within, ReachesItem, at_item, at_string, at_body, at_piece}
+use Rattle.cbor_skip.specs.ItemFaults.{ItemInFront, HasItemFault, HasEarlyBreak, HasDeepNest}
+use Rattle.cbor_skip.proofs.RemainingLaws.{even_pairs}
+use Rattle.cbor_skip.proofs.ItemSteps.{item_of}
+
+-- ---- an item that comes
+
+-- nothing completes an item behind a break
+no_completion : (d : ℕ) (x : Header) (rest : List ℕ) → x ≡ h.Break → Completes d x rest → ⊥
+no_completion d x rest e positive = absurd cc
+no_completion d x rest e negative = absurd cc
+no_completion d x rest e float = absurd cc
+no_completion d x rest e simple = absurd cc
+no_completion d x rest e (byte_string l) = absurd cc
+no_completion d x rest e (text_string l s) = absurd cc
+no_completion d x rest e (open_bytes s) = absurd cc
+no_completion d x rest e (open_text s k) = absurd cc
+no_completion d x rest e (tag i) = absurd cc
+no_completion d x rest e (array i) = absurd cc
+no_completion d x rest e (pairs i) = absurd cc
+no_completion d x rest e (open_array i) = absurd cc
+no_completion d x rest e (open_pairs n i) = absurd cc
+
+-- no item begins as a break
+item_break : (d : ℕ) (w u v : List ℕ) → IsItem d w → w ++ u ≡ 0xff ∷ v → ⊥
+item_break d w u v (more_items {title = t} {rest = r} {others = a} {header = x} p c i) e =
+    let o = one_title t (0xff ∷ []) ((r ++ a) ++ u) v x h.Break p break_title (sym (append_assoc t (r ++ a) u) ∙ e) in
+    no_completion d x r o.1 c
+
+-- a title, what completes it and other items, with more behind: the first item in front
+first_apart : (t r a s : List ℕ) → (t ++ (r ++ a)) ++ s ≡ (t ++ r) ++ (a ++ s)
+first_apart t r a s =
+    append_assoc t (r ++ a) s ∙ (ap (λ (z : List ℕ). t ++ z) (append_assoc r a s) ∙ sym (append_assoc t r (a ++ s)))
+
+-- two rows of items in one list begin with the same item
+rest_of_both : (d : ℕ) (t r a s t' r' a' v : List ℕ) (x x' : Header) → IsTitle t x → Completes d x r → IsTitle t' x'
+    → Completes d x' r'
+    → (t ++ (r ++ a)) ++ s ≡ (t' ++ (r' ++ a')) ++ v → a ++ s ≡ a' ++ v
+rest_of_both d t r a s t' r' a' v x x' p c p' c' e =
+    let both = sym (first_apart t r a s) ∙ (e ∙ first_apart t' r' a' v) in
+    let o = one_item d d (t ++ r) (t' ++ r') (a ++ s) (a' ++ v) (item_of d t r x p c) (item_of d t' r' x' p' c') both in
+    o.1
+
+-- behind some items, of which more come, one comes
+items_follow : (d m : ℕ) (u : List ℕ) → AreItems d m u → (n : ℕ) (w : List ℕ) → AreItems d n w → m < n
+    → (s v : List ℕ) → u ++ s ≡ w ++ v → ItemInFront d s
+items_follow d m u no_items n w no_items l s v e = absurd (omega arith)
+items_follow d m u no_items n w (more_items {title = t} {rest = r} {others = a} {header = x} p c i) l s v e =
+    record { item = t ++ r; rest = a ++ v; is_item = item_of d t r x p c; is = e ∙ first_apart t r a v }
+items_follow d m u (more_items p c i) n w no_items l s v e = absurd (omega arith)
+items_follow d m u (more_items {count = j} {title = t} {rest = r} {others = a} {header = x} p c i) n w
+    (more_items {count = k} {title = t'} {rest = r'} {others = a'} {header = x'} p' c' i') l s v e =
+    items_follow d j a i k a' i' (omega arith) s v (rest_of_both d t r a s t' r' a' v x x' p c p' c' e)
+
+-- in front of a break one comes, or the break
+items_end : (d m : ℕ) (u : List ℕ) → AreItems d m u → (n : ℕ) (w : List ℕ) → AreItems d n w
+    → (s v : List ℕ) → u ++ s ≡ w ++ 0xff ∷ v → ItemInFront d s ⊎ ((m ≡ n) × (s ≡ 0xff ∷ v))
+items_end d m u no_items n w no_items s v e = inr (refl, e)
+items_end d m u no_items n w (more_items {title = t} {rest = r} {others = a} {header = x} p c i) s v e =
+    let apart = e ∙ first_apart t r a (0xff ∷ v) in
+    inl (record { item = t ++ r; rest = a ++ 0xff ∷ v; is_item = item_of d t r x p c; is = apart })
+items_end d m u (more_items {title = t} {rest = r} {others = a} {header = x} p c i) n w no_items s v e =
+    absurd (item_break d (t ++ r) (a ++ s) v (item_of d t r x p c) (sym (first_apart t r a s) ∙ e))
+items_end d m u (more_items {count = j} {title = t} {rest = r} {others = a} {header = x} p c i) n w
+    (more_items {count = k} {title = t'} {rest = r'} {others = a'} {header = x'} p' c' i') s v e =
+    elim (items_end d j a i k a' i' s v (rest_of_both d t r a s t' r' a' (0xff ∷ v) x x' p c p' c' e)) [
+      | inl comes ↦ inl comes
+      | inr ends ↦ inr (ap suc ends.0, ends.1)
+    ]
+
+-- an item comes, or, where one may stand in its place, a break
+abbrev GoesOn : ℕ → Bool → List ℕ → Type 0
+GoesOn d closable s = ItemInFront d s ⊎ ((closable ≡ true) × (v : List ℕ) × (s ≡ 0xff ∷ v))
+
+-- behind a nest's title and some of its items
+nest_goes : (d m : ℕ) (u : List ℕ) (x : Header) → AreItems d m u → TakesMore x m → (r : List ℕ) → Completes (suc d) x r
+    → (s v : List ℕ) → u ++ s ≡ r ++ v → GoesOn d (may_close x m) s
+nest_goes d m u x i more r (tag {item = w} j) s v e = inl (items_follow d m u i 1 w j more s v e)
+nest_goes d m u x i more r (array {count = n} {items = w} j) s v e = inl (items_follow d m u i n w j more s v e)
+nest_goes d m u x i more r (pairs {count = n} {items = w} j) s v e = inl (items_follow d m u i (2 * n) w j more s v e)
+nest_goes d m u x i more r (open_array {count = n} {items = w} j) s v e =
+    elim (items_end d m u i n w j s v (e ∙ append_assoc w (0xff ∷ []) v)) [
+      | inl comes ↦ inl comes
+      | inr ends ↦ inr (refl, v, ends.1)
+    ]
+nest_goes d m u x i more r (open_pairs {items = w} n j) s v e =
+    elim (items_end d m u i (2 * n) w j s v (e ∙ append_assoc w (0xff ∷ []) v)) [
+      | inl comes ↦ inl comes
+      | inr ends ↦ inr (ap (λ (z : ℕ). z % 2 == 0) ends.0 ∙ even_pairs n, v, ends.1)
+    ]
+nest_goes d m u x i more r c s v e = absurd more
+
+-- no nest begins as a break
+nest_break : (t u v : List ℕ) (x : Header) (m : ℕ) → IsTitle t x → TakesMore x m → t ++ u ≡ 0xff ∷ v → ⊥
+nest_break t u v x m p more e =
+    let o = one_title t (0xff ∷ []) u v x h.Break p break_title e in
+    let none = subst (λ (y : Header). TakesMore y m) o.1 more in
+    none
+
+-- where a break comes at once, nothing more was read
+break_due : (outer : Bool) (d : ℕ) (u : List ℕ) (levels : ℕ) (closable : Bool) → ItemDue outer d u levels closable
+    → outer ≡ true
+    → (s v : List ℕ) → u ++ s ≡ 0xff ∷ v → GoesOn levels closable s
+break_due outer d u levels closable here may s v e = inr (may, v, e)
+break_due outer d u levels closable (within {count = m} {title = t} {items = a} {more = b} {header = x} p more i due)
+    may s v e =
+    absurd (nest_break t ((a ++ b) ++ s) v x m p more (sym (append_assoc t (a ++ b) s) ∙ e))
+
+-- where an item is due in a whole one, it comes
+item_goes_on : (outer : Bool) (d : ℕ) (u : List ℕ) (levels : ℕ) (closable : Bool) → ItemDue outer d u levels closable
+    → (w : List ℕ) → IsItem d w → (s v : List ℕ) → u ++ s ≡ w ++ v → GoesOn levels closable s
+item_goes_on outer d u levels closable here w i s v e = inl (record { item = w; rest = v; is_item = i; is = e })
+item_goes_on outer d u levels closable
+    (within {closable = z} {depth = d'} {count = m} {title = t} {items = a} {more = b} {header = x} p more i due) w
+    (more_items {title = t'} {rest = r'} {header = x'} p' c' no_items) s v e =
+    let both = sym (append_assoc t (a ++ b) s) ∙ (e ∙ append_assoc t' (r' ++ []) v) in
+    let o = one_title t t' ((a ++ b) ++ s) ((r' ++ []) ++ v) x x' p p' both in
+    let same : a ++ (b ++ s) ≡ r' ++ v =
+        sym (append_assoc a b s) ∙ (o.2 ∙ ap (λ (y : List ℕ). y ++ v) (append-nil r')) in
+    let completes = subst (λ (y : Header). Completes (suc d') y r') (sym o.1) c' in
+    elim (nest_goes d' m a x i more r' completes (b ++ s) v same) [
+      | inl comes ↦ item_goes_on (may_close x m) d' b levels closable due comes.item comes.is_item s comes.rest comes.is
+      | inr ends ↦ break_due (may_close x m) d' b levels closable due ends.0 s ends.1 ends.2
+    ]
+
+-- ---- no fault
+
+-- an element stands in front
+record Begins (s : List ℕ) : Type 0 where
+  word : List ℕ
+  marks : List Mark
+  rest : List ℕ
+  ok : IsElement word marks
+  is : s ≡ word ++ rest
+
+-- a title by itself is one
+lone_title : (t r v : List ℕ) (x : Header) → IsElement t (Plain x ∷ []) → Begins (t ++ (r ++ v))
+lone_title t r v x ok = record { word = t; marks = Plain x ∷ []; rest = r ++ v; ok = ok; is = refl }
+
+whole_string : (t r v : List ℕ) (marks : List Mark) → IsElement (t ++ r) marks → Begins (t ++ (r ++ v))
+whole_string t r v marks ok = record { word = t ++ r; marks = marks; rest = v; ok = ok; is = sym (append_assoc t r v) }
+
+-- an item begins with one
+element_in_front : (d : ℕ) (t r v : List ℕ) (x : Header) → IsTitle t x → Completes d x r → Begins (t ++ (r ++ v))
+element_in_front d t r v x p (byte_string l) =
+    let title = subst (λ (n : ℕ). IsTitle t (h.Bytes (Some n))) (sym l) p in
+    whole_string t r v (Whole Bytes r ∷ []) (definite Bytes title tt)
+element_in_front d t r v x p (text_string l k) =
+    let title = subst (λ (n : ℕ). IsTitle t (h.Text (Some n))) (sym l) p in
+    whole_string t r v (Whole Text r ∷ []) (definite Text title k)
+element_in_front d t r v x p (open_bytes {bodies = bs} s) =
+    whole_string t r v (open_marks Bytes bs) (indefinite Bytes p s tt)
+element_in_front d t r v x p (open_text {bodies = bs} s k) =
+    whole_string t r v (open_marks Text bs) (indefinite Text p s k)
+element_in_front d t r v x p positive = lone_title t r v x (plain x p tt)
+element_in_front d t r v x p negative = lone_title t r v x (plain x p tt)
+element_in_front d t r v x p float = lone_title t r v x (plain x p tt)
+element_in_front d t r v x p simple = lone_title t r v x (plain x p tt)
+element_in_front d t r v x p (tag i) = lone_title t r v x (plain x p tt)
+element_in_front d t r v x p (array i) = lone_title t r v x (plain x p tt)
+element_in_front d t r v x p (pairs i) = lone_title t r v x (plain x p tt)
+element_in_front d t r v x p (open_array i) = lone_title t r v x (plain x p tt)
+element_in_front d t r v x p (open_pairs n i) = lone_title t r v x (plain x p tt)
+
+item_begins : (d : ℕ) (w v s : List ℕ) → IsItem d w → s ≡ w ++ v → Begins s
+item_begins d w v s (more_items {title = t} {rest = r} {others = a} {header = x} p c i) e =
+    let apart = append_assoc t (r ++ a) v ∙ ap (λ (z : List ℕ). t ++ z) (append_assoc r a v) in
+    subst Begins (sym (e ∙ apart)) (element_in_front d t r (a ++ v) x p c)
+
+goes_begins : (d : ℕ) (closable : Bool) (s : List ℕ) → GoesOn d closable s → Begins s
+goes_begins d closable s (inl comes) = item_begins d comes.item comes.rest s comes.is_item comes.is
+goes_begins d closable s (inr ends) = record {
+  word = 0xff ∷ [];
+  marks = Plain h.Break ∷ [];
+  rest = ends.1;
+  ok = plain h.Break break_title tt;
+  is = ends.2;
+}
+
+-- no item stands in front where what is due can't come
+item_stuck : (d : ℕ) (u : List ℕ) (at : Place) → ReachesItem d u at → (s : List ℕ) → Stuck at s
+    → (w v : List ℕ) → IsItem d w → u ++ s ≡ w ++ v → ⊥
+item_stuck d u at (at_item {levels = l} {closable = c} p) s (stop f) w v i e =
+    let b = goes_begins l c s (item_goes_on false d u l c p w i s v e) in
+    element_stops b.word b.marks b.ok b.rest s f b.is
+item_stuck d u at (at_string {bytes = a} {opens = y} {levels = l} {closable = c} {bodies = bs} {kind = k} p q ok) s
+    (halt k' f) w v i e =
+    let b = goes_begins l c (y ++ s) (item_goes_on false d a l c p w i (y ++ s) v (sym (append_assoc a y s) ∙ e)) in
+    element_inside b.word b.marks b.ok k y s b.rest (opens_of k y bs q) f b.is
+item_stuck d u at (at_body {bytes = a} {title = t} {len = l} k r p) s (bad_body f) w v i e =
+    item_stuck d a Due r (t ++ s) (stop (stop_bad s k l p f refl)) w v i (sym (append_assoc a t s) ∙ e)
+item_stuck d u at (at_piece {bytes = a} {title = t} {len = l} {kind = k} r p) s (bad_body f) w v i e =
+    item_stuck d a (In k) r (t ++ s) (halt k (halt_bad s l p f refl)) w v i (sym (append_assoc a t s) ∙ e)
+
+-- where a whole item stands in front, there is no fault
+pub no_item_fault : (d : ℕ) (x : List ℕ) → ItemInFront d x → HasItemFault d x → ⊥
+no_item_fault d x front f =
+    let at = stuck f.before [] f.place f.ahead f.answer f.written f.consumed f.fault in
+    item_stuck d f.before f.place f.reach f.ahead at front.item front.rest front.is_item (sym f.is ∙ front.is)
+
+-- ---- no break and no nest where none may stand
+
+-- nor a break where none may stand
+pub no_early_break : (d : ℕ) (x : List ℕ) → ItemInFront d x → HasEarlyBreak d x → ⊥
+no_early_break d x front f =
+    let both = sym f.is ∙ front.is in
+    let ahead = 0xff ∷ f.rest in
+    elim (item_goes_on false d f.before f.levels false f.item_due front.item front.is_item ahead front.rest both) [
+      | inl comes ↦ item_break f.levels comes.item comes.rest f.rest comes.is_item (sym comes.is)
+      | inr ends ↦ let no = ends.0 in cc
+    ]
+
+-- a nest takes a level
+not_flat : (d : ℕ) (x : Header) (r : List ℕ) → d ≡ 0 → Completes d x r → IsNest x → ⊥
+not_flat d x r e (tag i) nest = absurd cc
+not_flat d x r e (array i) nest = absurd cc
+not_flat d x r e (pairs i) nest = absurd cc
+not_flat d x r e (open_array i) nest = absurd cc
+not_flat d x r e (open_pairs n i) nest = absurd cc
+not_flat d x r e c nest = absurd nest
+
+-- no item of no levels begins with a nest
+flat : (w v t y : List ℕ) (x : Header) (d : ℕ) → d ≡ 0 → IsItem d w → IsTitle t x → IsNest x → t ++ y ≡ w ++ v → ⊥
+flat w v t y x d none (more_items {title = t'} {rest = r} {others = a} {header = x'} p c i) q nest e =
+    let o = one_title t t' y ((r ++ a) ++ v) x x' q p (e ∙ append_assoc t' (r ++ a) v) in
+    not_flat d x' r none c (subst IsNest o.1 nest)
+
+-- nor a nest where no level is left
+pub no_deep_nest : (d : ℕ) (x : List ℕ) → ItemInFront d x → HasDeepNest d x → ⊥
+no_deep_nest d x front f =
+    let both = sym f.is ∙ front.is in
+    let ahead = f.title ++ f.rest in
+    elim (item_goes_on false d f.before 0 f.closable f.item_due front.item front.is_item ahead front.rest both) [
+      | inl comes ↦ flat comes.item comes.rest f.title f.rest f.header 0 refl comes.is_item f.is_title f.is_nest
+          comes.is
+      | inr ends ↦ (
+          let o = one_title f.title (0xff ∷ []) f.rest ends.1 f.header h.Break f.is_title break_title ends.2 in
+          let none = subst IsNest o.1 f.is_nest in
+          none
+          )
+    ]

@@ -1,0 +1,279 @@
+-- The steps of the read of an item, over any reader.
+use Rattle.std.proofs.Common.{◌≡◌, ℕ, zero, suc, ◌<◌, ◌*◌, Bool, true, false, List, [], ◌∷◌, ◌++◌, length, Option, Some, None, Result, Ok, Err, refl, sym, ap, subst, ◌∙◌, inl, arith, append_assoc, append-nil}
+use Rattle.ciborium_ll.specs.declared.io.Read.{Ghosts}
+use Rattle.ciborium_ll.specs.declared.hdr.Header.{Header}
+use Rattle.ciborium_ll.specs.declared.hdr.Header.TheVariants as h
+use Rattle.ciborium_ll.specs.declared.dec.Decoder.{Decoder}
+use Rattle.ciborium_ll.specs.declared.dec.Error.{Error}
+use Rattle.ciborium_ll.specs.Title.{IsTitle, shortest_title}
+use Rattle.ciborium_ll.specs.Strings.{Kind, Bytes, Text, kind_header, IsString, AreStrings}
+use Rattle.ciborium_ll.specs.Strings.IsString.{definite, indefinite}
+use Rattle.ciborium_ll.specs.Elements.{IsSound}
+use Rattle.ciborium_ll.specs.Items.{Completes, byte_string, text_string, open_bytes, open_text, tag, array, pairs, open_array, open_pairs, AreItems, no_items, more_items, IsItem}
+use Rattle.ciborium_ll.specs.Decoding.{Passes, PullsHeader, PullsTitle, IsSteady}
+use Rattle.ciborium_ll.specs.Skipping.{SkipsWhole}
+use Rattle.ciborium_ll.proofs.TitleLaws.{IsTitle-shortest, title_in_range}
+use Rattle.ciborium_ll.proofs.StringLaws.{fronts}
+use Rattle.ciborium_ll.proofs.NestLaws.{alone_bytes}
+use Rattle.ciborium_ll.proofs.DecodingLaws.{Passes-none, Passes-pulled, Passes-then}
+use Rattle.cbor_skip.specs.declared.SkipError.{SkipError}
+use Rattle.cbor_skip.specs.declared.SkipError.TheVariants as s
+use Rattle.cbor_skip.specs.declared.remaining.Remaining.{Remaining}
+use Rattle.cbor_skip.specs.declared.remaining.Remaining.TheVariants as r
+use Rattle.cbor_skip.specs.Due.{here, within}
+use Rattle.cbor_skip.specs.Remaining.{IsRemaining, is_done, closes}
+use Rattle.cbor_skip.specs.Skipping.{StopsDue, StopsItem, ReadsItem, SkipsItem, ReadsWithin, StopsWithin, SkipsWithin}
+use Rattle.cbor_skip.proofs.RemainingLaws.{takes_more}
+
+-- ---- lists of items
+
+-- a title and what completes it are an item
+pub item_of : (d : ℕ) (t rest : List ℕ) (x : Header) → IsTitle t x → Completes d x rest → IsItem d (t ++ rest)
+item_of d t rest x p c = subst (λ (z : List ℕ). IsItem d (t ++ z)) (append-nil rest) (more_items p c no_items)
+
+-- one item more
+items_item : (d n : ℕ) (u v : List ℕ) → AreItems d n u → IsItem d v → AreItems d (suc n) (u ++ v)
+items_item d n u v no_items i = i
+items_item d n u v (more_items {count = m} {title = t} {rest = w} {others = a} {header = x} p c others) i =
+    let whole : t ++ (w ++ (a ++ v)) ≡ (t ++ (w ++ a)) ++ v =
+    sym (append_assoc t (w ++ a) v ∙ ap (λ (z : List ℕ). t ++ z) (append_assoc w a v)) in
+    subst (λ (z : List ℕ). AreItems d (suc (suc m)) z) whole (more_items p c (items_item d m a v others i))
+
+-- what completes a tag is one item
+one_of : (n d : ℕ) (rest : List ℕ) → Completes (suc d) (h.Tag n) rest → IsItem d rest
+one_of n d rest (tag i) = i
+
+no_items_read : (d count : ℕ) (items : List ℕ) → count < 1 → AreItems d count items → items ≡ []
+no_items_read d count items less no_items = refl
+no_items_read d count items less (more_items p c i) = absurd (omega (arith, less))
+
+-- ---- a string behind its header
+
+completes_body : (d : ℕ) (k : Kind) (b : List ℕ) → IsSound k (b ∷ []) → Completes d (kind_header k (Some (length b))) b
+completes_body d Bytes b sound = byte_string refl
+completes_body d Text b sound = text_string refl sound
+
+completes_open : (d : ℕ) (k : Kind) (x : List ℕ) (bs : List (List ℕ)) → AreStrings k x bs → IsSound k bs
+    → Completes d (kind_header k None) (x ++ 0xff ∷ [])
+completes_open d Bytes x bs strings sound = open_bytes strings
+completes_open d Text x bs strings sound = open_text strings sound
+
+-- what follows a string's title is the rest of an item
+string_completes : (d : ℕ) (k : Kind) (len : Option ℕ) (t rest w : List ℕ) (bs : List (List ℕ))
+    → IsTitle t (kind_header k len)
+    → IsString k w bs → t ++ rest ≡ w → IsSound k bs → Completes d (kind_header k len) rest
+string_completes d k len t rest w bs p (definite {title = t'} {body = b} p') e sound =
+    let f = fronts k t t' rest b len (Some (length b)) p p' e in
+    let same : Some (length b) ≡ len = sym f.1 in
+    let behind : b ≡ rest = sym f.2 in
+    subst (λ (z : List ℕ). Completes d (kind_header k len) z) behind
+    (subst (λ (o : Option ℕ). Completes d (kind_header k o) b) same (completes_body d k b sound))
+string_completes d k len t rest w bs p (indefinite {title = t'} {strings = x} p' strings) e sound =
+    let f = fronts k t t' rest (x ++ 0xff ∷ []) len None p p' e in
+    let same : None ≡ len = sym f.1 in
+    let behind : x ++ 0xff ∷ [] ≡ rest = sym f.2 in
+    subst (λ (z : List ℕ). Completes d (kind_header k len) z) behind
+    (subst (λ (o : Option ℕ). Completes d (kind_header k o) (x ++ 0xff ∷ [])) same
+        (completes_open d k x bs strings sound))
+
+module _ {R E : Type 0} (source : Ghosts R E) where
+  -- ---- one item
+
+  -- a title was read from the start
+  pulled_first : {old titled : Decoder R} {x : Header} (title : PullsTitle source old x titled)
+      → (IsSteady source old → IsSteady source titled) → Passes source old title.title titled
+  pulled_first {old = old} {titled = titled} {x = x} title steady =
+      Passes-pulled source old old titled [] x title (Passes-none source old) steady
+
+  -- an item is a title, and what completes it
+  reads_item : {d : ℕ} {old titled new : Decoder R} {x : Header} {rest : List ℕ} → PullsTitle source old x titled
+      → (IsSteady source old → IsSteady source titled) → Completes d x rest → Passes source titled rest new
+      → ReadsItem source d old new
+  reads_item {d = d} {old = old} {titled = titled} {new = new} {x = x} {rest = rest} title steady completes passed =
+      record {
+    item = title.title ++ rest;
+    is_item = item_of d title.title rest x title.is_title completes;
+    passed = Passes-then source old titled new title.title rest (pulled_first title steady) passed;
+  }
+
+  pub reads_plain : {d : ℕ} {old titled : Decoder R} {x : Header} → PullsTitle source old x titled
+      → (IsSteady source old → IsSteady source titled) → Completes d x [] → ReadsItem source d old titled
+  reads_plain {titled = titled} title steady completes = reads_item title steady completes (Passes-none source titled)
+
+  pub reads_string : {d : ℕ} {old titled new : Decoder R} (k : Kind) (len : Option ℕ)
+      → PullsTitle source old (kind_header k len) titled → (IsSteady source old → IsSteady source titled)
+      → SkipsWhole source k len titled new → ReadsItem source d old new
+  reads_string {d = d} k len title steady whole =
+      let x = kind_header k len in
+      let shortest = IsTitle-shortest x (title_in_range title.title x title.is_title) in
+      let completes =
+          string_completes d k len (shortest_title x) whole.behind _ whole.bodies shortest whole.is_string refl
+          whole.sound in
+      reads_item title steady completes whole.passed
+
+  pub reads_nest : {d levels : ℕ} {old titled new : Decoder R} {x : Header} → suc levels ≡ d
+      → PullsTitle source old x titled
+      → (IsSteady source old → IsSteady source titled) → ReadsWithin source x levels titled new
+      → ReadsItem source d old new
+  reads_nest {old = old} {new = new} level title steady inner =
+      subst (λ (n : ℕ). ReadsItem source n old new) level (reads_item title steady inner.completes inner.passed)
+
+  -- an error where the item begins
+  pub stops_here : {outer : Bool} {d room : ℕ} {old : Decoder R} {error : SkipError E} {new : Decoder R}
+      → StopsDue source d outer room old error new → StopsItem source outer d room old error new
+  stops_here {outer = outer} {d = d} {old = old} stops =
+      let passed = Passes-none source old in
+      record { bytes = []; levels = d; closable = outer; due = here; between = old; passed = passed; stops = stops }
+
+  pub pull_stops : {outer : Bool} {d room : ℕ} {old before : Decoder R} {error : Error E} {new : Decoder R}
+      → before ≡ old
+      → PullsHeader source before (Err error) new → StopsItem source outer d room old (s.Read error) new
+  pull_stops {error = error} {new = new} same fails =
+      stops_here (inl (subst (λ (first : Decoder R). PullsHeader source first (Err error) new) same fails))
+
+  -- an error within it, behind its title
+  pub stops_nest : {outer : Bool} {d levels room : ℕ} {old titled : Decoder R} {x : Header} {error : SkipError E}
+      {new : Decoder R}
+      → suc levels ≡ d → PullsTitle source old x titled → (IsSteady source old → IsSteady source titled)
+      → StopsWithin source x levels room titled error new → StopsItem source outer d room old error new
+  stops_nest {outer = outer} {room = room} {old = old} {titled = titled} {error = error} {new = new} level title steady
+      stops =
+      let inner = stops.stops in
+      let first = pulled_first title steady in
+      let rest =
+          Passes-then source titled stops.between inner.between stops.items inner.bytes stops.passed inner.passed in
+      subst (λ (n : ℕ). StopsItem source outer n room old error new) level (record {
+        bytes = title.title ++ (stops.items ++ inner.bytes);
+        levels = inner.levels;
+        closable = inner.closable;
+        due = within title.is_title stops.takes_more stops.are_items inner.due;
+        between = inner.between;
+        passed = Passes-then source old titled inner.between title.title (stops.items ++ inner.bytes) first rest;
+        stops = inner.stops;
+      })
+
+  -- ---- items within a nest
+
+  -- behind the nest's header so many items were read, and this remains
+  pub record SoFar (x : Header) (d : ℕ) (old now : Decoder R) (remaining : Remaining) : Type 0 where
+    pub count : ℕ
+    pub is_remaining : IsRemaining x count remaining
+    pub items : List ℕ
+    pub are_items : AreItems d count items
+    pub passed : Passes source old items now
+
+  pub none_read : {x : Header} {d : ℕ} {old : Decoder R} {remaining : Remaining} → IsRemaining x 0 remaining
+      → SoFar x d old old remaining
+  none_read {old = old} is =
+      record { count = 0; is_remaining = is; items = []; are_items = no_items; passed = Passes-none source old }
+
+  pub one_more : {x : Header} {d : ℕ} {old now new : Decoder R} {remaining after : Remaining}
+      → SoFar x d old now remaining
+      → ((count : ℕ) → IsRemaining x count remaining → IsRemaining x (suc count) after) → ReadsItem source d now new
+      → SoFar x d old new after
+  one_more {d = d} {old = old} {now = now} {new = new} so_far goes_on item = record {
+    count = suc so_far.count;
+    is_remaining = goes_on so_far.count so_far.is_remaining;
+    items = so_far.items ++ item.item;
+    are_items = items_item d so_far.count so_far.items item.item so_far.are_items item.is_item;
+    passed = Passes-then source old now new so_far.items item.item so_far.passed item.passed;
+  }
+
+  -- an error where one more is due; the buffer was as long from the start
+  pub stops_within : {x : Header} {d room room' : ℕ} {old now new : Decoder R} {error : SkipError E}
+      {remaining : Remaining}
+      → SoFar x d old now remaining → is_done remaining ≡ false → room' ≡ room
+      → StopsItem source (closes remaining) d room' now error new → StopsWithin source x d room old error new
+  stops_within {x = x} {d = d} {room = room} {now = now} {new = new} {error = error} {remaining = remaining}
+      so_far some same stops =
+      let more = takes_more x so_far.count remaining so_far.is_remaining some in
+      record {
+        count = so_far.count;
+        items = so_far.items;
+        takes_more = more.0;
+        are_items = so_far.are_items;
+        between = now;
+        passed = so_far.passed;
+        stops = subst (λ (outer : Bool). StopsItem source outer d room now error new) (sym more.1)
+            (subst (λ (n : ℕ). StopsItem source (closes remaining) d n now error new) same stops);
+      }
+
+  -- all items were read, by what remains
+  all_read : (x : Header) (d count : ℕ) (items : List ℕ) (remaining : Remaining) → IsRemaining x count remaining
+      → is_done remaining ≡ true → AreItems d count items → Completes (suc d) x items
+  all_read (h.Tag n) d count items (r.Items zero) is done i =
+      let one : count ≡ 1 = omega (arith, is) in tag (subst (λ (m : ℕ). AreItems d m items) one i)
+  all_read (h.Array (Some n)) d count items (r.Items zero) is done i =
+      let all : count ≡ n = omega (arith, is) in array (subst (λ (m : ℕ). AreItems d m items) all i)
+  all_read (h.Map (Some n)) d count items (r.Pairs zero) is done i =
+      let all : count ≡ 2 * n = omega (arith, is) in pairs (subst (λ (m : ℕ). AreItems d m items) all i)
+  all_read (h.Tag n) d count items (r.Items (suc m)) is done i = absurd cc
+  all_read (h.Array (Some n)) d count items (r.Items (suc m)) is done i = absurd cc
+  all_read (h.Map (Some n)) d count items (r.Pairs (suc m)) is done i = absurd cc
+  all_read (h.Map (Some n)) d count items (r.Value m) is done i = absurd cc
+  all_read (h.Array None) d count items r.OpenItems is done i = absurd cc
+  all_read (h.Map None) d count items r.OpenPairs is done i = absurd cc
+  all_read (h.Map None) d count items r.OpenValue is done i = absurd cc
+  all_read x d count items remaining is done i = absurd is
+
+  pub ended : {x : Header} {d : ℕ} {old now : Decoder R} {remaining : Remaining} → SoFar x d old now remaining
+      → is_done remaining ≡ true → ReadsWithin source x d old now
+  ended {x = x} {d = d} {remaining = remaining} so_far done = record {
+    rest = so_far.items;
+    completes = all_read x d so_far.count so_far.items remaining so_far.is_remaining done so_far.are_items;
+    passed = so_far.passed;
+  }
+
+  -- a break ended them, by what remains
+  all_closed : (x : Header) (d count : ℕ) (items : List ℕ) (remaining : Remaining) → IsRemaining x count remaining
+      → closes remaining ≡ true → AreItems d count items → Completes (suc d) x (items ++ 0xff ∷ [])
+  all_closed (h.Array None) d count items r.OpenItems is may i = open_array i
+  all_closed (h.Map None) d count items r.OpenPairs is may i =
+      open_pairs is.0 (subst (λ (m : ℕ). AreItems d m items) is.1 i)
+  all_closed (h.Tag n) d count items (r.Items m) is may i = absurd cc
+  all_closed (h.Array (Some n)) d count items (r.Items m) is may i = absurd cc
+  all_closed (h.Map (Some n)) d count items (r.Pairs m) is may i = absurd cc
+  all_closed (h.Map (Some n)) d count items (r.Value m) is may i = absurd cc
+  all_closed (h.Map None) d count items r.OpenValue is may i = absurd cc
+  all_closed x d count items remaining is may i = absurd is
+
+  pub closed : {x : Header} {d : ℕ} {old now new : Decoder R} {remaining : Remaining} → SoFar x d old now remaining
+      → closes remaining ≡ true → PullsTitle source now h.Break new → (IsSteady source now → IsSteady source new)
+      → ReadsWithin source x d old new
+  closed {x = x} {d = d} {old = old} {now = now} {new = new} {remaining = remaining} so_far may title steady =
+      let lone = alone_bytes title.title h.Break title.is_title refl in
+      let still : IsSteady source old → IsSteady source new = λ first. steady (so_far.passed.steady first) in
+      let passed = Passes-pulled source old now new so_far.items h.Break title so_far.passed still in
+      record {
+        rest = so_far.items ++ 0xff ∷ [];
+        completes = all_closed x d so_far.count so_far.items remaining so_far.is_remaining may so_far.are_items;
+        passed = subst (λ (z : List ℕ). Passes source old (so_far.items ++ z) new) lone passed;
+      }
+
+  -- ---- the whole: what a tag contains is one item
+
+  only_read : (n d : ℕ) (old new : Decoder R) → ReadsWithin source (h.Tag n) d old new → ReadsItem source d old new
+  only_read n d old new reads =
+      record { item = reads.rest; is_item = one_of n d reads.rest reads.completes; passed = reads.passed }
+
+  only_stops : (n d room : ℕ) (old : Decoder R) (error : SkipError E) (new : Decoder R)
+      → StopsWithin source (h.Tag n) d room old error new → StopsItem source false d room old error new
+  only_stops n d room old error new stops =
+      let inner = stops.stops in
+      let none : stops.items ≡ [] = no_items_read d stops.count stops.items stops.takes_more stops.are_items in
+      let passed =
+          Passes-then source old stops.between inner.between stops.items inner.bytes stops.passed inner.passed in
+      record {
+        bytes = inner.bytes;
+        levels = inner.levels;
+        closable = inner.closable;
+        due = inner.due;
+        between = inner.between;
+        passed = subst (λ (z : List ℕ). Passes source old (z ++ inner.bytes) inner.between) none passed;
+        stops = inner.stops;
+      }
+
+  pub only_item : (n d room : ℕ) (old : Decoder R) (result : Result (Unit {0}) (SkipError E)) (new : Decoder R)
+      → SkipsWithin source (h.Tag n) d room old result new → SkipsItem source d room old result new
+  only_item n d room old (Ok done) new reads = only_read n d old new reads
+  only_item n d room old (Err error) new stops = only_stops n d room old error new stops

@@ -1,0 +1,4 @@
+pub mod DueLaws
+pub mod ItemSteps
+pub mod RemainingLaws
+pub mod SkippingToldLaws

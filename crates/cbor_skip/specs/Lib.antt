@@ -1,0 +1,5 @@
+pub mod Due
+pub mod ItemFaults
+pub mod Remaining
+pub mod Skipping
+pub mod SkippingTold

@@ -1,0 +1,89 @@
+-- What `skip_item` and its parts do, over any reader. Bytes are spoken of where the reader tells them.
+use Rattle.std.specs.Prelude.{◌≡◌, ℕ, suc, ◌⊎◌, Bool, false, List, Option, Result, Ok, Err}
+use Rattle.ciborium_ll.specs.declared.io.Read.{Ghosts}
+use Rattle.ciborium_ll.specs.declared.hdr.Header.{Header}
+use Rattle.ciborium_ll.specs.declared.hdr.Header.TheVariants as h
+use Rattle.ciborium_ll.specs.declared.dec.Decoder.{Decoder}
+use Rattle.ciborium_ll.specs.declared.dec.Error.{Error}
+use Rattle.ciborium_ll.specs.Strings.{Kind, kind_header}
+use Rattle.ciborium_ll.specs.Items.{Completes, AreItems, IsItem}
+use Rattle.ciborium_ll.specs.Decoding.{IsSteady, Passes, PullsHeader, PullsTitle}
+use Rattle.ciborium_ll.specs.Skipping.{SkipsString}
+use Rattle.cbor_skip.specs.declared.SkipError.{SkipError}
+use Rattle.cbor_skip.specs.declared.SkipError.TheVariants as s
+use Rattle.cbor_skip.specs.Due.{IsNest, TakesMore, may_close, ItemDue}
+
+module _ {R E : Type 0} (source : Ghosts R E) where
+  -- the title of a string came, and the read of the string failed behind it
+  pub record MeetsString (room : ℕ) (between : Decoder R) (error : Error E) (new : Decoder R) : Type 0 where
+    pub kind : Kind
+    pub len : Option ℕ
+    pub titled : Decoder R
+    pub pulled : PullsTitle source between (kind_header kind len) titled
+    pub steady : IsSteady source between → IsSteady source titled
+    pub fails : SkipsString source kind len room titled (Err error) new
+
+  -- a break came at this offset, where none may stand
+  pub record MeetsBreak (closable : Bool) (between : Decoder R) (at : ℕ) (new : Decoder R) : Type 0 where
+    pub not_closable : closable ≡ false
+    pub place : at ≡ between.offset
+    pub pulled : PullsTitle source between h.Break new
+
+  -- the title of a tag, an array or a map came at this offset, where no level is left
+  pub record MeetsNest (levels : ℕ) (between : Decoder R) (at : ℕ) (new : Decoder R) : Type 0 where
+    pub none_left : levels ≡ 0
+    pub place : at ≡ between.offset
+    pub header : Header
+    pub is_nest : IsNest header
+    pub pulled : PullsTitle source between header new
+
+  -- how the read fails where an item to so many levels is due: no title came, or one of the three above
+  abbrev pub StopsDue : ℕ → Bool → ℕ → Decoder R → SkipError E → Decoder R → Type 0
+  StopsDue levels closable room between (s.Read error) new =
+      PullsHeader source between (Err error) new ⊎ MeetsString room between error new
+  StopsDue levels closable room between (s.Break at) new = MeetsBreak closable between at new
+  StopsDue levels closable room between (s.Deep at) new = MeetsNest levels between at new
+
+  -- a beginning of an item was read, and where an item is due behind it the read failed
+  pub record StopsItem (outer : Bool) (depth room : ℕ) (old : Decoder R) (error : SkipError E) (new : Decoder R)
+      : Type 0 where
+    pub bytes : List ℕ
+    pub levels : ℕ
+    pub closable : Bool
+    pub due : ItemDue outer depth bytes levels closable
+    pub between : Decoder R
+    pub passed : Passes source old bytes between
+    pub stops : StopsDue levels closable room between error new
+
+  -- one item was read
+  pub record ReadsItem (depth : ℕ) (old new : Decoder R) : Type 0 where
+    pub item : List ℕ
+    pub is_item : IsItem depth item
+    pub passed : Passes source old item new
+
+  -- `skip_item` through a buffer of so much room, by its answer
+  abbrev pub SkipsItem : ℕ → ℕ → Decoder R → Result (Unit {0}) (SkipError E) → Decoder R → Type 0
+  SkipsItem depth room old (Ok done) new = ReadsItem depth old new
+  SkipsItem depth room old (Err error) new = StopsItem false depth room old error new
+
+  -- behind the header of a nest the rest of it was read
+  pub record ReadsWithin (header : Header) (depth : ℕ) (old new : Decoder R) : Type 0 where
+    pub rest : List ℕ
+    pub completes : Completes (suc depth) header rest
+    pub passed : Passes source old rest new
+
+  -- behind the header of a nest so many items were read, and of one more a beginning
+  pub record StopsWithin (header : Header) (depth room : ℕ) (old : Decoder R) (error : SkipError E) (new : Decoder R)
+      : Type 0 where
+    pub count : ℕ
+    pub items : List ℕ
+    pub takes_more : TakesMore header count
+    pub are_items : AreItems depth count items
+    pub between : Decoder R
+    pub passed : Passes source old items between
+    pub stops : StopsItem (may_close header count) depth room between error new
+
+  -- the read of what a nest contains, by its answer
+  abbrev pub SkipsWithin : Header → ℕ → ℕ → Decoder R → Result (Unit {0}) (SkipError E) → Decoder R → Type 0
+  SkipsWithin header depth room old (Ok done) new = ReadsWithin header depth old new
+  SkipsWithin header depth room old (Err error) new = StopsWithin header depth room old error new

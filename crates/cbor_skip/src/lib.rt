@@ -1,0 +1,116 @@
+//! One item of CBOR (RFC 7049, 2.1 to 2.4) skipped, whatever it contains. No call takes memory.
+#![tactic(auto)]
+
+ghost use Rattle.std.specs.Prelude.{◌≡◌, ◌≤◌, ◌↔◌, ℕ, List, length, IsOk, Some};
+ghost use Rattle.ciborium_ll.specs.Decoding.{IsSteady, offset_of, refusals_of, view};
+ghost use Rattle.cbor_skip.specs.Due.{IsNest};
+ghost use Rattle.cbor_skip.specs.ItemFaults.{ItemInFront};
+ghost use Rattle.cbor_skip.specs.Skipping.{SkipsItem, SkipsWithin};
+ghost use Rattle.cbor_skip.specs.SkippingTold.{IsReady, SkipsFront, SkipsTold};
+
+pub mod laws;
+mod remaining;
+
+use self::remaining::Remaining;
+use ciborium_ll::io::Read;
+use ciborium_ll::laws::{skip_bytes, skip_text};
+use ciborium_ll::{Decoder, Error, Header};
+
+/// Why no item was skipped.
+#[derive(Debug, Drop)]
+pub enum SkipError<E> {
+    /// The decoder failed, and this is its error.
+    Read(Error<E>),
+    /// At this offset a break stands where an item is due and none may end: outside of arrays and maps of indefinite
+    /// length, or in place of a value in such a map.
+    Break(usize),
+    /// At this offset the title of a tag, an array or a map stands deeper than was allowed.
+    Deep(usize),
+}
+
+/// Skips what a tag, an array or a map contains, behind its header.
+fn skip_within<R: Read>(
+    decoder: &mut Decoder<R>,
+    header: Header,
+    depth: usize,
+    buffer: &mut [u8],
+) -> Result<(), SkipError<R::Error>>
+    requires room { 4 ≤ length buffer.old }
+    requires nest { IsNest header }
+    ensures skipped { SkipsWithin R.Read header depth (length buffer.old) decoder.old result decoder.new }
+    ensures rises { offset_of decoder.old ≤ offset_of decoder.new }
+    ensures steady { IsSteady R.Read decoder.old → IsSteady R.Read decoder.new }
+    ensures refusals { refusals_of decoder.new ≡ refusals_of decoder.old }
+{
+    let mut remaining = Remaining::behind(header);
+    'items: while !remaining.is_done() {
+        let place = decoder.offset();
+        let next = match decoder.pull() {
+            Ok(next) => next,
+            Err(error) => return Err(SkipError::Read(error)),
+        };
+        match next {
+            Header::Positive(_) | Header::Negative(_) | Header::Float(_) | Header::Simple(_) => {}
+            Header::Bytes(len) => {
+                if let Err(error) = skip_bytes(decoder, len, buffer) {
+                    return Err(SkipError::Read(error));
+                }
+            }
+            Header::Text(len) => {
+                if let Err(error) = skip_text(decoder, len, buffer) {
+                    return Err(SkipError::Read(error));
+                }
+            }
+            Header::Break => {
+                if remaining.closes() {
+                    return Ok(());
+                }
+                return Err(SkipError::Break(place));
+            }
+            Header::Tag(_) | Header::Array(_) | Header::Map(_) => {
+                if depth == 0 {
+                    return Err(SkipError::Deep(place));
+                }
+                skip_within(decoder, next, depth - 1, buffer)?;
+            }
+        }
+        remaining = remaining.after_item();
+    }
+    Ok(())
+}
+
+/// Skips one item, with tags, arrays and maps nested at most `depth` levels deep (RFC 7049, 2.1 to 2.4).
+///
+/// A tag, an array and a map take a level, an empty one too; a string takes none. `Ok` says that one whole item was
+/// there, each body of a text UTF-8 by itself, and the decoder is behind it. Strings go through `buffer`. No memory is
+/// taken but for the stack, of which each level takes a frame.
+///
+/// `Break` names the offset of a break that stands in place of an item. It may do so only where an array of indefinite
+/// length ends, or such a map behind whole pairs. `Deep` names the offset of a tag, an array or a map for which no
+/// level is left. Both have consumed that title alone behind what they read.
+///
+/// `Read` carries the decoder's error. `Syntax` names the offset of a title that is none or may not stand within its
+/// string; of a body that is no text the offset of its title, or, where a whole string's title is longer than its
+/// shortest one, of the byte from which the shortest would reach the body. `Io` says that the reader failed, `TooLong`
+/// that the offset can't take the next read.
+pub fn skip_item<R: Read>(
+    decoder: &mut Decoder<R>,
+    depth: usize,
+    buffer: &mut [u8],
+) -> Result<(), SkipError<R::Error>>
+    requires shallow { depth ≤ 256 }
+    requires room { 4 ≤ length buffer.old }
+    ensures skipped { SkipsItem R.Read depth (length buffer.old) decoder.old result decoder.new }
+    ensures rises { offset_of decoder.old ≤ offset_of decoder.new }
+    ensures steady { IsSteady R.Read decoder.old → IsSteady R.Read decoder.new }
+    ensures refusals { refusals_of decoder.new ≡ refusals_of decoder.old }
+    ensures told { (due : List ℕ) → IsReady R.Read (length buffer.old) decoder.old due
+        → SkipsTold R.Read depth due decoder.old result decoder.new }
+    ensures exactly { (due : List ℕ) → IsReady R.Read (length buffer.old) decoder.old due
+        → (IsOk result ↔ ItemInFront depth due) }
+    ensures front { (due : List ℕ) → view R.Read decoder.old ≡ Some due → IsOk result
+        → SkipsFront R.Read depth due decoder.old decoder.new }
+{
+    // What a tag contains is one item.
+    skip_within(decoder, Header::Tag(0), depth, buffer)
+}

@@ -1,0 +1,73 @@
+//! What is due yet within a tag, an array or a map.
+
+ghost use Rattle.std.specs.Prelude.{◌≡◌, ℕ, suc, false};
+ghost use Rattle.ciborium_ll.specs.declared.hdr.Header.{Header as AnyHeader};
+ghost use Rattle.cbor_skip.specs.Due.{IsNest};
+ghost use Rattle.cbor_skip.specs.Remaining.{IsRemaining, closes, is_done};
+
+use ciborium_ll::Header;
+
+/// What is due yet within a tag, an array or a map.
+///
+/// Pairs are counted as pairs, so that no count is greater than the one in the header.
+#[derive(Clone, Copy)]
+pub(crate) enum Remaining {
+    /// So many items.
+    Items(usize),
+    /// So many pairs.
+    Pairs(usize),
+    /// The value of a pair, and then so many pairs.
+    Value(usize),
+    /// Items up to a break.
+    OpenItems,
+    /// Pairs up to a break.
+    OpenPairs,
+    /// The value of a pair, and then pairs up to a break.
+    OpenValue,
+}
+
+impl Remaining {
+    /// What the header of a tag, an array or a map announces.
+    pub(crate) fn behind(header: Header) -> Remaining
+        requires { IsNest header }
+        ensures { IsRemaining header 0 result }
+    {
+        match header {
+            Header::Array(Some(count)) => Remaining::Items(count),
+            Header::Array(None) => Remaining::OpenItems,
+            Header::Map(Some(count)) => Remaining::Pairs(count),
+            Header::Map(None) => Remaining::OpenPairs,
+            _ => Remaining::Items(1),
+        }
+    }
+
+    /// Whether nothing is due.
+    pub(crate) fn is_done(self) -> bool
+        ensures { result ≡ is_done self }
+    {
+        matches!(self, Remaining::Items(0) | Remaining::Pairs(0))
+    }
+
+    /// Whether a break may stand in place of the next item.
+    pub(crate) fn closes(self) -> bool
+        ensures { result ≡ closes self }
+    {
+        matches!(self, Remaining::OpenItems | Remaining::OpenPairs)
+    }
+
+    /// What is due behind the next item.
+    pub(crate) fn after_item(self) -> Remaining
+        requires { is_done self ≡ false }
+        ensures { (header : AnyHeader) (count : ℕ) → IsRemaining header count self
+            → IsRemaining header (suc count) result }
+    {
+        match self {
+            Remaining::Items(count) => Remaining::Items(count - 1),
+            Remaining::Pairs(count) => Remaining::Value(count - 1),
+            Remaining::Value(count) => Remaining::Pairs(count),
+            Remaining::OpenItems => Remaining::OpenItems,
+            Remaining::OpenPairs => Remaining::OpenValue,
+            Remaining::OpenValue => Remaining::OpenPairs,
+        }
+    }
+}
