@@ -1,8 +1,9 @@
 pub mod AdvanceLaws
 pub mod AffixLaws
-pub mod Complete
+pub mod BlockLaws
 pub mod BodyLaws
 pub mod ChunkLaws
+pub mod Complete
 pub mod CopyLaws
 pub mod CopyingLaws
 pub mod CopyingTold
@@ -16,6 +17,7 @@ pub mod FaultLaws
 pub mod FinishLaws
 pub mod HaltLaws
 pub mod ItemLaws
+pub mod LastEndLaws
 pub mod Lists
 pub mod OneFault
 pub mod NestLaws
@@ -26,9 +28,11 @@ pub mod RecodeLaws
 pub mod RecodingToldLaws
 pub mod RefusedBytes
 pub mod RoomLaws
+pub mod RowLaws
 pub mod SegmentLaws
 pub mod SkipLaws
 pub mod SpelledLaws
+pub mod StateLaws
 pub mod StepLaws
 pub mod StrictFaultLaws
 pub mod StrictLaws
@@ -38,3 +42,4 @@ pub mod TextLaws
 pub mod TitleLaws
 pub mod Utf8Laws
 pub mod ValueLaws
+pub mod WindowLaws

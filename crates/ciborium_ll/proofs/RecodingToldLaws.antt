@@ -429,13 +429,13 @@ module _ {R E W F : Type 0} {strict : Bool} (source : Reader R E) (sink : Writer
                     omega (arith, less, none, same, enough, length-append (spelling stops.marks) stops.more)
                     )
                 | inr way ↦ omega (
-                    arith,
-                    less,
-                    enough,
-                    length-append (spelling stops.marks) stops.more,
-                    spelled_within count stops.bytes stops.marks way.0 way.1 stops.more stops.read way.2 (stops.read ++ gone.0) front.elements front.rest front.marks front.run
-                        (sym (append_assoc stops.bytes stops.read gone.0) ∙ sym gone.2 ∙ front.is),
-                  )
+                  arith,
+                  less,
+                  enough,
+                  length-append (spelling stops.marks) stops.more,
+                  spelled_within count stops.bytes stops.marks way.0 way.1 stops.more stops.read way.2 (stops.read ++ gone.0) front.elements front.rest front.marks front.run
+                      (sym (append_assoc stops.bytes stops.read gone.0) ∙ sym gone.2 ∙ front.is),
+                )
               ]
               )
           | inr fits ↦ (

@@ -92,22 +92,24 @@ element_rest w ms (indefinite {title = t} {strings = x} {bodies = bs} j p i s) k
     let g = opens_rest k u os c y t x q bs (subst (λ (r : Kind). IsTitle t (kind_header r None)) jk p) (subst (λ (r : Kind). AreStrings r x bs) jk i) e2 in
     let r = g.1 in
     let same = ap (λ (r : Kind). size r bs) jk in
-    let counted = ap length (open_spelled j bs) in
-    (g.0, record {
-      strings = r.strings;
-      bodies = r.bodies;
-      ok = r.ok;
-      is = r.is;
-      cost = omega (
-        arith,
-        r.cost,
-        same,
-        counted,
-        open_length j,
-        length-append (shortest_title (kind_header j None)) (spelling (pieces j bs) ++ 0xff ∷ []),
-        length-append (spelling (pieces j bs)) (0xff ∷ []),
-      );
-    })
+    let counted = ap length (open_spelled j bs) in (
+      g.0,
+      record {
+        strings = r.strings;
+        bodies = r.bodies;
+        ok = r.ok;
+        is = r.is;
+        cost = omega (
+          arith,
+          r.cost,
+          same,
+          counted,
+          open_length j,
+          length-append (shortest_title (kind_header j None)) (spelling (pieces j bs) ++ 0xff ∷ []),
+          length-append (spelling (pieces j bs)) (0xff ∷ []),
+        );
+      },
+    )
 
 -- a body's title in front of an element's
 element_body : (w : List ℕ) (ms : List Mark) → IsElement w ms → (k : Kind) (len : ℕ) (t x q : List ℕ) → IsTitle t (kind_header k (Some len)) → t ++ x ≡ w ++ q

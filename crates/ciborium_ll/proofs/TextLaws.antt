@@ -72,7 +72,7 @@ no_text_begins x a r y f l u =
     damned x a r y rest.characters f l rest.each rest.whole
 
 -- a text that none of those longer goes on from is the front
-front_at : (x : List ℕ) (n : ℕ) → n ≤ length x → IsCharacters (take n x) → ((m : ℕ) → n < m → m ≤ length x → IsCharacters (take m x) → ⊥)
+pub front_at : (x : List ℕ) (n : ℕ) → n ≤ length x → IsCharacters (take n x) → ((m : ℕ) → n < m → m ≤ length x → IsCharacters (take m x) → ⊥)
     → IsFront x (take n x) (drop n x)
 front_at x n l u none =
     record {

@@ -14,9 +14,11 @@ pub mod Parts
 pub mod Pieces
 pub mod Recoding
 pub mod RecodingTold
+pub mod Rows
 pub mod Segments
 pub mod Skipping
 pub mod Slices
+pub mod States
 pub mod Steps
 pub mod Streams
 pub mod StrictRecoding
@@ -25,3 +27,4 @@ pub mod Text
 pub mod Title
 pub mod Transfer
 pub mod Values
+pub mod Windows

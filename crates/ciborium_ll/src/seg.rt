@@ -1,19 +1,23 @@
 //! Strings, lent piece by piece (RFC 7049, 2.2.2).
 
 ghost use Rattle.std.specs.Prelude.{◌≡◌, ◌≤◌, ◌<◌, ◌+◌, ◌^◌, ◌⊎◌, length, take, drop, true, IfOk, IfSome, IfNone, [], None, Some};
-ghost use Rattle.ciborium_ll.specs.Text.{IsFront};
+ghost use Rattle.ciborium_ll.specs.States.{after};
+ghost use Rattle.ciborium_ll.specs.declared.seg.state.State.TheVariants.{Between};
 ghost use Rattle.ciborium_ll.specs.declared.hdr.Header.TheVariants.{Break};
 ghost use Rattle.ciborium_ll.specs.Strings.{Kind, kind_header, Bytes as byte_strings};
 ghost use Rattle.ciborium_ll.specs.Kept.{IsStuck, kept_bytes};
 ghost use Rattle.ciborium_ll.specs.Faults.{IsMisplaced};
 
+mod blocks;
 mod chunked;
+mod rows;
+mod state;
 
 pub use self::chunked::Chunked;
 use crate::dec::{Decoder, Error};
 use crate::hdr::Header;
 use crate::io::Read;
-use simdutf8::compat;
+use crate::seg::state::{State, text_front};
 use std::marker::PhantomData;
 
 /// A kind of string: which headers begin one.
@@ -165,6 +169,7 @@ impl<'r, R: Read, P: Parser> Segments<'r, R, P> {
             unread: body.length,
             place: body.place,
             kept: Kept::Nothing,
+            state: State::Between,
             damaged: false,
             parser: PhantomData,
         }
@@ -301,19 +306,6 @@ impl Kept {
     }
 }
 
-/// The longest front of the bytes that is text.
-fn text_front(bytes: &[u8]) -> &str
-    ensures { IsFront bytes.now result.now (drop (length result.now) bytes.now) }
-{
-    match compat::from_utf8(bytes) {
-        Ok(text) => text,
-        Err(error) => match compat::from_utf8(&bytes[..error.valid_up_to()]) {
-            Ok(text) => text,
-            Err(_) => unreachable!(),
-        },
-    }
-}
-
 /// One segment of a string, which lends the decoder until it is dropped.
 ///
 /// It holds the bytes of its body that were not read yet, and of a text up to three that were read and may begin a
@@ -324,11 +316,13 @@ pub struct Segment<'r, R, P: Parser> {
     unread: usize,
     place: usize,
     kept: Kept,
+    state: State,
     damaged: bool,
     parser: PhantomData<P>,
     ghost counted: { unread + length (kept_bytes kept) < 2 ^ 64 },
     ghost none_waits: { reader.now.waiting ≡ None },
     ghost stuck: { IsStuck (kept_bytes kept) },
+    ghost told: { state ≡ after Between (kept_bytes kept) },
     ghost text_alone: { P.kind ≡ byte_strings → kept_bytes kept ≡ [] },
 }
 
@@ -348,6 +342,7 @@ impl<'r, R: Read, P: Parser> Segment<'r, R, P> {
             unread: body.length,
             place: body.place,
             kept: Kept::Nothing,
+            state: State::Between,
             damaged: false,
             parser: PhantomData,
         }
@@ -433,11 +428,12 @@ impl<'r, R: Read> Segment<'r, R, Text> {
         }
         let filled = &mut buffer[..size];
         self.fill(filled)?;
-        let text = text_front(filled);
+        let (text, state) = text_front(filled, kept, self.state);
         self.unread -= size - kept;
         match Kept::keep(&filled[text.len()..]) {
             Some(rest) => {
                 self.kept = rest;
+                self.state = state;
                 Ok(Some(text))
             }
             None => Err(self.damage()),
@@ -482,6 +478,7 @@ impl<'r, R: Read> Segment<'r, R, Text> {
         ensures error { result ≡ Error.Syntax self.old.place }
     {
         self.kept = Kept::Nothing;
+        self.state = State::Between;
         self.damaged = true;
         Error::Syntax(self.place)
     }

@@ -1,8 +1,10 @@
 //! Laws of text.
 
-ghost use Rattle.std.specs.Prelude.{◌≡◌, ℕ, ◌<◌, ◌++◌, List, length, ◌↔◌, IsUtf8, [], take, drop};
+ghost use Rattle.std.specs.Prelude.{◌≡◌, ℕ, ◌<◌, ◌++◌, List, length, ◌≢◌, ◌↔◌, IsUtf8, [], take, drop};
 ghost use Rattle.std.specs.Str.{IsValidUpTo};
+ghost use Rattle.ciborium_ll.specs.States.{after};
 ghost use Rattle.ciborium_ll.specs.Text.{IsCharacters, IsFront};
+ghost use Rattle.ciborium_ll.specs.declared.seg.state.State.TheVariants.{Between, Damaged};
 
 /// Characters joined are what std has as UTF-8.
 pub fn same_text()
@@ -36,4 +38,15 @@ pub fn no_text_begins()
 /// Bytes with a rest behind their front are no text.
 pub fn no_rest_of_text()
     ensures { (bytes front rest : List ℕ) → IsFront bytes front rest → IsCharacters bytes → rest ≡ [] }
+{}
+
+/// Bytes are text exactly where the state behind them is between two characters.
+pub fn text_by_state()
+    ensures { (bytes : List ℕ) → (IsCharacters bytes ↔ (after Between bytes ≡ Between)) }
+{}
+
+/// The state behind bytes is a damage exactly where no text begins with them.
+pub fn damage_by_state()
+    ensures none { (bytes more : List ℕ) → after Between bytes ≡ Damaged → IsCharacters (bytes ++ more) → ⊥ }
+    ensures some { (bytes : List ℕ) → after Between bytes ≢ Damaged → (more : List ℕ) × IsCharacters (bytes ++ more) }
 {}

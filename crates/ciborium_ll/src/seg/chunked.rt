@@ -64,6 +64,7 @@ impl<'r, R: Read, P: Chunked> Segment<'r, R, P> {
             unread,
             place,
             kept,
+            state,
             damaged,
             parser,
         } = self;
@@ -72,6 +73,7 @@ impl<'r, R: Read, P: Chunked> Segment<'r, R, P> {
             unread,
             place,
             kept,
+            state,
             damaged,
             parser,
         };

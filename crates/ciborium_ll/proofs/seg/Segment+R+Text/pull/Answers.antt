@@ -1,10 +1,21 @@
-use Rattle.std.proofs.Common.{rules, arith, sym, ap, subst, inr, ◌∙◌, ◌≡◌, ◌<◌, [], ◌++◌, length, drop, length-append}
+use Rattle.std.proofs.Common.{ℕ, List, take, rules, arith, sym, ap, subst, inr, ◌∙◌, ◌≡◌, ◌<◌, [], ◌++◌, length, drop, length-append}
 use Rattle.std.proofs.lemmas.List.{take_rest}
 use Rattle.ciborium_ll.specs.declared.seg.Kept.{Kept}
 use Rattle.ciborium_ll.specs.Kept.{IsStuck, kept_bytes}
 use Rattle.ciborium_ll.specs.Text.{IsFront}
 use Rattle.ciborium_ll.proofs.ChunkLaws.{IsFront-stuck, IsStuck-rest, ReadsOn-none, rest_consumed}
+use Rattle.std.proofs.lemmas.List.{take_at}
+use Rattle.ciborium_ll.specs.States.{IsLastEnd}
+use Rattle.ciborium_ll.proofs.LastEndLaws.{stuck_end}
 use Rattle.ciborium_ll.proofs.seg.Segment+R+Text.pull.Goals as goal
+
+pub text_front-state-requires-clause-stuck : goal.text_front-state-requires-clause-stuck
+text_front-state-requires-clause-stuck g c =
+    let fill = c.in_ok-fill.ensures.filled in
+    let kept = kept_bytes c.args.self.now.kept in
+    let n = c.len-kept.result in
+    let front : take n c.fill.new.filled ≡ kept = ap (λ (z : List ℕ). take n z) fill.whole ∙ take_at kept fill.read n (sym c.len-kept.ensures) in
+    subst (λ (z : List ℕ). IsLastEnd z 0) (sym front) (stuck_end kept c.args.self.now.stuck)
 
 pub returns-then-size-kept-clause-chunk : goal.returns-then-size-kept-clause-chunk
 returns-then-size-kept-clause-chunk g c =
@@ -19,13 +30,13 @@ returns-then-size-kept-clause-chunk g c =
 
 pub invariant_of-self-clause-stuck : goal.invariant_of-self-clause-stuck
 invariant_of-self-clause-stuck g c =
-    let kept = c.in-Some.ensures.some ∙ take_rest c.fill.new.filled (length c.text_front-text.result.now) in
-    subst IsStuck (sym kept) (IsStuck-rest _ _ _ c.text_front-text.ensures)
+    let kept = c.in-Some.ensures.some ∙ take_rest c.fill.new.filled (length c.text_front-state.result.0.now) in
+    subst IsStuck (sym kept) (IsStuck-rest _ _ _ c.text_front-state.ensures.front)
 
 pub returns-in-None-clause-chunk : goal.returns-in-None-clause-chunk
 returns-in-None-clause-chunk g c =
     let fill = c.in_ok-fill.ensures.filled in
-    let text = c.text_front-text.result.now in
+    let text = c.text_front-state.result.0.now in
     let whole = fill.whole in
     let counted = ap length whole in
     let damage = c.damage-in-None.ensures in
@@ -48,7 +59,7 @@ returns-in-None-clause-chunk g c =
         };
         front = text;
         left = drop (length text) c.fill.new.filled;
-        split = rw (← whole) c.text_front-text.ensures;
+        split = rw (← whole) c.text_front-state.ensures.front;
         too_much = behind;
       }));
       none_kept = inr damage.kept;
@@ -57,7 +68,7 @@ returns-in-None-clause-chunk g c =
 pub returns-in-Some-clause-rest : goal.returns-in-Some-clause-rest
 returns-in-Some-clause-rest g c =
     let fill = c.in_ok-fill.ensures.filled in
-    let text = c.text_front-text.result.now in
+    let text = c.text_front-state.result.0.now in
     let kept = kept_bytes c.args.self.now.kept in
     let whole = fill.whole in
     let counted = ap length whole in
@@ -66,4 +77,4 @@ returns-in-Some-clause-rest g c =
     let behind = c.in-Some.ensures.some ∙ take_rest c.fill.new.filled (length text) in
     rest_consumed _ _ c.args.self.now.unread _ kept (kept_bytes c.in-Some.rest) fill.read text fill.reads.bytes
     (omega (arith, counted, size, length-append kept fill.read, c.min-size.ensures, c.len-kept.ensures, c.if-size-kept.false, same.unread))
-    (sym whole ∙ c.text_front-text.ensures.parts ∙ ap (λ z. text ++ z) (sym behind))
+    (sym whole ∙ c.text_front-state.ensures.front.parts ∙ ap (λ z. text ++ z) (sym behind))
