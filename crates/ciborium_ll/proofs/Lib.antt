@@ -2,6 +2,7 @@ pub mod AdvanceLaws
 pub mod AffixLaws
 pub mod BlockLaws
 pub mod BodyLaws
+pub mod BufferLaws
 pub mod ChunkLaws
 pub mod Complete
 pub mod CopyLaws

@@ -1,3 +1,4 @@
+pub mod Buffers
 pub mod Chunks
 pub mod Copying
 pub mod Cuts

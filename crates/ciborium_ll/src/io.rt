@@ -8,10 +8,13 @@ ghost use Rattle.std.specs.declared.option.Option.{Option};
 ghost use Rattle.std.specs.Io.KnownBytes.{Appends, Consumes};
 ghost use Rattle.ciborium_ll.specs.Transfer.{Shrinks, AppendsFront};
 
+mod buffered;
 mod failures;
 mod slices;
 mod streams;
+mod window;
 
+pub use self::buffered::{BufferedReader, BufferedWriter, FaultKept};
 pub use self::failures::Failures;
 pub use self::slices::{EndOfFile, OutOfSpace, SliceReader, SliceWriter};
 pub use self::streams::{ReadFault, StdReader, StdWriter, WriteFault};

@@ -34,17 +34,17 @@ impl io::Read for SlowReader<'_> {
 
 // A writer that takes one byte a call while it has room, counts its calls, and is interrupted at one call.
 #[derive(Drop)]
-struct SlowWriter {
-    taken: Vec<u8>,
-    room: usize,
-    calls: usize,
-    interrupted: Option<usize>,
-    flushes: usize,
-    flush_fails: bool,
+pub(crate) struct SlowWriter {
+    pub(crate) taken: Vec<u8>,
+    pub(crate) room: usize,
+    pub(crate) calls: usize,
+    pub(crate) interrupted: Option<usize>,
+    pub(crate) flushes: usize,
+    pub(crate) flush_fails: bool,
 }
 
 impl SlowWriter {
-    fn new(alloc: Global, room: usize) -> SlowWriter {
+    pub(crate) fn new(alloc: Global, room: usize) -> SlowWriter {
         SlowWriter {
             taken: Vec::new(alloc),
             room,

@@ -2,6 +2,4 @@ mod ArgumentLaws
 pub mod NumberLaws
 mod RawLaws
 mod RequestLaws
-mod Transfers
-mod WindowLaws
 mod WordLaws

@@ -6,6 +6,7 @@ use Rattle.ciborium_ll.specs.declared.io.Read.{Ghosts as Reader}
 use Rattle.ciborium_ll.specs.declared.io.Write.{Ghosts as Writer}
 use Rattle.ciborium_ll.specs.declared.dec.Decoder.{Decoder}
 use Rattle.ciborium_ll.specs.declared.dec.Error.TheVariants as e
+use Rattle.ciborium_ll.specs.declared.io.buffered.FaultKept.{FaultKept}
 use Rattle.ciborium_ll.specs.declared.io.streams.ReadFault.{ReadFault}
 use Rattle.ciborium_ll.specs.declared.io.streams.WriteFault.{WriteFault}
 use Rattle.ciborium_ll.specs.declared.recode.RecodeError.{RecodeError}
@@ -16,8 +17,7 @@ use Rattle.ciborium_ll.specs.Decoding.{Passes, view}
 use Rattle.ciborium_ll.specs.Recoding.{CopiesElements}
 use Rattle.ciborium_ll.specs.RecodingTold.{IsTold, RecodesAnyhow, StopsShort}
 use Rattle.ciborium_ll.proofs.BodyLaws.{view_none}
-use Rattle.ciborium_ll_tool.specs.declared.aside.Aside.{Aside}
-use Rattle.ciborium_ll_tool.specs.Aside.{Restores}
+use Rattle.ciborium_ll_tool.specs.Restoring.{Restores}
 use Rattle.ciborium_ll_tool.specs.Raw.{CopiesRaw, ReadsShort, WritesShort}
 
 -- known bytes that are kept are known still
@@ -37,13 +37,13 @@ whole_known (Some xs) held bytes none told = ap Some (sym (append-nil xs) ∙ ap
 
 -- what holds of a copy holds with the faults of std in their places
 pub restored_copies : {R W : Type 0} (left : R → List ℕ → Type 0) (contents : W → Option (List ℕ)) (got : W → List ℕ → Type 0) (count : ℕ) (due written : List ℕ) (reader : R) (writer : W)
-    (read : Option ReadFault) (write : Option WriteFault) (error : RecodeError Aside Aside) (error' : RecodeError ReadFault WriteFault) → Restores read write error error' → CopiesRaw left contents got count due written (Err error) reader writer
+    (read : Option ReadFault) (write : Option WriteFault) (error : RecodeError FaultKept FaultKept) (error' : RecodeError ReadFault WriteFault) → Restores read write error error' → CopiesRaw left contents got count due written (Err error) reader writer
     → CopiesRaw left contents got count due written (Err error') reader writer
-restored_copies left contents got count due written reader writer read write (r.Read (e.Io aside)) error' is copies = rw is.1 copies
+restored_copies left contents got count due written reader writer read write (r.Read (e.Io failed)) error' is copies = rw is.1 copies
 restored_copies left contents got count due written reader writer read write (r.Read (e.Syntax place)) error' is copies = rw is copies
 restored_copies left contents got count due written reader writer read write (r.Read e.TooLong) error' is copies = rw is copies
 restored_copies left contents got count due written reader writer read write (r.Read e.Waiting) error' is copies = absurd copies
-restored_copies left contents got count due written reader writer read write (r.Write aside) error' is copies = rw is.1 copies
+restored_copies left contents got count due written reader writer read write (r.Write failed) error' is copies = rw is.1 copies
 
 module _ {D S E F : Type 0} (source : Reader D E) (sink : Writer S F) where
   -- where no header waits, what is due is what the reader has ahead

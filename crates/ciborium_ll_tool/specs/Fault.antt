@@ -1,4 +1,5 @@
 -- What the program says of an error.
+use Rattle.std.specs.Prelude.{◌≡◌}
 use Rattle.ciborium_ll_tool.specs.declared.fault.Fault.{Fault}
 use Rattle.ciborium_ll_tool.specs.declared.fault.Fault.TheVariants as f
 use Rattle.ciborium_ll_tool.specs.declared.service.ToolError.{ToolError}
@@ -6,6 +7,7 @@ use Rattle.ciborium_ll_tool.specs.declared.service.ToolError.TheVariants as e
 use Rattle.ciborium_ll.specs.declared.dec.Error.TheVariants as d
 use Rattle.ciborium_ll.specs.declared.io.streams.ReadFault.{ReadFault}
 use Rattle.ciborium_ll.specs.declared.io.streams.WriteFault.{WriteFault}
+use Rattle.ciborium_ll.specs.declared.io.streams.WriteFault.TheVariants as w
 use Rattle.ciborium_ll.specs.declared.recode.RecodeError.{RecodeError}
 use Rattle.ciborium_ll.specs.declared.recode.RecodeError.TheVariants as r
 
@@ -14,6 +16,11 @@ abbrev pub fault_of : ToolError → Fault
 fault_of e.Memory = f.Memory
 fault_of (e.Read error) = f.Read
 fault_of (e.Write error) = f.Write
+
+-- the error of a run whose write failed: the writer's own, where it has one
+abbrev pub IsWriteError : WriteFault → ToolError → Type 0
+IsWriteError w.Zero error = fault_of error ≡ f.Write
+IsWriteError (w.Failed own) error = error ≡ e.Write own
 
 -- the fault of an error that stopped a copy
 abbrev pub fault_of_copy : RecodeError ReadFault WriteFault → Fault

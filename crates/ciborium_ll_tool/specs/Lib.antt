@@ -1,11 +1,9 @@
-pub mod Aside
 pub mod Choice
 pub mod Fault
 pub mod Line
 pub mod Number
-pub mod Output
 pub mod Raw
 pub mod Request
+pub mod Restoring
 pub mod Value
-pub mod Window
 pub mod Word

@@ -6,14 +6,12 @@
 
 mod answer;
 mod arguments;
-mod aside;
 mod choice;
 mod copy;
 mod fault;
 mod input;
 mod memory;
 mod number;
-mod output;
 mod raw;
 mod request;
 mod service;
@@ -21,7 +19,6 @@ mod string;
 #[cfg(test)]
 mod tests;
 mod value;
-mod window;
 mod word;
 
 pub use crate::arguments::chosen;

@@ -2,14 +2,18 @@
 
 ghost use Rattle.std.specs.Prelude.{◌≡◌, ℕ, List, Some};
 ghost use Rattle.ciborium_ll_tool.specs.Raw.{CopiesRaw, Tells, TellsFront, Untold};
-ghost use Rattle.ciborium_ll_tool.specs.Aside.{Restores};
+ghost use Rattle.ciborium_ll_tool.specs.Restoring.{Restores};
 
-use crate::aside::{Aside, AsideReader, AsideWriter};
 use crate::copy::BUFFER_SIZE;
-use ciborium_ll::io::{ReadFault, StdReader, StdWriter, Write, WriteFault};
+use ciborium_ll::io::{
+    BufferedReader, BufferedWriter, FaultKept, ReadFault, StdReader, StdWriter, Write, WriteFault,
+};
 use ciborium_ll::recode::recode;
 use ciborium_ll::{Decoder, Encoder, Error, RecodeError};
 use std::io;
+
+/// How many bytes a buffered copy reads ahead, and how many it keeps back, at most.
+const ROOM: usize = 8192;
 
 /// Copies so many elements, and flushes the writer. It hands back the reader and the writer.
 ///
@@ -48,18 +52,20 @@ pub fn raw_buffered<R: io::Read, W: io::Write>(
     ensures { (due written : List ℕ) → R.remaining reader ≡ Some due → W.contents writer ≡ Some written
         → CopiesRaw Untold W.contents (TellsFront W.contents) count due written result.2 result.0 result.1 }
 {
+    let mut read_ahead = [0; ROOM];
+    let mut kept_back = [0; ROOM];
     let mut buffer = [0; BUFFER_SIZE];
-    let mut decoder = Decoder::from(AsideReader::new(reader));
-    let mut encoder = Encoder::from(AsideWriter::new(writer));
+    let mut decoder = Decoder::from(BufferedReader::new(reader, &mut read_ahead));
+    let mut encoder = Encoder::from(BufferedWriter::new(writer, &mut kept_back));
     let copied = recode(&mut decoder, &mut encoder, count, &mut buffer);
-    let (reader, read_fault) = decoder.into_inner().into_parts();
+    let (reader, _, read_fault) = decoder.into_inner().into_parts();
     let mut writer = encoder.into_inner();
     let write_fault = writer.take_fault();
     let flushed = writer.flush();
-    let (writer, flush_fault) = writer.into_parts();
+    let (writer, _, flush_fault) = writer.into_parts();
     let outcome = match (copied, flushed) {
         (Ok(()), Ok(())) => Ok(()),
-        (Ok(()), Err(Aside)) => Err(restored(RecodeError::Write(Aside), None, flush_fault)),
+        (Ok(()), Err(error)) => Err(restored(RecodeError::Write(error), None, flush_fault)),
         (Err(error), _) => Err(restored(error, read_fault, write_fault)),
     };
     (reader, writer, outcome)
@@ -67,19 +73,21 @@ pub fn raw_buffered<R: io::Read, W: io::Write>(
 
 /// The error of a copy, with the fault that was kept aside. Each failed call keeps one, so that none is missing.
 fn restored(
-    error: RecodeError<Aside, Aside>,
+    error: RecodeError<FaultKept, FaultKept>,
     read_fault: Option<ReadFault>,
     write_fault: Option<WriteFault>,
 ) -> RecodeError<ReadFault, WriteFault>
     ensures { Restores read_fault write_fault error result }
 {
     match error {
-        RecodeError::Read(Error::Io(Aside)) => {
+        RecodeError::Read(Error::Io(FaultKept)) => {
             RecodeError::Read(Error::Io(read_fault.unwrap_or(ReadFault::End)))
         }
         RecodeError::Read(Error::Syntax(place)) => RecodeError::Read(Error::Syntax(place)),
         RecodeError::Read(Error::TooLong) => RecodeError::Read(Error::TooLong),
         RecodeError::Read(Error::Waiting) => RecodeError::Read(Error::Waiting),
-        RecodeError::Write(Aside) => RecodeError::Write(write_fault.unwrap_or(WriteFault::Zero)),
+        RecodeError::Write(FaultKept) => RecodeError::Write(write_fault.unwrap_or(
+            WriteFault::Zero,
+        )),
     }
 }

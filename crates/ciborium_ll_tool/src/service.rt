@@ -3,7 +3,7 @@
 use crate::answer;
 use crate::input::Lines;
 use crate::memory::OutOfMemory;
-use crate::output::write_whole;
+use ciborium_ll::io::{StdWriter, Write, WriteFault};
 use std::alloc::{AllocError, Global};
 use std::{fmt, io};
 
@@ -52,6 +52,19 @@ impl From<OutOfMemory> for ToolError {
     }
 }
 
+impl From<WriteFault> for ToolError {
+    ghost use Rattle.ciborium_ll_tool.specs.Fault.{IsWriteError};
+
+    ghost from_gives = { λ fault error. IsWriteError fault error };
+
+    fn from(fault: WriteFault) -> ToolError {
+        match fault {
+            WriteFault::Zero => ToolError::Write(io::Error::from(io::ErrorKind::WriteZero)),
+            WriteFault::Failed(error) => ToolError::Write(error),
+        }
+    }
+}
+
 /// Answers each line of the reader on the writer, and flushes the writer at the end.
 ///
 /// A line ends at a line feed or at the end of the input. After 2^64 - 1 lines the run ends as at the end of the
@@ -63,11 +76,12 @@ impl From<OutOfMemory> for ToolError {
 pub fn run<R: io::Read + Drop, W: io::Write + Drop>(
     alloc: Global,
     reader: R,
-    mut writer: W,
+    writer: W,
 ) -> Result<(), ToolError> {
+    let mut writer = StdWriter::new(writer);
     let outcome = answer_lines(alloc, reader, &mut writer);
     if let Err(ToolError::Memory) = outcome {
-        let _ = write_whole(&mut writer, b"error: memory\n");
+        let _ = writer.write_all(b"error: memory\n");
     }
     outcome
 }
@@ -76,7 +90,7 @@ pub fn run<R: io::Read + Drop, W: io::Write + Drop>(
 fn answer_lines<R: io::Read + Drop, W: io::Write>(
     alloc: Global,
     reader: R,
-    writer: &mut W,
+    writer: &mut StdWriter<W>,
 ) -> Result<(), ToolError> {
     let mut lines = Lines::new(alloc, reader)?;
     let mut line = Vec::new(alloc);
@@ -87,7 +101,7 @@ fn answer_lines<R: io::Read + Drop, W: io::Write>(
         }
         answer.clear();
         answer::line(alloc, line.as_slice(), &mut answer)?;
-        write_whole(writer, answer.as_bytes()).map_err(ToolError::Write)?;
+        writer.write_all(answer.as_bytes())?;
     }
-    writer.flush().map_err(ToolError::Write)
+    Ok(writer.flush()?)
 }

@@ -1,6 +1,6 @@
 //! A reader and a writer over those of std.
 
-ghost use Rattle.std.specs.Prelude.{false, IsTrue, ◌≡◌, ◌+◌, None, Err, IsErrOf, IsOk, OnOk, OnErr, length};
+ghost use Rattle.std.specs.Prelude.{false, IsTrue, ◌≡◌, ◌+◌, ◌<◌, None, Err, IsErrOf, IsOk, OnOk, OnErr, length, take};
 ghost use Rattle.std.specs.Io.KnownBytes.{Appends, Consumes, IsAtEnd, Keeps};
 ghost use Rattle.std.proofs.Common.{rules};
 ghost use Rattle.ciborium_ll.specs.Transfer.{AppendsFront, AppendsPart, ConsumesPart};
@@ -145,28 +145,16 @@ impl<T: io::Write> StdWriter<T> {
         self.sink
     }
 
-    /// Fails for a writer within that takes no byte.
+    /// Fails by this fault.
     #[cold]
     #[inline(never)]
-    fn stopped(&mut self) -> Result<(), WriteFault>
-        ensures fault { result ≡ Err WriteFault.Zero }
+    fn failed(&mut self, fault: WriteFault) -> Result<(), WriteFault>
+        ensures fault { result ≡ Err fault }
         ensures same { sink_of self.new ≡ sink_of self.old }
         ensures failures { write_failures_of self.new ≡ write_failures_of self.old + 1 }
     {
         self.failures.raise();
-        Err(WriteFault::Zero)
-    }
-
-    /// Fails as the writer within did.
-    #[cold]
-    #[inline(never)]
-    fn write_failed(&mut self, error: io::Error) -> Result<(), WriteFault>
-        ensures fault { result ≡ Err (WriteFault.Failed error) }
-        ensures same { sink_of self.new ≡ sink_of self.old }
-        ensures failures { write_failures_of self.new ≡ write_failures_of self.old + 1 }
-    {
-        self.failures.raise();
-        Err(WriteFault::Failed(error))
+        Err(fault)
     }
 }
 
@@ -199,15 +187,10 @@ impl<T: io::Write> Write for StdWriter<T> {
         ensures part { OnErr result (AppendsPart (T.contents (sink_of self.old))
             (T.contents (sink_of self.new)) «data».now) }
     {
-        let mut sent = 0;
-        while sent < data.len() {
-            match self.sink.write(&data[sent..]) {
-                Ok(0) => return self.stopped(),
-                Ok(count) => sent += count,
-                Err(error) => return self.write_failed(error),
-            }
+        match write_calls(&mut self.sink, data) {
+            (_, Ok(())) => Ok(()),
+            (_, Err(fault)) => self.failed(fault),
         }
-        Ok(())
     }
 
     /// Flushes the writer within. The error is `Failed`, where that failed.
@@ -223,7 +206,30 @@ impl<T: io::Write> Write for StdWriter<T> {
     {
         match self.sink.flush() {
             Ok(()) => Ok(()),
-            Err(error) => self.write_failed(error),
+            Err(error) => self.failed(WriteFault::Failed(error)),
         }
     }
+}
+
+/// Writes bytes by as many single calls of `write` as that takes, and tells how many the writer took.
+///
+/// The errors are `Zero` where a call moved no byte, and `Failed` where a call failed.
+pub(super) fn write_calls<W: io::Write>(
+    sink: &mut W,
+    bytes: &[u8],
+) -> (usize, Result<(), WriteFault>)
+    ensures bytes { Appends (W.contents sink.old) (W.contents sink.new) (take result.0 bytes.now) }
+    ensures ok { OnOk result.1 (result.0 ≡ length bytes.now) }
+    ensures err { OnErr result.1 (result.0 < length bytes.now) }
+    ensures empty { length bytes.now ≡ 0 → IsOk result.1 × (sink.new ≡ sink.old) }
+{
+    let mut sent = 0;
+    while sent < bytes.len() {
+        match sink.write(&bytes[sent..]) {
+            Ok(0) => return (sent, Err(WriteFault::Zero)),
+            Ok(count) => sent += count,
+            Err(error) => return (sent, Err(WriteFault::Failed(error))),
+        }
+    }
+    (sent, Ok(()))
 }

@@ -1,8 +1,7 @@
 use Rattle.std.proofs.Common.{◌≡◌, List, ℕ, None, Some, subst, sym, ap, ◌∙◌}
+use Rattle.ciborium_ll.specs.Buffers.{ahead_of, kept_back_of, written_of}
 use Rattle.ciborium_ll.specs.declared.recode.RecodeError.TheVariants as r
-use Rattle.ciborium_ll_tool.specs.Aside.{ahead_of, written_of}
 use Rattle.ciborium_ll_tool.specs.Raw.{TellsFront, Untold}
-use Rattle.ciborium_ll_tool.specs.Window.{held}
 use Rattle.ciborium_ll_tool.proofs.RawLaws.{front_known, kept_known, whole_known, restored_copies, told_ahead, raw_all, raw_stopped, raw_unflushed}
 use Rattle.ciborium_ll_tool.proofs.raw.raw_buffered.Goals as goal
 use Rattle.ciborium_ll_tool.proofs.raw.raw_buffered.Goals.{in-Ok-Ok, in-Ok-Err, in-Err-default}
@@ -28,14 +27,14 @@ returns g c = λ due written told-due told-written.
     let behind = λ (bytes : List ℕ) (is : written_of contents last ≡ Some bytes).
     kept_known _ _ bytes c.flush-flushed.ensures.keeps (c.take_fault-write_fault.ensures.written ∙ ap (written_of contents) c.into_inner-writer.ensures ∙ is) in
     let gets = λ (bytes : List ℕ) (is : written_of contents last ≡ Some bytes).
-    subst (λ (w : g.row.W.Denot). TellsFront contents w bytes) (sym c.into_parts-writer.ensures.sink) (front_known (contents end.sink) (held end.window) bytes (behind bytes is)) in
+    subst (λ (w : g.row.W.Denot). TellsFront contents w bytes) (sym c.into_parts-writer.ensures.sink) (front_known (contents end.sink) (kept_back_of end) bytes (behind bytes is)) in
     elim c.match-copied.branch [
       | in-Ok-Ok w ↦ (
           let all = rw w.in-Ok-Ok.is-0 at copied in
           let succeeded = rw w.in-Ok-Ok.is-0 at anyhow in
           let sent = rw w.in-Ok-Ok.is-1 at c.flush-flushed.ensures.sent in
           let whole = λ (bytes : List ℕ) (is : written_of contents last ≡ Some bytes).
-          ap contents c.into_parts-writer.ensures.sink ∙ whole_known (contents end.sink) (held end.window) bytes sent (behind bytes is) in
+          ap contents c.into_parts-writer.ensures.sink ∙ whole_known (contents end.sink) (kept_back_of end) bytes sent (behind bytes is) in
           rw w.outcome-is (raw_all _ _ Untold contents got c.args.count due written old new first last reader writer c.from-decoder.ensures.offset c.from-decoder.ensures.none_waits leaves gets all succeeded whole)
           )
       | in-Ok-Err w ↦ (

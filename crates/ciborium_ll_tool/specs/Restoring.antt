@@ -1,0 +1,17 @@
+-- The faults that the reader and the writer of a buffered copy keep, put back into the error of the copy.
+use Rattle.std.specs.Prelude.{◌≡◌, IfSome}
+use Rattle.std.specs.declared.option.Option.{Option}
+use Rattle.ciborium_ll.specs.declared.dec.Error.TheVariants as e
+use Rattle.ciborium_ll.specs.declared.io.buffered.FaultKept.{FaultKept}
+use Rattle.ciborium_ll.specs.declared.io.streams.ReadFault.{ReadFault}
+use Rattle.ciborium_ll.specs.declared.io.streams.WriteFault.{WriteFault}
+use Rattle.ciborium_ll.specs.declared.recode.RecodeError.{RecodeError}
+use Rattle.ciborium_ll.specs.declared.recode.RecodeError.TheVariants as r
+
+-- the error of a copy, with a fault of std in the place of each that was kept aside: the one that was kept, where one was
+abbrev pub Restores : Option ReadFault → Option WriteFault → RecodeError FaultKept FaultKept → RecodeError ReadFault WriteFault → Type 0
+Restores read write (r.Read (e.Io failed)) error = (fault : ReadFault) × (error ≡ r.Read (e.Io fault)) × IfSome read (λ kept. fault ≡ kept)
+Restores read write (r.Read (e.Syntax place)) error = error ≡ r.Read (e.Syntax place)
+Restores read write (r.Read e.TooLong) error = error ≡ r.Read e.TooLong
+Restores read write (r.Read e.Waiting) error = error ≡ r.Read e.Waiting
+Restores read write (r.Write failed) error = (fault : WriteFault) × (error ≡ r.Write fault) × IfSome write (λ kept. fault ≡ kept)
