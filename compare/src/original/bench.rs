@@ -1,4 +1,5 @@
-//! The works of this repository's bench, done by the calls of the Rust crate.
+//! The works of this repository's bench, done by the calls of the Rust crate, and the least that a program has to do
+//! for some of them.
 //!
 //! Each gives the sum that the bench's gives, so that both can be held against each other.
 
@@ -36,6 +37,8 @@ impl Task<'_> {
                 "recode" => recoded(input, &mut output, self.count, buffer, sum),
                 "skip" => skipped(input, buffer, sum),
                 "text" => written(text, self.size, &mut output, sum),
+                "walk" => walked(input, sum),
+                "copy" => copied(input, &mut output, sum),
                 _ => return None,
             };
         }
@@ -136,4 +139,36 @@ fn written(text: &str, limit: usize, output: &mut [u8], before: u64) -> u64 {
         Ok(()) => before.wrapping_add((room - rest.len()) as u64),
         Err(_) => before,
     }
+}
+
+/// The least for `pull`: one branch for each title, by its length, with no answer but the sum. The input has titles
+/// alone, and the last one is whole.
+#[inline(never)]
+fn walked(input: &[u8], before: u64) -> u64 {
+    let mut rest = input;
+    let mut sum = before;
+    while let [first, behind @ ..] = rest {
+        let size = match first % 32 {
+            0..=23 | 31 => 0,
+            minor => 1 << (minor - 24),
+        };
+        let (affix, behind) = behind.split_at(size);
+        let number = match *affix {
+            [a] => a.into(),
+            [a, b] => u16::from_be_bytes([a, b]).into(),
+            [a, b, c, d] => u32::from_be_bytes([a, b, c, d]).into(),
+            [a, b, c, d, e, f, g, h] => u64::from_be_bytes([a, b, c, d, e, f, g, h]),
+            _ => u64::from(first % 32),
+        };
+        sum = sum.wrapping_add(if *first < 32 { number } else { 1 });
+        rest = behind;
+    }
+    sum
+}
+
+/// The least for `recode`: a copy of the memory.
+#[inline(never)]
+fn copied(input: &[u8], output: &mut [u8], before: u64) -> u64 {
+    output[..input.len()].copy_from_slice(input);
+    before.wrapping_add(input.len() as u64)
 }

@@ -21,11 +21,34 @@ struct Row {
     stream: fn(usize) -> Stream,
     /// How often it is done for each megabyte that was asked for.
     times: usize,
+    /// What it stands beside.
+    beside: Beside,
+}
+
+/// What a work stands beside.
+#[derive(Clone, Copy)]
+enum Beside {
+    /// The same work by the Rust crate.
+    Crate,
+    /// The same work by libcbor.
+    Libcbor,
+    /// The least that a pull has to do: one branch for each title.
+    Branches,
+    /// The least that a copy has to do.
+    Memory,
+}
+
+impl Row {
+    /// This row beside something else.
+    const fn beside(mut self, beside: Beside) -> Row {
+        self.beside = beside;
+        self
+    }
 }
 
 /// A row of titles, of which many are done.
 const fn titles(name: &'static str, work: &'static str, stream: fn(usize) -> Stream) -> Row {
-    Row { name, work, size: 64, stream, times: 2 }
+    Row { name, work, size: 64, stream, times: 2, beside: Beside::Crate }
 }
 
 /// A row of large bodies, which take less time.
@@ -35,10 +58,10 @@ const fn bodies(
     size: usize,
     stream: fn(usize) -> Stream,
 ) -> Row {
-    Row { name, work, size, stream, times: 8 }
+    Row { name, work, size, stream, times: 8, beside: Beside::Crate }
 }
 
-/// What is done beside the original.
+/// All rows.
 const ROWS: &[Row] = &[
     titles("headers pulled", "pull", streams::titles),
     titles("headers pulled", "pull", streams::mixed),
@@ -63,29 +86,35 @@ const ROWS: &[Row] = &[
     bodies("`Encoder::text`, limit 8", "text", 8, streams::plain_text),
     bodies("`Encoder::text`, limit 64", "text", 64, streams::plain_text),
     bodies("`Encoder::text`, limit 4,096", "text", 4096, streams::plain_text),
+    titles("headers pulled", "pull", streams::assigned_titles).beside(Beside::Libcbor),
+    titles("headers pulled", "pull", streams::titles).beside(Beside::Branches),
+    bodies("`recode` by 4,096 bytes", "recode", 4096, streams::byte_string)
+        .beside(Beside::Memory),
+    bodies("`recode` by 4,096 bytes", "recode", 4096, streams::multibyte_text)
+        .beside(Beside::Memory),
 ];
-
-/// What is done beside libcbor.
-const BESIDE_LIBCBOR: Row = titles("headers pulled", "pull", streams::assigned_titles);
 
 /// Measures all rows, and prints the table.
 pub fn measure(asked: &Asked) -> io::Result<()> {
     println!("| work | over | beside | ours, MB/s | other, MB/s | by time | by instructions |");
     println!("|---|---|---|---|---|---|---|");
-    for row in ROWS {
-        measure_row(asked, row, "the Rust crate", &asked.original)?;
-    }
-    measure_row(asked, &BESIDE_LIBCBOR, "libcbor", &asked.libcbor)
+    ROWS.iter().try_for_each(|row| measure_row(asked, row))
 }
 
-/// Measures a row beside another program, and prints it.
-fn measure_row(asked: &Asked, row: &Row, beside: &str, other: &str) -> io::Result<()> {
+/// Measures a row, and prints it.
+fn measure_row(asked: &Asked, row: &Row) -> io::Result<()> {
     let stream = (row.stream)(SIZE);
     let input = Input::new(&stream.bytes)?;
+    let (beside, program, work) = match row.beside {
+        Beside::Crate => ("the Rust crate", &asked.original, row.work),
+        Beside::Libcbor => ("libcbor", &asked.libcbor, row.work),
+        Beside::Branches => ("one branch a title", &asked.original, "walk"),
+        Beside::Memory => ("a copy of memory", &asked.original, "copy"),
+    };
     let runs = |rounds: usize| {
-        [&asked.bench, other].map(|program| Run {
+        [(&asked.bench, row.work), (program, work)].map(|(program, work)| Run {
             program,
-            arguments: arguments(row, &stream, rounds),
+            arguments: arguments(work, row.size, &stream, rounds),
         })
     };
     check(row, &stream, &runs(1), &input)?;
@@ -109,9 +138,9 @@ fn measure_row(asked: &Asked, row: &Row, beside: &str, other: &str) -> io::Resul
 }
 
 /// The words behind a program's name.
-fn arguments(row: &Row, stream: &Stream, rounds: usize) -> Vec<String> {
-    let numbers = [row.size, stream.count, rounds].map(|number| number.to_string());
-    [row.work.to_string()].into_iter().chain(numbers).collect()
+fn arguments(work: &str, size: usize, stream: &Stream, rounds: usize) -> Vec<String> {
+    let numbers = [size, stream.count, rounds].map(|number| number.to_string());
+    [work.to_string()].into_iter().chain(numbers).collect()
 }
 
 /// Checks that both programs print the same sum, and not 0, which says that the work failed.

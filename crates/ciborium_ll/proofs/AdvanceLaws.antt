@@ -1,14 +1,17 @@
 -- How the titles of a string lead on, one after the other.
-use Rattle.std.proofs.Common.{Some, IsTrue, ◌≤◌, ◌≡◌, ℕ, suc, ◌+◌, ◌-◌, ◌<◌, ◌⊎◌, List, [], ◌++◌, length, Option, None, Result, Ok, refl, ap, subst, ◌∙◌, inl, inr, arith, add-one, length-append}
+use Rattle.std.proofs.Common.{Some, IsTrue, ◌≤◌, ◌≡◌, ℕ, suc, ◌+◌, ◌-◌, ◌<◌, ◌⊎◌, List, [], ◌++◌, length, Option, None, Result, Ok, Err, refl, ap, subst, ◌∙◌, inl, inr, arith, add-one, length-append}
 use Rattle.ciborium_ll.specs.declared.io.Read.{Ghosts}
 use Rattle.ciborium_ll.specs.declared.dec.Decoder.{Decoder}
 use Rattle.ciborium_ll.specs.declared.dec.Error.{Error}
 use Rattle.ciborium_ll.specs.declared.seg.Body.{Body}
 use Rattle.ciborium_ll.specs.declared.seg.Progress.{Progress}
 use Rattle.ciborium_ll.specs.declared.seg.Progress.TheVariants as p
+use Rattle.ciborium_ll.specs.declared.seg.Parser.{Ghosts as Parser}
+use Rattle.ciborium_ll.specs.declared.seg.Segment.{Segment}
 use Rattle.ciborium_ll.specs.Strings.{Kind, kind_header}
 use Rattle.ciborium_ll.specs.Decoding.{IsSteady, Passes}
-use Rattle.ciborium_ll.specs.Segments.{Nests, in_place, deeper, back, AdvancesFrom, AdvancesTo, EndsAdvance, StepsOver, Deepens, ClosesInner}
+use Rattle.ciborium_ll.specs.Segments.{Nests, in_place, deeper, back, AdvancesFrom, AdvancesTo, EndsAdvance, GivesAgain, StepsOver, Deepens, ClosesInner}
+use Rattle.ciborium_ll.specs.Chunks.{PullsSegment}
 use Rattle.ciborium_ll.proofs.DecodingLaws.{Passes-none, Passes-pull}
 use Rattle.ciborium_ll.proofs.NestLaws.{alone_bytes, open_alone, open_length, nests_zero, nests_counted}
 
@@ -119,3 +122,17 @@ module _ {R E : Type 0} (source : Ghosts R E) (kind : Kind) where
   none_waits_for_body p.Ended old body after new advanced = let f = advanced.0 in cc
   none_waits_for_body (p.Damaged place) old body after new advanced = let f = advanced.0 in cc
   none_waits_for_body p.TooDeep old body after new advanced = let f = advanced.0 in cc
+
+module _ {R E P : Type 0} {parser : Parser P} (source : Ghosts R E) (kind : Kind) where
+  -- what `pull` answers where an answer stays
+  pub given_again : (progress : Progress) (old : Decoder R) (result : Result (Option (Segment R P parser)) (Error E)) → PullsSegment source kind progress old result → GivesAgain progress result
+  given_again (p.Open opens) old result pulls = tt
+  given_again p.Ended old (Ok None) pulls = refl
+  given_again p.Ended old (Ok (Some segment)) pulls = let f = pulls.goes_on.advanced.0 in cc
+  given_again p.Ended old (Err error) pulls = let f = pulls.1.advanced.0 in cc
+  given_again (p.Damaged place) old (Ok None) pulls = let f = pulls.1.advanced.0 in cc
+  given_again (p.Damaged place) old (Ok (Some segment)) pulls = let f = pulls.goes_on.advanced.0 in cc
+  given_again (p.Damaged place) old (Err error) pulls = let f = pulls.1.advanced.0 in cc
+  given_again p.TooDeep old (Ok None) pulls = let f = pulls.1.advanced.0 in cc
+  given_again p.TooDeep old (Ok (Some segment)) pulls = let f = pulls.goes_on.advanced.0 in cc
+  given_again p.TooDeep old (Err error) pulls = let f = pulls.1.advanced.0 in cc

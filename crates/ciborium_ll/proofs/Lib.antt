@@ -41,6 +41,7 @@ pub mod StringLaws
 pub mod TightLaws
 pub mod TextLaws
 pub mod TitleLaws
+pub mod TitleRowLaws
 pub mod Utf8Laws
 pub mod ValueLaws
 pub mod WindowLaws

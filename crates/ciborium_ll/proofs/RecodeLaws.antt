@@ -11,7 +11,7 @@ use Rattle.ciborium_ll.specs.declared.recode.RecodeError.{RecodeError}
 use Rattle.ciborium_ll.specs.declared.recode.RecodeError.TheVariants as r
 use Rattle.ciborium_ll.specs.Title.{IsTitle, IsStrictTitle, shortest_title, title_len}
 use Rattle.ciborium_ll.specs.Strings.{Kind, Bytes, Text, kind_header}
-use Rattle.ciborium_ll.specs.Elements.{IsSound, Mark, Whole, spelling, definite, IsRun, IsSpelled}
+use Rattle.ciborium_ll.specs.Elements.{IsSound, Mark, Whole, spelling, definite, IsRun, IsStrictSpelling}
 use Rattle.ciborium_ll.specs.Faults.{Place, Due, Body, Reaches, due, body, IsWritable}
 use Rattle.ciborium_ll.specs.Decoding.{Begins, behind_waiting, view, Passes, Strictly}
 use Rattle.ciborium_ll.specs.Encoding.{WritesAll, WritesFront}
@@ -120,7 +120,7 @@ module _ {R E W F : Type 0} (source : Reader R E) (sink : Writer W F) where
 
     -- the copy of a body stops the copy of elements
     pub body_stops : (bytes : List ℕ) (marks : List Mark) (k : Kind) (len start : ℕ) (between new : Decoder R) (writer-between titled writer' : W) (error : RecodeError E F) → Reaches count bytes marks (Body k len start)
-        → Strictly old (IsSpelled bytes marks (shortest_title (kind_header k (Some len))))
+        → Strictly old (IsStrictSpelling bytes marks (shortest_title (kind_header k (Some len))))
         → Copied source sink old writer bytes marks between writer-between → WritesAll sink writer-between (shortest_title (kind_header k (Some len))) titled
         → CopiesBody source sink k len room (old.offset + start) between titled (Err error) new writer' → StopsCopy source sink count room old writer error new writer'
     body_stops bytes marks k len start between new writer-between titled writer' (r.Write fault) reach strict copied title stops =
@@ -181,7 +181,7 @@ module _ {R E W F : Type 0} (source : Reader R E) (sink : Writer W F) where
     definite_added : (before : ℕ) (bytes title : List ℕ) (marks : List Mark) (k : Kind) (len : ℕ) (between new : Decoder R) (writer-between titled writer' : W) → IsTitle title (kind_header k (Some len))
         → IsRun before bytes marks → Passes source old (bytes ++ title) between → WritesAll sink writer (spelling marks) writer-between
         → WritesAll sink writer-between (shortest_title (kind_header k (Some len))) titled → CopiesWhole source sink k len between titled new writer'
-        → Strictly old (IsStrictTitle title (kind_header k (Some len))) → Strictly old (IsSpelled bytes marks []) → AddsElement source sink before old writer new writer'
+        → Strictly old (IsStrictTitle title (kind_header k (Some len))) → Strictly old (IsStrictSpelling bytes marks []) → AddsElement source sink before old writer new writer'
     definite_added before bytes title marks k len between new writer-between titled writer' t run passed written title-written whole only strict =
         let b = whole.body in
         let lengths : len ≡ length b = sym whole.all in
@@ -208,7 +208,7 @@ module _ {R E W F : Type 0} (source : Reader R E) (sink : Writer W F) where
         (result : Result (Unit {0}) (RecodeError E F)) → before < count → IsTitle title (kind_header k (Some len)) → IsRun before bytes marks → Passes source old (bytes ++ title) between
         → place + title_len (kind_header k (Some len)) ≡ between.offset → WritesAll sink writer (spelling marks) writer-between
         → WritesAll sink writer-between (shortest_title (kind_header k (Some len))) titled → CopiesBody source sink k len room place between titled result new writer'
-        → Strictly old (IsStrictTitle title (kind_header k (Some len))) → Strictly old (IsSpelled bytes marks []) → GoesOn source sink count before room old writer result new writer'
+        → Strictly old (IsStrictTitle title (kind_header k (Some len))) → Strictly old (IsStrictSpelling bytes marks []) → GoesOn source sink count before room old writer result new writer'
     definite_goes_on before bytes title marks k len place between new writer-between titled writer' (Ok done) less t run passed at written title-written copied only strict =
         definite_added before bytes title marks k len between new writer-between titled writer' t run passed written title-written copied only strict
     definite_goes_on before bytes title marks k len place between new writer-between titled writer' (Err error) less t run passed at written title-written copied only strict =

@@ -1,8 +1,10 @@
 -- What a copy of elements means where the bytes are told: the premises turn the general statement into an exact one.
-use Rattle.std.proofs.Common.{◌≡◌, ℕ, Bool, true, false, IsTrue, ◌+◌, ◌-◌, ◌^◌, ◌<◌, ◌≤◌, ◌⊎◌, List, [], ◌∷◌, ◌++◌, length, take, drop, min, Some, None, Result, Ok, Err, IsOk, ◌↔◌, refl, sym, ap, subst, ◌∙◌, inl, inr, arith, append_assoc, length-append}
+use Rattle.std.proofs.Common.{◌≡◌, ℕ, Bool, true, false, IsTrue, ◌+◌, ◌-◌, ◌^◌, ◌<◌, ◌≤◌, ◌⊎◌, List, [], ◌∷◌, ◌++◌, length, take, drop, min, max, Some, None, Option, IfSome, Result, Ok, Err, IsOk, ◌↔◌, refl, sym, ap, subst, ◌∙◌, inl, inr, arith, append_assoc, length-append}
 use Rattle.std.proofs.lemmas.List.{append-nil, length-take, take-append-drop}
 use Rattle.std.proofs.Math.Seq.{take-append_seam, take-append-add, drop-append_seam}
 use Rattle.std.proofs.lemmas.Bool.{cases_lt}
+use Rattle.std.proofs.Math.Nat.{le-max_left, le-max_right}
+use Rattle.ciborium_ll.specs.declared.hdr.Header.{Header}
 use Rattle.ciborium_ll.specs.declared.io.Read.{Ghosts as Reader}
 use Rattle.ciborium_ll.specs.declared.io.Write.{Ghosts as Writer}
 use Rattle.ciborium_ll.specs.declared.dec.Decoder.{Decoder}
@@ -12,16 +14,16 @@ use Rattle.ciborium_ll.specs.declared.recode.RecodeError.TheVariants as r
 use Rattle.ciborium_ll.specs.Title.{IsTitle, shortest_title, title_len, BeginsRefused}
 use Rattle.ciborium_ll.specs.Strings.{Kind, Text, kind_header}
 use Rattle.ciborium_ll.specs.Text.{IsCharacters}
-use Rattle.ciborium_ll.specs.Elements.{Mark, Open, pieces, spelling, IsElement, plain, definite, indefinite, IsRun, done, next, IsSpelled}
+use Rattle.ciborium_ll.specs.Elements.{Mark, Open, pieces, spelling, IsElement, plain, definite, indefinite, IsRun, done, next, IsStrictSpelling}
 use Rattle.ciborium_ll.specs.Faults.{Place, Due, In, Body, IsAtTitle, IsMisplaced, IsInside, opened, deeper, Reaches, due, inside, body, body_inside, Answer, Short, Syntax, CutTitle, NoTitle, OtherTitle, DamagedText, CutBody, CutDamagedText, BeginsNoText, RunInFront, HasFault}
-use Rattle.ciborium_ll.specs.Decoding.{offset_limit, view, next_read, RefusesTitle, RefusesLonger}
+use Rattle.ciborium_ll.specs.Decoding.{offset_limit, view, next_read, Begins, Passes, RefusesTitle, RefusesLonger}
 use Rattle.ciborium_ll.specs.Encoding.{WritesAll}
 use Rattle.ciborium_ll.specs.Recoding.{IsUnderWay, IsNoText, Copied, CopiesRun, CopiesAll, CopiesElements, CopiesPart, StopsAtTitle, StopsAtOther, StopsTooDeep, StopsInBody, StopsWriting}
 use Rattle.ciborium_ll.specs.RecodingTold.{IsToldAs, IsReadyAs, CopiesFront, MeetsFault, RecodesTold, StopsAt, StopsShort, StopsUnwritten, RecodesAnyhow}
-use Rattle.ciborium_ll.specs.StrictRecoding.{due_title, Fault, LongTitle, NestedOpen, StrictRunInFront, HasStrictFault, CopiesStrictly, MeetsStrictFault, RecodesStrictly}
+use Rattle.ciborium_ll.specs.StrictRecoding.{due_title, Fault, LongTitle, NestedOpen, StrictRunInFront, HasStrictFault, CopiesStrictly, MeetsStrictFault, RecodesStrictly, RecodesStrictlyAnyhow}
 use Rattle.ciborium_ll.proofs.DecodingLaws.{lenient_refuses}
-use Rattle.ciborium_ll.proofs.SpelledLaws.{spelled_alone}
-use Rattle.ciborium_ll.proofs.TitleLaws.{shortest_no_longer}
+use Rattle.ciborium_ll.proofs.SpelledLaws.{spelled_alone, passes_settled}
+use Rattle.ciborium_ll.proofs.TitleLaws.{shortest_no_longer, shortest_some}
 use Rattle.ciborium_ll.proofs.ElementLaws.{respell_all, pieces-append, spelling-append, run_again, one_run}
 use Rattle.ciborium_ll.proofs.FaultLaws.{no_fault}
 use Rattle.ciborium_ll.proofs.StrictFaultLaws.{inside_shorter, no_strict_fault}
@@ -81,6 +83,36 @@ way_shorter count bytes marks (Body k len start) more read reach way =
       length-append way.0 way.2.0,
     )
 
+-- ---- whether a header waits
+
+-- an element has a byte
+element_some : (w : List ℕ) (ms : List Mark) → IsElement w ms → 0 < length w
+element_some w ms (plain x p q) = title_some w x p
+element_some w ms (definite {title = t} {body = b} k p s) = omega (arith, title_some t (kind_header k (Some (length b))) p, length-append t b)
+element_some w ms (indefinite {title = t} {strings = y} k p q s) = omega (arith, title_some t (kind_header k None) p, length-append t (y ++ 0xff ∷ []))
+
+-- behind some elements no header waits
+run_settled : {R : Type 0} (count : ℕ) (old new : Decoder R) (bytes : List ℕ) (marks : List Mark) → IsRun count bytes marks → ((bytes ≡ []) × (new ≡ old)) ⊎ (new.waiting ≡ None)
+    → 0 < count → new.waiting ≡ None
+run_settled count old new bytes marks run (inr none) some = none
+run_settled count old new bytes marks done (inl empty) some = absurd (omega (arith, some))
+run_settled count old new bytes marks (next {first = x} {rest = y} {marks = ms} element more) (inl empty) some =
+    absurd (let none = ap length empty.0 in omega (arith, none, element_some x ms element, length-append x y))
+
+-- where no bytes were read, a header waits just where one waited
+waits_as : {R : Type 0} (old new : Decoder R) (waited : Option Header) → old.waiting ≡ waited → new.waiting ≡ None → IfSome waited (λ header. (new ≡ old) ⊎ Begins (shortest_title header) [])
+    → new.waiting ≡ waited
+waits_as old new None is none waited = none
+waits_as old new (Some header) is none (inl same) = ap (λ d. d.waiting) same ∙ is
+waits_as old new (Some header) is none (inr begins) =
+    absurd (let nothing = ap length begins.1 in omega (arith, nothing, shortest_some header, length-append (shortest_title header) begins.0))
+
+run_still : {R E : Type 0} (source : Reader R E) (count : ℕ) (old new : Decoder R) (bytes : List ℕ) (marks : List Mark) → IsRun count bytes marks → Passes source old bytes new
+    → count ≡ 0 → new.waiting ≡ old.waiting
+run_still source count old new bytes marks done passed is =
+    elim passed.waiting [ inl same ↦ ap (λ d. d.waiting) same.1 | inr none ↦ waits_as old new old.waiting refl none passed.waited ]
+run_still source count old new bytes marks (next element more) passed is = absurd (omega (arith, is))
+
 -- ---- lists
 
 -- a first byte is counted where there is one
@@ -103,7 +135,7 @@ pub no_text_behind : (read more : List ℕ) → BeginsNoText read → BeginsNoTe
 no_text_behind read more none = λ others text. none (more ++ others) (subst IsCharacters (append_assoc read more others) text)
 
 -- where a title is due no body's title is under way
-spelled_at : (place : Place) (bytes : List ℕ) (marks : List Mark) → IsAtTitle place → IsSpelled bytes marks [] → IsSpelled bytes marks (due_title place)
+spelled_at : (place : Place) (bytes : List ℕ) (marks : List Mark) → IsAtTitle place → IsStrictSpelling bytes marks [] → IsStrictSpelling bytes marks (due_title place)
 spelled_at Due bytes marks title spelled = spelled
 spelled_at (In kind) bytes marks title spelled = spelled
 spelled_at (Body kind len start) bytes marks title spelled = absurd title
@@ -132,6 +164,8 @@ module _ {R E W F : Type 0} {strict : Bool} (source : Reader R E) (sink : Writer
           again = again.run;
           left = c.left;
           offset = all.copied.passed.offset;
+          settled = run_settled count old new all.bytes all.marks all.run all.copied.passed.waiting;
+          still = run_still source count old new all.bytes all.marks all.run all.copied.passed;
         }
 
     no_title_told : (at : ℕ) (new : Decoder R) (writer' : W) (stops : StopsAtTitle source sink count old writer (e.Syntax at) new writer')
@@ -212,7 +246,7 @@ module _ {R E W F : Type 0} {strict : Bool} (source : Reader R E) (sink : Writer
         → rest ≡ read ++ behind → read ≡ front ++ more → IsCharacters front → length read ≤ len → IsNoText len read
         → (fault : HasFault count due) × (fault.answer ≡ Syntax start) × (fault.written ≡ spelling marks ++ (shortest_title (kind_header Text (Some len)) ++ front)) × (fault.before ≡ bytes)
         × (fault.ahead ≡ rest) × (fault.consumed ≡ length read)
-        × (IsSpelled bytes marks (shortest_title (kind_header Text (Some len))) → IsSpelled fault.before fault.marks (due_title fault.place))
+        × (IsStrictSpelling bytes marks (shortest_title (kind_header Text (Some len))) → IsStrictSpelling fault.before fault.marks (due_title fault.place))
     damage bytes marks len start read front more rest behind reach parts split e text within (inl whole) =
         let taken : take len rest ≡ read = front_of len rest read behind split whole.0 in
         let counted = ap length split in (
@@ -511,17 +545,17 @@ module _ {R E W F : Type 0} {strict : Bool} (source : Reader R E) (sink : Writer
         title_short stops.bytes stops.marks stops.place stops.between new writer' stops.fails.read began.0 stops.reaches stops.at_title stops.copied began.1 stops.fails.within_first stops.fails.offset
 
     title_passes : (new : Decoder R) (writer' : W) → StopsAtTitle source sink count old writer e.TooLong new writer'
-        → StopsShort source sink count due written old new writer' × ((offset_limit ≤ new.offset + 8) ⊎ (offset_limit ≤ new.offset + room))
+        → StopsShort source sink count due written old new writer' × (offset_limit ≤ new.offset + max 8 room)
     title_passes new writer' stops =
         let c = came told stops.bytes stops.marks stops.between writer' stops.copied in
         let gone = consumes_told _ _ c.rest stops.fails.read c.left stops.fails.bytes in
         let full : 2 ^ 64 ≤ new.offset + next_read stops.fails.read = stops.fails.full in (
           title_short stops.bytes stops.marks stops.place stops.between new writer' stops.fails.read gone.0 stops.reaches stops.at_title stops.copied gone.2 stops.fails.within_first stops.fails.offset,
-          inl (omega (arith, full, next_read_small stops.fails.read)),
+          omega (arith, full, next_read_small stops.fails.read, le-max_left 8 room),
         )
 
     opens_pass : (new : Decoder R) (writer' : W) → StopsTooDeep source sink count old writer new writer'
-        → StopsShort source sink count due written old new writer' × ((offset_limit ≤ new.offset + 8) ⊎ (offset_limit ≤ new.offset + room))
+        → StopsShort source sink count due written old new writer' × (offset_limit ≤ new.offset + max 8 room)
     opens_pass new writer' stops =
         let c = came told stops.bytes stops.marks stops.between writer' stops.copied in
         let title = stops.pulled.title in
@@ -530,7 +564,7 @@ module _ {R E W F : Type 0} {strict : Bool} (source : Reader R E) (sink : Writer
         let full : 2 ^ 64 ≤ new.offset + 1 = stops.full in (
           title_short stops.bytes stops.marks (In stops.kind) stops.between new writer' title gone.0 stops.reaches (tt {0}) stops.copied gone.2
               (omega (arith, lone, open_length stops.kind)) stops.pulled.offset,
-          inl (omega (arith, full)),
+          omega (arith, full, le-max_left 8 room),
         )
 
     -- behind a part of a body
@@ -571,13 +605,13 @@ module _ {R E W F : Type 0} {strict : Bool} (source : Reader R E) (sink : Writer
         }
 
     body_passes : (new : Decoder R) (writer' : W) → StopsInBody source sink count room old writer e.TooLong new writer'
-        → StopsShort source sink count due written old new writer' × ((offset_limit ≤ new.offset + 8) ⊎ (offset_limit ≤ new.offset + room))
+        → StopsShort source sink count due written old new writer' × (offset_limit ≤ new.offset + max 8 room)
     body_passes new writer' stops =
         let passes = stops.stopped in
         let full : 2 ^ 64 ≤ passes.between.offset + passes.count = passes.full in (
           body_short stops.bytes stops.marks stops.kind stops.len stops.start stops.between passes.between new stops.writer-between stops.writer-titled writer' stops.reaches stops.copied
               stops.titled passes.part passes.untouched.offset,
-          inr (omega (arith, full, passes.held, passes.untouched.offset)),
+          omega (arith, full, passes.held, passes.untouched.offset, le-max_right 8 room),
         )
 
     unwritten : (new : Decoder R) (writer' : W) → StopsWriting source sink count old writer new writer' → StopsUnwritten source sink count due written old new writer'
@@ -620,22 +654,23 @@ module _ {R E W F : Type 0} {strict : Bool} (source : Reader R E) (sink : Writer
 
   -- ---- a strict decoder on which no header waits
 
-  module _ (ready : IsReadyAs source sink strict count room old writer due written) (on : IsTrue strict) (none : old.waiting ≡ None) where
+  module _ (told : IsToldAs source sink strict old writer due written) (on : IsTrue strict) (none : old.waiting ≡ None) where
     all_strictly : (new : Decoder R) (writer' : W) → CopiesRun source sink count old writer new writer' → CopiesStrictly source sink count due written old new writer'
     all_strictly new writer' all =
-        let c = came ready.told all.bytes all.marks new writer' all.copied in
-        let spelled = all.strict (ready.told.mode ∙ on) none in
+        let c = came told all.bytes all.marks new writer' all.copied in
+        let spelled = all.strict (told.mode ∙ on) none in
         let same = spelled_alone all.bytes all.marks spelled in
         record {
           front = record { elements = all.bytes; marks = all.marks; rest = c.rest; run = record { run = all.run; same = same; meant = spelled.meant }; is = c.parts };
           output = c.output ∙ ap (λ (z : List ℕ). Some (written ++ z)) (sym same);
           left = c.left;
           offset = all.copied.passed.offset;
+          none_waits = passes_settled source old new all.bytes all.copied.passed none;
         }
 
     -- a fault for any decoder, behind a strict beginning
     met_strictly : (new : Decoder R) (writer' : W) (answer : Answer) (meets : MeetsFault source sink count due written answer old new writer')
-        → IsSpelled meets.fault.before meets.fault.marks (due_title meets.fault.place) → MeetsStrictFault source sink count due written answer old new writer'
+        → IsStrictSpelling meets.fault.before meets.fault.marks (due_title meets.fault.place) → MeetsStrictFault source sink count due written answer old new writer'
     met_strictly new writer' answer meets spelled = record {
       fault = record {
         before = meets.fault.before;
@@ -659,7 +694,7 @@ module _ {R E W F : Type 0} {strict : Bool} (source : Reader R E) (sink : Writer
     longer_strictly : (at : ℕ) (new : Decoder R) (writer' : W) (stops : StopsAtTitle source sink count old writer (e.Syntax at) new writer') → RefusesLonger source stops.between at new
         → (start : ℕ) × (at ≡ old.offset + start) × MeetsStrictFault source sink count due written (Syntax start) old new writer'
     longer_strictly at new writer' stops refused =
-        let c = came ready.told stops.bytes stops.marks stops.between writer' stops.copied in
+        let c = came told stops.bytes stops.marks stops.between writer' stops.copied in
         let gone = consumes_told _ _ c.rest refused.title c.left refused.bytes in (
           length stops.bytes,
           refused.place ∙ stops.copied.passed.offset,
@@ -672,7 +707,7 @@ module _ {R E W F : Type 0} {strict : Bool} (source : Reader R E) (sink : Writer
               answer = Syntax (length stops.bytes);
               written = spelling stops.marks;
               consumed = length refused.title;
-              reach = record { reaches = stops.reaches; spelled = spelled_at stops.place stops.bytes stops.marks stops.at_title (stops.strict (ready.told.mode ∙ on) none) };
+              reach = record { reaches = stops.reaches; spelled = spelled_at stops.place stops.bytes stops.marks stops.at_title (stops.strict (told.mode ∙ on) none) };
               is = c.parts;
               fault = LongTitle refused.header gone.0 stops.at_title refused.is_title refused.not_strict gone.2;
             };
@@ -687,7 +722,7 @@ module _ {R E W F : Type 0} {strict : Bool} (source : Reader R E) (sink : Writer
     nested_strictly : (at : ℕ) (new : Decoder R) (writer' : W) (stops : StopsAtOther source sink count old writer at new writer') → stops.header ≡ kind_header stops.kind None
         → (start : ℕ) × (at ≡ old.offset + start) × MeetsStrictFault source sink count due written (Syntax start) old new writer'
     nested_strictly at new writer' stops further =
-        let c = came ready.told stops.bytes stops.marks stops.between writer' stops.copied in
+        let c = came told stops.bytes stops.marks stops.between writer' stops.copied in
         let title = stops.pulled.title in
         let gone = consumes_told _ _ c.rest title c.left stops.pulled.bytes in (
           length stops.bytes,
@@ -701,7 +736,7 @@ module _ {R E W F : Type 0} {strict : Bool} (source : Reader R E) (sink : Writer
               answer = Syntax (length stops.bytes);
               written = spelling stops.marks;
               consumed = length title;
-              reach = record { reaches = stops.reaches; spelled = stops.strict (ready.told.mode ∙ on) none };
+              reach = record { reaches = stops.reaches; spelled = stops.strict (told.mode ∙ on) none };
               is = c.parts;
               fault = NestedOpen gone.0 (subst (IsTitle title) further stops.pulled.is_title) gone.2;
             };
@@ -717,8 +752,8 @@ module _ {R E W F : Type 0} {strict : Bool} (source : Reader R E) (sink : Writer
     unfolding no_title_told
     no_title_strictly at new writer' stops = elim stops.fails [
       | inl refused ↦ (
-          let met = no_title_told ready.told at new writer' stops refused in
-          (met.0, met.1, met_strictly new writer' (Syntax met.0) met.2 (spelled_at stops.place stops.bytes stops.marks stops.at_title (stops.strict (ready.told.mode ∙ on) none)))
+          let met = no_title_told told at new writer' stops refused in
+          (met.0, met.1, met_strictly new writer' (Syntax met.0) met.2 (spelled_at stops.place stops.bytes stops.marks stops.at_title (stops.strict (told.mode ∙ on) none)))
           )
       | inr longer ↦ longer_strictly at new writer' stops longer
     ]
@@ -728,42 +763,60 @@ module _ {R E W F : Type 0} {strict : Bool} (source : Reader R E) (sink : Writer
     unfolding other_title_told
     other_title_strictly at new writer' stops = elim stops.misplaced [
       | inl other ↦ (
-          let met = other_title_told ready.told at new writer' stops other in
-          (met.0, met.1, met_strictly new writer' (Syntax met.0) met.2 (stops.strict (ready.told.mode ∙ on) none))
+          let met = other_title_told told at new writer' stops other in
+          (met.0, met.1, met_strictly new writer' (Syntax met.0) met.2 (stops.strict (told.mode ∙ on) none))
           )
       | inr nested ↦ nested_strictly at new writer' stops nested.1
     ]
-
-    cut_title_strictly : (fault : E) (new : Decoder R) (writer' : W) → StopsAtTitle source sink count old writer (e.Io fault) new writer' → MeetsStrictFault source sink count due written Short old new writer'
-    unfolding cut_title_told
-    cut_title_strictly fault new writer' stops =
-        met_strictly new writer' Short (cut_title_told ready fault new writer' stops) (spelled_at stops.place stops.bytes stops.marks stops.at_title (stops.strict (ready.told.mode ∙ on) none))
-
-    cut_body_strictly : (fault : E) (new : Decoder R) (writer' : W) → StopsInBody source sink count room old writer (e.Io fault) new writer' → MeetsStrictFault source sink count due written Short old new writer'
-    unfolding cut_body_told
-    cut_body_strictly fault new writer' stops = met_strictly new writer' Short (cut_body_told ready fault new writer' stops) (stops.strict (ready.told.mode ∙ on) none)
 
     damaged_strictly : (at : ℕ) (new : Decoder R) (writer' : W) → StopsInBody source sink count room old writer (e.Syntax at) new writer'
         → (start : ℕ) × (at ≡ old.offset + start) × MeetsStrictFault source sink count due written (Syntax start) old new writer'
     unfolding damaged_told
     damaged_strictly at new writer' stops =
-        let c = came ready.told stops.bytes stops.marks stops.between stops.writer-between stops.copied in
+        let c = came told stops.bytes stops.marks stops.between stops.writer-between stops.copied in
         let body = stops.stopped.1 in
         let gone = consumes_told _ _ c.rest body.read c.left body.passed.consumed in
         let reach = subst (λ (k : Kind). Reaches count stops.bytes stops.marks (Body k stops.len stops.start)) body.textual stops.reaches in
-        let f = damage ready.told stops.bytes stops.marks stops.len stops.start body.read body.front body.rest c.rest gone.0 reach c.parts gone.2 body.parts body.sound body.within body.no_text in
-        let met = damaged_told ready.told at new writer' stops in
-        let spelled = subst (λ (k : Kind). IsSpelled stops.bytes stops.marks (shortest_title (kind_header k (Some stops.len)))) body.textual (stops.strict (ready.told.mode ∙ on) none) in
+        let f = damage told stops.bytes stops.marks stops.len stops.start body.read body.front body.rest c.rest gone.0 reach c.parts gone.2 body.parts body.sound body.within body.no_text in
+        let met = damaged_told told at new writer' stops in
+        let spelled = subst (λ (k : Kind). IsStrictSpelling stops.bytes stops.marks (shortest_title (kind_header k (Some stops.len)))) body.textual (stops.strict (told.mode ∙ on) none) in
         (met.0, met.1, met_strictly new writer' (Syntax met.0) met.2 (f.6 spelled))
+
+    pub recode_strictly_anyhow : (new : Decoder R) (writer' : W) (result : Result (Unit {0}) (RecodeError E F)) → CopiesElements source sink count room old writer result new writer'
+        → RecodesStrictlyAnyhow source sink count room due written old result new writer'
+    recode_strictly_anyhow new writer' (Ok unit) all = all_strictly new writer' all.elements
+    recode_strictly_anyhow new writer' (Err (r.Read (e.Io fault))) (inl stops) = title_fails told fault new writer' stops
+    recode_strictly_anyhow new writer' (Err (r.Read (e.Io fault))) (inr stops) =
+        let fails = stops.stopped in
+        body_short told stops.bytes stops.marks stops.kind stops.len stops.start stops.between fails.between new stops.writer-between stops.writer-titled writer' stops.reaches stops.copied
+        stops.titled fails.part fails.fails.offset
+    recode_strictly_anyhow new writer' (Err (r.Read (e.Syntax at))) (inl stops) = no_title_strictly at new writer' stops
+    recode_strictly_anyhow new writer' (Err (r.Read (e.Syntax at))) (inr (inl stops)) = other_title_strictly at new writer' stops
+    recode_strictly_anyhow new writer' (Err (r.Read (e.Syntax at))) (inr (inr stops)) = damaged_strictly at new writer' stops
+    recode_strictly_anyhow new writer' (Err (r.Read e.TooLong)) (inl stops) = title_passes told new writer' stops
+    recode_strictly_anyhow new writer' (Err (r.Read e.TooLong)) (inr (inl stops)) = opens_pass told new writer' stops
+    recode_strictly_anyhow new writer' (Err (r.Read e.TooLong)) (inr (inr stops)) = body_passes told new writer' stops
+    recode_strictly_anyhow new writer' (Err (r.Read e.Waiting)) stops = absurd stops
+    recode_strictly_anyhow new writer' (Err (r.Write fault)) stops = unwritten told new writer' stops
+
+  module _ (ready : IsReadyAs source sink strict count room old writer due written) (on : IsTrue strict) (none : old.waiting ≡ None) where
+    cut_title_strictly : (fault : E) (new : Decoder R) (writer' : W) → StopsAtTitle source sink count old writer (e.Io fault) new writer' → MeetsStrictFault source sink count due written Short old new writer'
+    unfolding cut_title_told
+    cut_title_strictly fault new writer' stops =
+        met_strictly ready.told on none new writer' Short (cut_title_told ready fault new writer' stops) (spelled_at stops.place stops.bytes stops.marks stops.at_title (stops.strict (ready.told.mode ∙ on) none))
+
+    cut_body_strictly : (fault : E) (new : Decoder R) (writer' : W) → StopsInBody source sink count room old writer (e.Io fault) new writer' → MeetsStrictFault source sink count due written Short old new writer'
+    unfolding cut_body_told
+    cut_body_strictly fault new writer' stops = met_strictly ready.told on none new writer' Short (cut_body_told ready fault new writer' stops) (stops.strict (ready.told.mode ∙ on) none)
 
     pub recode_strictly : (new : Decoder R) (writer' : W) (result : Result (Unit {0}) (RecodeError E F)) → CopiesElements source sink count room old writer result new writer'
         → RecodesStrictly source sink count due written old result new writer'
-    recode_strictly new writer' (Ok unit) all = all_strictly new writer' all.elements
+    recode_strictly new writer' (Ok unit) all = all_strictly ready.told on none new writer' all.elements
     recode_strictly new writer' (Err (r.Read (e.Io fault))) (inl stops) = cut_title_strictly fault new writer' stops
     recode_strictly new writer' (Err (r.Read (e.Io fault))) (inr stops) = cut_body_strictly fault new writer' stops
-    recode_strictly new writer' (Err (r.Read (e.Syntax at))) (inl stops) = no_title_strictly at new writer' stops
-    recode_strictly new writer' (Err (r.Read (e.Syntax at))) (inr (inl stops)) = other_title_strictly at new writer' stops
-    recode_strictly new writer' (Err (r.Read (e.Syntax at))) (inr (inr stops)) = damaged_strictly at new writer' stops
+    recode_strictly new writer' (Err (r.Read (e.Syntax at))) (inl stops) = no_title_strictly ready.told on none at new writer' stops
+    recode_strictly new writer' (Err (r.Read (e.Syntax at))) (inr (inl stops)) = other_title_strictly ready.told on none at new writer' stops
+    recode_strictly new writer' (Err (r.Read (e.Syntax at))) (inr (inr stops)) = damaged_strictly ready.told on none at new writer' stops
     recode_strictly new writer' (Err (r.Read e.TooLong)) (inl stops) = absurd (title_fits ready new writer' stops)
     recode_strictly new writer' (Err (r.Read e.TooLong)) (inr (inl stops)) = absurd (opens_fit ready new writer' stops)
     recode_strictly new writer' (Err (r.Read e.TooLong)) (inr (inr stops)) = absurd (body_fits ready new writer' stops)
@@ -781,20 +834,6 @@ module _ {R E W F : Type 0} {strict : Bool} (source : Reader R E) (sink : Writer
     pub recode_strictly_exactly : (new : Decoder R) (writer' : W) (result : Result (Unit {0}) (RecodeError E F)) → CopiesElements source sink count room old writer result new writer'
         → IsOk result ↔ StrictRunInFront count due
     recode_strictly_exactly new writer' result copied = strictly_told new writer' result (recode_strictly new writer' result copied)
-
--- an element has a byte
-element_some : (w : List ℕ) (ms : List Mark) → IsElement w ms → 0 < length w
-element_some w ms (plain x p q) = title_some w x p
-element_some w ms (definite {title = t} {body = b} k p s) = omega (arith, title_some t (kind_header k (Some (length b))) p, length-append t b)
-element_some w ms (indefinite {title = t} {strings = y} k p q s) = omega (arith, title_some t (kind_header k None) p, length-append t (y ++ 0xff ∷ []))
-
--- behind some elements no header waits
-run_settled : {R : Type 0} (count : ℕ) (old new : Decoder R) (bytes : List ℕ) (marks : List Mark) → IsRun count bytes marks → ((bytes ≡ []) × (new ≡ old)) ⊎ (new.waiting ≡ None)
-    → 0 < count → new.waiting ≡ None
-run_settled count old new bytes marks run (inr none) some = none
-run_settled count old new bytes marks done (inl empty) some = absurd (omega (arith, some))
-run_settled count old new bytes marks (next {first = x} {rest = y} {marks = ms} element more) (inl empty) some =
-    absurd (let none = ap length empty.0 in omega (arith, none, element_some x ms element, length-append x y))
 
 -- behind all elements
 pub copies_all : {R E W F : Type 0} (source : Reader R E) (sink : Writer W F) (count : ℕ) (old new : Decoder R) (writer writer' : W) → CopiesRun source sink count old writer new writer'

@@ -1,6 +1,8 @@
 -- The refused bytes are the 27 of the list.
-use Rattle.std.proofs.Common.{◌≡◌, ℕ, zero, suc, ◌+◌, ◌-◌, ◌*◌, ◌/◌, ◌%◌, ◌<◌, ◌↔◌, List, [], ◌∷◌, length, get_or, refl, subst, arith, inl, inr}
+use Rattle.std.proofs.Common.{◌≡◌, ℕ, zero, suc, ◌+◌, ◌-◌, ◌*◌, ◌/◌, ◌%◌, ◌<◌, ◌↔◌, List, [], ◌∷◌, length, get_or, refl, subst, arith, inl, inr, rules}
 use Rattle.std.specs.List.{AllByRecursion, Contains}
+use Rattle.std.specs.List.Sorted.{IsStrictlyIncreasing}
+use native.Mathlib.Numerals.{unary_clauses}
 use Rattle.ciborium_ll.specs.Title.{IsRefused, IsNeverOpen, refused_bytes}
 
 -- what all elements have, one of them has
@@ -147,3 +149,22 @@ refused_listed b lt = (λ r. to r, λ c. of_all IsRefused refused_bytes b c.0 al
         open_at : IsRefused b → b % 32 - 28 ≡ 3 → IsNeverOpen (b / 32)
         open_at (inl p) l = absurd (omega (arith, p, l))
         open_at (inr p) l = p.1
+
+-- each number is below the one behind it
+Ascends : List ℕ → Type 0
+Ascends [] = Unit {0}
+Ascends (x ∷ []) = Unit {0}
+Ascends (x ∷ y ∷ xs) = (x < y) × Ascends (y ∷ xs)
+
+strictly_increasing : (xs : List ℕ) → Ascends xs → IsStrictlyIncreasing xs
+unfolding Ascends
+strictly_increasing [] ascends k l = absurd (omega arith)
+strictly_increasing (x ∷ []) ascends k l = absurd (omega arith)
+strictly_increasing (x ∷ y ∷ xs) ascends zero l = ascends.0
+strictly_increasing (x ∷ y ∷ xs) ascends (suc k) l =
+    let more = strictly_increasing (y ∷ xs) ascends.1 k (omega arith) in
+    simp unary_clauses (simp unary_clauses at more)
+
+pub refused_ascend : IsStrictlyIncreasing refused_bytes
+unfolding Ascends
+refused_ascend = strictly_increasing refused_bytes (search rules)

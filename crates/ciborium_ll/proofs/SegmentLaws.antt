@@ -16,7 +16,7 @@ use Rattle.ciborium_ll.specs.declared.recode.RecodeError.TheVariants as r
 use Rattle.ciborium_ll.specs.Title.{IsTitle, shortest_title}
 use Rattle.ciborium_ll.specs.Strings.{Kind, Bytes, Text, kind_header, definite, none}
 use Rattle.ciborium_ll.specs.Steps.{IsInsideAt, one_open, more_open}
-use Rattle.ciborium_ll.specs.Elements.{IsSound, Mark, Open, Piece, spelling, pieces, open_marks, body_spelling, IsSpelled}
+use Rattle.ciborium_ll.specs.Elements.{IsSound, Mark, Open, Piece, spelling, pieces, open_marks, body_spelling, IsStrictSpelling}
 use Rattle.ciborium_ll.specs.Faults.{In, Body as BodyDue, Reaches, inside, body_inside, IsRefusedIn}
 use Rattle.ciborium_ll.specs.Decoding.{Passes, Strictly, IsSteady, TakesBack}
 use Rattle.ciborium_ll.specs.Encoding.{WritesAll, WritesFront}
@@ -179,7 +179,7 @@ module _ {R E W F : Type 0} (source : Reader R E) (sink : Writer W F) (k : Kind)
 
     -- of a strict decoder it is the spelling of what is written
     inside_strict : (left : ℕ) (between : Decoder R) (writer' : W) (among : IsAmong left opened writer between writer')
-        → Strictly old (IsSpelled (so_far_bytes among.strings) (so_far_marks among.bodies) [])
+        → Strictly old (IsStrictSpelling (so_far_bytes among.strings) (so_far_marks among.bodies) [])
     inside_strict left between writer' among = λ on none.
         let front = shortest_title (kind_header k None) in
         let tight = among.tight (outer.passed.mode ∙ on) in
@@ -301,7 +301,7 @@ module _ {R E W F : Type 0} (source : Reader R E) (sink : Writer W F) (k : Kind)
         }
 
     announced_strict : (now new : Decoder R) (writer' : W) (body : Body) (progress : Progress) (all : AdvancesAmong opened writer now (Ok (Some body)) progress new writer')
-        → Strictly old (IsSpelled (so_far_bytes all.among.strings ++ all.ends.pulled.title) (so_far_marks all.among.bodies) (shortest_title (kind_header k (Some body.length))))
+        → Strictly old (IsStrictSpelling (so_far_bytes all.among.strings ++ all.ends.pulled.title) (so_far_marks all.among.bodies) (shortest_title (kind_header k (Some body.length))))
     announced_strict now new writer' body progress all = λ on none.
         let settled = passes_settled source old opened (outer.bytes ++ shortest_title (kind_header k None)) outer.passed none in
         let only = all.ends.pulled.strict (all.among.passed.mode ∙ (outer.passed.mode ∙ on)) (passes_settled source opened all.between all.among.strings all.among.passed settled) in

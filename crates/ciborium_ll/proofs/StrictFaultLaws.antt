@@ -6,7 +6,7 @@ use Rattle.ciborium_ll.specs.declared.hdr.Header.TheVariants as h
 use Rattle.ciborium_ll.specs.Title.{IsTitle, IsSmallSimple, IsStrictTitle, shortest_title, title_len}
 use Rattle.ciborium_ll.specs.Strings.{Kind, Bytes, Text, kind_header, IsString, AreStrings, none, more}
 use Rattle.ciborium_ll.specs.Strings.IsString.{definite as definite_str, indefinite as indefinite_str}
-use Rattle.ciborium_ll.specs.Elements.{Mark, Open, pieces, spelling, IsElement, plain, definite, indefinite, IsPlain, IsRun, done, next, IsMeant, IsSpelled}
+use Rattle.ciborium_ll.specs.Elements.{Mark, Open, pieces, spelling, IsElement, plain, definite, indefinite, IsPlain, IsRun, done, next, IsMeant, IsStrictSpelling}
 use Rattle.ciborium_ll.specs.Faults.{Place, Due, In, Body, IsAtTitle, IsInside, opened, deeper, Reaches, due, inside, body, body_inside, Answer}
 use Rattle.ciborium_ll.specs.StrictRecoding.{due_title, IsStrictRun, StrictRunInFront, StrictlyReaches, StrictFault, Fault, LongTitle, NestedOpen, HasStrictFault}
 use Rattle.ciborium_ll.proofs.Lists.{same_front}
@@ -223,7 +223,7 @@ title_strictly n u ms at (inside {before = i} {bytes = a} {opens = b} {marks = o
 title_strictly n u ms at (body k q p) d s t r x c w v ns run e = absurd d
 title_strictly n u ms at (body_inside q p) d s t r x c w v ns run e = absurd d
 
-at_title_spelled : (place : Place) (bytes : List ℕ) (marks : List Mark) → IsAtTitle place → IsSpelled bytes marks (due_title place) → bytes ≡ spelling marks
+at_title_spelled : (place : Place) (bytes : List ℕ) (marks : List Mark) → IsAtTitle place → IsStrictSpelling bytes marks (due_title place) → bytes ≡ spelling marks
 at_title_spelled Due bytes marks d spelled = spelled_alone bytes marks spelled
 at_title_spelled (In k) bytes marks d spelled = spelled_alone bytes marks spelled
 at_title_spelled (Body k len start) bytes marks d spelled = absurd d

@@ -273,6 +273,25 @@ shortest_or_longer header w (alone m x o) = alone_shortest m x o
 pub shortest_no_longer : (t : List ℕ) (h : Header) → IsTitle t h → length (shortest_title h) ≤ length t
 shortest_no_longer t h p = elim (shortest_or_longer h t p) [ inl e ↦ let l = ap length e in omega (arith, l) | inr l ↦ omega (arith, l) ]
 
+-- the shortest title has a first byte
+pub shortest_some : (h : Header) → 0 < length (shortest_title h)
+shortest_some (h.Positive n) = omega arith
+shortest_some (h.Negative n) = omega arith
+shortest_some (h.Float (f.Half n)) = omega arith
+shortest_some (h.Float (f.Single n)) = omega arith
+shortest_some (h.Float (f.Double n)) = omega arith
+shortest_some (h.Simple n) = omega arith
+shortest_some (h.Tag n) = omega arith
+shortest_some h.Break = omega arith
+shortest_some (h.Bytes (Some n)) = omega arith
+shortest_some (h.Bytes None) = omega arith
+shortest_some (h.Text (Some n)) = omega arith
+shortest_some (h.Text None) = omega arith
+shortest_some (h.Array (Some n)) = omega arith
+shortest_some (h.Array None) = omega arith
+shortest_some (h.Map (Some n)) = omega arith
+shortest_some (h.Map None) = omega arith
+
 -- ---- first bytes with no title
 
 -- the first byte of a number is not refused

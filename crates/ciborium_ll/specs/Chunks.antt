@@ -13,9 +13,9 @@ use Rattle.ciborium_ll.specs.declared.seg.Progress.{Progress}
 use Rattle.ciborium_ll.specs.declared.seg.Segment.{Segment}
 use Rattle.ciborium_ll.specs.Strings.{Kind, Bytes, Text}
 use Rattle.ciborium_ll.specs.Text.{IsFront}
-use Rattle.ciborium_ll.specs.Decoding.{offset_limit, ReadsAll, ReadFails, IsUntouched}
+use Rattle.ciborium_ll.specs.Decoding.{offset_limit, IsSteady, ReadsAll, ReadFails, IsUntouched, offset_of, refusals_of}
 use Rattle.ciborium_ll.specs.Kept.{kept_bytes}
-use Rattle.ciborium_ll.specs.Segments.{AdvancesTo}
+use Rattle.ciborium_ll.specs.Segments.{AdvancesTo, opens_of}
 
 -- of a text the longest front that is text is handed out, of bytes all
 abbrev pub IsSplit : Kind → List ℕ → List ℕ → List ℕ → Type 0
@@ -146,16 +146,26 @@ module _ {R E P : Type 0} {parser : Parser P} (source : Ghosts R E) where
   PullsChunk room old (Err e.TooLong) new = ChunkPasses room old new
   PullsChunk room old (Err e.Waiting) new = ⊥
 
+module _ {R E : Type 0} (source : Ghosts R E) (kind : Kind) where
+  -- `advance` gave this answer and left this decoder: the offset rose, by one at least for each further open, a steady
+  -- reader stayed steady, and no refusal was counted
+  pub record GoesOnTo (progress : Progress) (old : Decoder R) (result : Result (Option Body) (Error E)) (new : Decoder R) : Type 0 where
+    pub after : Progress
+    pub advanced : AdvancesTo source kind progress old result after new
+    pub rises : offset_of old ≤ offset_of new
+    pub opens : opens_of after + offset_of old ≤ opens_of progress + offset_of new
+    pub steady : IsSteady source old → IsSteady source new
+    pub refusals : refusals_of new ≡ refusals_of old
+
 module _ {R E P : Type 0} {parser : Parser P} (source : Ghosts R E) (kind : Kind) where
   -- a segment is whole, and holds the decoder as `advance` left it
   pub record LendsWhole (progress : Progress) (old : Decoder R) (segment : Segment R P parser) : Type 0 where
     pub body : Body
-    pub after : Progress
-    pub advanced : AdvancesTo source kind progress old (Ok (Some body)) after segment.reader.now
+    pub goes_on : GoesOnTo source kind progress old (Ok (Some body)) segment.reader.now
     pub whole : IsWhole body segment
 
   -- `pull` answers as `advance` does, with a whole segment for a body
   abbrev pub PullsSegment : Progress → Decoder R → Result (Option (Segment R P parser)) (Error E) → Type 0
   PullsSegment progress old (Ok (Some segment)) = LendsWhole progress old segment
-  PullsSegment progress old (Ok None) = (after : Progress) × (new : Decoder R) × AdvancesTo source kind progress old (Ok None) after new
-  PullsSegment progress old (Err error) = (after : Progress) × (new : Decoder R) × AdvancesTo source kind progress old (Err error) after new
+  PullsSegment progress old (Ok None) = (new : Decoder R) × GoesOnTo source kind progress old (Ok None) new
+  PullsSegment progress old (Err error) = (new : Decoder R) × GoesOnTo source kind progress old (Err error) new

@@ -76,6 +76,6 @@ IsMeant (Plain header) = IsSmallSimple header → ⊥
 IsMeant mark = Unit {0}
 
 -- the bytes are the marks' shortest spelling, with more behind it, and no mark is a small simple value
-pub record IsSpelled (bytes : List ℕ) (marks : List Mark) (more : List ℕ) : Type 0 where
+pub record IsStrictSpelling (bytes : List ℕ) (marks : List Mark) (more : List ℕ) : Type 0 where
   pub same : bytes ≡ spelling marks ++ more
   pub meant : AllByRecursion IsMeant marks

@@ -43,6 +43,12 @@ module _ {R P E : Type 0} {parser : Parser P} where
   advance_answer (Ok None) = Ok None
   advance_answer (Err error) = Err error
 
+  -- a segment that the result may have holds the decoder that this string holds
+  abbrev pub HoldsDecoder : Result (Option (Segment R P parser)) (Error E) → Segments R P → Type 0
+  HoldsDecoder (Ok (Some segment)) s = segment.reader.now ≡ s.reader.now
+  HoldsDecoder (Ok None) s = Unit {0}
+  HoldsDecoder (Err error) s = Unit {0}
+
 module _ (R P : RattleType) {parser : Parser P.Denot} where
   -- once the segment is gone, the string holds the decoder that the segment left
   abbrev pub lends_segment : MutBor (Segments R.Denot P.Denot) → Segment R.Denot P.Denot parser → Fml
@@ -50,10 +56,10 @@ module _ (R P : RattleType) {parser : Parser P.Denot} where
       follows (segments.the_row (record { mir = named 1; lft = [] }) R P) (decoder.the_row R) s.ghost_name segment.reader.ghost_name
       (with_decoder s.now)
 
-  -- once the segment in the result is gone, the string is as `advance` left it, with the decoder that the segment left;
-  -- where the result has no segment, the string is as `advance` left it
+  -- once the segment in the result is gone, the string is as `advance` left it, whose decoder the segment had, with the
+  -- decoder that the segment left; where the result has no segment, the string is as `advance` left it
   abbrev pub pulls_segment : {E : Type 0} → Ghosts R.Denot E → MutBor (Segments R.Denot P.Denot) → Result (Option (Segment R.Denot P.Denot parser)) (Error E) → Fml
   pulls_segment source s result =
       follows_so (segments.the_row (record { mir = named 1; lft = [] }) R P) (decoder.the_row R) s.ghost_name (lent_reference result)
-      (λ left ended. (advanced : Segments R.Denot P.Denot) × IsAdvanced source parser.kind s.now (advance_answer result) advanced × (ended ≡ with_decoder advanced left))
+      (λ left ended. (advanced : Segments R.Denot P.Denot) × IsAdvanced source parser.kind s.now (advance_answer result) advanced × HoldsDecoder result advanced × (ended ≡ with_decoder advanced left))
       (IsAdvanced source parser.kind s.now (advance_answer result))

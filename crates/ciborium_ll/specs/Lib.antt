@@ -26,6 +26,7 @@ pub mod StrictRecoding
 pub mod Strings
 pub mod Text
 pub mod Title
+pub mod TitleRows
 pub mod Transfer
 pub mod Values
 pub mod Windows

@@ -11,7 +11,7 @@ use Rattle.ciborium_ll.specs.declared.recode.RecodeError.TheVariants as r
 use Rattle.ciborium_ll.specs.Title.{IsTitle, IsStrictTitle, shortest_title}
 use Rattle.ciborium_ll.specs.Strings.{Kind, Text, kind_header}
 use Rattle.ciborium_ll.specs.Text.{IsCharacters}
-use Rattle.ciborium_ll.specs.Elements.{Mark, Open, pieces, open_marks, spelling, IsElement, IsRun, IsSpelled}
+use Rattle.ciborium_ll.specs.Elements.{Mark, Open, pieces, open_marks, spelling, IsElement, IsRun, IsStrictSpelling}
 use Rattle.ciborium_ll.specs.Faults.{Place, Due, In, Body, Reaches, IsAtTitle, IsRefusedIn, IsWritable, BeginsNoText, most_kept}
 use Rattle.ciborium_ll.specs.Decoding.{offset_limit, Begins, Strictly, Passes, PullsHeader, PullsTitle, ReadFails, IsUntouched}
 use Rattle.ciborium_ll.specs.Encoding.{WritesAll, WritesFront}
@@ -127,7 +127,7 @@ module _ {R E W F : Type 0} (source : Reader R E) (sink : Writer W F) where
     pub run : IsRun count bytes marks
     pub copied : Copied old writer bytes marks new writer'
     -- what a strict decoder reads is written again
-    pub strict : Strictly old (IsSpelled bytes marks [])
+    pub strict : Strictly old (IsStrictSpelling bytes marks [])
 
   -- all elements were copied. What was written are the same elements again, with the same marks, and no longer
   pub record CopiesAll (count : ℕ) (old : Decoder R) (writer : W) (new : Decoder R) (writer' : W) : Type 0 where
@@ -147,7 +147,7 @@ module _ {R E W F : Type 0} (source : Reader R E) (sink : Writer W F) where
     pub between : Decoder R
     pub copied : Copied old writer bytes marks between writer'
     pub fails : PullsHeader source between (Err error) new
-    pub strict : Strictly old (IsSpelled bytes marks [])
+    pub strict : Strictly old (IsStrictSpelling bytes marks [])
 
   -- a title came that may not stand within its string
   pub record StopsAtOther (count : ℕ) (old : Decoder R) (writer : W) (at : ℕ) (new : Decoder R) (writer' : W) : Type 0 where
@@ -161,7 +161,7 @@ module _ {R E W F : Type 0} (source : Reader R E) (sink : Writer W F) where
     pub pulled : PullsTitle source between header new
     pub misplaced : IsRefusedIn between.strict kind header
     pub at-start : at ≡ between.offset
-    pub strict : Strictly old (IsSpelled bytes marks [])
+    pub strict : Strictly old (IsStrictSpelling bytes marks [])
 
   -- there are more opens than can be counted, and as many bytes at least
   pub record StopsTooDeep (count : ℕ) (old : Decoder R) (writer : W) (new : Decoder R) (writer' : W) : Type 0 where
@@ -188,7 +188,7 @@ module _ {R E W F : Type 0} (source : Reader R E) (sink : Writer W F) where
     pub copied : Copied old writer bytes marks between writer-between
     pub titled : WritesAll sink writer-between (shortest_title (kind_header kind (Some len))) writer-titled
     pub stopped : CopiesBody source sink kind len room (old.offset + start) between writer-titled (Err (r.Read error)) new writer'
-    pub strict : Strictly old (IsSpelled bytes marks (shortest_title (kind_header kind (Some len))))
+    pub strict : Strictly old (IsStrictSpelling bytes marks (shortest_title (kind_header kind (Some len))))
 
   -- the writer failed
   pub record StopsWriting (count : ℕ) (old : Decoder R) (writer : W) (new : Decoder R) (writer' : W) : Type 0 where
@@ -225,7 +225,7 @@ module _ {R E W F : Type 0} (source : Reader R E) (sink : Writer W F) where
     pub run : IsRun before bytes marks
     pub passed : Passes source old (bytes ++ title) now
     pub written : WritesAll sink writer (spelling marks) writer'
-    pub strict : Strictly old (IsSpelled bytes marks [])
+    pub strict : Strictly old (IsStrictSpelling bytes marks [])
 
   -- one element more
   pub record AddsElement (before : ℕ) (old : Decoder R) (writer : W) (new : Decoder R) (writer' : W) : Type 0 where
@@ -233,7 +233,7 @@ module _ {R E W F : Type 0} (source : Reader R E) (sink : Writer W F) where
     pub marks : List Mark
     pub run : IsRun (suc before) bytes marks
     pub copied : Copied old writer bytes marks new writer'
-    pub strict : Strictly old (IsSpelled bytes marks [])
+    pub strict : Strictly old (IsStrictSpelling bytes marks [])
 
   -- one element more, or an error that stops the whole copy
   abbrev pub GoesOn : ℕ → ℕ → ℕ → Decoder R → W → Result (Unit {0}) (RecodeError E F) → Decoder R → W → Type 0
@@ -260,7 +260,7 @@ module _ {R E W F : Type 0} (source : Reader R E) (sink : Writer W F) where
     pub is_element : IsElement element (open_marks kind bodies)
     pub passed : Passes source old (bytes ++ element) new
     pub written : WritesAll sink writer (spelling (marks ++ Open kind ∷ pieces kind bodies)) writer'
-    pub strict : Strictly old (IsSpelled (bytes ++ element) (marks ++ open_marks kind bodies) [])
+    pub strict : Strictly old (IsStrictSpelling (bytes ++ element) (marks ++ open_marks kind bodies) [])
 
   -- a string up to its last break, or an error that stops the whole copy
   abbrev pub GoesOnWithin : ℕ → ℕ → Kind → ℕ → Decoder R → W → Result (Unit {0}) (RecodeError E F) → Decoder R → W → Type 0
@@ -275,7 +275,7 @@ module _ {R E W F : Type 0} (source : Reader R E) (sink : Writer W F) where
     pub run : IsRun before bytes marks
     pub passed : Passes source old (bytes ++ shortest_title (kind_header kind None)) now
     pub written : WritesAll sink writer (spelling (marks ++ Open kind ∷ [])) writer'
-    pub strict : Strictly old (IsSpelled bytes marks [])
+    pub strict : Strictly old (IsStrictSpelling bytes marks [])
 
   -- the copy of the segments of a string behind its open
   abbrev pub CopiesSegments : Kind → ℕ → Decoder R → W → Result (Unit {0}) (RecodeError E F) → Decoder R → W → Type 0

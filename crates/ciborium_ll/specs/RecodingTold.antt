@@ -1,5 +1,5 @@
 -- What a copy of elements means where the bytes are told: whatever fails, and where no side fails by itself.
-use Rattle.std.specs.Prelude.{◌≡◌, ℕ, Bool, false, ◌+◌, ◌<◌, ◌≤◌, ◌⊎◌, min, List, [], ◌++◌, length, drop, Some, Result, Ok, Err}
+use Rattle.std.specs.Prelude.{◌≡◌, ℕ, Bool, false, ◌+◌, ◌<◌, ◌≤◌, ◌⊎◌, min, max, List, [], ◌++◌, length, drop, None, Some, Result, Ok, Err}
 use Rattle.ciborium_ll.specs.declared.io.Read.{Ghosts as Reader}
 use Rattle.ciborium_ll.specs.declared.io.Write.{Ghosts as Writer}
 use Rattle.ciborium_ll.specs.declared.dec.Decoder.{Decoder}
@@ -85,6 +85,9 @@ module _ {R E W F : Type 0} (source : Reader R E) (sink : Writer W F) where
     pub again : IsRun count (spelling front.marks) front.marks
     pub left : view source new ≡ Some front.rest
     pub offset : new.offset ≡ old.offset + length front.elements
+    -- behind an element no header waits; behind none one waits just where one waited
+    pub settled : 0 < count → new.waiting ≡ None
+    pub still : count ≡ 0 → new.waiting ≡ old.waiting
 
   -- a fault was met: the answer, what was written up to it and what is consumed are its own
   pub record MeetsFault (count : ℕ) (due written : List ℕ) (answer : Answer) (old new : Decoder R) (writer' : W) : Type 0 where
@@ -126,6 +129,6 @@ module _ {R E W F : Type 0} (source : Reader R E) (sink : Writer W F) where
   RecodesAnyhow count room-in due written old (Err (r.Read (e.Syntax place))) new writer' =
       (start : ℕ) × (place ≡ old.offset + start) × MeetsFault count due written (Syntax start) old new writer'
   RecodesAnyhow count room-in due written old (Err (r.Read e.TooLong)) new writer' =
-      StopsShort count due written old new writer' × ((offset_limit ≤ new.offset + 8) ⊎ (offset_limit ≤ new.offset + room-in))
+      StopsShort count due written old new writer' × (offset_limit ≤ new.offset + max 8 room-in)
   RecodesAnyhow count room-in due written old (Err (r.Read e.Waiting)) new writer' = ⊥
   RecodesAnyhow count room-in due written old (Err (r.Write fault)) new writer' = StopsUnwritten count due written old new writer'

@@ -36,6 +36,14 @@ opens_of p.TooDeep = 0
 abbrev pub IsMisplacedAt : Kind → ℕ → Header → Type 0
 IsMisplacedAt kind opens header = ((opens ≡ 0) × (header ≡ h.Break)) ⊎ IsMisplaced kind header
 
+module _ {A E : Type 0} where
+  -- an answer that stays is given again: that the string has ended, that it is damaged, that it is nested too deep
+  abbrev pub GivesAgain : Progress → Result (Option A) (Error E) → Type 0
+  GivesAgain (p.Open opens) result = Unit {0}
+  GivesAgain p.Ended result = result ≡ Ok None
+  GivesAgain (p.Damaged place) result = result ≡ Err (e.Syntax place)
+  GivesAgain p.TooDeep result = result ≡ Err e.TooLong
+
 module _ {R E : Type 0} (source : Ghosts R E) (kind : Kind) where
   -- a title with a length announces a segment; a lone string ends with it
   pub record FindsBody (opens : ℕ) (old : Decoder R) (body : Body) (progress : Progress) (new : Decoder R) : Type 0 where

@@ -1,6 +1,6 @@
 -- What a copy of elements by a strict decoder means where the bytes are told: elements in their shortest spelling are
 -- copied as they are, or the first fault behind such a beginning stops it.
-use Rattle.std.specs.Prelude.{◌≡◌, ℕ, ◌+◌, List, [], ◌++◌, length, drop, Some, None, Result, Ok, Err}
+use Rattle.std.specs.Prelude.{◌≡◌, ℕ, ◌+◌, ◌≤◌, max, List, [], ◌++◌, length, drop, Some, None, Result, Ok, Err}
 use Rattle.std.specs.List.{AllByRecursion}
 use Rattle.ciborium_ll.specs.declared.io.Read.{Ghosts as Reader}
 use Rattle.ciborium_ll.specs.declared.io.Write.{Ghosts as Writer}
@@ -11,9 +11,10 @@ use Rattle.ciborium_ll.specs.declared.recode.RecodeError.{RecodeError}
 use Rattle.ciborium_ll.specs.declared.recode.RecodeError.TheVariants as r
 use Rattle.ciborium_ll.specs.Title.{IsTitle, IsStrictTitle, shortest_title}
 use Rattle.ciborium_ll.specs.Strings.{Kind, kind_header}
-use Rattle.ciborium_ll.specs.Elements.{Mark, spelling, IsRun, IsMeant, IsSpelled}
+use Rattle.ciborium_ll.specs.Elements.{Mark, spelling, IsRun, IsMeant, IsStrictSpelling}
 use Rattle.ciborium_ll.specs.Faults.{Place, Due, In, Body, Reaches, IsAtTitle, Answer, Short, Syntax, FirstFault}
-use Rattle.ciborium_ll.specs.Decoding.{view}
+use Rattle.ciborium_ll.specs.Decoding.{offset_limit, view}
+use Rattle.ciborium_ll.specs.RecodingTold.{StopsShort, StopsUnwritten}
 
 -- ---- runs
 
@@ -42,7 +43,7 @@ due_title (Body kind len start) = shortest_title (kind_header kind (Some len))
 -- the bytes are a part of so many elements up to the place, in their shortest spelling, and no small simple value
 pub record StrictlyReaches (count : ℕ) (bytes : List ℕ) (marks : List Mark) (place : Place) : Type 0 where
   pub reaches : Reaches count bytes marks place
-  pub spelled : IsSpelled bytes marks (due_title place)
+  pub spelled : IsStrictSpelling bytes marks (due_title place)
 
 -- what stops a strict decoder: the faults for others, and two more
 pub data StrictFault (before : List ℕ) (marks : List Mark) : Place → List ℕ → Answer → List ℕ → ℕ → Type 0 where
@@ -79,6 +80,7 @@ module _ {R E W F : Type 0} (source : Reader R E) (sink : Writer W F) where
     pub output : sink.written writer' ≡ Some (written ++ front.elements)
     pub left : view source new ≡ Some front.rest
     pub offset : new.offset ≡ old.offset + length front.elements
+    pub none_waits : new.waiting ≡ None
 
   -- a fault was met: the answer, what was written up to it and what is consumed are its own
   pub record MeetsStrictFault (count : ℕ) (due written : List ℕ) (answer : Answer) (old new : Decoder R) (writer' : W) : Type 0 where
@@ -97,3 +99,14 @@ module _ {R E W F : Type 0} (source : Reader R E) (sink : Writer W F) where
   RecodesStrictly count due written old (Err (r.Read e.TooLong)) new writer' = ⊥
   RecodesStrictly count due written old (Err (r.Read e.Waiting)) new writer' = ⊥
   RecodesStrictly count due written old (Err (r.Write fault)) new writer' = ⊥
+
+  -- the same through a buffer of so much room, whatever fails: `Ok` and `Syntax` mean the same as where nothing does
+  abbrev pub RecodesStrictlyAnyhow : ℕ → ℕ → List ℕ → List ℕ → Decoder R → Result (Unit {0}) (RecodeError E F) → Decoder R → W → Type 0
+  RecodesStrictlyAnyhow count room-in due written old (Ok done) new writer' = CopiesStrictly count due written old new writer'
+  RecodesStrictlyAnyhow count room-in due written old (Err (r.Read (e.Io fault))) new writer' = StopsShort source sink count due written old new writer'
+  RecodesStrictlyAnyhow count room-in due written old (Err (r.Read (e.Syntax place))) new writer' =
+      (start : ℕ) × (place ≡ old.offset + start) × MeetsStrictFault count due written (Syntax start) old new writer'
+  RecodesStrictlyAnyhow count room-in due written old (Err (r.Read e.TooLong)) new writer' =
+      StopsShort source sink count due written old new writer' × (offset_limit ≤ new.offset + max 8 room-in)
+  RecodesStrictlyAnyhow count room-in due written old (Err (r.Read e.Waiting)) new writer' = ⊥
+  RecodesStrictlyAnyhow count room-in due written old (Err (r.Write fault)) new writer' = StopsUnwritten source sink count due written old new writer'

@@ -139,7 +139,7 @@ abbrev pub IsSmallSimple : Header → Type 0
 IsSmallSimple (h.Simple n) = (24 ≤ n) × (n < 32)
 IsSmallSimple header = ⊥
 
--- a title that a strict decoder takes: the shortest one of its header (RFC 7049, 3.9), of no small simple value in two bytes
+-- a title that a strict decoder takes: the shortest one of its header (RFC 7049, 3.9), and of no small simple value
 pub record IsStrictTitle (title : List ℕ) (header : Header) : Type 0 where
   pub shortest : title ≡ shortest_title header
   pub meant : IsSmallSimple header → ⊥

@@ -4,6 +4,7 @@ ghost use Rattle.std.specs.Prelude.{◌≡◌, ◌+◌, ◌≤◌, ◌<◌, ◌^
 ghost use Rattle.std.specs.Int.{to_be_bytes, w8, w16, w32, w64};
 ghost use Rattle.ciborium_ll.specs.Title.{waiting_len};
 
+use crate::hdr::table::{Affix, row_of};
 use crate::hdr::{Header, Minor, Title};
 use crate::io::{Failures, Read};
 use crate::seg::{Bytes, Parser, Segments, Text};
@@ -56,10 +57,11 @@ impl<R: Read> From<R> for Decoder<R> {
 }
 
 impl<R: Read> Decoder<R> {
-    ghost use Rattle.std.specs.Prelude.{◌<◌, ◌^◌, IsTrue, ◌↔◌, None, Some, Err, IfOk, MatchResult, IsErrOf, true};
+    ghost use Rattle.std.specs.Prelude.{◌<◌, ◌^◌, ◌%◌, IsTrue, true, ◌↔◌, None, Some, Err, IfOk, MatchResult, IsErrOf};
     ghost use Rattle.ciborium_ll.specs.declared.seg.Progress.TheVariants.{Open};
     ghost use Rattle.ciborium_ll.specs.Title.{title_len, IsTitle};
     ghost use Rattle.ciborium_ll.specs.Parts.{IsParts, title_bytes};
+    ghost use Rattle.ciborium_ll.specs.TitleRows.{IsAffix};
     ghost use Rattle.ciborium_ll.specs.Strings.{kind_header};
     ghost use Rattle.ciborium_ll.specs.Decoding.{IsFresh, IsFreshAs, IsSteady, IsWaiting, PullsHeader, PullsTitle, ReadsBytes, ReadsMinor, TakesBack, offset_of, reader_of, refusals_of, strict_of, waiting_of};
 
@@ -76,8 +78,12 @@ impl<R: Read> Decoder<R> {
         }
     }
 
-    /// A strict decoder at the offset 0: it takes each header by its shortest title alone, no simple value from 24 to 31,
-    /// and no string of indefinite length within another one.
+    /// A strict decoder at the offset 0. It takes each header by its shortest title alone (RFC 7049, 3.9), no simple
+    /// value from 24 to 31 (2.3), and no string of indefinite length within another one (2.2.2).
+    ///
+    /// Its `pull` answers `Syntax` for any other title, and its strings do so for an open behind one that isn't closed:
+    /// with the offset of that title's start, and all of the title is consumed. A header that was pushed back is given
+    /// as it was pushed.
     pub fn strict(reader: R) -> Decoder<R>
         ensures { IsFreshAs true reader 0 result }
     {
@@ -124,15 +130,26 @@ impl<R: Read> Decoder<R> {
     /// The errors are `Syntax` with the offset of the title's start, for one of the 27 first bytes with which no
     /// title begins, and that byte is consumed; `Io` where the reader failed; and `TooLong` where the offset
     /// can't take the next read. After the last two a first byte that was read stays consumed.
+    ///
+    /// A strict decoder answers `Syntax` also for a title that isn't the shortest of its header, and for a simple value
+    /// below 32 in two bytes. All of that title is then consumed.
     #[inline(always)]
+    #[tactic(auto, using(crate::proofs::TitleLaws::shortest_no_longer))]
     pub fn pull(&mut self) -> Result<Header, Error<R::Error>>
         ensures header { PullsHeader R.Read self.old result self.new }
+        ensures covered { IfOk result (λ header. title_len header ≤ offset_of self.new) }
         ensures mode { strict_of self.new ≡ strict_of self.old }
         ensures full { waiting_of self.old ≡ None → offset_of self.old ≡ usize.MAX → IsErrOf result Error.TooLong }
         ensures steady { IsSteady R.Read self.old → IsSteady R.Read self.new }
         ensures refusals { refusals_of self.new ≡ refusals_of self.old }
     {
-        match self.pull_title() {
+        // No call here takes `&mut self`: so in a loop over a slice the decoder's fields stay in registers.
+        if let Some(header) = self.waiting {
+            self.waiting = None;
+            self.offset += header.title_len();
+            return Ok(header);
+        }
+        match self.title() {
             Ok((header, _title)) => Ok(header),
             Err(error) => Err(error),
         }
@@ -154,17 +171,34 @@ impl<R: Read> Decoder<R> {
         if let Some(header) = self.waiting {
             return Ok(self.pull_waiting(header));
         }
+        self.title()
+    }
+
+    /// Reads the next title, and gives the header that it means, too.
+    #[inline(always)]
+    fn title(&mut self) -> Result<(Header, Title), Error<R::Error>>
+        requires none_waits { waiting_of self.old ≡ None }
+        ensures header { MatchResult result (λ pulled. PullsTitle R.Read self.old pulled.0 self.new)
+            (λ error. PullsHeader R.Read self.old (Err error) self.new) }
+        ensures parts { IfOk result (λ pulled. IsParts pulled.1) }
+        ensures title { IfOk result (λ pulled. IsTitle (title_bytes pulled.1) pulled.0) }
+        ensures mode { strict_of self.new ≡ strict_of self.old }
+        ensures full { offset_of self.old ≡ usize.MAX → IsErrOf result Error.TooLong }
+        ensures steady { IsSteady R.Read self.old → IsSteady R.Read self.new }
+        ensures refusals { refusals_of self.new ≡ refusals_of self.old }
+    {
         let start = self.offset;
         let mut first = [0; 1];
         self.read(&mut first)?;
-        let Some(minor) = self.minor(first[0])? else {
+        let row = row_of(first[0]);
+        let Some(minor) = self.minor(row.affix, first[0])? else {
             return Err(Error::Syntax(start));
         };
         let title = Title {
             major: first[0] / 32,
             minor,
         };
-        match title.header() {
+        match title.header(row.kind) {
             Some(header) => Ok((header, title)),
             None => Err(Error::Syntax(start)),
         }
@@ -244,44 +278,44 @@ impl<R: Read> Decoder<R> {
     /// Reads the affix that a first byte announces: nothing for a reserved minor, nor for a number that a strict
     /// decoder refuses there.
     #[inline(always)]
-    fn minor(&mut self, first: u8) -> Result<Option<Minor>, Error<R::Error>>
+    fn minor(&mut self, affix: Affix, first: u8) -> Result<Option<Minor>, Error<R::Error>>
+        requires affix { IsAffix affix (first % 32) }
         requires none_waits { waiting_of self.old ≡ None }
         ensures minor { ReadsMinor R.Read first self.old result self.new }
         ensures mode { strict_of self.new ≡ strict_of self.old }
         ensures steady { IsSteady R.Read self.old → IsSteady R.Read self.new }
         ensures refusals { refusals_of self.new ≡ refusals_of self.old }
     {
-        let bits = first % 32;
-        let minor = match bits {
-            0..=23 => {
+        let minor = match affix {
+            Affix::Within => {
                 self.read(&mut [])?;
-                return Ok(Some(Minor::Small(u64::from(bits))));
+                return Ok(Some(Minor::Small(u64::from(first % 32))));
             }
-            24 => {
-                let mut affix = [0; 1];
-                self.read(&mut affix)?;
-                Minor::One(u64::from(one(affix)))
+            Affix::One => {
+                let mut bytes = [0; 1];
+                self.read(&mut bytes)?;
+                Minor::One(u64::from(one(bytes)))
             }
-            25 => {
-                let mut affix = [0; 2];
-                self.read(&mut affix)?;
-                Minor::Two(u64::from(two(affix)))
+            Affix::Two => {
+                let mut bytes = [0; 2];
+                self.read(&mut bytes)?;
+                Minor::Two(u64::from(two(bytes)))
             }
-            26 => {
-                let mut affix = [0; 4];
-                self.read(&mut affix)?;
-                Minor::Four(u64::from(four(affix)))
+            Affix::Four => {
+                let mut bytes = [0; 4];
+                self.read(&mut bytes)?;
+                Minor::Four(u64::from(four(bytes)))
             }
-            27 => {
-                let mut affix = [0; 8];
-                self.read(&mut affix)?;
-                Minor::Eight(eight(affix))
+            Affix::Eight => {
+                let mut bytes = [0; 8];
+                self.read(&mut bytes)?;
+                Minor::Eight(eight(bytes))
             }
-            31 => {
+            Affix::Open => {
                 self.read(&mut [])?;
                 return Ok(Some(Minor::Open));
             }
-            _ => return Ok(None),
+            Affix::Reserved => return Ok(None),
         };
         if self.strict && minor.is_longer(first / 32) {
             return Ok(None);

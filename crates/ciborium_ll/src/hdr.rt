@@ -3,6 +3,11 @@
 ghost use Rattle.std.specs.Prelude.{ℕ, ◌≡◌, ◌+◌, ◌*◌, ◌<◌, length, IfSome, IfNone, [], ◌∷◌};
 ghost use Rattle.ciborium_ll.specs.Title.{IsInRange, IsTitle, IsNeverOpen, Major, least_size, minor_of, affix_of, shortest_title, title_len, shortest_with_length, major_code};
 ghost use Rattle.ciborium_ll.specs.Parts.{IsMinor, IsParts, minor_affix, minor_code, minor_number, longer_parts, parts_bytes, parts_first, title_bytes};
+ghost use Rattle.ciborium_ll.specs.TitleRows.{IsKind};
+
+pub(crate) mod table;
+
+use crate::hdr::table::Kind;
 
 /// A float by its width and its raw bits (RFC 7049, 2.3).
 ///
@@ -195,25 +200,28 @@ impl Title {
         self.major * 32 + self.minor.code()
     }
 
-    /// What the title means, or nothing for the minor 31 where it has no meaning.
-    pub(crate) fn header(self) -> Option<Header>
-        requires { IsParts self }
+    /// What the title means, which is of this kind, or nothing for the minor 31 where it has no meaning.
+    #[inline(always)]
+    pub(crate) fn header(self, kind: Kind) -> Option<Header>
+        requires parts { IsParts self }
+        requires kind { IsKind kind self.major (minor_code self.minor) }
         ensures some { IfSome result (IsTitle (title_bytes self)) }
         ensures none { IfNone result ((minor_code self.minor ≡ 31) × IsNeverOpen self.major) }
     {
         let n = match self.minor.number() {
             Some(n) => n,
-            None => return open_header(self.major),
+            None => return open_header(kind),
         };
-        Some(match self.major {
-            0 => Header::Positive(n),
-            1 => Header::Negative(n),
-            2 => Header::Bytes(Some(n as usize)),
-            3 => Header::Text(Some(n as usize)),
-            4 => Header::Array(Some(n as usize)),
-            5 => Header::Map(Some(n as usize)),
-            6 => Header::Tag(n),
-            _ => other_header(self.minor),
+        Some(match kind {
+            Kind::Positive => Header::Positive(n),
+            Kind::Negative => Header::Negative(n),
+            Kind::Bytes => Header::Bytes(Some(n as usize)),
+            Kind::Text => Header::Text(Some(n as usize)),
+            Kind::Array => Header::Array(Some(n as usize)),
+            Kind::Map => Header::Map(Some(n as usize)),
+            Kind::Tag => Header::Tag(n),
+            Kind::Other => other_header(self.minor),
+            Kind::Refused => return None,
         })
     }
 
@@ -238,23 +246,24 @@ impl Title {
     }
 }
 
-/// What the minor 31 means.
-fn open_header(major: u8) -> Option<Header>
-    requires { major < 8 }
-    ensures some { IfSome result (IsTitle ((32 * major + 31) ∷ [])) }
-    ensures none { IfNone result (IsNeverOpen major) }
+/// What the minor 31 means in a title of this kind.
+#[inline(always)]
+fn open_header(kind: Kind) -> Option<Header>
+    ensures some { IfSome result (λ header. (major : ℕ) → IsKind kind major 31 → IsTitle ((32 * major + 31) ∷ []) header) }
+    ensures none { IfNone result ((major : ℕ) → IsKind kind major 31 → IsNeverOpen major) }
 {
-    match major {
-        2 => Some(Header::Bytes(None)),
-        3 => Some(Header::Text(None)),
-        4 => Some(Header::Array(None)),
-        5 => Some(Header::Map(None)),
-        7 => Some(Header::Break),
-        _ => None,
+    match kind {
+        Kind::Bytes => Some(Header::Bytes(None)),
+        Kind::Text => Some(Header::Text(None)),
+        Kind::Array => Some(Header::Array(None)),
+        Kind::Map => Some(Header::Map(None)),
+        Kind::Other => Some(Header::Break),
+        Kind::Positive | Kind::Negative | Kind::Tag | Kind::Refused => None,
     }
 }
 
 /// What a minor means under the major type 7.
+#[inline(always)]
 fn other_header(minor: Minor) -> Header
     requires { IsMinor minor }
     ensures { IsTitle (parts_bytes 7 minor) result }

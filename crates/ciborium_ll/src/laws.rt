@@ -27,7 +27,7 @@ pub use self::pieces::{Piece, copy_spelled, spelled_pieces, write_pieces};
 pub use self::strings::one_string;
 pub use self::text::{
     damage_by_state, joined_texts, no_rest_of_text, no_text_begins, one_front, rest_of_text,
-    same_text, text_by_state,
+    same_text, text_by_state, text_or_front,
 };
 pub use self::titles::{
     cut_titles, one_title, refused_first_bytes, shortest_titles, title_header, title_length,

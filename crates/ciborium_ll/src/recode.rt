@@ -7,9 +7,13 @@ ghost use Rattle.ciborium_ll.specs.Decoding.{IsSteady, offset_of, refusals_of, w
 ghost use Rattle.ciborium_ll.specs.Encoding.{writer_of};
 ghost use Rattle.ciborium_ll.specs.Chunks.{IsWhole};
 ghost use Rattle.ciborium_ll.specs.Faults.{RunInFront};
-ghost use Rattle.ciborium_ll.specs.RecodingTold.{IsReady, IsReadyAs, IsTold, RecodesAnyhow, RecodesTold};
-ghost use Rattle.ciborium_ll.specs.StrictRecoding.{RecodesStrictly, StrictRunInFront};
+ghost use Rattle.ciborium_ll.specs.RecodingTold.{IsReady, IsReadyAs, IsTold, IsToldAs, RecodesAnyhow, RecodesTold};
+ghost use Rattle.ciborium_ll.specs.StrictRecoding.{RecodesStrictly, RecodesStrictlyAnyhow, StrictRunInFront};
 ghost use Rattle.ciborium_ll.specs.Recoding.{CopiesBehind, CopiesBody, CopiesElement, CopiesElements, CopiesSegments, WritesHeader};
+
+mod strict;
+
+pub use self::strict::strict_len;
 
 use crate::dec::{Decoder, Error};
 use crate::enc::Encoder;
@@ -183,8 +187,8 @@ fn copy_element<R: Read, W: Write>(
 /// the byte from which the shortest would reach the body. `Io` says that the reader failed, `TooLong` that the offset
 /// can't take the next read. `Write` carries the writer's error. The titles and chunks before the error are written.
 ///
-/// A strict decoder gives elements in their shortest spelling alone, with no string of indefinite length inside another,
-/// and they are written as they are.
+/// A strict decoder gives elements in their shortest spelling alone, with no string of indefinite length inside
+/// another, and they are written as they are.
 pub fn recode<R: Read, W: Write>(
     decoder: &mut Decoder<R>,
     encoder: &mut Encoder<W>,
@@ -212,6 +216,11 @@ pub fn recode<R: Read, W: Write>(
         → IsReadyAs R.Read W.Write true count (length buffer.old) decoder.old (writer_of encoder.old) due written
         → waiting_of decoder.old ≡ None
         → (IsOk result ↔ StrictRunInFront count due) }
+    ensures strictly_anyhow { (due written : List ℕ)
+        → IsToldAs R.Read W.Write true decoder.old (writer_of encoder.old) due written
+        → waiting_of decoder.old ≡ None
+        → RecodesStrictlyAnyhow R.Read W.Write count (length buffer.old) due written decoder.old result
+            decoder.new (writer_of encoder.new) }
 {
     'elements: for _copied in 0..count {
         copy_element(decoder, encoder, buffer)?;

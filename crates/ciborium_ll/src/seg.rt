@@ -109,7 +109,7 @@ impl<'r, R: Read, P: Parser> Segments<'r, R, P> {
     ghost use Rattle.ciborium_ll.specs.declared.seg.Progress.TheVariants.{Open};
     ghost use Rattle.ciborium_ll.specs.Decoding.{IsSteady, offset_of, refusals_of, waiting_of};
     ghost use Rattle.std.specs.Borrow.{sem};
-    ghost use Rattle.ciborium_ll.specs.Segments.{AdvancesTo, StepsOver, opens_of};
+    ghost use Rattle.ciborium_ll.specs.Segments.{AdvancesTo, GivesAgain, StepsOver, opens_of};
     ghost use Rattle.ciborium_ll.specs.Chunks.{IsWhole, PullsSegment};
     ghost use Rattle.ciborium_ll.specs.Lend.{lends_segment, pulls_segment};
 
@@ -181,6 +181,7 @@ impl<'r, R: Read, P: Parser> Segments<'r, R, P> {
     pub fn pull(&mut self) -> Result<Option<Segment<'_, R, P>>, Error<R::Error>>
         ensures* lends { sem 𝓛 (pulls_segment R.row P.row R.Read self.entry result) }
         ensures pulls { PullsSegment R.Read P.kind self.old.progress self.old.reader.now result }
+        ensures stays { GivesAgain self.old.progress result }
     {
         match self.advance() {
             Ok(Some(body)) => Ok(Some(self.segment(body))),

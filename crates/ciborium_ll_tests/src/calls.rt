@@ -1,17 +1,24 @@
-ghost use Rattle.std.specs.Prelude.{◌≡◌, IsTrue, length, take};
+ghost use Rattle.std.specs.Prelude.{◌≡◌, ◌≤◌, IsTrue, None, length, take};
+ghost use Rattle.ciborium_ll.specs.Decoding.{IsSteady, offset_of, waiting_of};
+ghost use Rattle.ciborium_ll.specs.Title.{title_len};
 
 use ciborium_ll::io::{EndOfFile, Failures, OutOfSpace, Read, SliceReader, SliceWriter, Write};
 use ciborium_ll::{Decoder, Encoder, Error, Header};
 use std::process::Abort;
 use std::test::Fail;
 
-// Pulls a header that has to be there.
+// Pulls a header that has to be there. It may be pushed back.
 pub fn pulls<R: Read>(rt: &impl Abort, decoder: &mut Decoder<R>, want: Header, offset: usize)
 where
     R::Error: Drop,
+    ensures none_waits { waiting_of decoder.new ≡ None }
+    ensures covered { title_len want ≤ offset_of decoder.new }
+    ensures steady { IsSteady R.Read decoder.old → IsSteady R.Read decoder.new }
 {
-    let header = decoder.pull();
-    assert!(rt; matches!(&header, Ok(header) if *header == want));
+    let Ok(header) = decoder.pull() else {
+        panic!(rt; "no header");
+    };
+    assert!(rt; header == want);
     assert_eq!(rt; decoder.offset(), offset);
 }
 

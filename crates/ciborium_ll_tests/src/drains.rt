@@ -1,3 +1,7 @@
+ghost use Rattle.std.specs.Prelude.{◌≡◌, ◌≤◌, None, Some};
+ghost use Rattle.ciborium_ll.specs.Decoding.{offset_of, waiting_of};
+ghost use Rattle.ciborium_ll.specs.Title.{title_len};
+
 use crate::calls::pulls;
 use ciborium_ll::io::{Read, SliceReader, SliceWriter, Write};
 use ciborium_ll::laws::{self, Drained, End};
@@ -15,9 +19,9 @@ fn drains_text<R: Read, W: Write>(
 ) -> Result<Drained, RecodeError<R::Error, W::Error>>
 where
     R::Error: Drop,
+    requires none_waits { waiting_of decoder.old ≡ None }
+    requires covered { title_len (Header.Text (Some length)) ≤ offset_of decoder.old }
 {
-    assert!(rt; !decoder.is_waiting());
-    assert!(rt; Header::Text(Some(length)).title_len() <= decoder.offset());
     assert!(rt; sizes.iter().all(|size| *size <= 64));
     let mut segments = decoder.text(Some(length));
     let found = match segments.pull() {
@@ -40,9 +44,9 @@ fn drains_bytes<R: Read, W: Write>(
 ) -> Result<Drained, RecodeError<R::Error, W::Error>>
 where
     R::Error: Drop,
+    requires none_waits { waiting_of decoder.old ≡ None }
+    requires covered { title_len (Header.Bytes (Some length)) ≤ offset_of decoder.old }
 {
-    assert!(rt; !decoder.is_waiting());
-    assert!(rt; Header::Bytes(Some(length)).title_len() <= decoder.offset());
     assert!(rt; sizes.iter().all(|size| *size <= 64));
     let mut segments = decoder.bytes(Some(length));
     let found = match segments.pull() {

@@ -12,6 +12,8 @@ mod drains;
 #[cfg(test)]
 mod elements;
 #[cfg(test)]
+mod exactly;
+#[cfg(test)]
 mod faults;
 #[cfg(test)]
 mod pieces;
@@ -19,6 +21,8 @@ mod pieces;
 mod readme;
 #[cfg(test)]
 mod streams;
+#[cfg(test)]
+mod strict;
 #[cfg(test)]
 mod strings;
 #[cfg(test)]

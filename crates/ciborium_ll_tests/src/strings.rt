@@ -1,3 +1,7 @@
+ghost use Rattle.std.specs.Prelude.{◌≡◌, ◌≤◌, None, Some};
+ghost use Rattle.ciborium_ll.specs.Decoding.{offset_of, waiting_of};
+ghost use Rattle.ciborium_ll.specs.Title.{title_len};
+
 use crate::calls::pulls;
 use ciborium_ll::io::{Read, SliceReader};
 use ciborium_ll::{Bytes, Decoder, Error, Header, Text};
@@ -20,9 +24,9 @@ fn reads_text<R: Read>(
 )
 where
     R::Error: Drop,
+    requires none_waits { waiting_of decoder.old ≡ None }
+    requires covered { title_len (Header.Text (Some length)) ≤ offset_of decoder.old }
 {
-    assert!(rt; !decoder.is_waiting());
-    assert!(rt; Header::Text(Some(length)).title_len() <= decoder.offset());
     let mut segments = decoder.text(Some(length));
     let found = match segments.pull() {
         Ok(found) => found,
@@ -89,9 +93,10 @@ fn a_character_waits_for_room(rt: HostRuntime) {
 }
 
 // Asks for the segments of a byte string, and drops them.
-fn asks_for_segments<R: Read>(rt: &impl Abort, decoder: &mut Decoder<R>, length: Option<usize>) {
-    assert!(rt; !decoder.is_waiting());
-    assert!(rt; Header::Bytes(length).title_len() <= decoder.offset());
+fn asks_for_segments<R: Read>(decoder: &mut Decoder<R>, length: Option<usize>)
+    requires none_waits { waiting_of decoder.old ≡ None }
+    requires covered { title_len (Header.Bytes length) ≤ offset_of decoder.old }
+{
     let _segments = decoder.bytes(length);
 }
 
@@ -99,19 +104,19 @@ fn asks_for_segments<R: Read>(rt: &impl Abort, decoder: &mut Decoder<R>, length:
 fn segments_that_are_never_asked_for(rt: HostRuntime) {
     let mut decoder = Decoder::from(SliceReader::new(&[0x58, 5, 1, 2, 3, 4, 5]));
     pulls(&rt, &mut decoder, Header::Bytes(Some(5)), 2);
-    asks_for_segments(&rt, &mut decoder, Some(5));
+    asks_for_segments(&mut decoder, Some(5));
     assert_eq!(rt; decoder.offset(), 1);
     assert!(rt; decoder.is_waiting());
     pulls(&rt, &mut decoder, Header::Bytes(Some(5)), 2);
 }
 
-// Reads segments of bytes by a buffer of one byte, and then twice the string's end.
+// Reads segments of bytes by a buffer of one byte, and then the string's end, again and again.
 fn reads_bodies<R: Read>(rt: &impl Abort, decoder: &mut Decoder<R>, bodies: &[&[u8]])
 where
     R::Error: Drop,
+    requires none_waits { waiting_of decoder.old ≡ None }
+    requires covered { title_len (Header.Bytes None) ≤ offset_of decoder.old }
 {
-    assert!(rt; !decoder.is_waiting());
-    assert!(rt; Header::Bytes(None).title_len() <= decoder.offset());
     let mut segments = decoder.bytes(None);
     for body in bodies {
         let found = match segments.pull() {
@@ -133,8 +138,9 @@ where
         assert!(rt; matches!(segment.pull(&mut [0; 1]), Ok(None)));
     }
     for _ in 0..2 {
-        assert!(rt; matches!(segments.advance(), Ok(None)));
+        assert!(rt; matches!(segments.pull(), Ok(None)));
     }
+    assert!(rt; matches!(segments.advance(), Ok(None)));
 }
 
 #[test]
@@ -156,9 +162,9 @@ fn finds_no_segment<R: Read>(
 )
 where
     R::Error: Drop,
+    requires none_waits { waiting_of decoder.old ≡ None }
+    requires covered { title_len (Header.Bytes None) ≤ offset_of decoder.old }
 {
-    assert!(rt; !decoder.is_waiting());
-    assert!(rt; Header::Bytes(None).title_len() <= decoder.offset());
     let mut segments = decoder.bytes(None);
     for _ in 0..dropped {
         let found = match segments.pull() {
@@ -196,9 +202,9 @@ fn a_title_that_may_not_stand_in_a_string(rt: HostRuntime) {
 fn reads_body<R: Read>(rt: &impl Abort, decoder: &mut Decoder<R>, place: usize, want: &str)
 where
     R::Error: Drop,
+    requires none_waits { waiting_of decoder.old ≡ None }
+    requires covered { title_len (Header.Text None) ≤ offset_of decoder.old }
 {
-    assert!(rt; !decoder.is_waiting());
-    assert!(rt; Header::Text(None).title_len() <= decoder.offset());
     let mut segments = decoder.text(None);
     let Ok(Some(body)) = segments.advance() else {
         panic!(rt; "no body");

@@ -5,7 +5,7 @@ use std::process::Abort;
 use std::test::Fail;
 
 // Titles of one header each, the shortest of that header.
-const VECTORS: [(&str, Header); 54] = [
+pub const VECTORS: [(&str, Header); 54] = [
     ("00", Header::Positive(0)),
     ("01", Header::Positive(1)),
     ("0a", Header::Positive(10)),

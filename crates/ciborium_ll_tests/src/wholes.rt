@@ -1,10 +1,11 @@
-ghost use Rattle.std.specs.Prelude.{◌≡◌, None};
-ghost use Rattle.ciborium_ll.specs.Decoding.{refusals_of, waiting_of};
+ghost use Rattle.std.specs.Prelude.{◌≡◌, ◌≤◌, None};
+ghost use Rattle.ciborium_ll.specs.Decoding.{IsSteady, offset_of, refusals_of, waiting_of};
+ghost use Rattle.ciborium_ll.specs.Title.{title_len};
 
 use crate::calls::pulls;
 use ciborium_ll::io::{Read, SliceReader};
 use ciborium_ll::laws::{skip_bytes, skip_text};
-use ciborium_ll::{Decoder, Error, Header, Segments, Text};
+use ciborium_ll::{Bytes, Decoder, Error, Header, Segment, Segments, Text};
 use std::process::Abort;
 
 // How the read of a string ends.
@@ -38,8 +39,6 @@ where
     R::Error: Drop,
 {
     pulls(rt, decoder, header, title);
-    assert!(rt; !decoder.is_waiting());
-    assert!(rt; header.title_len() <= decoder.offset());
     let mut buffer = [0; 4];
     let answer = match header {
         Header::Bytes(length) => skip_bytes(decoder, length, &mut buffer),
@@ -118,9 +117,9 @@ fn whole_texts(rt: HostRuntime) {
 fn finishes<R: Read>(rt: &impl Abort, decoder: &mut Decoder<R>, size: usize, want: End)
 where
     R::Error: Drop,
+    requires none_waits { waiting_of decoder.old ≡ None }
+    requires covered { title_len (Header.Text None) ≤ offset_of decoder.old }
 {
-    assert!(rt; !decoder.is_waiting());
-    assert!(rt; Header::Text(None).title_len() <= decoder.offset());
     let mut segments = decoder.text(None);
     let found = match segments.pull() {
         Ok(found) => found,
@@ -162,6 +161,47 @@ fn next_segment<R: Read>(
     }
 }
 
+// Reads a segment of a steady reader to its end.
+fn steady_segment<R: Read>(
+    segment: Segment<'_, R, Bytes>,
+    buffer: &mut [u8; 4],
+) -> Result<(), Error<R::Error>>
+    requires { IsSteady R.Read segment.reader.now }
+{
+    segment.finish(buffer)
+}
+
+// Pulls a segment, and reads it to its end. That its reader is still steady is known here, in another crate.
+fn next_steady_segment<R: Read>(
+    segments: &mut Segments<'_, R, Bytes>,
+    buffer: &mut [u8; 4],
+) -> Result<(), Error<R::Error>>
+    requires { IsSteady R.Read segments.old.reader.now }
+{
+    match segments.pull()? {
+        Some(segment) => steady_segment(segment, buffer),
+        None => Ok(()),
+    }
+}
+
+// Reads the first segment of a byte string.
+fn reads_first<R: Read>(decoder: &mut Decoder<R>) -> Result<(), Error<R::Error>>
+    requires none_waits { waiting_of decoder.old ≡ None }
+    requires covered { title_len (Header.Bytes None) ≤ offset_of decoder.old }
+    requires steady { IsSteady R.Read decoder.old }
+{
+    let mut segments = decoder.bytes(None);
+    next_steady_segment(&mut segments, &mut [0; 4])
+}
+
+#[test]
+fn a_segment_of_a_steady_reader(rt: HostRuntime) {
+    let mut decoder = Decoder::from(SliceReader::new(b"\x5f\x42\x01\x02\xff"));
+    pulls(&rt, &mut decoder, Header::Bytes(None), 1);
+    assert!(rt; reads_first(&mut decoder).is_ok());
+    assert_eq!(rt; decoder.offset(), 4);
+}
+
 #[test]
 fn the_next_segment(rt: HostRuntime) {
     let mut decoder = Decoder::from(SliceReader::new(b"\x7f\x61a\x62bc\xff"));
@@ -174,9 +214,9 @@ fn the_next_segment(rt: HostRuntime) {
 fn reads_a_segment<R: Read>(rt: &impl Abort, decoder: &mut Decoder<R>)
 where
     R::Error: Drop,
+    requires none_waits { waiting_of decoder.old ≡ None }
+    requires covered { title_len (Header.Text None) ≤ offset_of decoder.old }
 {
-    assert!(rt; !decoder.is_waiting());
-    assert!(rt; Header::Text(None).title_len() <= decoder.offset());
     let mut segments = decoder.text(None);
     assert!(rt; next_segment(&mut segments, &mut [0; 4]).is_ok());
 }

@@ -77,9 +77,8 @@ module _ {D S E F : Type 0} (source : Reader D E) (sink : Writer S F) where
     abbrev short : StopsShort source sink count due written old new writer' → ReadsShort got count due written flushed
     short stops = record { stop = stops.stop; output = gets _ stops.output }
 
-    near : (offset consumed : ℕ) → offset ≡ consumed → ((2 ^ 64 ≤ offset + 8) ⊎ (2 ^ 64 ≤ offset + 64)) → 2 ^ 64 ≤ consumed + 64
-    near offset consumed same (inl less) = omega (arith, same, less)
-    near offset consumed same (inr less) = omega (arith, same, less)
+    near : (offset consumed : ℕ) → offset ≡ consumed → 2 ^ 64 ≤ offset + 64 → 2 ^ 64 ≤ consumed + 64
+    near offset consumed same full = omega (arith, same, full)
 
     -- all was written, and the flush behind it failed
     pub raw_unflushed : RecodesAnyhow source sink count 64 due written old (Ok (tt {0})) new writer' → WritesShort got count due written flushed

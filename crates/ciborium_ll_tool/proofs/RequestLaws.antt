@@ -16,7 +16,7 @@ use Rattle.ciborium_ll_tool.specs.declared.request.Counted.{Counted}
 use Rattle.ciborium_ll_tool.specs.declared.request.Limited.{Limited}
 use Rattle.ciborium_ll_tool.specs.Word.{bytes_of_word, decoded}
 use Rattle.ciborium_ll_tool.specs.declared.request.Request.{Request}
-use Rattle.ciborium_ll_tool.specs.declared.request.Request.TheVariants.{Bytes, Chunks, Heads, Recode, Text}
+use Rattle.ciborium_ll_tool.specs.declared.request.Request.TheVariants.{Bytes, Chunks, Heads, Recode, Strict, Text}
 use Rattle.ciborium_ll_tool.proofs.NumberLaws.{limit_has_no_space, number_has_no_space}
 
 -- what was decoded to bytes is Ok
@@ -72,6 +72,8 @@ IsAscii-words words (Text asked) (first, word, parts, limit, has) =
     rw parts (IsAscii-two first word (IsAscii-limit first asked.limit limit) (IsAscii-word word asked.bytes.items has))
 IsAscii-words words (Recode asked) (first, word, parts, count, has) =
     rw parts (IsAscii-two first word (IsAscii-number first asked.count count) (IsAscii-word word asked.bytes.items has))
+IsAscii-words words (Strict asked) (first, word, parts, count, has) =
+    rw parts (IsAscii-two first word (IsAscii-number first asked.count count) (IsAscii-word word asked.bytes.items has))
 
 -- the name of a request
 IsAscii-name : (request : Request) → IsAscii (name_of request)
@@ -80,6 +82,7 @@ IsAscii-name (Chunks asked) = IsAscii-from_test (codes "chunks") refl
 IsAscii-name (Bytes asked) = IsAscii-from_test (codes "bytes") refl
 IsAscii-name (Text asked) = IsAscii-from_test (codes "text") refl
 IsAscii-name (Recode asked) = IsAscii-from_test (codes "recode") refl
+IsAscii-name (Strict asked) = IsAscii-from_test (codes "strict") refl
 
 -- a request is UTF-8
 pub IsUtf8-request : (line : List ℕ) (request : Request) → Asks line request → IsUtf8 line
@@ -104,6 +107,7 @@ name_has_no_space (Chunks asked) = no_space_at (codes "chunks") refl
 name_has_no_space (Bytes asked) = no_space_at (codes "bytes") refl
 name_has_no_space (Text asked) = no_space_at (codes "text") refl
 name_has_no_space (Recode asked) = no_space_at (codes "recode") refl
+name_has_no_space (Strict asked) = no_space_at (codes "strict") refl
 
 -- a request is cut behind its name
 pub cut_behind_name : (line : List ℕ) (r : Option (Bor (List ℕ) × Bor (List ℕ))) → IsSplitOnceResult space line r
@@ -158,6 +162,7 @@ refuses_chunks name words is refused (Chunks asked) named spelled = refused aske
 refuses_chunks name words is refused (Bytes asked) named spelled = let other : 99 ≡ 98 = ap initial (sym is ∙ named) in omega (arith, other)
 refuses_chunks name words is refused (Text asked) named spelled = let other : 99 ≡ 116 = ap initial (sym is ∙ named) in omega (arith, other)
 refuses_chunks name words is refused (Recode asked) named spelled = let other : 99 ≡ 114 = ap initial (sym is ∙ named) in omega (arith, other)
+refuses_chunks name words is refused (Strict asked) named spelled = let other : 99 ≡ 115 = ap initial (sym is ∙ named) in omega (arith, other)
 
 -- words that are refused behind the name are no request of it
 pub none_of_chunks : (name words : List ℕ) (found : Option Buffered) (result : Option Request) (P : Buffered → Request → Type 0)
@@ -174,6 +179,7 @@ refuses_bytes name words is refused (Chunks asked) named spelled = let other : 9
 refuses_bytes name words is refused (Bytes asked) named spelled = refused asked spelled
 refuses_bytes name words is refused (Text asked) named spelled = let other : 98 ≡ 116 = ap initial (sym is ∙ named) in omega (arith, other)
 refuses_bytes name words is refused (Recode asked) named spelled = let other : 98 ≡ 114 = ap initial (sym is ∙ named) in omega (arith, other)
+refuses_bytes name words is refused (Strict asked) named spelled = let other : 98 ≡ 115 = ap initial (sym is ∙ named) in omega (arith, other)
 
 -- words that are refused behind the name are no request of it
 pub none_of_bytes : (name words : List ℕ) (found : Option Limited) (result : Option Request) (P : Limited → Request → Type 0)
@@ -190,6 +196,7 @@ refuses_text name words is refused (Chunks asked) named spelled = let other : 11
 refuses_text name words is refused (Bytes asked) named spelled = let other : 116 ≡ 98 = ap initial (sym is ∙ named) in omega (arith, other)
 refuses_text name words is refused (Text asked) named spelled = refused asked spelled
 refuses_text name words is refused (Recode asked) named spelled = let other : 116 ≡ 114 = ap initial (sym is ∙ named) in omega (arith, other)
+refuses_text name words is refused (Strict asked) named spelled = let other : 116 ≡ 115 = ap initial (sym is ∙ named) in omega (arith, other)
 
 -- words that are refused behind the name are no request of it
 pub none_of_text : (name words : List ℕ) (found : Option Limited) (result : Option Request) (P : Limited → Request → Type 0)
@@ -206,6 +213,7 @@ refuses_recode name words is refused (Chunks asked) named spelled = let other : 
 refuses_recode name words is refused (Bytes asked) named spelled = let other : 114 ≡ 98 = ap initial (sym is ∙ named) in omega (arith, other)
 refuses_recode name words is refused (Text asked) named spelled = let other : 114 ≡ 116 = ap initial (sym is ∙ named) in omega (arith, other)
 refuses_recode name words is refused (Recode asked) named spelled = refused asked spelled
+refuses_recode name words is refused (Strict asked) named spelled = let other : 114 ≡ 115 = ap initial (sym is ∙ named) in omega (arith, other)
 
 -- words that are refused behind the name are no request of it
 pub none_of_recode : (name words : List ℕ) (found : Option Counted) (result : Option Request) (P : Counted → Request → Type 0)
@@ -214,3 +222,20 @@ pub none_of_recode : (name words : List ℕ) (found : Option Counted) (result : 
 none_of_recode name words found (Some request) P cases refused is = _
 none_of_recode name words (Some asked) None P cases refused is = absurd cases
 none_of_recode name words None None P cases refused is = refuses_recode name words is refused
+
+refuses_strict : (name words : List ℕ) → name ≡ codes "strict" → ((asked : Counted) → SpellsCounted words asked → ⊥)
+    → (request : Request) → name ≡ name_of request → Spells words request → ⊥
+refuses_strict name words is refused (Heads bytes) named spelled = let other : 115 ≡ 104 = ap initial (sym is ∙ named) in omega (arith, other)
+refuses_strict name words is refused (Chunks asked) named spelled = let other : 115 ≡ 99 = ap initial (sym is ∙ named) in omega (arith, other)
+refuses_strict name words is refused (Bytes asked) named spelled = let other : 115 ≡ 98 = ap initial (sym is ∙ named) in omega (arith, other)
+refuses_strict name words is refused (Text asked) named spelled = let other : 115 ≡ 116 = ap initial (sym is ∙ named) in omega (arith, other)
+refuses_strict name words is refused (Recode asked) named spelled = let other : 115 ≡ 114 = ap initial (sym is ∙ named) in omega (arith, other)
+refuses_strict name words is refused (Strict asked) named spelled = refused asked spelled
+
+-- words that are refused behind the name are no request of it
+pub none_of_strict : (name words : List ℕ) (found : Option Counted) (result : Option Request) (P : Counted → Request → Type 0)
+    → MatchOption found (result ≡ None) (λ x. IsSomeAnd result (P x)) → IfNone found ((asked : Counted) → SpellsCounted words asked → ⊥)
+    → name ≡ codes "strict" → IfNone result ((request : Request) → name ≡ name_of request → Spells words request → ⊥)
+none_of_strict name words found (Some request) P cases refused is = _
+none_of_strict name words (Some asked) None P cases refused is = absurd cases
+none_of_strict name words None None P cases refused is = refuses_strict name words is refused

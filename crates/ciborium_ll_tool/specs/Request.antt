@@ -4,7 +4,7 @@ use Rattle.ciborium_ll_tool.specs.Number.{IsLimit, IsNumber, IsSize}
 use Rattle.ciborium_ll_tool.specs.Word.{bytes_of_word}
 use Rattle.ciborium_ll_tool.specs.declared.request.Limited.{Limited}
 use Rattle.ciborium_ll_tool.specs.declared.request.Request.{Request}
-use Rattle.ciborium_ll_tool.specs.declared.request.Request.TheVariants.{Bytes, Chunks, Heads, Recode, Text}
+use Rattle.ciborium_ll_tool.specs.declared.request.Request.TheVariants.{Bytes, Chunks, Heads, Recode, Strict, Text}
 use Rattle.ciborium_ll_tool.specs.declared.request.Buffered.{Buffered}
 use Rattle.ciborium_ll_tool.specs.declared.request.Counted.{Counted}
 
@@ -34,6 +34,7 @@ name_of (Chunks asked) = codes "chunks"
 name_of (Bytes asked) = codes "bytes"
 name_of (Text asked) = codes "text"
 name_of (Recode asked) = codes "recode"
+name_of (Strict asked) = codes "strict"
 
 -- the words behind the first one
 abbrev pub Spells : List ℕ → Request → Type 0
@@ -42,6 +43,7 @@ Spells words (Chunks asked) = SpellsBuffered words asked
 Spells words (Bytes asked) = SpellsLimited words asked
 Spells words (Text asked) = SpellsLimited words asked
 Spells words (Recode asked) = SpellsCounted words asked
+Spells words (Strict asked) = SpellsCounted words asked
 
 -- the line is this request, spelled out
 abbrev pub Asks : List ℕ → Request → Type 0

@@ -23,7 +23,12 @@ pub fn line<T: Write>(alloc: Global, line: &[u8], sink: &mut T) -> Result<(), To
             value::text(alloc, asked.bytes.as_slice(), asked.limit, sink)?;
         }
         Some(Request::Recode(asked)) => {
-            copy::elements(alloc, asked.count, asked.bytes.as_slice(), sink)?;
+            let decoder = Decoder::from(SliceReader::new(asked.bytes.as_slice()));
+            copy::elements(alloc, decoder, asked.count, asked.bytes.len(), sink)?;
+        }
+        Some(Request::Strict(asked)) => {
+            let decoder = Decoder::strict(SliceReader::new(asked.bytes.as_slice()));
+            copy::elements(alloc, decoder, asked.count, asked.bytes.len(), sink)?;
         }
         None => writeln!(sink, "error: line")?,
     }

@@ -12,12 +12,18 @@ use std::fmt::Write;
 /// How many bytes of a string are copied at a time, at most.
 pub const BUFFER_SIZE: usize = 64;
 
-/// Answers `recode`: what a copy of so many elements wrote, and what is left of the bytes or why the copy stopped.
-pub fn elements<T: Write>(alloc: Global, count: usize, bytes: &[u8], sink: &mut T) -> fmt::Result {
+/// Answers `recode` and `strict`: what a copy of so many elements wrote, and what is left of the bytes or why the copy
+/// stopped. The decoder reads bytes of this length.
+pub fn elements<T: Write>(
+    alloc: Global,
+    mut decoder: Decoder<SliceReader<'_>>,
+    count: usize,
+    length: usize,
+    sink: &mut T,
+) -> fmt::Result {
     let mut buffer = [0; BUFFER_SIZE];
     // No element has a longer spelling than the one that it is read from.
-    let mut space = vec![in alloc; 0u8; bytes.len()]?;
-    let mut decoder = Decoder::from(SliceReader::new(bytes));
+    let mut space = vec![in alloc; 0u8; length]?;
     let mut encoder = Encoder::from(SliceWriter::new(space.as_mut_slice()));
     let outcome = recode(&mut decoder, &mut encoder, count, &mut buffer);
     let offset = decoder.offset();

@@ -121,6 +121,8 @@ pub enum Request {
     Text(Limited),
     /// `recode COUNT HEX`: a copy of the elements that the bytes begin with.
     Recode(Counted),
+    /// `strict COUNT HEX`: such a copy by a strict decoder.
+    Strict(Counted),
 }
 
 impl Request {
@@ -163,6 +165,7 @@ impl Request {
             "bytes" => Ok(Limited::parse(alloc, words)?.map(Request::Bytes)),
             "text" => Ok(Limited::parse(alloc, words)?.map(Request::Text)),
             "recode" => Ok(Counted::parse(alloc, words)?.map(Request::Recode)),
+            "strict" => Ok(Counted::parse(alloc, words)?.map(Request::Strict)),
             _ => Ok(None),
         }
     }

@@ -150,6 +150,7 @@ fn elements_are_copied(rt: HostRuntime) -> Result<(), Fail> {
         ("recode 2 1805f810a0", "05f0 rest a0\n"),
         ("recode 1 ff", "ff rest -\n"),
         ("recode 1 7fff", "7fff rest -\n"),
+        ("recode 1 5f40ff", "5f40ff rest -\n"),
         (
             "recode 3 a107780d48656c6c6f2c20576f726c6421",
             "a1076d48656c6c6f2c20576f726c6421 rest -\n",
@@ -193,6 +194,32 @@ fn a_copy_that_stops(rt: HostRuntime) -> Result<(), Fail> {
     answer_as(&rt, rt.alloc(), &rows)
 }
 
+#[test]
+fn strict_copies(rt: HostRuntime) -> Result<(), Fail> {
+    let rows = [
+        ("strict 1 1805", "- syntax 0\n"),
+        ("strict 1 1817", "- syntax 0\n"),
+        ("strict 1 1818", "1818 rest -\n"),
+        ("strict 1 190018", "- syntax 0\n"),
+        ("strict 1 f818", "- syntax 0\n"),
+        ("strict 1 f81f", "- syntax 0\n"),
+        ("strict 1 f820", "f820 rest -\n"),
+        ("strict 1 f90000", "f90000 rest -\n"),
+        ("strict 2 051805", "05 syntax 1\n"),
+        ("strict 1 5f4101ff", "5f4101ff rest -\n"),
+        ("strict 1 5f5f4101ffff", "5f syntax 1\n"),
+        ("strict 1 7f780161ff", "7f syntax 1\n"),
+        ("strict 1 780261ff", "- syntax 0\n"),
+        ("strict 1 5f7fff", "5f syntax 1\n"),
+        ("strict 1 1c", "- syntax 0\n"),
+        ("strict 1 4301", "43 short 1\n"),
+        ("strict 1 6261ff00", "6261 syntax 0\n"),
+        ("strict 1 0500", "05 rest 00\n"),
+        ("strict 0 1805", "- rest 1805\n"),
+    ];
+    answer_as(&rt, rt.alloc(), &rows)
+}
+
 // Writes bytes, and passes them on.
 fn writes<W: Write>(writer: &mut W, data: &[u8]) -> Result<(), W::Error> {
     writer.write_all(data)?;
@@ -213,7 +240,7 @@ fn a_writer_in_memory(rt: HostRuntime) -> Result<(), Fail> {
 
 #[test]
 fn lines_that_are_no_request(rt: HostRuntime) -> Result<(), Fail> {
-    let lines: [&[u8]; 32] = [
+    let lines: [&[u8]; 34] = [
         b"",
         b" ",
         b"heads",
@@ -246,6 +273,8 @@ fn lines_that_are_no_request(rt: HostRuntime) -> Result<(), Fail> {
         b"recode * 00",
         b"recode 01 00",
         b"recode 4294967296 00",
+        b"strict 1",
+        b"strict * 00",
     ];
     for line in lines {
         let mut input = line.to_vec(rt.alloc())?;

@@ -1,15 +1,32 @@
 //! Laws of text.
 
-ghost use Rattle.std.specs.Prelude.{◌≡◌, ℕ, ◌<◌, ◌++◌, List, length, ◌≢◌, ◌↔◌, IsUtf8, [], take, drop};
+ghost use Rattle.std.specs.Prelude.{◌≡◌, ℕ, ◌<◌, ◌++◌, List, length, ◌≢◌, ◌↔◌, IsOk, IfOk, IfErr, IsUtf8, [], take, drop};
 ghost use Rattle.std.specs.Str.{IsValidUpTo};
 ghost use Rattle.ciborium_ll.specs.States.{after};
 ghost use Rattle.ciborium_ll.specs.Text.{IsCharacters, IsFront};
 ghost use Rattle.ciborium_ll.specs.declared.seg.state.State.TheVariants.{Between, Damaged};
 
+use simdutf8::compat;
+
 /// Characters joined are what std has as UTF-8.
 pub fn same_text()
     ensures { (bytes : List ℕ) → (IsCharacters bytes ↔ IsUtf8 bytes) }
 {}
+
+/// What `simdutf8` accepts are just the texts. Of other bytes it gives the longest front that is one.
+pub fn text_or_front(bytes: &[u8]) -> Result<&str, &str>
+    ensures accepted { IsOk result ↔ IsCharacters bytes.now }
+    ensures whole { IfOk result (λ text. text.now ≡ bytes.now) }
+    ensures longest { IfErr result (λ front. IsFront bytes.now front.now (drop (length front.now) bytes.now)) }
+{
+    match compat::from_utf8(bytes) {
+        Ok(text) => Ok(text),
+        Err(error) => match compat::from_utf8(&bytes[..error.valid_up_to()]) {
+            Ok(front) => Err(front),
+            Err(_) => unreachable!(),
+        },
+    }
+}
 
 /// Texts joined are a text.
 pub fn joined_texts()

@@ -2,6 +2,7 @@
 
 ghost use Rattle.std.specs.Prelude.{◌≡◌, ◌≤◌, ℕ, ◌<◌, ◌⊎◌, ◌++◌, List, length, ◌↔◌, [], ◌∷◌};
 ghost use Rattle.std.specs.List.{Contains};
+ghost use Rattle.std.specs.List.Sorted.{IsStrictlyIncreasing};
 ghost use Rattle.ciborium_ll.specs.declared.hdr.Header.{Header};
 ghost use Rattle.ciborium_ll.specs.Title.{IsTitle, shortest_title, IsInRange, IsRefused, IsCutTitle, AreBytes, refused_bytes};
 
@@ -34,6 +35,7 @@ pub fn refused_first_bytes()
     ensures others { (byte : ℕ) → byte < 256
         → (IsRefused byte) ⊎ ((rest : List ℕ) × (header : Header) × IsTitle (byte ∷ rest) header) }
     ensures listed { (byte : ℕ) → byte < 256 → (IsRefused byte ↔ Contains refused_bytes byte) }
+    ensures ascending { IsStrictlyIncreasing refused_bytes }
     ensures count { length refused_bytes ≡ 27 }
 {}
 

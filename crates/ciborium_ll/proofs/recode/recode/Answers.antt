@@ -2,7 +2,7 @@ use Rattle.std.proofs.Common.{refl, ◌≡◌, ◌∙◌, ℕ, Ok, Err, length, 
 use Rattle.std.proofs.lemmas.Result.{err_from_is_err_and}
 use Rattle.ciborium_ll.specs.Recoding.{CopiesElements, CopiesRun}
 use Rattle.ciborium_ll.proofs.CopyLaws.{run_none, run_behind, added_run}
-use Rattle.ciborium_ll.proofs.RecodingToldLaws.{recode_told, recode_exactly, recode_anyhow, recode_strictly, recode_strictly_exactly, copies_all}
+use Rattle.ciborium_ll.proofs.RecodingToldLaws.{recode_told, recode_exactly, recode_anyhow, recode_strictly, recode_strictly_exactly, recode_strictly_anyhow, copies_all}
 use Rattle.ciborium_ll.proofs.recode.recode.Goals as goal
 
 pub elements-init : goal.elements-init
@@ -45,6 +45,7 @@ returns-in_err-copy_element g c =
       anyhow = λ due written told. recode_anyhow g.R.Read g.W.Write c.args.count (length c.args.buffer.now) old writer due written told refl _ _ c.from_residual.result all;
       strictly = λ due written ready none. recode_strictly g.R.Read g.W.Write c.args.count (length c.args.buffer.now) old writer due written ready refl none _ _ c.from_residual.result all;
       strictly_exactly = λ due written ready none. recode_strictly_exactly g.R.Read g.W.Write c.args.count (length c.args.buffer.now) old writer due written ready refl none _ _ c.from_residual.result all;
+      strictly_anyhow = λ due written told none. recode_strictly_anyhow g.R.Read g.W.Write c.args.count (length c.args.buffer.now) old writer due written told refl none _ _ c.from_residual.result all;
     }
 
 pub returns : goal.returns
@@ -63,4 +64,5 @@ returns g c =
       anyhow = λ due written told. recode_anyhow g.R.Read g.W.Write c.args.count (length c.args.buffer.now) old writer due written told refl _ _ (Ok (tt {0})) all;
       strictly = λ due written ready none. recode_strictly g.R.Read g.W.Write c.args.count (length c.args.buffer.now) old writer due written ready refl none _ _ (Ok (tt {0})) all;
       strictly_exactly = λ due written ready none. recode_strictly_exactly g.R.Read g.W.Write c.args.count (length c.args.buffer.now) old writer due written ready refl none _ _ (Ok (tt {0})) all;
+      strictly_anyhow = λ due written told none. recode_strictly_anyhow g.R.Read g.W.Write c.args.count (length c.args.buffer.now) old writer due written told refl none _ _ (Ok (tt {0})) all;
     }

@@ -1,12 +1,5 @@
-use Rattle.std.proofs.Common.{arith}
 use Rattle.ciborium_ll.proofs.DecodingLaws.{pulls_again}
-use Rattle.ciborium_ll.proofs.TitleLaws.{shortest_no_longer}
 use Rattle.ciborium_ll.proofs.laws.headers.pull_again.Goals as goal
-
-pub push-requires-clause-covered : goal.push-requires-clause-covered
-push-requires-clause-covered g c =
-    let pulled = c.in_ok-header.ensures.header in
-    omega (arith, shortest_no_longer pulled.title c.in_ok-header.header pulled.is_title, pulled.offset)
 
 pub returns-clause-again : goal.returns-clause-again
 returns-clause-again g c =

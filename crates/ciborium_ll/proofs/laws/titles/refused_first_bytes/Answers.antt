@@ -1,5 +1,5 @@
 use Rattle.ciborium_ll.proofs.AffixLaws.{refused_begins_none, refused_or_begins}
-use Rattle.ciborium_ll.proofs.RefusedBytes.{refused_listed}
+use Rattle.ciborium_ll.proofs.RefusedBytes.{refused_listed, refused_ascend}
 use Rattle.ciborium_ll.proofs.laws.titles.refused_first_bytes.Goals as goal
 
 pub returns-clause-none : goal.returns-clause-none
@@ -10,3 +10,6 @@ returns-clause-others c b lt = refused_or_begins b lt
 
 pub returns-clause-listed : goal.returns-clause-listed
 returns-clause-listed c b lt = refused_listed b lt
+
+pub returns-clause-ascending : goal.returns-clause-ascending
+returns-clause-ascending c = refused_ascend

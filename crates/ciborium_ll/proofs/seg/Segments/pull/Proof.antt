@@ -3,7 +3,7 @@
 --   2. where `advance` gave a body, the string is lent on to `segment`, and the segment leaves in the result;
 --   3. where it gave none, nothing is lent, and the string stays as `advance` left it.
 -- A comment in brackets says what is owned at that point, the head first; the locals come last and are not named.
-use Rattle.ciborium_ll.proofs.AdvanceLaws.{none_waits_for_body}
+use Rattle.ciborium_ll.proofs.AdvanceLaws.{none_waits_for_body, given_again}
 use mathlib.Core.Path.{◌≡◌, refl, sym, ap, ◌∙◌, subst}
 use mathlib.Core.List.{List, [], ◌∷◌, ◌++◌}
 use Prim.Native.Nat.{ℕ}
@@ -62,10 +62,10 @@ use Rattle.ciborium_ll.proofs.seg.Segment.TheLaws as segment_laws
 use Rattle.std.specs.Prelude.{◌≤◌, ◌+◌, Some, None, Ok, Err}
 use Rattle.std.specs.contracts.option.Option as option
 use Rattle.std.specs.contracts.result.Result as result
-use Rattle.ciborium_ll.specs.Chunks.{IsWhole, PullsSegment}
+use Rattle.ciborium_ll.specs.Chunks.{GoesOnTo, IsWhole, PullsSegment}
 use Rattle.ciborium_ll.specs.Decoding.{IsSteady, offset_of, refusals_of, waiting_of}
-use Rattle.ciborium_ll.specs.Segments.{AdvancesTo, opens_of}
-use Rattle.ciborium_ll.specs.Lend.{with_decoder, IsAdvanced, advance_answer, lent_reference}
+use Rattle.ciborium_ll.specs.Segments.{AdvancesTo, GivesAgain, opens_of}
+use Rattle.ciborium_ll.specs.Lend.{with_decoder, HoldsDecoder, IsAdvanced, advance_answer, lent_reference}
 use Rattle.ciborium_ll.specs.declared.io.Read as read
 use Rattle.ciborium_ll.specs.declared.seg.Parser as parser
 use Rattle.ciborium_ll.specs.declared.dec.Decoder.{Decoder}
@@ -291,21 +291,27 @@ module _ (R P E : RattleType) (R-laws : Laws R) (P-laws : Laws P) (E-laws : Laws
     -- how the string ends, by the decoder that a segment leaves and where there is none
     abbrev Tied : Pull'.Denot → Type 0
     Tied answer =
-        (ends : (Decoder R.Denot → State) × State) × ((d : Decoder R.Denot) → (new : State) × Advanced answer new × (ends.0 d ≡ with_decoder new d)) × Advanced answer ends.1
+        (ends : (Decoder R.Denot → State) × State) × ((d : Decoder R.Denot) → (new : State) × Advanced answer new × HoldsDecoder answer new × (ends.0 d ≡ with_decoder new d)) × Advanced answer ends.1
 
     abbrev Pulls : Pull'.Denot → Type 0
     Pulls answer = PullsSegment reads kind.kind old.progress old.reader.now answer
 
+    -- what `advance` promises of the string holds of its decoder
+    goes_on : (result : Advance'.Denot) (new : State) → IsAdvanced reads kind.kind old result new → GoesOnTo reads kind.kind old.progress old.reader.now result new.reader.now
+    goes_on result new is =
+        record { after = new.progress; advanced = is.advances; rises = is.rises; opens = is.opens; steady = is.steady; refusals = is.refusals }
+
     -- the end of each arm: the answer goes out, the string follows the segment in it, and the clauses hold
-    leaves : (value : Val) (answer : Pull'.Denot) (new : State) → Advanced answer new → Pulls answer
+    leaves : (value : Val) (answer : Pull'.Denot) (new : State) → Advanced answer new → HoldsDecoder answer new → Pulls answer
         → ent 𝓤 (sep 𝓤 (alive 𝓛 ended'.signature lifetimes shares) (sep 𝓤 (sem 𝓛 (Pull'.own_val answer (value ∷ []))) (sem 𝓛 (follows_if StringIn DecoderIn name (lent_reference answer) (with_decoder new) new)))) (Post value)
     unfolding such_by
-    leaves value answer new advanced pulls =
+    leaves value answer new advanced holds pulls =
         qed 𝓛 (raw (alive 𝓛 ended'.signature lifetimes shares) ∷ ‵ (Pull'.own_val answer (value ∷ [])) ∷ ‵ (follows_if StringIn DecoderIn name (lent_reference answer) (with_decoder new) new) ∷ []) ∵
         suffices ! _ (ends_at 𝓛 ended' stayed' spec bound value answer (tt, tt) (tt, tt)) $
         nothing ! $ nothing ! $ fjoin ! $ move ! (0 ∷ 2 ∷ []) $ join ! $ move ! (1 ∷ 0 ∷ []) $ join ! $ frame ! $
-        fpack ! (Tied answer) (λ ends. follows_if StringIn DecoderIn name (lent_reference answer) ends.0.0 ends.0.1) ((with_decoder new, new), (λ d. (new, advanced, refl)), advanced) $
-        use0 𝓛 (raw (fact 𝓤 (Pulls answer))) (fact_i 𝓤 _ (emp 𝓤) pulls) $ move ! (1 ∷ 0 ∷ []) $ join ! $ done !
+        fpack ! (Tied answer) (λ ends. follows_if StringIn DecoderIn name (lent_reference answer) ends.0.0 ends.0.1) ((with_decoder new, new), (λ d. (new, advanced, holds, refl)), advanced) $
+        use0 𝓛 (raw (fact 𝓤 (GivesAgain old.progress answer))) (fact_i 𝓤 _ (emp 𝓤) (given_again reads kind.kind old.progress old.reader.now answer pulls)) $
+        use0 𝓛 (raw (fact 𝓤 (Pulls answer))) (fact_i 𝓤 _ (emp 𝓤) pulls) $ join ! $ move ! (1 ∷ 0 ∷ []) $ join ! $ done !
 
     walk : lifetimes.1.1.0 ⊑ R.lives → lifetimes.1.1.1.0 ⊑ P.lives → lifetimes.1.1.1.1.0 ⊑ E.lives → ent 𝓤 (on_entry 𝓛 ended'.signature lifetimes shares bound.0.3 bound.0.4) (WpFn 𝓤 H 𝓣.C 𝓣.Λ code' (vptr block at ∷ []) Post)
     unfolding follows_by
@@ -398,8 +404,8 @@ module _ (R P E : RattleType) (R-laws : Laws R) (P-laws : Laws P) (E-laws : Laws
         exec ! 𝓣.C 𝓣.Λ locals leaving' (at_ret locals Post) $ sets ! (of_opd ! (get ! refl)) refl good_out $
         returns ! (look_at ! 0 refl) $ free_all ! refl $ move ! (2 ∷ 0 ∷ 1 ∷ []) $
         let stands : body_of part.unread part.place ≡ b = ap (λ (length : ℕ). body_of length part.place) is_whole.unread ∙ ap (λ (place : ℕ). body_of b.length place) is_whole.place in
-        by ! (leaves out (Ok (Some part)) new (subst (λ (c : Body). IsAdvanced reads kind.kind old (Ok (Some c)) new) (sym stands) found)
-        (record { body = b; after = new.progress; advanced = subst (λ (d : Decoder R.Denot). AdvancesTo reads kind.kind old.progress old.reader.now (Ok (Some b)) new.progress d) (sym lent) found.advances; whole = is_whole })))))))))))
+        by ! (leaves out (Ok (Some part)) new (subst (λ (c : Body). IsAdvanced reads kind.kind old (Ok (Some c)) new) (sym stands) found) lent
+        (record { body = b; goes_on = subst (λ (d : Decoder R.Denot). GoesOnTo reads kind.kind old.progress old.reader.now (Ok (Some b)) d) (sym lent) (goes_on (Ok (Some b)) new found); whole = is_whole })))))))))))
         -- the arm of the end: nothing is lent, and the string's last value is what `advance` left
         (λ e is_value.
         let out : Val = live 0 (vcons (live 0 vnil) vnil) in
@@ -417,7 +423,7 @@ module _ (R P E : RattleType) (R-laws : Laws R) (P-laws : Laws P) (E-laws : Laws
         sets_last ! (agg ! (and_then ! (lit ! tt) (and_then ! (get ! refl) (no_more !)))) refl (tt, (record { fits = lit< tt }, ((record { fits = lit< tt }, tt), tt))) $
         exec ! 𝓣.C 𝓣.Λ locals leaving' (at_ret locals Post) $
         sets ! (of_opd ! (get ! refl)) refl (tt, (record { fits = lit< tt }, ((record { fits = lit< tt }, tt), tt))) $
-        returns ! (look_at ! 0 refl) $ free_all ! refl $ by ! (leaves out (Ok None) new found (new.progress, new.reader.now, found.advances)))
+        returns ! (look_at ! 0 refl) $ free_all ! refl $ by ! (leaves out (Ok None) new found tt (new.reader.now, goes_on (Ok None) new found)))
         -- the arm of an error: it is handed on, nothing is lent, and the string's last value is what `advance` left
         (λ x u e is_value.
         let out : Val = live 1 (vcons u vnil) in
@@ -435,7 +441,7 @@ module _ (R P E : RattleType) (R-laws : Laws R) (P-laws : Laws P) (E-laws : Laws
         -- given back: `Err(error)`
         sets_last ! (agg ! (and_then ! (lit ! tt) (and_then ! (get ! refl) (no_more !)))) refl good_out $
         exec ! 𝓣.C 𝓣.Λ locals leaving' (at_ret locals Post) $ sets ! (of_opd ! (get ! refl)) refl good_out $
-        returns ! (look_at ! 0 refl) $ free_all ! refl $ by ! (leaves out (Err x) new found (new.progress, new.reader.now, found.advances)))))))))))))))))
+        returns ! (look_at ! 0 refl) $ free_all ! refl $ by ! (leaves out (Err x) new found tt (new.reader.now, goes_on (Err x) new found)))))))))))))))))
 
   -- the walk, taken to the contract
   meets : Meets 𝓛 ended'.signature (WpFn 𝓤 H 𝓣.C 𝓣.Λ code') (closing 𝓛 ended' spec)

@@ -1,4 +1,4 @@
-use Rattle.ciborium_ll_tool.proofs.RequestLaws.{none_of_bytes, none_of_chunks, none_of_recode, none_of_text}
+use Rattle.ciborium_ll_tool.proofs.RequestLaws.{none_of_bytes, none_of_chunks, none_of_recode, none_of_strict, none_of_text}
 use Rattle.ciborium_ll_tool.proofs.request.Request.named.Goals as goal
 
 pub returns-in_ok-parse-in-chunks-clause-none : goal.returns-in_ok-parse-in-chunks-clause-none
@@ -20,3 +20,8 @@ pub returns-in_ok-parse-in-recode-clause-none : goal.returns-in_ok-parse-in-reco
 returns-in_ok-parse-in-recode-clause-none c =
     none_of_recode c.args.name.now c.args.words.now c.in_ok-parse-in-recode.field-0 c.map-in-recode.result _
     c.map-in-recode.ensures.cases c.in_ok-parse-in-recode.ensures.none c.in-recode.is
+
+pub returns-in_ok-parse-in-strict-clause-none : goal.returns-in_ok-parse-in-strict-clause-none
+returns-in_ok-parse-in-strict-clause-none c =
+    none_of_strict c.args.name.now c.args.words.now c.in_ok-parse-in-strict.field-0 c.map-in-strict.result _
+    c.map-in-strict.ensures.cases c.in_ok-parse-in-strict.ensures.none c.in-strict.is

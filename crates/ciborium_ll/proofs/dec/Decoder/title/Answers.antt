@@ -1,20 +1,18 @@
-use Rattle.std.proofs.Common.{◌≡◌, ◌+◌, ◌*◌, ◌%◌, ◌/◌, ◌++◌, ◌∷◌, [], length, Some, None, rules, sym, refl, ap, subst, ◌∙◌, inl, inr, arith, true, get_or, ◌<◌}
+use Rattle.std.proofs.Common.{◌≡◌, ◌+◌, ◌*◌, ◌%◌, ◌/◌, ◌++◌, ◌∷◌, [], length, Some, None, rules, sym, refl, ap, subst, ◌∙◌, inl, inr, arith, true, get_or, ◌<◌, ℕ}
 use Rattle.std.proofs.KnownBytes.{Consumes-trans}
-use Rattle.ciborium_ll.specs.Title.{shortest_title, IsStrictTitle}
 use Rattle.ciborium_ll.specs.Parts.{parts_bytes, minor_affix}
 use Rattle.ciborium_ll.specs.Decoding.{ReadsAffix, ReadsAll}
-use Rattle.ciborium_ll.proofs.TitleLaws.{IsTitle-shortest}
+use Rattle.ciborium_ll.specs.TitleRows.{IsKind}
 use Rattle.ciborium_ll.proofs.StrictLaws.{parts_header, parts_taken, parts_refused, first_parts, first_refused, title_read}
-use Rattle.ciborium_ll.proofs.DecodingLaws.{Consumes-waiting}
-use Rattle.ciborium_ll.proofs.dec.Decoder.pull_title.Goals as goal
+use Rattle.ciborium_ll.proofs.dec.Decoder.title.Goals as goal
 
-pub returns-in_default-2-clause-header : goal.returns-in_default-2-clause-header
-returns-in_default-2-clause-header g c =
-    let none = c.in_default.is in
+pub returns-in_default-clause-header : goal.returns-in_default-clause-header
+returns-in_default-clause-header g c =
+    let none = c.requires.none_waits in
     let first = c.in_ok-read.ensures.bytes in
     let one : length c.read.new.data ≡ 1 = search rules in
     let byte : get_or c.read.new.data 0 0 / 32 < 8 = search rules in
-    let answer = rw c.in_default-2.is at c.in_ok-minor.ensures.minor in
+    let answer = rw c.in_default.is at c.in_ok-minor.ensures.minor in
     elim answer [
       | inl reserved ↦ inl (first_refused g.R.Read c.args.self.now _ c.read.new.self c.minor.new.self c.read.new.data none refl refl first one reserved.1 reserved.0)
       | inr refuses ↦ (
@@ -40,12 +38,12 @@ returns-in_default-2-clause-header g c =
 
 pub returns-in-Some-header-clause-header : goal.returns-in-Some-header-clause-header
 returns-in-Some-header-clause-header g c =
-    let none = c.in_default.is in
+    let none = c.requires.none_waits in
     let first = c.in_ok-read.ensures.bytes in
     let one : length c.read.new.data ≡ 1 = search rules in
     let byte : get_or c.read.new.data 0 0 / 32 < 8 = search rules in
-    let affix = rw c.in-Some-2.is at c.in_ok-minor.ensures.minor in
-    let minor = c.in-Some-2.minor in
+    let affix = rw c.in-Some.is at c.in_ok-minor.ensures.minor in
+    let minor = c.in-Some.minor in
     let header = c.in-Some-header.header in
     let t = c.in-Some-header.ensures.some in
     let is = first_parts c.read.new.data minor one affix.code in
@@ -61,3 +59,8 @@ returns-in-Some-header-clause-header g c =
       mode = read.mode;
       strict = λ on waits. parts_taken _ minor header byte affix.is_minor t (affix.taken (rw (sym first.mode) at on));
     }
+
+pub header-requires-clause-kind : goal.header-requires-clause-kind
+header-requires-clause-kind g c =
+    let affix = rw c.in-Some.is at c.in_ok-minor.ensures.minor in
+    subst (λ (z : ℕ). IsKind c.row_of-row.result.kind (get_or c.read.new.data 0 0 / 32) z) affix.code c.row_of-row.ensures.kind

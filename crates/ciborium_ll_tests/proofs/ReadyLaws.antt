@@ -1,0 +1,45 @@
+-- A fresh decoder over a steady reader that tells its bytes, and a writer with room for as many, are ready for a copy.
+use Rattle.std.proofs.Common.{◌≡◌, ℕ, ◌+◌, ◌<◌, ◌≤◌, IsTrue, List, length, Some, subst, sym, ap, ◌∙◌, inr, arith}
+use Rattle.ciborium_ll.specs.declared.io.Read.{Ghosts as Reader}
+use Rattle.ciborium_ll.specs.declared.io.Write.{Ghosts as Writer}
+use Rattle.ciborium_ll.specs.declared.dec.Decoder.{Decoder}
+use Rattle.ciborium_ll.specs.Decoding.{IsFresh, offset_limit, view}
+use Rattle.ciborium_ll.specs.Copying.{IsReady as IsReadyForTitles}
+use Rattle.ciborium_ll.specs.RecodingTold.{IsReady}
+use Rattle.ciborium_ll.proofs.BodyLaws.{view_none}
+
+module _ {D S E F : Type 0} (source : Reader D E) (sink : Writer S F) where
+  -- all that the reader has ahead is due
+  due_ahead : (reader : D) (decoder : Decoder D) (due : List ℕ) → IsFresh reader 0 decoder → source.ahead reader ≡ Some due → view source decoder ≡ Some due
+  due_ahead reader decoder due fresh ahead =
+      view_none decoder.waiting (source.ahead decoder.reader) fresh.none_waits ∙ ap source.ahead fresh.reader ∙ ahead
+
+  still_steady : (reader : D) (decoder : Decoder D) → IsFresh reader 0 decoder → IsTrue (source.steady reader) → IsTrue (source.steady decoder.reader)
+  still_steady reader decoder fresh steady = subst (λ (r : D). IsTrue (source.steady r)) (sym fresh.reader) steady
+
+  pub ready_for_elements : (count size room : ℕ) (reader : D) (decoder : Decoder D) (writer : S) (due written : List ℕ) → IsFresh reader 0 decoder → IsTrue (source.steady reader)
+      → source.ahead reader ≡ Some due → sink.written writer ≡ Some written → sink.room writer ≡ Some room → length due ≤ room
+      → length due + 8 < offset_limit → length due + size < offset_limit → IsReady source sink count size decoder writer due written
+  ready_for_elements count size room reader decoder writer due written fresh steady ahead output space enough title chunk = record {
+    steady = still_steady reader decoder fresh steady;
+    told = record { mode = fresh.mode; due-told = due_ahead reader decoder due fresh ahead; written-told = output };
+    room = room;
+    room-told = space;
+    enough = inr enough;
+    fits-title = omega (arith, fresh.offset, title);
+    fits-chunk = omega (arith, fresh.offset, chunk);
+  }
+
+  pub ready_for_titles : (room : ℕ) (reader : D) (decoder : Decoder D) (writer : S) (due written : List ℕ) → IsFresh reader 0 decoder → IsTrue (source.steady reader)
+      → source.ahead reader ≡ Some due → sink.written writer ≡ Some written → sink.room writer ≡ Some room → length due ≤ room
+      → length due + 8 < offset_limit → IsReadyForTitles source sink decoder writer due written
+  ready_for_titles room reader decoder writer due written fresh steady ahead output space enough title = record {
+    lenient = fresh.mode;
+    steady = still_steady reader decoder fresh steady;
+    due-told = due_ahead reader decoder due fresh ahead;
+    written-told = output;
+    room = room;
+    room-told = space;
+    enough = enough;
+    fits = omega (arith, fresh.offset, title);
+  }

@@ -1,0 +1,43 @@
+// Copies between slices, of which it is proved here, outside the library, when they succeed: what the library asks of the
+// reader, the writer and the offset can be met.
+
+ghost use Rattle.std.specs.Prelude.{◌≤◌, ◌+◌, ◌<◌, ◌^◌, ◌↔◌, IsTrue, length};
+ghost use Rattle.ciborium_ll.specs.Copying.{TitlesInFront};
+ghost use Rattle.ciborium_ll.specs.Faults.{RunInFront};
+
+use ciborium_ll::io::{SliceReader, SliceWriter};
+use ciborium_ll::laws::copy_headers;
+use ciborium_ll::recode::recode;
+use ciborium_ll::{Decoder, Encoder};
+
+// Copies so many elements into a slice that has room for as many bytes. It tells whether they are there.
+fn copies_elements(bytes: &[u8], space: &mut [u8], count: usize) -> bool
+    requires room { length bytes.now ≤ length space.old }
+    requires fits { length bytes.now + 8 < 2 ^ 64 }
+    ensures { IsTrue result ↔ RunInFront count bytes.now }
+{
+    let mut decoder = Decoder::from(SliceReader::new(bytes));
+    let mut encoder = Encoder::from(SliceWriter::new(space));
+    let mut buffer = [0; 8];
+    recode(&mut decoder, &mut encoder, count, &mut buffer).is_ok()
+}
+
+// Copies so many titles into a slice that has room for as many bytes. It tells whether they are there.
+fn copies_titles(bytes: &[u8], space: &mut [u8], count: usize) -> bool
+    requires room { length bytes.now ≤ length space.old }
+    requires fits { length bytes.now + 8 < 2 ^ 64 }
+    ensures { IsTrue result ↔ TitlesInFront count bytes.now }
+{
+    let mut decoder = Decoder::from(SliceReader::new(bytes));
+    let mut encoder = Encoder::from(SliceWriter::new(space));
+    copy_headers(&mut decoder, &mut encoder, count).is_ok()
+}
+
+#[test]
+fn a_string_is_one_element_and_more_titles(rt: HostRuntime) {
+    let bytes = [0x5f, 0x41, 0x00, 0xff];
+    assert!(rt; copies_elements(&bytes, &mut [0; 4], 1));
+    assert!(rt; !copies_elements(&bytes, &mut [0; 4], 2));
+    assert!(rt; copies_titles(&bytes, &mut [0; 4], 4));
+    assert!(rt; !copies_titles(&bytes, &mut [0; 4], 5));
+}

@@ -1,0 +1,242 @@
+use crate::calls::pulls;
+use crate::vectors::VECTORS;
+use ciborium_ll::io::{Read, SliceReader, SliceWriter};
+use ciborium_ll::recode::recode;
+use ciborium_ll::{Decoder, Encoder, Error, Header, RecodeError};
+use std::alloc::Global;
+use std::process::Abort;
+use std::test::Fail;
+
+// How a copy ends.
+#[derive(Clone, Copy)]
+enum End {
+    Copied,
+    Syntax(usize),
+    Short,
+}
+
+// Copies so many elements, each from a strict decoder, and compares what was written, the answer and the offset.
+fn copy_row(
+    rt: &impl Abort,
+    bytes: &[u8],
+    count: usize,
+    written: &[u8],
+    end: End,
+    offset: usize,
+) {
+    let mut space = [0; 16];
+    let mut decoder = Decoder::strict(SliceReader::new(bytes));
+    let mut encoder = Encoder::from(SliceWriter::new(&mut space));
+    let outcome = recode(&mut decoder, &mut encoder, count, &mut [0; 64]);
+    let is_right = match outcome {
+        Ok(()) => matches!(end, End::Copied),
+        Err(RecodeError::Read(Error::Syntax(place))) => matches!(end, End::Syntax(at) if at == place),
+        Err(RecodeError::Read(Error::Io(_))) => matches!(end, End::Short),
+        Err(_) => false,
+    };
+    assert!(rt; is_right, "at {bytes:?}");
+    assert_eq!(rt; decoder.offset(), offset, "at {bytes:?}");
+    assert!(rt; encoder.into_inner().written() == written, "at {bytes:?}");
+}
+
+#[test]
+fn titles_in_their_shortest_spelling(rt: HostRuntime) {
+    copy_row(&rt, &[0x18, 5], 1, &[], End::Syntax(0), 2);
+    copy_row(&rt, &[0x18, 0x17], 1, &[], End::Syntax(0), 2);
+    copy_row(&rt, &[0x18, 0x18], 1, &[0x18, 0x18], End::Copied, 2);
+    copy_row(&rt, &[0x19, 0, 0x18], 1, &[], End::Syntax(0), 3);
+    copy_row(&rt, &[0xf8, 0x18], 1, &[], End::Syntax(0), 2);
+    copy_row(&rt, &[0xf8, 0x1f], 1, &[], End::Syntax(0), 2);
+    copy_row(&rt, &[0xf8, 0x20], 1, &[0xf8, 0x20], End::Copied, 2);
+    copy_row(&rt, &[0xf9, 0, 0], 1, &[0xf9, 0, 0], End::Copied, 3);
+    copy_row(&rt, &[5, 0x18, 5], 2, &[5], End::Syntax(1), 3);
+    copy_row(&rt, &[0x1c], 1, &[], End::Syntax(0), 1);
+    copy_row(&rt, &[0x19, 0], 1, &[], End::Short, 1);
+    copy_row(&rt, &[0x18, 5], 0, &[], End::Copied, 0);
+}
+
+#[test]
+fn strings_in_their_shortest_spelling(rt: HostRuntime) {
+    let segments = [0x5f, 0x41, 1, 0xff];
+    copy_row(&rt, &segments, 1, &segments, End::Copied, 4);
+    copy_row(&rt, &[0x5f, 0x5f, 0x41, 1, 0xff, 0xff], 1, &[0x5f], End::Syntax(1), 2);
+    copy_row(&rt, &[0x5f, 0x5f, 0xff, 0xff], 1, &[0x5f], End::Syntax(1), 2);
+    copy_row(&rt, &[0x7f, 0x78, 1, 0x61, 0xff], 1, &[0x7f], End::Syntax(1), 3);
+    copy_row(&rt, &[0x78, 2, 0x61, 0xff], 1, &[], End::Syntax(0), 2);
+    copy_row(&rt, &[0x62, 0x61, 0xff], 1, &[0x62, 0x61], End::Syntax(0), 3);
+    copy_row(&rt, &[0x5f, 0x7f, 0xff], 1, &[0x5f], End::Syntax(1), 2);
+    copy_row(&rt, &[0x43, 1], 1, &[0x43], End::Short, 1);
+}
+
+// The longer titles of the same header, by a plain reading of the shortest one.
+fn longer_titles(alloc: Global, title: &[u8]) -> Result<Vec<Vec<u8>>, Fail> {
+    let mut longer = Vec::new(alloc);
+    let Some((first, affix)) = title.split_first() else {
+        return Ok(longer);
+    };
+    let (major, minor) = (*first / 32, *first % 32);
+    // A float and a simple value in two bytes have no longer title, nor has an indefinite form.
+    let forms: &[(u8, usize)] = match (major, affix.is_empty()) {
+        (7, true) => &[(24, 1)],
+        (7, false) => &[],
+        _ => &[(24, 1), (25, 2), (26, 4), (27, 8)],
+    };
+    let own = [minor];
+    let number = if affix.is_empty() { own.as_slice() } else { affix };
+    for (code, size) in forms {
+        if *size > affix.len() && minor < 31 {
+            let mut other = vec![in alloc; major * 32 + *code]?;
+            for _ in number.len()..*size {
+                other.push(0)?;
+            }
+            other.extend_from_slice(number)?;
+            longer.push(other)?;
+        }
+    }
+    Ok(longer)
+}
+
+// Pulls a title by a decoder of either kind: the header, where it is taken whole.
+fn pulled(rt: &impl Abort, mut decoder: Decoder<SliceReader>, title: &[u8]) -> Option<Header> {
+    let answer = decoder.pull();
+    assert_eq!(rt; decoder.offset(), title.len(), "at {title:?}");
+    match answer {
+        Ok(header) => Some(header),
+        Err(error) => {
+            assert!(rt; matches!(error, Error::Syntax(0)), "at {title:?}");
+            None
+        }
+    }
+}
+
+#[test]
+fn vectors_and_their_longer_titles(rt: HostRuntime) -> Result<(), Fail> {
+    let mut all = 0usize;
+    for (hex, header) in VECTORS {
+        let shortest = hex::decode(rt.alloc(), hex)?;
+        let title = shortest.as_slice();
+        let plain = pulled(&rt, Decoder::from(SliceReader::new(title)), title);
+        assert!(rt; plain == Some(header), "at {hex}");
+        let strict = pulled(&rt, Decoder::strict(SliceReader::new(title)), title);
+        let is_small = matches!(header, Header::Simple(24..=31));
+        assert!(rt; strict == if is_small { None } else { Some(header) }, "at {hex}");
+        for other in &longer_titles(rt.alloc(), title)? {
+            let title = other.as_slice();
+            let plain = pulled(&rt, Decoder::from(SliceReader::new(title)), title);
+            assert!(rt; plain == Some(header), "at {title:?}");
+            let strict = pulled(&rt, Decoder::strict(SliceReader::new(title)), title);
+            assert!(rt; strict.is_none(), "at {title:?}");
+            all = all.saturating_add(1);
+        }
+    }
+    // The titles of numbers that are a byte have four longer ones, and so on; simple values in one byte have one.
+    assert_eq!(rt; all, 80);
+    Ok(())
+}
+
+// Whether a strict copy takes the first element of one byte or two, by a plain reading.
+fn is_strict(first: u8, second: Option<u8>) -> bool {
+    let major = first / 32;
+    let is_string = matches!(major, 2 | 3);
+    match (first % 32, second) {
+        (0, _) => true,
+        (1, Some(byte)) if is_string => major == 2 || byte < 0x80,
+        (1..=23, _) => !is_string,
+        (24, Some(n)) if major == 7 => n >= 32,
+        (24, Some(n)) => n >= 24 && !is_string,
+        (31, Some(0xff)) if is_string => true,
+        (31, _) => matches!(major, 4 | 5 | 7),
+        _ => false,
+    }
+}
+
+// Copies one element, and says whether that succeeds and writes just what it consumes.
+fn is_copied(mut decoder: Decoder<SliceReader>, bytes: &[u8]) -> (bool, bool) {
+    let mut space = [0; 2];
+    let mut encoder = Encoder::from(SliceWriter::new(&mut space));
+    let outcome = recode(&mut decoder, &mut encoder, 1, &mut [0; 4]);
+    let writer = encoder.into_inner();
+    let is_same = match bytes.get(..decoder.offset()) {
+        Some(consumed) => consumed == writer.written(),
+        None => false,
+    };
+    (outcome.is_ok(), is_same)
+}
+
+// Compares both decoders on a list of one byte or two.
+fn both_decoders(rt: &impl Abort, bytes: &[u8], first: u8, second: Option<u8>) {
+    let plain = is_copied(Decoder::from(SliceReader::new(bytes)), bytes);
+    let strict = is_copied(Decoder::strict(SliceReader::new(bytes)), bytes);
+    let is_small = first == 0xf8 && matches!(second, Some(24..=31));
+    assert_eq!(rt; strict.0, is_strict(first, second), "at {bytes:?}");
+    assert_eq!(rt; strict.0, plain.0 && plain.1 && !is_small, "at {bytes:?}");
+    assert!(rt; !strict.0 || strict.1, "at {bytes:?}");
+}
+
+#[test]
+fn every_list_of_one_and_two_bytes(rt: HostRuntime) {
+    for first in 0..=u8::MAX {
+        both_decoders(&rt, &[first], first, None);
+        for second in 0..=u8::MAX {
+            both_decoders(&rt, &[first, second], first, Some(second));
+        }
+    }
+}
+
+#[test]
+fn first_bytes_that_neither_takes(rt: HostRuntime) {
+    let mut refused = 0usize;
+    for first in 0..=u8::MAX {
+        let bytes = [first, 0xff, 0xff, 0xff, 0xff, 0xff, 0xff, 0xff, 0xff];
+        let mut plain = Decoder::from(SliceReader::new(&bytes));
+        let mut strict = Decoder::strict(SliceReader::new(&bytes));
+        // No number is greater than these, so each title that is one is the shortest.
+        if plain.pull().is_err() {
+            assert!(rt; matches!(strict.pull(), Err(Error::Syntax(0))), "at {first}");
+            refused = refused.saturating_add(1);
+        } else {
+            assert!(rt; strict.pull().is_ok(), "at {first}");
+        }
+        assert_eq!(rt; strict.offset(), plain.offset(), "at {first}");
+    }
+    assert_eq!(rt; refused, 27);
+}
+
+// Asks a string of indefinite length twice for a segment, where a further open stands.
+fn refuses_an_open<R: Read>(rt: &impl Abort, decoder: &mut Decoder<R>)
+where
+    R::Error: Drop,
+{
+    pulls(rt, decoder, Header::Bytes(None), 1);
+    assert!(rt; !decoder.is_waiting());
+    assert!(rt; Header::Bytes(None).title_len() <= decoder.offset());
+    let mut segments = decoder.bytes(None);
+    for _ in 0..2 {
+        let is_refused = match segments.pull() {
+            Err(error) => matches!(error, Error::Syntax(1)),
+            Ok(_) => false,
+        };
+        assert!(rt; is_refused);
+    }
+    assert_eq!(rt; decoder.offset(), 2);
+}
+
+// Gives back a header that a strict decoder would not take, and pulls it again.
+fn takes_what_was_pushed<R: Read>(rt: &impl Abort, decoder: &mut Decoder<R>)
+where
+    R::Error: Drop,
+{
+    let small = Header::Simple(24);
+    pulls(rt, decoder, Header::Positive(24), 2);
+    assert!(rt; !decoder.is_waiting());
+    assert!(rt; small.title_len() <= decoder.offset());
+    decoder.push(small);
+    pulls(rt, decoder, small, 2);
+}
+
+#[test]
+fn opens_and_waiting_headers(rt: HostRuntime) {
+    let bytes = [0x5f, 0x5f, 0x41, 1, 0xff, 0xff];
+    refuses_an_open(&rt, &mut Decoder::strict(SliceReader::new(&bytes)));
+    takes_what_was_pushed(&rt, &mut Decoder::strict(SliceReader::new(&[0x18, 0x18])));
+}
