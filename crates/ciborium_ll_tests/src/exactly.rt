@@ -1,5 +1,5 @@
-// Copies between slices, of which it is proved here, outside the library, when they succeed: what the library asks of the
-// reader, the writer and the offset can be met.
+// Copies between slices, of which it is proved here, outside the library, when they succeed. So what the library asks
+// of the reader, the writer and the offset can be met.
 
 ghost use Rattle.std.specs.Prelude.{◌≤◌, ◌+◌, ◌<◌, ◌^◌, ◌↔◌, IsTrue, length};
 ghost use Rattle.ciborium_ll.specs.Copying.{TitlesInFront};

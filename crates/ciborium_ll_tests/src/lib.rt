@@ -20,6 +20,8 @@ mod pieces;
 #[cfg(test)]
 mod readme;
 #[cfg(test)]
+mod short_texts;
+#[cfg(test)]
 mod streams;
 #[cfg(test)]
 mod strict;

@@ -232,3 +232,22 @@ fn kinds_of_strings() {
     let _bytes = Bytes::default();
     let _text = Text::default();
 }
+
+#[test]
+fn a_damaged_rest_is_judged_late(rt: HostRuntime) {
+    let steps = [
+        (1, Answer::Chunk(""), 4),
+        (2, Answer::Chunk(""), 4),
+        (3, Answer::Chunk(""), 4),
+        (4, Answer::Syntax(0), 0),
+        (4, Answer::Syntax(0), 0),
+    ];
+    text_row(&rt, b"\x64\xff\x61\x62\x63", 4, &steps);
+    let steps = [
+        (1, Answer::Chunk(""), 3),
+        (2, Answer::Chunk(""), 3),
+        (3, Answer::Chunk("\u{800}"), 0),
+        (3, Answer::Ended, 0),
+    ];
+    text_row(&rt, b"\x63\xe0\xa0\x80", 3, &steps);
+}

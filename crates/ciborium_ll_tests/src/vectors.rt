@@ -257,3 +257,33 @@ fn first_bytes_that_begin_no_title(rt: HostRuntime) -> Result<(), Fail> {
     assert_eq!(rt; refused, 27);
     Ok(())
 }
+
+// How many bytes are taken for the title that begins with a byte, if one does.
+fn taken(first: u8) -> Option<usize> {
+    let bytes = [first, 0, 0, 0, 0, 0, 0, 0, 0];
+    let mut decoder = Decoder::from(SliceReader::new(&bytes));
+    match decoder.pull() {
+        Ok(_) => Some(decoder.offset()),
+        Err(_) => None,
+    }
+}
+
+// 197 first bytes stand alone, 8 each have 1, 2, 4 and 8 bytes behind them, and with 27 no title begins.
+#[test]
+fn first_bytes_by_their_affix(rt: HostRuntime) {
+    let rows = [
+        (Some(1), 197u8),
+        (Some(2), 8),
+        (Some(3), 8),
+        (Some(5), 8),
+        (Some(9), 8),
+        (None, 27),
+    ];
+    for (length, want) in rows {
+        let mut count = 0u8;
+        for first in 0..=u8::MAX {
+            count = count.saturating_add(u8::from(taken(first) == length));
+        }
+        assert_eq!(rt; count, want);
+    }
+}

@@ -9,14 +9,15 @@ use Rattle.std.proofs.lemmas.Str.Ascii.{IsAscii-cons, IsAscii-from_all, IsAscii-
 use Rattle.hex.specs.Hex.{decode_of, is_hex_digit}
 use Rattle.hex.specs.declared.error.FromHexError.{FromHexError}
 use Rattle.hex.proofs.HexLemmas.{decode_of-ok}
-use Rattle.ciborium_ll_tool.specs.Number.{IsLimit, IsNumber, IsSize}
-use Rattle.ciborium_ll_tool.specs.Request.{Asks, Spells, SpellsBuffered, SpellsCounted, SpellsLimited, name_of, space}
+use Rattle.ciborium_ll_tool.specs.Number.{IsDepth, IsLimit, IsNumber, IsSize}
+use Rattle.ciborium_ll_tool.specs.Request.{Asks, Spells, SpellsBuffered, SpellsCounted, SpellsLimited, SpellsNested, name_of, space}
 use Rattle.ciborium_ll_tool.specs.declared.request.Buffered.{Buffered}
 use Rattle.ciborium_ll_tool.specs.declared.request.Counted.{Counted}
 use Rattle.ciborium_ll_tool.specs.declared.request.Limited.{Limited}
+use Rattle.ciborium_ll_tool.specs.declared.request.Nested.{Nested}
 use Rattle.ciborium_ll_tool.specs.Word.{bytes_of_word, decoded}
 use Rattle.ciborium_ll_tool.specs.declared.request.Request.{Request}
-use Rattle.ciborium_ll_tool.specs.declared.request.Request.TheVariants.{Bytes, Chunks, Heads, Recode, Strict, Text}
+use Rattle.ciborium_ll_tool.specs.declared.request.Request.TheVariants.{Bytes, Chunks, Heads, Recode, Skip, Strict, Text}
 use Rattle.ciborium_ll_tool.proofs.NumberLaws.{limit_has_no_space, number_has_no_space}
 
 -- what was decoded to bytes is Ok
@@ -74,6 +75,8 @@ IsAscii-words words (Recode asked) (first, word, parts, count, has) =
     rw parts (IsAscii-two first word (IsAscii-number first asked.count count) (IsAscii-word word asked.bytes.items has))
 IsAscii-words words (Strict asked) (first, word, parts, count, has) =
     rw parts (IsAscii-two first word (IsAscii-number first asked.count count) (IsAscii-word word asked.bytes.items has))
+IsAscii-words words (Skip asked) (first, word, parts, depth, has) =
+    rw parts (IsAscii-two first word (IsAscii-number first asked.depth depth.0) (IsAscii-word word asked.bytes.items has))
 
 -- the name of a request
 IsAscii-name : (request : Request) → IsAscii (name_of request)
@@ -83,6 +86,7 @@ IsAscii-name (Bytes asked) = IsAscii-from_test (codes "bytes") refl
 IsAscii-name (Text asked) = IsAscii-from_test (codes "text") refl
 IsAscii-name (Recode asked) = IsAscii-from_test (codes "recode") refl
 IsAscii-name (Strict asked) = IsAscii-from_test (codes "strict") refl
+IsAscii-name (Skip asked) = IsAscii-from_test (codes "skip") refl
 
 -- a request is UTF-8
 pub IsUtf8-request : (line : List ℕ) (request : Request) → Asks line request → IsUtf8 line
@@ -108,6 +112,7 @@ name_has_no_space (Bytes asked) = no_space_at (codes "bytes") refl
 name_has_no_space (Text asked) = no_space_at (codes "text") refl
 name_has_no_space (Recode asked) = no_space_at (codes "recode") refl
 name_has_no_space (Strict asked) = no_space_at (codes "strict") refl
+name_has_no_space (Skip asked) = no_space_at (codes "skip") refl
 
 -- a request is cut behind its name
 pub cut_behind_name : (line : List ℕ) (r : Option (Bor (List ℕ) × Bor (List ℕ))) → IsSplitOnceResult space line r
@@ -148,12 +153,28 @@ cut_behind_count words (Some x) cut asked (first, word, parts, count, has) =
     let same = split_after space words first word (Some x) cut (omega arith) parts (number_has_no_space first asked.count count) in
     (rw same.0 count, rw same.1 has)
 
+-- a depth and bytes are cut behind the depth
+pub cut_behind_depth : (words : List ℕ) (r : Option (Bor (List ℕ) × Bor (List ℕ))) → IsSplitOnceResult space words r
+    → (asked : Nested) → SpellsNested words asked
+    → MatchOption r ⊥ (λ x. IsDepth x.0.now asked.depth × (bytes_of_word x.1.now ≡ Some asked.bytes.items))
+cut_behind_depth words None cut asked (first, word, parts, depth, has) =
+    split_after space words first word None cut (omega arith) parts (number_has_no_space first asked.depth depth.0)
+cut_behind_depth words (Some x) cut asked (first, word, parts, depth, has) =
+    let none = number_has_no_space first asked.depth depth.0 in
+    let same = split_after space words first word (Some x) cut (omega arith) parts none in
+    (rw same.0 depth, rw same.1 has)
+
 -- ---- requests of one name
 
--- the first byte, by which names differ
+-- the first byte, by which most names differ
 abbrev initial : List ℕ → ℕ
 initial [] = 0
 initial (byte ∷ bytes) = byte
+
+-- the second byte, by which the others do
+abbrev second : List ℕ → ℕ
+second [] = 0
+second (byte ∷ bytes) = initial bytes
 
 refuses_chunks : (name words : List ℕ) → name ≡ codes "chunks" → ((asked : Buffered) → SpellsBuffered words asked → ⊥)
     → (request : Request) → name ≡ name_of request → Spells words request → ⊥
@@ -163,6 +184,7 @@ refuses_chunks name words is refused (Bytes asked) named spelled = let other : 9
 refuses_chunks name words is refused (Text asked) named spelled = let other : 99 ≡ 116 = ap initial (sym is ∙ named) in omega (arith, other)
 refuses_chunks name words is refused (Recode asked) named spelled = let other : 99 ≡ 114 = ap initial (sym is ∙ named) in omega (arith, other)
 refuses_chunks name words is refused (Strict asked) named spelled = let other : 99 ≡ 115 = ap initial (sym is ∙ named) in omega (arith, other)
+refuses_chunks name words is refused (Skip asked) named spelled = let other : 99 ≡ 115 = ap initial (sym is ∙ named) in omega (arith, other)
 
 -- words that are refused behind the name are no request of it
 pub none_of_chunks : (name words : List ℕ) (found : Option Buffered) (result : Option Request) (P : Buffered → Request → Type 0)
@@ -180,6 +202,7 @@ refuses_bytes name words is refused (Bytes asked) named spelled = refused asked 
 refuses_bytes name words is refused (Text asked) named spelled = let other : 98 ≡ 116 = ap initial (sym is ∙ named) in omega (arith, other)
 refuses_bytes name words is refused (Recode asked) named spelled = let other : 98 ≡ 114 = ap initial (sym is ∙ named) in omega (arith, other)
 refuses_bytes name words is refused (Strict asked) named spelled = let other : 98 ≡ 115 = ap initial (sym is ∙ named) in omega (arith, other)
+refuses_bytes name words is refused (Skip asked) named spelled = let other : 98 ≡ 115 = ap initial (sym is ∙ named) in omega (arith, other)
 
 -- words that are refused behind the name are no request of it
 pub none_of_bytes : (name words : List ℕ) (found : Option Limited) (result : Option Request) (P : Limited → Request → Type 0)
@@ -197,6 +220,7 @@ refuses_text name words is refused (Bytes asked) named spelled = let other : 116
 refuses_text name words is refused (Text asked) named spelled = refused asked spelled
 refuses_text name words is refused (Recode asked) named spelled = let other : 116 ≡ 114 = ap initial (sym is ∙ named) in omega (arith, other)
 refuses_text name words is refused (Strict asked) named spelled = let other : 116 ≡ 115 = ap initial (sym is ∙ named) in omega (arith, other)
+refuses_text name words is refused (Skip asked) named spelled = let other : 116 ≡ 115 = ap initial (sym is ∙ named) in omega (arith, other)
 
 -- words that are refused behind the name are no request of it
 pub none_of_text : (name words : List ℕ) (found : Option Limited) (result : Option Request) (P : Limited → Request → Type 0)
@@ -214,6 +238,7 @@ refuses_recode name words is refused (Bytes asked) named spelled = let other : 1
 refuses_recode name words is refused (Text asked) named spelled = let other : 114 ≡ 116 = ap initial (sym is ∙ named) in omega (arith, other)
 refuses_recode name words is refused (Recode asked) named spelled = refused asked spelled
 refuses_recode name words is refused (Strict asked) named spelled = let other : 114 ≡ 115 = ap initial (sym is ∙ named) in omega (arith, other)
+refuses_recode name words is refused (Skip asked) named spelled = let other : 114 ≡ 115 = ap initial (sym is ∙ named) in omega (arith, other)
 
 -- words that are refused behind the name are no request of it
 pub none_of_recode : (name words : List ℕ) (found : Option Counted) (result : Option Request) (P : Counted → Request → Type 0)
@@ -231,6 +256,7 @@ refuses_strict name words is refused (Bytes asked) named spelled = let other : 1
 refuses_strict name words is refused (Text asked) named spelled = let other : 115 ≡ 116 = ap initial (sym is ∙ named) in omega (arith, other)
 refuses_strict name words is refused (Recode asked) named spelled = let other : 115 ≡ 114 = ap initial (sym is ∙ named) in omega (arith, other)
 refuses_strict name words is refused (Strict asked) named spelled = refused asked spelled
+refuses_strict name words is refused (Skip asked) named spelled = let other : 116 ≡ 107 = ap second (sym is ∙ named) in omega (arith, other)
 
 -- words that are refused behind the name are no request of it
 pub none_of_strict : (name words : List ℕ) (found : Option Counted) (result : Option Request) (P : Counted → Request → Type 0)
@@ -239,3 +265,21 @@ pub none_of_strict : (name words : List ℕ) (found : Option Counted) (result : 
 none_of_strict name words found (Some request) P cases refused is = _
 none_of_strict name words (Some asked) None P cases refused is = absurd cases
 none_of_strict name words None None P cases refused is = refuses_strict name words is refused
+
+refuses_skip : (name words : List ℕ) → name ≡ codes "skip" → ((asked : Nested) → SpellsNested words asked → ⊥)
+    → (request : Request) → name ≡ name_of request → Spells words request → ⊥
+refuses_skip name words is refused (Heads bytes) named spelled = let other : 115 ≡ 104 = ap initial (sym is ∙ named) in omega (arith, other)
+refuses_skip name words is refused (Chunks asked) named spelled = let other : 115 ≡ 99 = ap initial (sym is ∙ named) in omega (arith, other)
+refuses_skip name words is refused (Bytes asked) named spelled = let other : 115 ≡ 98 = ap initial (sym is ∙ named) in omega (arith, other)
+refuses_skip name words is refused (Text asked) named spelled = let other : 115 ≡ 116 = ap initial (sym is ∙ named) in omega (arith, other)
+refuses_skip name words is refused (Recode asked) named spelled = let other : 115 ≡ 114 = ap initial (sym is ∙ named) in omega (arith, other)
+refuses_skip name words is refused (Strict asked) named spelled = let other : 107 ≡ 116 = ap second (sym is ∙ named) in omega (arith, other)
+refuses_skip name words is refused (Skip asked) named spelled = refused asked spelled
+
+-- words that are refused behind the name are no request of it
+pub none_of_skip : (name words : List ℕ) (found : Option Nested) (result : Option Request) (P : Nested → Request → Type 0)
+    → MatchOption found (result ≡ None) (λ x. IsSomeAnd result (P x)) → IfNone found ((asked : Nested) → SpellsNested words asked → ⊥)
+    → name ≡ codes "skip" → IfNone result ((request : Request) → name ≡ name_of request → Spells words request → ⊥)
+none_of_skip name words found (Some request) P cases refused is = _
+none_of_skip name words (Some asked) None P cases refused is = absurd cases
+none_of_skip name words None None P cases refused is = refuses_skip name words is refused

@@ -21,6 +21,14 @@ pub record IsNumber (word : List ℕ) (n : ℕ) : Type 0 where
 abbrev pub IsSize : List ℕ → ℕ → Type 0
 IsSize word size = IsNumber word size × (size ≤ most_size)
 
+-- the greatest depth of an item
+abbrev pub most_depth : ℕ
+most_depth = 256
+
+-- the word is the depth of an item
+abbrev pub IsDepth : List ℕ → ℕ → Type 0
+IsDepth word depth = IsNumber word depth × (depth ≤ most_depth)
+
 -- the word is a limit: a number, or `*` for none
 abbrev pub IsLimit : List ℕ → Option ℕ → Type 0
 IsLimit word None = word ≡ codes "*"

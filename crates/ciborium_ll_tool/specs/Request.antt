@@ -1,12 +1,13 @@
 -- What lines ask for.
 use Rattle.std.specs.Prelude.{◌≡◌, ℕ, List, ◌++◌, ◌∷◌, codes, Some}
-use Rattle.ciborium_ll_tool.specs.Number.{IsLimit, IsNumber, IsSize}
+use Rattle.ciborium_ll_tool.specs.Number.{IsDepth, IsLimit, IsNumber, IsSize}
 use Rattle.ciborium_ll_tool.specs.Word.{bytes_of_word}
 use Rattle.ciborium_ll_tool.specs.declared.request.Limited.{Limited}
 use Rattle.ciborium_ll_tool.specs.declared.request.Request.{Request}
-use Rattle.ciborium_ll_tool.specs.declared.request.Request.TheVariants.{Bytes, Chunks, Heads, Recode, Strict, Text}
+use Rattle.ciborium_ll_tool.specs.declared.request.Request.TheVariants.{Bytes, Chunks, Heads, Recode, Skip, Strict, Text}
 use Rattle.ciborium_ll_tool.specs.declared.request.Buffered.{Buffered}
 use Rattle.ciborium_ll_tool.specs.declared.request.Counted.{Counted}
+use Rattle.ciborium_ll_tool.specs.declared.request.Nested.{Nested}
 
 -- the byte that parts two words
 abbrev pub space : ℕ
@@ -27,6 +28,11 @@ abbrev pub SpellsCounted : List ℕ → Counted → Type 0
 SpellsCounted words asked = (first : List ℕ) × (word : List ℕ) × (words ≡ first ++ (space ∷ word))
     × IsNumber first asked.count × (bytes_of_word word ≡ Some asked.bytes.items)
 
+-- the words are a depth and bytes
+abbrev pub SpellsNested : List ℕ → Nested → Type 0
+SpellsNested words asked = (first : List ℕ) × (word : List ℕ) × (words ≡ first ++ (space ∷ word))
+    × IsDepth first asked.depth × (bytes_of_word word ≡ Some asked.bytes.items)
+
 -- the first word of a request
 abbrev pub name_of : Request → List ℕ
 name_of (Heads bytes) = codes "heads"
@@ -35,6 +41,7 @@ name_of (Bytes asked) = codes "bytes"
 name_of (Text asked) = codes "text"
 name_of (Recode asked) = codes "recode"
 name_of (Strict asked) = codes "strict"
+name_of (Skip asked) = codes "skip"
 
 -- the words behind the first one
 abbrev pub Spells : List ℕ → Request → Type 0
@@ -44,6 +51,7 @@ Spells words (Bytes asked) = SpellsLimited words asked
 Spells words (Text asked) = SpellsLimited words asked
 Spells words (Recode asked) = SpellsCounted words asked
 Spells words (Strict asked) = SpellsCounted words asked
+Spells words (Skip asked) = SpellsNested words asked
 
 -- the line is this request, spelled out
 abbrev pub Asks : List ℕ → Request → Type 0

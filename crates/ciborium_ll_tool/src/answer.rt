@@ -2,7 +2,7 @@
 
 use crate::request::Request;
 use crate::service::ToolError;
-use crate::{copy, string, value};
+use crate::{copy, skip, string, value};
 use ciborium_ll::io::SliceReader;
 use ciborium_ll::{Decoder, Error, Float, Header};
 use std::alloc::Global;
@@ -30,6 +30,7 @@ pub fn line<T: Write>(alloc: Global, line: &[u8], sink: &mut T) -> Result<(), To
             let decoder = Decoder::strict(SliceReader::new(asked.bytes.as_slice()));
             copy::elements(alloc, decoder, asked.count, asked.bytes.len(), sink)?;
         }
+        Some(Request::Skip(asked)) => skip::item(asked.depth, asked.bytes.as_slice(), sink)?,
         None => writeln!(sink, "error: line")?,
     }
     Ok(())
@@ -66,6 +67,12 @@ pub enum Last {
     Syntax(usize),
     /// Bytes are missing.
     Short(usize),
+    /// An item was skipped.
+    Item(usize),
+    /// A break stands in place of an item.
+    Break(usize),
+    /// An item nests too deep.
+    Deep(usize),
     /// The offset has no room. No line is long enough for it.
     Room,
 }
@@ -76,6 +83,9 @@ impl fmt::Display for Last {
             Last::End(offset) => write!(f, "end {offset}"),
             Last::Syntax(offset) => write!(f, "syntax {offset}"),
             Last::Short(offset) => write!(f, "short {offset}"),
+            Last::Item(offset) => write!(f, "item {offset}"),
+            Last::Break(offset) => write!(f, "break {offset}"),
+            Last::Deep(offset) => write!(f, "deep {offset}"),
             Last::Room => f.write_str("error: room"),
         }
     }

@@ -15,6 +15,7 @@ mod number;
 mod raw;
 mod request;
 mod service;
+mod skip;
 mod string;
 #[cfg(test)]
 mod tests;

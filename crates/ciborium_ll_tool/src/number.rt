@@ -2,10 +2,13 @@
 
 ghost use Rattle.std.specs.Prelude.{◌≡◌, ℕ, Option, IfNone, IfSome};
 ghost use Rattle.std.specs.Fmt.{decimal};
-ghost use Rattle.ciborium_ll_tool.specs.Number.{IsLimit, IsNumber, IsSize};
+ghost use Rattle.ciborium_ll_tool.specs.Number.{IsDepth, IsLimit, IsNumber, IsSize};
 
 /// The greatest size of a buffer that a line may ask for.
 const MOST_SIZE: u32 = 65_536;
+
+/// The greatest depth of an item that a line may ask for.
+const MOST_DEPTH: u32 = 256;
 
 /// The number that a word spells: `0`, or a digit from 1 to 9 and digits behind it, at most 4,294,967,295.
 ///
@@ -35,6 +38,17 @@ pub fn size_of(word: &str) -> Option<usize>
 {
     match number_of(word) {
         Some(size) if size <= MOST_SIZE => Some(size as usize),
+        _ => None,
+    }
+}
+
+/// The depth of an item that a word spells: a number, at most 256.
+pub fn depth_of(word: &str) -> Option<usize>
+    ensures some { IfSome result (IsDepth word.now) }
+    ensures none { IfNone result ((depth : ℕ) → IsDepth word.now depth → ⊥) }
+{
+    match number_of(word) {
+        Some(depth) if depth <= MOST_DEPTH => Some(depth as usize),
         _ => None,
     }
 }

@@ -2,7 +2,7 @@
 
 ghost use Rattle.std.specs.Prelude.{IfNone, IfOk, IfSome};
 
-use crate::number::{limit_of, number_of, size_of};
+use crate::number::{depth_of, limit_of, number_of, size_of};
 use crate::word::bytes_of;
 use std::alloc::{AllocError, Global};
 
@@ -108,6 +108,39 @@ impl Counted {
     }
 }
 
+/// A depth, and bytes that an item is skipped in.
+#[derive(Drop)]
+pub struct Nested {
+    /// How many levels deep tags, arrays and maps may nest, at most 256.
+    pub depth: usize,
+    /// What is read.
+    pub bytes: Vec<u8>,
+}
+
+impl Nested {
+    ghost use Rattle.ciborium_ll_tool.specs.declared.request.Nested.{Nested};
+    ghost use Rattle.ciborium_ll_tool.specs.Request.{SpellsNested};
+
+    /// Reads two words, parted by exactly one space.
+    ///
+    /// It is `None` where they are no such. The error says that there is no memory for the bytes.
+    fn parse(alloc: Global, words: &str) -> Result<Option<Nested>, AllocError>
+        ensures some { IfOk result (λ found. IfSome found (SpellsNested words.now)) }
+        ensures none { IfOk result (λ found. IfNone found ((asked : Nested) → SpellsNested words.now asked → ⊥)) }
+    {
+        let Some((first, word)) = words.split_once(' ') else {
+            return Ok(None);
+        };
+        let Some(depth) = depth_of(first) else {
+            return Ok(None);
+        };
+        match bytes_of(alloc, word)? {
+            Some(bytes) => Ok(Some(Nested { depth, bytes })),
+            None => Ok(None),
+        }
+    }
+}
+
 /// What a line asks for.
 #[derive(Drop)]
 pub enum Request {
@@ -123,6 +156,8 @@ pub enum Request {
     Recode(Counted),
     /// `strict COUNT HEX`: such a copy by a strict decoder.
     Strict(Counted),
+    /// `skip DEPTH HEX`: the item that the bytes begin with, skipped.
+    Skip(Nested),
 }
 
 impl Request {
@@ -166,6 +201,7 @@ impl Request {
             "text" => Ok(Limited::parse(alloc, words)?.map(Request::Text)),
             "recode" => Ok(Counted::parse(alloc, words)?.map(Request::Recode)),
             "strict" => Ok(Counted::parse(alloc, words)?.map(Request::Strict)),
+            "skip" => Ok(Nested::parse(alloc, words)?.map(Request::Skip)),
             _ => Ok(None),
         }
     }

@@ -4,7 +4,7 @@ use crate::{
 };
 use ciborium_ll::io::{ReadFault, Write, WriteFault};
 use ciborium_ll::{Error, RecodeError};
-use std::alloc::Global;
+use std::alloc::{AllocError, Global};
 use std::io;
 use std::process::Abort;
 use std::test::Fail;
@@ -220,6 +220,54 @@ fn strict_copies(rt: HostRuntime) -> Result<(), Fail> {
     answer_as(&rt, rt.alloc(), &rows)
 }
 
+#[test]
+fn items_that_are_skipped(rt: HostRuntime) -> Result<(), Fail> {
+    let rows = [
+        ("skip 1 80", "item 1\n"),
+        ("skip 1 c001", "item 2\n"),
+        ("skip 1 bfff", "item 2\n"),
+        ("skip 1 9f01020300ff", "item 6\n"),
+        ("skip 2 a16161820102", "item 6\n"),
+        ("skip 0 5f4101ff", "item 4\n"),
+        ("skip 0 0001", "item 1\n"),
+        ("skip 2 c1a0ff", "item 2\n"),
+        ("skip 0 80", "deep 0\n"),
+        ("skip 0 c0", "deep 0\n"),
+        ("skip 1 a16161820102", "deep 3\n"),
+        ("skip 0 ff", "break 0\n"),
+        ("skip 1 81ff", "break 1\n"),
+        ("skip 1 bf01ff", "break 2\n"),
+        ("skip 3 62c328", "syntax 0\n"),
+        ("skip 1 811f", "syntax 1\n"),
+        ("skip 1 8201", "short 2\n"),
+        ("skip 1 bb8000000000000001", "short 9\n"),
+        ("skip 1 bb80000000000000010000", "short 11\n"),
+        ("skip 0 -", "short 0\n"),
+    ];
+    answer_as(&rt, rt.alloc(), &rows)
+}
+
+// A line that skips an item in so many arrays of one item.
+fn deep_line(alloc: Global, levels: usize) -> Result<Vec<u8>, AllocError> {
+    let mut line = b"skip 256 ".to_vec(alloc)?;
+    for _ in 0..levels {
+        line.extend_from_slice(b"81")?;
+    }
+    line.extend_from_slice(b"00")?;
+    Ok(line)
+}
+
+#[test]
+fn the_deepest_item(rt: HostRuntime) -> Result<(), Fail> {
+    let whole = deep_line(rt.alloc(), 256)?;
+    let output = answers(rt.alloc(), whole.as_slice())?;
+    assert_eq!(rt; output.as_slice(), b"item 257\n");
+    let deeper = deep_line(rt.alloc(), 257)?;
+    let output = answers(rt.alloc(), deeper.as_slice())?;
+    assert_eq!(rt; output.as_slice(), b"deep 256\n");
+    Ok(())
+}
+
 // Writes bytes, and passes them on.
 fn writes<W: Write>(writer: &mut W, data: &[u8]) -> Result<(), W::Error> {
     writer.write_all(data)?;
@@ -240,7 +288,7 @@ fn a_writer_in_memory(rt: HostRuntime) -> Result<(), Fail> {
 
 #[test]
 fn lines_that_are_no_request(rt: HostRuntime) -> Result<(), Fail> {
-    let lines: [&[u8]; 34] = [
+    let lines: [&[u8]; 39] = [
         b"",
         b" ",
         b"heads",
@@ -275,6 +323,11 @@ fn lines_that_are_no_request(rt: HostRuntime) -> Result<(), Fail> {
         b"recode 4294967296 00",
         b"strict 1",
         b"strict * 00",
+        b"skip",
+        b"skip 1",
+        b"skip 257 00",
+        b"skip 01 00",
+        b"skip * 00",
     ];
     for line in lines {
         let mut input = line.to_vec(rt.alloc())?;

@@ -1,4 +1,4 @@
-use Rattle.ciborium_ll_tool.proofs.RequestLaws.{none_of_bytes, none_of_chunks, none_of_recode, none_of_strict, none_of_text}
+use Rattle.ciborium_ll_tool.proofs.RequestLaws.{none_of_bytes, none_of_chunks, none_of_recode, none_of_skip, none_of_strict, none_of_text}
 use Rattle.ciborium_ll_tool.proofs.request.Request.named.Goals as goal
 
 pub returns-in_ok-parse-in-chunks-clause-none : goal.returns-in_ok-parse-in-chunks-clause-none
@@ -25,3 +25,8 @@ pub returns-in_ok-parse-in-strict-clause-none : goal.returns-in_ok-parse-in-stri
 returns-in_ok-parse-in-strict-clause-none c =
     none_of_strict c.args.name.now c.args.words.now c.in_ok-parse-in-strict.field-0 c.map-in-strict.result _
     c.map-in-strict.ensures.cases c.in_ok-parse-in-strict.ensures.none c.in-strict.is
+
+pub returns-in_ok-parse-in-skip-clause-none : goal.returns-in_ok-parse-in-skip-clause-none
+returns-in_ok-parse-in-skip-clause-none c =
+    none_of_skip c.args.name.now c.args.words.now c.in_ok-parse-in-skip.field-0 c.map-in-skip.result _
+    c.map-in-skip.ensures.cases c.in_ok-parse-in-skip.ensures.none c.in-skip.is

@@ -1,0 +1,57 @@
+ghost use Rattle.std.specs.Prelude.{◌≤◌};
+
+use cbor_skip::{SkipError, skip_item};
+use ciborium_ll::io::{Read, SliceReader};
+use ciborium_ll::{Decoder, Error};
+
+// How a skip ends: behind an item, or why not. The numbers are offsets: those of `Item` and `Short` are the decoder's.
+#[derive(Clone, Copy, Debug, PartialEq, Eq, Drop)]
+pub enum Answer {
+    Item(usize),
+    Break(usize),
+    Deep(usize),
+    Syntax(usize),
+    Short(usize),
+    Other,
+}
+
+// Skips one item.
+pub fn skipped<R: Read>(decoder: &mut Decoder<R>, depth: usize) -> Answer
+where
+    R::Error: Drop,
+    requires { depth ≤ 256 }
+{
+    let mut buffer = [0; 4];
+    let outcome = skip_item(decoder, depth, &mut buffer);
+    let offset = decoder.offset();
+    match outcome {
+        Ok(()) => Answer::Item(offset),
+        Err(SkipError::Break(place)) => Answer::Break(place),
+        Err(SkipError::Deep(place)) => Answer::Deep(place),
+        Err(SkipError::Read(Error::Syntax(place))) => Answer::Syntax(place),
+        Err(SkipError::Read(Error::Io(_))) => Answer::Short(offset),
+        Err(SkipError::Read(_)) => Answer::Other,
+    }
+}
+
+// Skips the item in front of bytes.
+pub fn answer_for(depth: usize, bytes: &[u8]) -> Answer
+    requires { depth ≤ 256 }
+{
+    let mut decoder = Decoder::from(SliceReader::new(bytes));
+    skipped(&mut decoder, depth)
+}
+
+// A map of indefinite length with two pairs. Each title has one byte, but for the one at 4, which has two, and each body
+// has one. So a reader moves one byte in each call that moves any. From 12 on a third level is needed.
+pub const NESTED: [u8; 25] = [
+    0xbf, // the map
+    0x61, 0x6b, // "k"
+    0x83, // an array of three
+    0x18, 0x20, // 32
+    0x5f, 0x41, 2, 0x41, 3, 0xff, // bytes in two segments
+    0xc1, 0x7f, 0x61, 0x61, 0xff, // a tagged text in one segment
+    0x41, 0, // bytes
+    0x9f, 0xa0, 0x80, 0xf6, 0xff, // an array of an empty map, an empty array and null
+    0xff, // the map's end
+];
