@@ -24,11 +24,11 @@ use compare::command::status_of;
 use compare::random::Random;
 use std::io;
 use std::process::ExitCode;
-use std::time::{Instant, SystemTime, UNIX_EPOCH};
+use std::time::{Duration, Instant, SystemTime, UNIX_EPOCH};
 
 /// How the program is used.
 const USAGE: &str =
-    "OURS ORIGINAL [--quick] [--seed N] [--lines N] [--streams N] [--plant]";
+    "OURS ORIGINAL [--quick] [--seed N] [--lines N] [--streams N] [--minutes N] [--plant]";
 
 /// What the arguments ask for.
 struct Asked {
@@ -36,6 +36,7 @@ struct Asked {
     seed: u64,
     lines: usize,
     streams: usize,
+    minutes: u64,
     is_planted: bool,
 }
 
@@ -47,6 +48,7 @@ fn asked(mut words: impl Iterator<Item = String>) -> Option<Asked> {
         seed: seed_of_the_clock(),
         lines: 10_000_000,
         streams: 2_000,
+        minutes: 0,
         is_planted: false,
     };
     while let Some(word) = words.next() {
@@ -55,6 +57,7 @@ fn asked(mut words: impl Iterator<Item = String>) -> Option<Asked> {
             "--seed" => asked.seed = words.next()?.parse().ok()?,
             "--lines" => asked.lines = words.next()?.parse().ok()?,
             "--streams" => asked.streams = words.next()?.parse().ok()?,
+            "--minutes" => asked.minutes = words.next()?.parse().ok()?,
             "--plant" => asked.is_planted = true,
             _ => return None,
         }
@@ -87,8 +90,14 @@ fn compare_all(asked: &Asked) -> io::Result<bool> {
     comparison.is_planted = asked.is_planted;
     vectors::compare(&mut comparison)?;
     exhaustive::compare(&mut comparison)?;
-    lines::compare(&mut comparison, &mut random, asked.lines)?;
-    streams::compare(&asked.sides, &mut tally, &mut random, asked.streams)?;
+    let mut rounds = 0;
+    // Random inputs once, and again and again while there is time.
+    while rounds == 0 || start.elapsed() < Duration::from_secs(asked.minutes.saturating_mul(60)) {
+        let mut comparison = Comparison::new(&asked.sides, &mut tally);
+        lines::compare(&mut comparison, &mut random, asked.lines)?;
+        streams::compare(&asked.sides, &mut tally, &mut random, asked.streams)?;
+        rounds += 1;
+    }
     tally.print();
     println!(
         "compared {} answers in {} s, {} differences unexplained",
