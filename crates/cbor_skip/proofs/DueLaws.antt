@@ -130,7 +130,7 @@ item_goes_on outer d u levels closable
     let both = sym (append_assoc t (a ++ b) s) ∙ (e ∙ append_assoc t' (r' ++ []) v) in
     let o = one_title t t' ((a ++ b) ++ s) ((r' ++ []) ++ v) x x' p p' both in
     let same : a ++ (b ++ s) ≡ r' ++ v =
-        sym (append_assoc a b s) ∙ (o.2 ∙ ap (λ (y : List ℕ). y ++ v) (append-nil r')) in
+    sym (append_assoc a b s) ∙ (o.2 ∙ ap (λ (y : List ℕ). y ++ v) (append-nil r')) in
     let completes = subst (λ (y : Header). Completes (suc d') y r') (sym o.1) c' in
     elim (nest_goes d' m a x i more r' completes (b ++ s) v same) [
       | inl comes ↦ item_goes_on (may_close x m) d' b levels closable due comes.item comes.is_item s comes.rest comes.is

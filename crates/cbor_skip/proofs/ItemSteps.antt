@@ -74,7 +74,7 @@ string_completes d k len t rest w bs p (indefinite {title = t'} {strings = x} p'
     let behind : x ++ 0xff ∷ [] ≡ rest = sym f.2 in
     subst (λ (z : List ℕ). Completes d (kind_header k len) z) behind
     (subst (λ (o : Option ℕ). Completes d (kind_header k o) (x ++ 0xff ∷ [])) same
-        (completes_open d k x bs strings sound))
+    (completes_open d k x bs strings sound))
 
 module _ {R E : Type 0} (source : Ghosts R E) where
   -- ---- one item
@@ -91,10 +91,10 @@ module _ {R E : Type 0} (source : Ghosts R E) where
       → ReadsItem source d old new
   reads_item {d = d} {old = old} {titled = titled} {new = new} {x = x} {rest = rest} title steady completes passed =
       record {
-    item = title.title ++ rest;
-    is_item = item_of d title.title rest x title.is_title completes;
-    passed = Passes-then source old titled new title.title rest (pulled_first title steady) passed;
-  }
+        item = title.title ++ rest;
+        is_item = item_of d title.title rest x title.is_title completes;
+        passed = Passes-then source old titled new title.title rest (pulled_first title steady) passed;
+      }
 
   pub reads_plain : {d : ℕ} {old titled : Decoder R} {x : Header} → PullsTitle source old x titled
       → (IsSteady source old → IsSteady source titled) → Completes d x [] → ReadsItem source d old titled
@@ -107,8 +107,8 @@ module _ {R E : Type 0} (source : Ghosts R E) where
       let x = kind_header k len in
       let shortest = IsTitle-shortest x (title_in_range title.title x title.is_title) in
       let completes =
-          string_completes d k len (shortest_title x) whole.behind _ whole.bodies shortest whole.is_string refl
-          whole.sound in
+      string_completes d k len (shortest_title x) whole.behind _ whole.bodies shortest whole.is_string refl
+      whole.sound in
       reads_item title steady completes whole.passed
 
   pub reads_nest : {d levels : ℕ} {old titled new : Decoder R} {x : Header} → suc levels ≡ d
@@ -141,7 +141,7 @@ module _ {R E : Type 0} (source : Ghosts R E) where
       let inner = stops.stops in
       let first = pulled_first title steady in
       let rest =
-          Passes-then source titled stops.between inner.between stops.items inner.bytes stops.passed inner.passed in
+      Passes-then source titled stops.between inner.between stops.items inner.bytes stops.passed inner.passed in
       subst (λ (n : ℕ). StopsItem source outer n room old error new) level (record {
         bytes = title.title ++ (stops.items ++ inner.bytes);
         levels = inner.levels;
@@ -262,7 +262,7 @@ module _ {R E : Type 0} (source : Ghosts R E) where
       let inner = stops.stops in
       let none : stops.items ≡ [] = no_items_read d stops.count stops.items stops.takes_more stops.are_items in
       let passed =
-          Passes-then source old stops.between inner.between stops.items inner.bytes stops.passed inner.passed in
+      Passes-then source old stops.between inner.between stops.items inner.bytes stops.passed inner.passed in
       record {
         bytes = inner.bytes;
         levels = inner.levels;

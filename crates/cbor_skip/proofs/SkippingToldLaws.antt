@@ -51,7 +51,7 @@ damage before len start read rest behind split within (inr begins) =
           let more = take (len - length read) behind in
           let taken : take len rest ≡ read ++ more = front_behind len rest read behind split within in
           DamagedText [] (read ++ more) all (λ text. begins more (subst IsCharacters taken text)) taken
-              IsCharacters-nil within
+          IsCharacters-nil within
           )
     ]
 
@@ -235,7 +235,7 @@ module _ {R E : Type 0} (source : Ghosts R E) (depth room : ℕ) (old : Decoder 
           answered = refl;
           left =
               after ∙ still.0 ∙ due-behind ∙ ap Some
-                  (sym (ap (drop (length part.read)) gone.2 ∙ drop-append_seam part.read gone.0));
+              (sym (ap (drop (length part.read)) gone.2 ∙ drop-append_seam part.read gone.0));
           offset = omega (arith, fails.fails.offset, part.passed.offset, passed.offset);
         }
 
@@ -336,7 +336,7 @@ module _ {R E : Type 0} (source : Ghosts R E) (depth room : ℕ) (old : Decoder 
         let title = pulled.title in
         let lone = alone_bytes title (kind_header k None) pulled.is_title (open_alone k) in
         let opened =
-            Passes-pulled source at at titled [] (kind_header k None) pulled (Passes-none source at) first.steady in
+        Passes-pulled source at at titled [] (kind_header k None) pulled (Passes-none source at) first.steady in
         let behind = Passes-then source at titled between title part.behind opened part.passed in
         record {
           bytes = first.bytes ++ (title ++ part.behind);
@@ -471,7 +471,7 @@ module _ {R E : Type 0} (source : Ghosts R E) (depth room : ℕ) (old : Decoder 
           | inl fails ↦ title_told stops.bytes Due stops.between error new (at_item stops.due) tt stops.passed fails
           | inr meets ↦
               string_told stops.bytes stops.levels stops.closable meets.kind meets.len stops.between meets.titled error
-                  new
+              new
               stops.due stops.passed meets.pulled meets.steady meets.fails
         ]
 

@@ -42,8 +42,8 @@ pub fn answer_for(depth: usize, bytes: &[u8]) -> Answer
     skipped(&mut decoder, depth)
 }
 
-// A map of indefinite length with two pairs. Each title has one byte, but for the one at 4, which has two, and each body
-// has one. So a reader moves one byte in each call that moves any. From 12 on a third level is needed.
+// A map of indefinite length with two pairs. Each title has one byte, but for the one at 4, which has two, and each
+// body has one. So a reader moves one byte in each call that moves any. From 12 on a third level is needed.
 pub const NESTED: [u8; 25] = [
     0xbf, // the map
     0x61, 0x6b, // "k"

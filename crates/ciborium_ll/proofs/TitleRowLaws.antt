@@ -95,9 +95,10 @@ no_title_told major minor (inr never) =
 
 title_tells : (code major minor : ℕ) → title_test code major minor ≡ true → NamesTitle code major minor
 title_tells code major minor e =
-    let parts = and_parts (eqb major code) (not (no_title_test major minor)) e in
-    (eqb-true major code parts.0,
-        λ none. both_ways (no_title_test major minor) (not-true (no_title_test major minor) parts.1) (no_title_told major minor none))
+    let parts = and_parts (eqb major code) (not (no_title_test major minor)) e in (
+      eqb-true major code parts.0,
+      λ none. both_ways (no_title_test major minor) (not-true (no_title_test major minor) parts.1) (no_title_told major minor none),
+    )
 
 kind_tells : (kind : Kind) (major minor : ℕ) → kind_test kind major minor ≡ true → IsKind kind major minor
 kind_tells k.Positive major minor e = title_tells 0 major minor e

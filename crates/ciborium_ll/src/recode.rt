@@ -14,7 +14,6 @@ ghost use Rattle.ciborium_ll.specs.Recoding.{CopiesBehind, CopiesBody, CopiesEle
 mod strict;
 
 pub use self::strict::strict_len;
-
 use crate::dec::{Decoder, Error};
 use crate::enc::Encoder;
 use crate::hdr::Header;
@@ -220,7 +219,7 @@ pub fn recode<R: Read, W: Write>(
         → IsToldAs R.Read W.Write true decoder.old (writer_of encoder.old) due written
         → waiting_of decoder.old ≡ None
         → RecodesStrictlyAnyhow R.Read W.Write count (length buffer.old) due written decoder.old result
-            decoder.new (writer_of encoder.new) }
+        decoder.new (writer_of encoder.new) }
 {
     'elements: for _copied in 0..count {
         copy_element(decoder, encoder, buffer)?;

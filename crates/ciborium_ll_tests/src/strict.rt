@@ -16,21 +16,15 @@ enum End {
 }
 
 // Copies so many elements, each from a strict decoder, and compares what was written, the answer and the offset.
-fn copy_row(
-    rt: &impl Abort,
-    bytes: &[u8],
-    count: usize,
-    written: &[u8],
-    end: End,
-    offset: usize,
-) {
+fn copy_row(rt: &impl Abort, bytes: &[u8], count: usize, written: &[u8], end: End, offset: usize) {
     let mut space = [0; 16];
     let mut decoder = Decoder::strict(SliceReader::new(bytes));
     let mut encoder = Encoder::from(SliceWriter::new(&mut space));
     let outcome = recode(&mut decoder, &mut encoder, count, &mut [0; 64]);
     let is_right = match outcome {
         Ok(()) => matches!(end, End::Copied),
-        Err(RecodeError::Read(Error::Syntax(place))) => matches!(end, End::Syntax(at) if at == place),
+        Err(RecodeError::Read(Error::Syntax(place))) =>
+            matches!(end, End::Syntax(at) if at == place),
         Err(RecodeError::Read(Error::Io(_))) => matches!(end, End::Short),
         Err(_) => false,
     };
@@ -59,11 +53,39 @@ fn titles_in_their_shortest_spelling(rt: HostRuntime) {
 fn strings_in_their_shortest_spelling(rt: HostRuntime) {
     let segments = [0x5f, 0x41, 1, 0xff];
     copy_row(&rt, &segments, 1, &segments, End::Copied, 4);
-    copy_row(&rt, &[0x5f, 0x5f, 0x41, 1, 0xff, 0xff], 1, &[0x5f], End::Syntax(1), 2);
-    copy_row(&rt, &[0x5f, 0x5f, 0xff, 0xff], 1, &[0x5f], End::Syntax(1), 2);
-    copy_row(&rt, &[0x7f, 0x78, 1, 0x61, 0xff], 1, &[0x7f], End::Syntax(1), 3);
+    copy_row(
+        &rt,
+        &[0x5f, 0x5f, 0x41, 1, 0xff, 0xff],
+        1,
+        &[0x5f],
+        End::Syntax(1),
+        2,
+    );
+    copy_row(
+        &rt,
+        &[0x5f, 0x5f, 0xff, 0xff],
+        1,
+        &[0x5f],
+        End::Syntax(1),
+        2,
+    );
+    copy_row(
+        &rt,
+        &[0x7f, 0x78, 1, 0x61, 0xff],
+        1,
+        &[0x7f],
+        End::Syntax(1),
+        3,
+    );
     copy_row(&rt, &[0x78, 2, 0x61, 0xff], 1, &[], End::Syntax(0), 2);
-    copy_row(&rt, &[0x62, 0x61, 0xff], 1, &[0x62, 0x61], End::Syntax(0), 3);
+    copy_row(
+        &rt,
+        &[0x62, 0x61, 0xff],
+        1,
+        &[0x62, 0x61],
+        End::Syntax(0),
+        3,
+    );
     copy_row(&rt, &[0x5f, 0x7f, 0xff], 1, &[0x5f], End::Syntax(1), 2);
     copy_row(&rt, &[0x43, 1], 1, &[0x43], End::Short, 1);
 }
@@ -82,7 +104,11 @@ fn longer_titles(alloc: Global, title: &[u8]) -> Result<Vec<Vec<u8>>, Fail> {
         _ => &[(24, 1), (25, 2), (26, 4), (27, 8)],
     };
     let own = [minor];
-    let number = if affix.is_empty() { own.as_slice() } else { affix };
+    let number = if affix.is_empty() {
+        own.as_slice()
+    } else {
+        affix
+    };
     for (code, size) in forms {
         if *size > affix.len() && minor < 31 {
             let mut other = vec![in alloc; major * 32 + *code]?;
@@ -119,7 +145,10 @@ fn vectors_and_their_longer_titles(rt: HostRuntime) -> Result<(), Fail> {
         assert!(rt; plain == Some(header), "at {hex}");
         let strict = pulled(&rt, Decoder::strict(SliceReader::new(title)), title);
         let is_small = matches!(header, Header::Simple(24..=31));
-        assert!(rt; strict == if is_small { None } else { Some(header) }, "at {hex}");
+        assert!(rt;
+            strict == if is_small { None } else { Some(header) },
+            "at {hex}"
+        );
         for other in &longer_titles(rt.alloc(), title)? {
             let title = other.as_slice();
             let plain = pulled(&rt, Decoder::from(SliceReader::new(title)), title);
@@ -192,7 +221,10 @@ fn first_bytes_that_neither_takes(rt: HostRuntime) {
         let mut strict = Decoder::strict(SliceReader::new(&bytes));
         // No number is greater than these, so each title that is one is the shortest.
         if plain.pull().is_err() {
-            assert!(rt; matches!(strict.pull(), Err(Error::Syntax(0))), "at {first}");
+            assert!(rt;
+                matches!(strict.pull(), Err(Error::Syntax(0))),
+                "at {first}"
+            );
             refused = refused.saturating_add(1);
         } else {
             assert!(rt; strict.pull().is_ok(), "at {first}");

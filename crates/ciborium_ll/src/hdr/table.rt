@@ -62,50 +62,95 @@ macro_rules! row {
 
 // Each is named for its kind and the length of the affix.
 const POSITIVE: Row = row!(Positive, Within);
+
 const POSITIVE_1: Row = row!(Positive, One);
+
 const POSITIVE_2: Row = row!(Positive, Two);
+
 const POSITIVE_4: Row = row!(Positive, Four);
+
 const POSITIVE_8: Row = row!(Positive, Eight);
+
 const NEGATIVE: Row = row!(Negative, Within);
+
 const NEGATIVE_1: Row = row!(Negative, One);
+
 const NEGATIVE_2: Row = row!(Negative, Two);
+
 const NEGATIVE_4: Row = row!(Negative, Four);
+
 const NEGATIVE_8: Row = row!(Negative, Eight);
+
 const BYTES: Row = row!(Bytes, Within);
+
 const BYTES_1: Row = row!(Bytes, One);
+
 const BYTES_2: Row = row!(Bytes, Two);
+
 const BYTES_4: Row = row!(Bytes, Four);
+
 const BYTES_8: Row = row!(Bytes, Eight);
+
 const BYTES_OPEN: Row = row!(Bytes, Open);
+
 const TEXT: Row = row!(Text, Within);
+
 const TEXT_1: Row = row!(Text, One);
+
 const TEXT_2: Row = row!(Text, Two);
+
 const TEXT_4: Row = row!(Text, Four);
+
 const TEXT_8: Row = row!(Text, Eight);
+
 const TEXT_OPEN: Row = row!(Text, Open);
+
 const ARRAY: Row = row!(Array, Within);
+
 const ARRAY_1: Row = row!(Array, One);
+
 const ARRAY_2: Row = row!(Array, Two);
+
 const ARRAY_4: Row = row!(Array, Four);
+
 const ARRAY_8: Row = row!(Array, Eight);
+
 const ARRAY_OPEN: Row = row!(Array, Open);
+
 const MAP: Row = row!(Map, Within);
+
 const MAP_1: Row = row!(Map, One);
+
 const MAP_2: Row = row!(Map, Two);
+
 const MAP_4: Row = row!(Map, Four);
+
 const MAP_8: Row = row!(Map, Eight);
+
 const MAP_OPEN: Row = row!(Map, Open);
+
 const TAG: Row = row!(Tag, Within);
+
 const TAG_1: Row = row!(Tag, One);
+
 const TAG_2: Row = row!(Tag, Two);
+
 const TAG_4: Row = row!(Tag, Four);
+
 const TAG_8: Row = row!(Tag, Eight);
+
 const OTHER: Row = row!(Other, Within);
+
 const OTHER_1: Row = row!(Other, One);
+
 const OTHER_2: Row = row!(Other, Two);
+
 const OTHER_4: Row = row!(Other, Four);
+
 const OTHER_8: Row = row!(Other, Eight);
+
 const OTHER_OPEN: Row = row!(Other, Open);
+
 const RESERVED: Row = row!(Refused, Reserved);
 /// The minor 31 under a major type that has no indefinite form.
 const NEVER_OPEN: Row = row!(Refused, Open);
