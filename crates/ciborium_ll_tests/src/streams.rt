@@ -82,6 +82,32 @@ impl io::Write for SlowWriter {
     }
 }
 
+// A reader or writer that fails at each call, with an error of this kind.
+#[derive(Drop)]
+struct Failing {
+    kind: io::ErrorKind,
+    calls: usize,
+}
+
+impl io::Read for Failing {
+    fn read(&mut self, _buf: &mut [u8]) -> io::Result<usize> {
+        self.calls = self.calls.saturating_add(1);
+        Err(io::Error::from(self.kind))
+    }
+}
+
+impl io::Write for Failing {
+    fn write(&mut self, _buf: &[u8]) -> io::Result<usize> {
+        self.calls = self.calls.saturating_add(1);
+        Err(io::Error::from(self.kind))
+    }
+
+    fn flush(&mut self) -> io::Result<()> {
+        self.calls = self.calls.saturating_add(1);
+        Err(io::Error::from(self.kind))
+    }
+}
+
 // Passes on what was written.
 fn flushes<W: Write>(writer: &mut W) -> Result<(), W::Error> {
     writer.flush()
@@ -121,6 +147,49 @@ fn one_byte_a_read(rt: HostRuntime) -> Result<(), Fail> {
     let inner = reader.into_inner();
     assert_eq!(rt; inner.calls, 6);
     assert!(rt; inner.left.is_empty());
+    Ok(())
+}
+
+// The first call that fails ends a read, a write or a flush, and its error is handed on.
+#[test]
+fn an_error_of_std_is_handed_on(rt: HostRuntime) -> Result<(), Fail> {
+    for kind in [
+        io::ErrorKind::Interrupted,
+        io::ErrorKind::UnexpectedEof,
+        io::ErrorKind::WriteZero,
+        io::ErrorKind::Other,
+    ] {
+        let mut reader = StdReader::new(Failing { kind, calls: 0 });
+        match reads(&mut reader, &mut [0; 2]) {
+            Err(ReadFault::Failed(error)) => assert!(rt; error.kind() == kind),
+            _ => panic!(rt; "not failed"),
+        }
+        assert_eq!(rt; reader.into_inner().calls, 1);
+
+        let mut writer = StdWriter::new(Failing { kind, calls: 0 });
+        match writer.write_all(&[1, 2]) {
+            Err(WriteFault::Failed(error)) => assert!(rt; error.kind() == kind),
+            _ => panic!(rt; "not failed"),
+        }
+        match flushes(&mut writer) {
+            Err(WriteFault::Failed(error)) => assert!(rt; error.kind() == kind),
+            _ => panic!(rt; "not failed"),
+        }
+        assert_eq!(rt; writer.into_inner().calls, 2);
+    }
+    Ok(())
+}
+
+#[test]
+fn more_than_a_million_bytes(rt: HostRuntime) -> Result<(), Fail> {
+    let bytes = vec![in rt.alloc(); 7u8; 1_100_000]?;
+    let mut reader = StdReader::new(bytes.as_slice());
+    let mut data = vec![in rt.alloc(); 0u8; 1_100_000]?;
+    reads(&mut reader, data.as_mut_slice())?;
+    assert!(rt; data.as_slice() == bytes.as_slice());
+    let mut writer = StdWriter::new(Vec::new(rt.alloc()));
+    writer.write_all(bytes.as_slice())?;
+    assert!(rt; writer.into_inner().as_slice() == bytes.as_slice());
     Ok(())
 }
 

@@ -1,7 +1,7 @@
 use crate::calls::pulls;
 use crate::vectors::VECTORS;
 use ciborium_ll::io::{Read, SliceReader, SliceWriter};
-use ciborium_ll::recode::recode;
+use ciborium_ll::recode::{recode, strict_len};
 use ciborium_ll::{Decoder, Encoder, Error, Header, RecodeError};
 use std::alloc::Global;
 use std::process::Abort;
@@ -31,6 +31,15 @@ fn copy_row(rt: &impl Abort, bytes: &[u8], count: usize, written: &[u8], end: En
     assert!(rt; is_right, "at {bytes:?}");
     assert_eq!(rt; decoder.offset(), offset, "at {bytes:?}");
     assert!(rt; encoder.into_inner().written() == written, "at {bytes:?}");
+    let want = match end {
+        End::Copied => Some(offset),
+        End::Syntax(_) | End::Short => None,
+    };
+    assert!(rt; bytes.len() <= 16);
+    assert!(rt;
+        strict_len(bytes, count, &mut [0; 16]) == want,
+        "at {bytes:?}"
+    );
 }
 
 #[test]
@@ -200,6 +209,12 @@ fn both_decoders(rt: &impl Abort, bytes: &[u8], first: u8, second: Option<u8>) {
     assert_eq!(rt; strict.0, is_strict(first, second), "at {bytes:?}");
     assert_eq!(rt; strict.0, plain.0 && plain.1 && !is_small, "at {bytes:?}");
     assert!(rt; !strict.0 || strict.1, "at {bytes:?}");
+    assert!(rt; bytes.len() <= 2);
+    assert_eq!(rt;
+        strict_len(bytes, 1, &mut [0; 2]).is_some(),
+        strict.0,
+        "at {bytes:?}"
+    );
 }
 
 #[test]

@@ -1,5 +1,5 @@
 -- A copy between a reader and a writer of std, from the copy of elements and the flush behind it.
-use Rattle.std.proofs.Common.{◌≡◌, ℕ, false, ◌+◌, ◌≤◌, ◌^◌, ◌⊎◌, List, [], ◌++◌, length, Option, Some, None, Ok, Err, refl, sym, ap, ◌∙◌, inl, inr, arith}
+use Rattle.std.proofs.Common.{◌≡◌, ℕ, false, ◌+◌, ◌≤◌, ◌^◌, ◌⊎◌, List, [], ◌++◌, length, Option, Some, None, Result, Ok, Err, OnOk, refl, sym, ap, ◌∙◌, inl, inr, arith}
 use Rattle.std.specs.Io.KnownBytes.{Keeps, append_known}
 use Rattle.std.proofs.lemmas.List.{append-nil}
 use Rattle.ciborium_ll.specs.declared.io.Read.{Ghosts as Reader}
@@ -17,8 +17,8 @@ use Rattle.ciborium_ll.specs.Decoding.{Passes, view}
 use Rattle.ciborium_ll.specs.Recoding.{CopiesElements}
 use Rattle.ciborium_ll.specs.RecodingTold.{IsTold, RecodesAnyhow, StopsShort}
 use Rattle.ciborium_ll.proofs.BodyLaws.{view_none}
-use Rattle.ciborium_ll_tool.specs.Restoring.{Restores}
-use Rattle.ciborium_ll_tool.specs.Raw.{CopiesRaw, ReadsShort, WritesShort}
+use Rattle.ciborium_ll_tool.specs.Restoring.{Restores, RestoresCopy, RestoresFlush}
+use Rattle.ciborium_ll_tool.specs.Raw.{CopiesRaw, ReadsShort, TellsFlushed, WritesShort}
 
 -- known bytes that are kept are known still
 pub kept_known : (old new : Option (List ℕ)) (bytes : List ℕ) → Keeps old new → old ≡ Some bytes → new ≡ Some bytes
@@ -36,14 +36,28 @@ whole_known None held bytes none told = absurd cc
 whole_known (Some xs) held bytes none told = ap Some (sym (append-nil xs) ∙ ap (λ (z : List ℕ). xs ++ z) (sym none)) ∙ told
 
 -- what holds of a copy holds with the faults of std in their places
-pub restored_copies : {R W : Type 0} (left : R → List ℕ → Type 0) (contents : W → Option (List ℕ)) (got : W → List ℕ → Type 0) (count : ℕ) (due written : List ℕ) (reader : R) (writer : W)
-    (read : Option ReadFault) (write : Option WriteFault) (error : RecodeError FaultKept FaultKept) (error' : RecodeError ReadFault WriteFault) → Restores read write error error' → CopiesRaw left contents got count due written (Err error) reader writer
-    → CopiesRaw left contents got count due written (Err error') reader writer
-restored_copies left contents got count due written reader writer read write (r.Read (e.Io failed)) error' is copies = rw is.1 copies
-restored_copies left contents got count due written reader writer read write (r.Read (e.Syntax place)) error' is copies = rw is copies
-restored_copies left contents got count due written reader writer read write (r.Read e.TooLong) error' is copies = rw is copies
-restored_copies left contents got count due written reader writer read write (r.Read e.Waiting) error' is copies = absurd copies
-restored_copies left contents got count due written reader writer read write (r.Write failed) error' is copies = rw is.1 copies
+pub restored_copies : {R W : Type 0} (left : R → List ℕ → Type 0) (got : W → List ℕ → Type 0) (count : ℕ) (due written : List ℕ) (reader : R) (writer : W)
+    (read : Option ReadFault) (write : Option WriteFault) (error : RecodeError FaultKept FaultKept) (error' : RecodeError ReadFault WriteFault) → Restores read write error error' → CopiesRaw left got count due written (Err error) reader writer
+    → CopiesRaw left got count due written (Err error') reader writer
+restored_copies left got count due written reader writer read write (r.Read (e.Io failed)) error' is copies = rw is.1 copies
+restored_copies left got count due written reader writer read write (r.Read (e.Syntax place)) error' is copies = rw is copies
+restored_copies left got count due written reader writer read write (r.Read e.TooLong) error' is copies = rw is copies
+restored_copies left got count due written reader writer read write (r.Read e.Waiting) error' is copies = absurd copies
+restored_copies left got count due written reader writer read write (r.Write failed) error' is copies = rw is.1 copies
+
+-- the same of the outcome of a copy
+pub restored_outcome : {R W : Type 0} (left : R → List ℕ → Type 0) (got : W → List ℕ → Type 0) (count : ℕ) (due written : List ℕ) (reader : R) (writer : W)
+    (read : Option ReadFault) (write : Option WriteFault) (outcome : Result (Unit {0}) (RecodeError FaultKept FaultKept)) (outcome' : Result (Unit {0}) (RecodeError ReadFault WriteFault))
+    → RestoresCopy read write outcome outcome' → CopiesRaw left got count due written outcome reader writer → CopiesRaw left got count due written outcome' reader writer
+restored_outcome left got count due written reader writer read write (Ok done) outcome' is copies = rw is copies
+restored_outcome left got count due written reader writer read write (Err error) outcome' is copies =
+    rw is.1 (restored_copies left got count due written reader writer read write error is.0 is.2 copies)
+
+-- what a writer within has behind a flush, of which the bytes that it could not pass on are held back
+pub flushed_known : {W : Type 0} (contents : W → Option (List ℕ)) (write : Option WriteFault) (outcome : Result (Unit {0}) FaultKept) (outcome' : Result (Unit {0}) WriteFault) (writer : W)
+    (held bytes : List ℕ) → RestoresFlush write outcome outcome' → OnOk outcome (held ≡ []) → append_known (contents writer) held ≡ Some bytes → TellsFlushed contents outcome' writer bytes
+flushed_known contents write (Ok done) outcome' writer held bytes is sent told = rw is (whole_known (contents writer) held bytes sent told)
+flushed_known contents write (Err failed) outcome' writer held bytes is sent told = rw is.1 (front_known (contents writer) held bytes told)
 
 module _ {D S E F : Type 0} (source : Reader D E) (sink : Writer S F) where
   -- where no header waits, what is due is what the reader has ahead
@@ -67,7 +81,7 @@ module _ {D S E F : Type 0} (source : Reader D E) (sink : Writer S F) where
   none_behind count room place old new writer writer' (inr (inr stops)) none =
       still_none stops.between new stops.stopped.1.read stops.stopped.1.passed (still_none old stops.between stops.bytes stops.copied.passed none)
 
-  module _ {R W : Type 0} (left : R → List ℕ → Type 0) (contents : W → Option (List ℕ)) (got : W → List ℕ → Type 0) (count : ℕ) (due written : List ℕ) (old new : Decoder D) (writer writer' : S)
+  module _ {R W : Type 0} (left : R → List ℕ → Type 0) (got : W → List ℕ → Type 0) (count : ℕ) (due written : List ℕ) (old new : Decoder D) (writer writer' : S)
       (reader : R) (flushed : W) (start : old.offset ≡ 0) (none-waits : old.waiting ≡ None) (leaves : (bytes : List ℕ) → source.ahead new.reader ≡ Some bytes → left reader bytes)
       (gets : (bytes : List ℕ) → sink.written writer' ≡ Some bytes → got flushed bytes) where
     -- what is due where no header waits is what the reader has ahead
@@ -99,16 +113,16 @@ module _ {D S E F : Type 0} (source : Reader D E) (sink : Writer S F) where
 
     -- all was written, and the flush behind it succeeded
     pub raw_all : CopiesElements source sink count 64 old writer (Ok (tt {0})) new writer' → RecodesAnyhow source sink count 64 due written old (Ok (tt {0})) new writer'
-        → ((bytes : List ℕ) → sink.written writer' ≡ Some bytes → contents flushed ≡ Some bytes) → CopiesRaw {E = E} {F = F} left contents got count due written (Ok (tt {0})) reader flushed
-    raw_all copied told whole = record {
+        → CopiesRaw {E = E} {F = F} left got count due written (Ok (tt {0})) reader flushed
+    raw_all copied told = record {
       front = told.front;
-      output = whole _ told.output;
+      output = gets _ told.output;
       rest = leaves_due _ (still_none old new copied.elements.bytes copied.elements.copied.passed none-waits) told.left;
     }
 
     -- the copy stopped: its answer stands, whatever the flush behind it does
     pub raw_stopped : (error : RecodeError E F) → CopiesElements source sink count 64 old writer (Err error) new writer' → RecodesAnyhow source sink count 64 due written old (Err error) new writer'
-        → CopiesRaw left contents got count due written (Err error) reader flushed
+        → CopiesRaw left got count due written (Err error) reader flushed
     raw_stopped (r.Read (e.Io fault)) copied told = short told
     raw_stopped (r.Read (e.Syntax place)) copied told =
         let met = told.2 in
@@ -123,3 +137,9 @@ module _ {D S E F : Type 0} (source : Reader D E) (sink : Writer S F) where
         let stop = told.0.stop in (short told.0, near new.offset (length stop.before + stop.consumed) (omega (arith, start, told.0.offset)) told.1)
     raw_stopped (r.Read e.Waiting) copied told = absurd told
     raw_stopped (r.Write fault) copied told = record { stop = told.stop; output = gets _ told.output }
+
+    -- whatever the copy answered
+    pub raw_any : (outcome : Result (Unit {0}) (RecodeError E F)) → CopiesElements source sink count 64 old writer outcome new writer' → RecodesAnyhow source sink count 64 due written old outcome new writer'
+        → CopiesRaw left got count due written outcome reader flushed
+    raw_any (Ok done) copied told = raw_all copied told
+    raw_any (Err error) copied told = raw_stopped error copied told

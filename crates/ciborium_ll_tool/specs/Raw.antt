@@ -18,6 +18,11 @@ Tells told value bytes = told value ≡ Some bytes
 abbrev pub TellsFront : {T : Type 0} → (T → Option (List ℕ)) → T → List ℕ → Type 0
 TellsFront told value bytes = (front : List ℕ) × (lost : List ℕ) × (told value ≡ Some front) × (bytes ≡ front ++ lost)
 
+-- the bytes are told, and are these, but for some at the end where the flush behind them failed
+abbrev pub TellsFlushed : {T F : Type 0} → (T → Option (List ℕ)) → Result (Unit {0}) F → T → List ℕ → Type 0
+TellsFlushed told (Ok done) value bytes = Tells told value bytes
+TellsFlushed told (Err fault) value bytes = TellsFront told value bytes
+
 -- nothing is said of the bytes
 abbrev pub Untold : {T : Type 0} → T → List ℕ → Type 0
 Untold value bytes = Unit {0}
@@ -47,10 +52,10 @@ module _ {R W : Type 0} (left : R → List ℕ → Type 0) (got : W → List ℕ
     pub output : got writer (written ++ spelling front.marks)
     pub rest : left reader front.rest
 
-module _ {R W E F : Type 0} (left : R → List ℕ → Type 0) (contents : W → Option (List ℕ)) (got : W → List ℕ → Type 0) where
-  -- the copy of so many elements through a buffer of 64 bytes, by its answer. Behind a success the writer has all
+module _ {R W E F : Type 0} (left : R → List ℕ → Type 0) (got : W → List ℕ → Type 0) where
+  -- the copy of so many elements through a buffer of 64 bytes, by its answer
   abbrev pub CopiesRaw : ℕ → List ℕ → List ℕ → Result (Unit {0}) (RecodeError E F) → R → W → Type 0
-  CopiesRaw count due written (Ok done) reader writer = CopiesCount left (Tells contents) count due written reader writer
+  CopiesRaw count due written (Ok done) reader writer = CopiesCount left got count due written reader writer
   CopiesRaw count due written (Err (r.Read (e.Io fault))) reader writer = ReadsShort got count due written writer
   CopiesRaw count due written (Err (r.Read (e.Syntax place))) reader writer = MeetsSyntax left got count place due written reader writer
   CopiesRaw count due written (Err (r.Read e.TooLong)) reader writer =

@@ -1,6 +1,5 @@
 -- The faults that the reader and the writer of a buffered copy keep, put back into the error of the copy.
-use Rattle.std.specs.Prelude.{◌≡◌, IfSome}
-use Rattle.std.specs.declared.option.Option.{Option}
+use Rattle.std.specs.Prelude.{◌≡◌, IfSome, Option, Result, Ok, Err}
 use Rattle.ciborium_ll.specs.declared.dec.Error.TheVariants as e
 use Rattle.ciborium_ll.specs.declared.io.buffered.FaultKept.{FaultKept}
 use Rattle.ciborium_ll.specs.declared.io.streams.ReadFault.{ReadFault}
@@ -15,3 +14,13 @@ Restores read write (r.Read (e.Syntax place)) error = error ≡ r.Read (e.Syntax
 Restores read write (r.Read e.TooLong) error = error ≡ r.Read e.TooLong
 Restores read write (r.Read e.Waiting) error = error ≡ r.Read e.Waiting
 Restores read write (r.Write failed) error = (fault : WriteFault) × (error ≡ r.Write fault) × IfSome write (λ kept. fault ≡ kept)
+
+-- the outcome of a copy, with its error in the same way
+abbrev pub RestoresCopy : Option ReadFault → Option WriteFault → Result (Unit {0}) (RecodeError FaultKept FaultKept) → Result (Unit {0}) (RecodeError ReadFault WriteFault) → Type 0
+RestoresCopy read write (Ok done) outcome = outcome ≡ Ok done
+RestoresCopy read write (Err error) outcome = (own : RecodeError ReadFault WriteFault) × (outcome ≡ Err own) × Restores read write error own
+
+-- the outcome of a flush, with the fault that was kept
+abbrev pub RestoresFlush : Option WriteFault → Result (Unit {0}) FaultKept → Result (Unit {0}) WriteFault → Type 0
+RestoresFlush write (Ok done) outcome = outcome ≡ Ok done
+RestoresFlush write (Err failed) outcome = (fault : WriteFault) × (outcome ≡ Err fault) × IfSome write (λ kept. fault ≡ kept)

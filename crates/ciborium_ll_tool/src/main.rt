@@ -26,7 +26,7 @@ pub use crate::arguments::chosen;
 pub use crate::choice::Chosen;
 pub use crate::fault::{Fault, fault_of_raw, fault_of_run};
 pub use crate::memory::{OutOfMemory, VecWriter};
-pub use crate::raw::{raw, raw_buffered};
+pub use crate::raw::{BufferedCopy, raw, raw_buffered};
 pub use crate::service::{ToolError, run};
 pub use crate::word::{bytes_of, word_of};
 use std::process::ExitCode;
@@ -65,8 +65,9 @@ fn words_of(rt: &HostRuntime) -> io::Result<Vec<String>> {
 
 /// Copies so many elements from standard input to standard output.
 fn copied(rt: &HostRuntime, count: usize) -> Result<(), Fault> {
-    let (_reader, _writer, outcome) = raw_buffered(rt.reader(), io::writer(rt), count);
-    outcome.map_err(|error| fault_of_raw(&error))
+    let copy = raw_buffered(rt.reader(), io::writer(rt), count);
+    copy.copied.map_err(|error| fault_of_raw(&error))?;
+    copy.flushed.map_err(|_| Fault::Write)
 }
 
 /// Names the fault on standard error.

@@ -1,8 +1,8 @@
 //! Elements copied from one stream of bytes to another.
 
 ghost use Rattle.std.specs.Prelude.{◌≡◌, ℕ, List, Some};
-ghost use Rattle.ciborium_ll_tool.specs.Raw.{CopiesRaw, Tells, TellsFront, Untold};
-ghost use Rattle.ciborium_ll_tool.specs.Restoring.{Restores};
+ghost use Rattle.ciborium_ll_tool.specs.Raw.{CopiesRaw, Tells, TellsFlushed, Untold};
+ghost use Rattle.ciborium_ll_tool.specs.Restoring.{Restores, RestoresCopy, RestoresFlush};
 
 use crate::copy::BUFFER_SIZE;
 use ciborium_ll::io::{
@@ -25,7 +25,7 @@ pub fn raw<R: io::Read, W: io::Write>(
     count: usize,
 ) -> (R, W, Result<(), RecodeError<ReadFault, WriteFault>>)
     ensures { (due written : List ℕ) → R.remaining reader ≡ Some due → W.contents writer ≡ Some written
-        → CopiesRaw (Tells R.remaining) W.contents (Tells W.contents) count due written result.2 result.0 result.1 }
+        → CopiesRaw (Tells R.remaining) (Tells W.contents) count due written result.2 result.0 result.1 }
 {
     let mut buffer = [0; BUFFER_SIZE];
     let mut decoder = Decoder::from(StdReader::new(reader));
@@ -41,16 +41,30 @@ pub fn raw<R: io::Read, W: io::Write>(
     (reader, writer.into_inner(), outcome)
 }
 
+/// How a buffered copy ended.
+#[derive(Drop)]
+pub struct BufferedCopy<R, W> {
+    /// The reader. Bytes behind the last element that were read ahead are given up.
+    pub reader: R,
+    /// The writer. It has all that was written, but for bytes at the end where the flush failed.
+    pub writer: W,
+    /// How the copy ended.
+    pub copied: Result<(), RecodeError<ReadFault, WriteFault>>,
+    /// How the flush behind it ended.
+    pub flushed: Result<(), WriteFault>,
+}
+
 /// Copies as `raw` does, and reads ahead and keeps back some 8 KiB at a time.
 ///
-/// Bytes behind the last element that were read ahead are given up, as are those that a failed flush kept back.
+/// The flush comes after a failure too. A write that fails is told by the call that passes it on, which may come behind
+/// a read that failed, or be the flush.
 pub fn raw_buffered<R: io::Read, W: io::Write>(
     reader: R,
     writer: W,
     count: usize,
-) -> (R, W, Result<(), RecodeError<ReadFault, WriteFault>>)
+) -> BufferedCopy<R, W>
     ensures { (due written : List ℕ) → R.remaining reader ≡ Some due → W.contents writer ≡ Some written
-        → CopiesRaw Untold W.contents (TellsFront W.contents) count due written result.2 result.0 result.1 }
+        → CopiesRaw Untold (TellsFlushed W.contents result.flushed) count due written result.copied result.reader result.writer }
 {
     let mut read_ahead = [0; ROOM];
     let mut kept_back = [0; ROOM];
@@ -63,12 +77,39 @@ pub fn raw_buffered<R: io::Read, W: io::Write>(
     let write_fault = writer.take_fault();
     let flushed = writer.flush();
     let (writer, _, flush_fault) = writer.into_parts();
-    let outcome = match (copied, flushed) {
-        (Ok(()), Ok(())) => Ok(()),
-        (Ok(()), Err(error)) => Err(restored(RecodeError::Write(error), None, flush_fault)),
-        (Err(error), _) => Err(restored(error, read_fault, write_fault)),
-    };
-    (reader, writer, outcome)
+    BufferedCopy {
+        reader,
+        writer,
+        copied: restored_copy(copied, read_fault, write_fault),
+        flushed: restored_flush(flushed, flush_fault),
+    }
+}
+
+/// The outcome of a copy, with the fault that was kept aside.
+fn restored_copy(
+    copied: Result<(), RecodeError<FaultKept, FaultKept>>,
+    read_fault: Option<ReadFault>,
+    write_fault: Option<WriteFault>,
+) -> Result<(), RecodeError<ReadFault, WriteFault>>
+    ensures { RestoresCopy read_fault write_fault copied result }
+{
+    match copied {
+        Ok(()) => Ok(()),
+        Err(error) => Err(restored(error, read_fault, write_fault)),
+    }
+}
+
+/// The outcome of a flush, with the fault that was kept aside.
+fn restored_flush(
+    flushed: Result<(), FaultKept>,
+    fault: Option<WriteFault>,
+) -> Result<(), WriteFault>
+    ensures { RestoresFlush fault flushed result }
+{
+    match flushed {
+        Ok(()) => Ok(()),
+        Err(FaultKept) => Err(fault.unwrap_or(WriteFault::Zero)),
+    }
 }
 
 /// The error of a copy, with the fault that was kept aside. Each failed call keeps one, so that none is missing.

@@ -1,6 +1,8 @@
+mod copies;
+
 use crate::{
     Chosen, Fault, OutOfMemory, ToolError, VecWriter, bytes_of, chosen, fault_of_raw, fault_of_run,
-    raw, raw_buffered, run, word_of,
+    run, word_of,
 };
 use ciborium_ll::io::{ReadFault, Write, WriteFault};
 use ciborium_ll::{Error, RecodeError};
@@ -113,6 +115,7 @@ fn values_in_segments(rt: HostRuntime) -> Result<(), Fail> {
         ("bytes 2 0102030405", "5f4201024203044105ff\n"),
         ("bytes * -", "40\n"),
         ("bytes 0 010203", "5f410141024103ff\n"),
+        ("bytes 1 010203", "5f410141024103ff\n"),
         ("bytes 3 010203", "43010203\n"),
         ("bytes 4294967295 0a", "410a\n"),
         ("text 5 c3a9c3a9c3a9", "7f64c3a9c3a962c3a9ff\n"),
@@ -136,6 +139,7 @@ fn values_in_segments(rt: HostRuntime) -> Result<(), Fail> {
             "7f6661c3a9e282ac64f09f9880ff\n",
         ),
         ("text * 61c3a9e282acf09f9880", "6a61c3a9e282acf09f9880\n"),
+        ("text 1 6162636465", "7f64616263646165ff\n"),
         ("text 9 -", "60\n"),
         ("text 4 e282", "error: text\n"),
     ];
@@ -149,6 +153,7 @@ fn elements_are_copied(rt: HostRuntime) -> Result<(), Fail> {
         ("recode 0 5f5f580101ffff", "- rest 5f5f580101ffff\n"),
         ("recode 2 1805f810a0", "05f0 rest a0\n"),
         ("recode 1 ff", "ff rest -\n"),
+        ("recode 1 5f40ff", "5f40ff rest -\n"),
         ("recode 1 7fff", "7fff rest -\n"),
         ("recode 1 5f40ff", "5f40ff rest -\n"),
         (
@@ -261,10 +266,10 @@ fn deep_line(alloc: Global, levels: usize) -> Result<Vec<u8>, AllocError> {
 fn the_deepest_item(rt: HostRuntime) -> Result<(), Fail> {
     let whole = deep_line(rt.alloc(), 256)?;
     let output = answers(rt.alloc(), whole.as_slice())?;
-    assert_eq!(rt; output.as_slice(), b"item 257\n");
+    assert_eq!(rt; output.as_slice(), b"item 257\n".as_slice());
     let deeper = deep_line(rt.alloc(), 257)?;
     let output = answers(rt.alloc(), deeper.as_slice())?;
-    assert_eq!(rt; output.as_slice(), b"deep 256\n");
+    assert_eq!(rt; output.as_slice(), b"deep 256\n".as_slice());
     Ok(())
 }
 
@@ -610,157 +615,6 @@ fn faults_of_copies_as_printed(rt: HostRuntime) -> Result<(), Fail> {
         let printed = fault_of_raw(&error).to_string(rt.alloc())?;
         assert_eq!(rt; printed.as_str(), want);
     }
-    Ok(())
-}
-
-// A writer that takes no byte.
-#[derive(Drop)]
-struct Stuck;
-
-impl io::Write for Stuck {
-    fn write(&mut self, _data: &[u8]) -> io::Result<usize> {
-        Ok(0)
-    }
-
-    fn flush(&mut self) -> io::Result<()> {
-        Ok(())
-    }
-}
-
-#[test]
-fn raw_copies(rt: HostRuntime) -> Result<(), Fail> {
-    let (left, written, outcome) = raw([0x58, 1, 1, 0].as_slice(), Vec::new(rt.alloc()), 1);
-    assert!(rt; outcome.is_ok());
-    assert_eq!(rt; written.as_slice(), [0x41, 1].as_slice());
-    assert_eq!(rt; left, [0].as_slice());
-
-    let slow = SlowReader {
-        left: &[0x58, 1, 1],
-        calls_before: None,
-        kind: io::ErrorKind::Other,
-    };
-    let (slow, written, outcome) = raw(slow, SlowWriter::new(rt.alloc()), 1);
-    assert!(rt; outcome.is_ok());
-    assert!(rt; slow.left.is_empty());
-    assert_eq!(rt; written.taken.as_slice(), [0x41, 1].as_slice());
-    assert_eq!(rt; written.flushes, 1);
-
-    let mut writer = SlowWriter::new(rt.alloc());
-    writer.flush_fails = true;
-    let (_, written, outcome) = raw([0].as_slice(), writer, 1);
-    assert!(rt; matches!(outcome, Err(RecodeError::Write(WriteFault::Failed(_)))));
-    assert_eq!(rt; written.taken.as_slice(), [0].as_slice());
-
-    let (_, written, outcome) = raw(
-        [0x7f, 0x61, 0x61, 0x5f, 0xff].as_slice(),
-        Vec::new(rt.alloc()),
-        1,
-    );
-    let fault = outcome.map_err(|error| fault_of_raw(&error));
-    assert!(rt; matches!(fault, Err(Fault::Syntax(3))));
-    assert_eq!(rt; written.as_slice(), [0x7f, 0x61, 0x61].as_slice());
-
-    let (_, _, outcome) = raw([].as_slice(), Vec::new(rt.alloc()), 1);
-    let fault = outcome.map_err(|error| fault_of_raw(&error));
-    assert!(rt; matches!(fault, Err(Fault::Read)));
-
-    let (_, _, outcome) = raw([0].as_slice(), Stuck, 1);
-    let fault = outcome.map_err(|error| fault_of_raw(&error));
-    assert!(rt; matches!(fault, Err(Fault::Write)));
-    Ok(())
-}
-
-// A string and titles that are longer than a window, in their shortest spelling.
-fn long_elements(alloc: Global) -> Result<Vec<u8>, Fail> {
-    let mut bytes = Vec::new(alloc);
-    bytes.extend_from_slice(&[0x59, 0x4e, 0x20])?;
-    for index in 0..20_000_u16 {
-        bytes.push((index % 251) as u8)?;
-    }
-    for index in 0..5_000_u16 {
-        bytes.push(0x19)?;
-        bytes.extend_from_slice(&index.saturating_add(256).to_be_bytes())?;
-    }
-    Ok(bytes)
-}
-
-#[test]
-fn raw_copies_through_windows(rt: HostRuntime) -> Result<(), Fail> {
-    let bytes = long_elements(rt.alloc())?;
-    let (_, written, outcome) = raw_buffered(bytes.as_slice(), Vec::new(rt.alloc()), 5_001);
-    assert!(rt; outcome.is_ok());
-    assert!(rt; written.as_slice() == bytes.as_slice());
-
-    let slow = SlowReader {
-        left: bytes.as_slice(),
-        calls_before: None,
-        kind: io::ErrorKind::Other,
-    };
-    let (_, written, outcome) = raw_buffered(slow, SlowWriter::new(rt.alloc()), 5_001);
-    assert!(rt; outcome.is_ok());
-    assert!(rt; written.taken.as_slice() == bytes.as_slice());
-    assert_eq!(rt; written.flushes, 1);
-
-    let mut writer = SlowWriter::new(rt.alloc());
-    writer.calls_before = Some(100);
-    writer.kind = Some(io::ErrorKind::TimedOut);
-    let (_, written, outcome) = raw_buffered(bytes.as_slice(), writer, 5_001);
-    assert!(rt; matches!(kind_of_write(outcome), Some(io::ErrorKind::TimedOut)));
-    assert!(rt; bytes.as_slice().starts_with(written.taken.as_slice()));
-    Ok(())
-}
-
-// The kind of the error with which a read failed.
-fn kind_of_read(outcome: Result<(), RecodeError<ReadFault, WriteFault>>) -> Option<io::ErrorKind> {
-    match outcome {
-        Err(RecodeError::Read(Error::Io(ReadFault::Failed(error)))) => Some(error.kind()),
-        _ => None,
-    }
-}
-
-// The kind of the error with which a write failed.
-fn kind_of_write(outcome: Result<(), RecodeError<ReadFault, WriteFault>>) -> Option<io::ErrorKind> {
-    match outcome {
-        Err(RecodeError::Write(WriteFault::Failed(error))) => Some(error.kind()),
-        _ => None,
-    }
-}
-
-fn failing_reader(calls: usize) -> SlowReader<'static> {
-    SlowReader {
-        left: &[0x42, 1, 2],
-        calls_before: Some(calls),
-        kind: io::ErrorKind::TimedOut,
-    }
-}
-
-#[test]
-fn raw_hands_faults_on(rt: HostRuntime) -> Result<(), Fail> {
-    for calls in 0..3_usize {
-        let (_, _, outcome) = raw(failing_reader(calls), Vec::new(rt.alloc()), 1);
-        assert!(rt; matches!(kind_of_read(outcome), Some(io::ErrorKind::TimedOut)));
-        let (_, _, outcome) = raw_buffered(failing_reader(calls), Vec::new(rt.alloc()), 1);
-        assert!(rt; matches!(kind_of_read(outcome), Some(io::ErrorKind::TimedOut)));
-
-        let mut writer = SlowWriter::new(rt.alloc());
-        writer.calls_before = Some(calls);
-        writer.kind = Some(io::ErrorKind::TimedOut);
-        writer.flush_fails = true;
-        let (_, _, outcome) = raw([0x42, 1, 2].as_slice(), writer, 1);
-        assert!(rt; matches!(kind_of_write(outcome), Some(io::ErrorKind::TimedOut)));
-
-        let mut writer = SlowWriter::new(rt.alloc());
-        writer.calls_before = Some(calls);
-        writer.kind = Some(io::ErrorKind::TimedOut);
-        let (_, _, outcome) = raw_buffered([0x42, 1, 2].as_slice(), writer, 1);
-        assert!(rt; matches!(kind_of_write(outcome), Some(io::ErrorKind::TimedOut)));
-    }
-    let (_, _, outcome) = raw([0x42, 1].as_slice(), Vec::new(rt.alloc()), 1);
-    assert!(rt; matches!(outcome, Err(RecodeError::Read(Error::Io(ReadFault::End)))));
-    let (_, _, outcome) = raw_buffered([0x42, 1].as_slice(), Vec::new(rt.alloc()), 1);
-    assert!(rt; matches!(outcome, Err(RecodeError::Read(Error::Io(ReadFault::End)))));
-    let (_, _, outcome) = raw_buffered([0].as_slice(), Stuck, 1);
-    assert!(rt; matches!(outcome, Err(RecodeError::Write(WriteFault::Zero))));
     Ok(())
 }
 

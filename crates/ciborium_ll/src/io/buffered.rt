@@ -22,6 +22,7 @@ pub struct FaultKept;
 ///
 /// It tells the bytes that this reader tells, and is never steady. A slice of some 8 KiB serves well. With an empty
 /// one each read is the reader's own.
+#[derive(Drop)]
 pub struct BufferedReader<'a, T> {
     source: T,
     window: Window<'a>,
@@ -214,6 +215,7 @@ impl<'a, T: io::Read> Read for BufferedReader<'a, T> {
 /// It tells the bytes that this writer tells, and then those that it keeps back, and no room. A slice of some 8 KiB
 /// serves well. With an empty one each write is the writer's own. What is kept back is passed on where the slice has
 /// no room for more, and by `flush`; nothing is passed on when the writer is dropped.
+#[derive(Drop)]
 pub struct BufferedWriter<'a, T> {
     sink: T,
     window: Window<'a>,

@@ -27,18 +27,18 @@ returns g c = λ due written told-due told-written.
       | in-Ok-Ok w ↦ (
           let all = rw w.in-Ok-Ok.is-0 at copied in
           let succeeded = rw w.in-Ok-Ok.is-0 at anyhow in
-          rw w.outcome-is (raw_all _ _ (Tells remaining) contents (Tells contents) c.args.count due written old new c.from-encoder.result.writer c.recode-copied.new.encoder.writer c.into_inner-reader.result
-          c.into_inner-2.result c.from-decoder.ensures.offset c.from-decoder.ensures.none_waits leaves gets all succeeded gets)
+          rw w.outcome-is (raw_all _ _ (Tells remaining) (Tells contents) c.args.count due written old new c.from-encoder.result.writer c.recode-copied.new.encoder.writer c.into_inner-reader.result
+          c.into_inner-2.result c.from-decoder.ensures.offset c.from-decoder.ensures.none_waits leaves gets all succeeded)
           )
       | in-Ok-Err w ↦ (
           let succeeded = rw w.in-Ok-Err.is-0 at anyhow in
-          rw w.outcome-is (raw_unflushed _ _ (Tells remaining) contents (Tells contents) c.args.count due written old new c.from-encoder.result.writer c.recode-copied.new.encoder.writer
+          rw w.outcome-is (raw_unflushed _ _ (Tells remaining) (Tells contents) c.args.count due written old new c.from-encoder.result.writer c.recode-copied.new.encoder.writer
           c.into_inner-reader.result c.into_inner-2.result c.from-decoder.ensures.offset c.from-decoder.ensures.none_waits leaves gets succeeded)
           )
       | in-Err-default w ↦ (
           let stops = rw w.in-Err-default.is-0 at copied in
           let stopped = rw w.in-Err-default.is-0 at anyhow in
-          rw w.outcome-is (raw_stopped _ _ (Tells remaining) contents (Tells contents) c.args.count due written old new c.from-encoder.result.writer c.recode-copied.new.encoder.writer
+          rw w.outcome-is (raw_stopped _ _ (Tells remaining) (Tells contents) c.args.count due written old new c.from-encoder.result.writer c.recode-copied.new.encoder.writer
           c.into_inner-reader.result c.into_inner-2.result c.from-decoder.ensures.offset c.from-decoder.ensures.none_waits leaves gets w.in-Err-default.error stops stopped)
           )
     ]

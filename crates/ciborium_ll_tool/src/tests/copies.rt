@@ -1,0 +1,239 @@
+// Copies of raw bytes.
+
+use super::{SlowReader, SlowWriter};
+use crate::{Fault, fault_of_raw, raw, raw_buffered};
+use ciborium_ll::io::{ReadFault, WriteFault};
+use ciborium_ll::{Error, RecodeError};
+use std::alloc::Global;
+use std::io;
+use std::test::Fail;
+
+// A writer that takes no byte.
+#[derive(Drop)]
+struct Stuck;
+
+impl io::Write for Stuck {
+    fn write(&mut self, _data: &[u8]) -> io::Result<usize> {
+        Ok(0)
+    }
+
+    fn flush(&mut self) -> io::Result<()> {
+        Ok(())
+    }
+}
+
+#[test]
+fn raw_copies(rt: HostRuntime) -> Result<(), Fail> {
+    let (left, written, outcome) = raw([0x58, 1, 1, 0].as_slice(), Vec::new(rt.alloc()), 1);
+    assert!(rt; outcome.is_ok());
+    assert_eq!(rt; written.as_slice(), [0x41, 1].as_slice());
+    assert_eq!(rt; left, [0].as_slice());
+
+    let slow = SlowReader {
+        left: &[0x58, 1, 1],
+        calls_before: None,
+        kind: io::ErrorKind::Other,
+    };
+    let (slow, written, outcome) = raw(slow, SlowWriter::new(rt.alloc()), 1);
+    assert!(rt; outcome.is_ok());
+    assert!(rt; slow.left.is_empty());
+    assert_eq!(rt; written.taken.as_slice(), [0x41, 1].as_slice());
+    assert_eq!(rt; written.flushes, 1);
+
+    let mut writer = SlowWriter::new(rt.alloc());
+    writer.flush_fails = true;
+    let (_, written, outcome) = raw([0].as_slice(), writer, 1);
+    assert!(rt; matches!(outcome, Err(RecodeError::Write(WriteFault::Failed(_)))));
+    assert_eq!(rt; written.taken.as_slice(), [0].as_slice());
+
+    let (_, written, outcome) = raw(
+        [0x7f, 0x61, 0x61, 0x5f, 0xff].as_slice(),
+        Vec::new(rt.alloc()),
+        1,
+    );
+    let fault = outcome.map_err(|error| fault_of_raw(&error));
+    assert!(rt; matches!(fault, Err(Fault::Syntax(3))));
+    assert_eq!(rt; written.as_slice(), [0x7f, 0x61, 0x61].as_slice());
+
+    let (_, _, outcome) = raw([].as_slice(), Vec::new(rt.alloc()), 1);
+    let fault = outcome.map_err(|error| fault_of_raw(&error));
+    assert!(rt; matches!(fault, Err(Fault::Read)));
+
+    let (_, _, outcome) = raw([0].as_slice(), Stuck, 1);
+    let fault = outcome.map_err(|error| fault_of_raw(&error));
+    assert!(rt; matches!(fault, Err(Fault::Write)));
+    Ok(())
+}
+
+// A string and titles that are longer than a window, in their shortest spelling.
+fn long_elements(alloc: Global) -> Result<Vec<u8>, Fail> {
+    let mut bytes = Vec::new(alloc);
+    bytes.extend_from_slice(&[0x59, 0x4e, 0x20])?;
+    for index in 0..20_000_u16 {
+        bytes.push((index % 251) as u8)?;
+    }
+    for index in 0..5_000_u16 {
+        bytes.push(0x19)?;
+        bytes.extend_from_slice(&index.saturating_add(256).to_be_bytes())?;
+    }
+    Ok(bytes)
+}
+
+#[test]
+fn raw_copies_through_windows(rt: HostRuntime) -> Result<(), Fail> {
+    let bytes = long_elements(rt.alloc())?;
+    let copy = raw_buffered(bytes.as_slice(), Vec::new(rt.alloc()), 5_001);
+    assert!(rt; copy.copied.is_ok() && copy.flushed.is_ok());
+    assert!(rt; copy.writer.as_slice() == bytes.as_slice());
+
+    let slow = SlowReader {
+        left: bytes.as_slice(),
+        calls_before: None,
+        kind: io::ErrorKind::Other,
+    };
+    let copy = raw_buffered(slow, SlowWriter::new(rt.alloc()), 5_001);
+    assert!(rt; copy.copied.is_ok() && copy.flushed.is_ok());
+    assert!(rt; copy.writer.taken.as_slice() == bytes.as_slice());
+    assert_eq!(rt; copy.writer.flushes, 1);
+
+    let mut writer = SlowWriter::new(rt.alloc());
+    writer.calls_before = Some(100);
+    writer.kind = Some(io::ErrorKind::TimedOut);
+    let copy = raw_buffered(bytes.as_slice(), writer, 5_001);
+    assert!(rt; matches!(kind_of_write(copy.copied), Some(io::ErrorKind::TimedOut)));
+    assert!(rt; copy.flushed.is_ok());
+    assert!(rt; bytes.as_slice().starts_with(copy.writer.taken.as_slice()));
+    assert_eq!(rt; copy.writer.flushes, 1);
+    Ok(())
+}
+
+// What a copy answered, as the program prints it.
+fn word_of_copy(
+    alloc: Global,
+    outcome: Result<(), RecodeError<ReadFault, WriteFault>>,
+) -> Result<String, Fail> {
+    match outcome {
+        Ok(()) => Ok(String::from_str(alloc, "ok")?),
+        Err(error) => Ok(fault_of_raw(&error).to_string(alloc)?),
+    }
+}
+
+// However a copy ends, its writer is flushed once, behind all that was written. Where the flush fails, its own fault is
+// told, unless the copy has one.
+#[test]
+fn copies_flush_once(rt: HostRuntime) -> Result<(), Fail> {
+    let rows: [(usize, &[u8], &[u8], &str, &str); 3] = [
+        (1, &[0x42, 1, 2], &[0x42, 1, 2], "ok", "write"),
+        (2, &[0, 0x1f], &[0], "syntax 1", "syntax 1"),
+        (2, &[0, 0x43, 1], &[0, 0x43], "read", "read"),
+    ];
+    for (count, bytes, want, word, word_unflushed) in rows {
+        for flush_fails in [false, true] {
+            let word = if flush_fails { word_unflushed } else { word };
+            let mut writer = SlowWriter::new(rt.alloc());
+            writer.flush_fails = flush_fails;
+            let (_, written, outcome) = raw(bytes, writer, count);
+            assert_eq!(rt;
+                word_of_copy(rt.alloc(), outcome)?.as_str(),
+                word,
+                "at {bytes:?}"
+            );
+            assert_eq!(rt; written.taken.as_slice(), want, "at {bytes:?}");
+            assert_eq!(rt; written.flushes, 1, "at {bytes:?}");
+        }
+    }
+    Ok(())
+}
+
+#[test]
+fn buffered_copies_flush_once(rt: HostRuntime) -> Result<(), Fail> {
+    let rows: [(usize, &[u8], &[u8], &str); 3] = [
+        (1, &[0x42, 1, 2], &[0x42, 1, 2], "ok"),
+        (2, &[0, 0x1f], &[0], "syntax 1"),
+        (2, &[0, 0x43, 1], &[0, 0x43], "read"),
+    ];
+    for (count, bytes, want, word) in rows {
+        for flush_fails in [false, true] {
+            let mut writer = SlowWriter::new(rt.alloc());
+            writer.flush_fails = flush_fails;
+            let copy = raw_buffered(bytes, writer, count);
+            assert_eq!(rt;
+                word_of_copy(rt.alloc(), copy.copied)?.as_str(),
+                word,
+                "at {bytes:?}"
+            );
+            assert_eq!(rt; copy.writer.taken.as_slice(), want, "at {bytes:?}");
+            assert_eq!(rt; copy.writer.flushes, 1, "at {bytes:?}");
+            match copy.flushed {
+                Ok(()) => assert!(rt; !flush_fails),
+                Err(WriteFault::Failed(error)) => {
+                    assert!(rt; flush_fails && error.kind() == io::ErrorKind::Other);
+                }
+                Err(WriteFault::Zero) => panic!(rt; "nothing taken"),
+            }
+        }
+    }
+    Ok(())
+}
+
+// The kind of the error with which a read failed.
+fn kind_of_read(outcome: Result<(), RecodeError<ReadFault, WriteFault>>) -> Option<io::ErrorKind> {
+    match outcome {
+        Err(RecodeError::Read(Error::Io(ReadFault::Failed(error)))) => Some(error.kind()),
+        _ => None,
+    }
+}
+
+// The kind of the error with which a write failed.
+fn kind_of_write(outcome: Result<(), RecodeError<ReadFault, WriteFault>>) -> Option<io::ErrorKind> {
+    match outcome {
+        Err(RecodeError::Write(WriteFault::Failed(error))) => Some(error.kind()),
+        _ => None,
+    }
+}
+
+fn failing_reader(calls: usize) -> SlowReader<'static> {
+    SlowReader {
+        left: &[0x42, 1, 2],
+        calls_before: Some(calls),
+        kind: io::ErrorKind::TimedOut,
+    }
+}
+
+#[test]
+fn raw_hands_faults_on(rt: HostRuntime) -> Result<(), Fail> {
+    for calls in 0..3_usize {
+        let (_, _, outcome) = raw(failing_reader(calls), Vec::new(rt.alloc()), 1);
+        assert!(rt; matches!(kind_of_read(outcome), Some(io::ErrorKind::TimedOut)));
+        let copy = raw_buffered(failing_reader(calls), Vec::new(rt.alloc()), 1);
+        assert!(rt; matches!(kind_of_read(copy.copied), Some(io::ErrorKind::TimedOut)));
+
+        let mut writer = SlowWriter::new(rt.alloc());
+        writer.calls_before = Some(calls);
+        writer.kind = Some(io::ErrorKind::TimedOut);
+        writer.flush_fails = true;
+        let (_, _, outcome) = raw([0x42, 1, 2].as_slice(), writer, 1);
+        assert!(rt; matches!(kind_of_write(outcome), Some(io::ErrorKind::TimedOut)));
+
+        let mut writer = SlowWriter::new(rt.alloc());
+        writer.calls_before = Some(calls);
+        writer.kind = Some(io::ErrorKind::TimedOut);
+        let copy = raw_buffered([0x42, 1, 2].as_slice(), writer, 1);
+        assert!(rt; copy.copied.is_ok());
+        let flushed = copy.flushed.map_err(RecodeError::Write);
+        assert!(rt; matches!(kind_of_write(flushed), Some(io::ErrorKind::TimedOut)));
+    }
+    let (_, _, outcome) = raw([0x42, 1].as_slice(), Vec::new(rt.alloc()), 1);
+    assert!(rt; matches!(outcome, Err(RecodeError::Read(Error::Io(ReadFault::End)))));
+    let copy = raw_buffered([0x42, 1].as_slice(), Vec::new(rt.alloc()), 1);
+    assert!(rt;
+        matches!(
+            copy.copied,
+            Err(RecodeError::Read(Error::Io(ReadFault::End)))
+        )
+    );
+    let copy = raw_buffered([0].as_slice(), Stuck, 1);
+    assert!(rt; copy.copied.is_ok());
+    assert!(rt; matches!(copy.flushed, Err(WriteFault::Zero)));
+    Ok(())
+}
