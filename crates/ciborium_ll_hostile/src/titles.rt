@@ -1,0 +1,111 @@
+use crate::plain::{self, Fault};
+use ciborium_ll::io::{SliceReader, Write};
+use ciborium_ll::{Decoder, Encoder, Error, Header};
+use ciborium_ll_fixtures::devices::{DeviceFault, Failing, FailingReader, FailingWriter};
+use ciborium_ll_fixtures::samples::{
+    COPIES, LISTS, LONGER_TITLES, TWENTY_FIVE, TWENTY_FIVE_AND_BREAK, VECTORS,
+};
+use std::alloc::Global;
+use std::process::Abort;
+use std::test::Fail;
+
+// The hexadecimal digits of all samples.
+pub fn samples(alloc: Global) -> Result<Vec<&'static str>, Fail> {
+    let mut samples = Vec::new(alloc);
+    for (hex, _) in VECTORS {
+        samples.push(hex)?;
+    }
+    for (hex, _) in LISTS {
+        samples.push(hex)?;
+    }
+    for (hex, _, _) in LONGER_TITLES {
+        samples.push(hex)?;
+    }
+    for (_, hex) in COPIES {
+        samples.push(hex)?;
+    }
+    samples.push(TWENTY_FIVE)?;
+    samples.push(TWENTY_FIVE_AND_BREAK)?;
+    Ok(samples)
+}
+
+// Reads bytes as titles by a reader that fails at one call, and compares each answer with a plain reading from the
+// offset at which that call begins. It tells whether the call that fails has come.
+pub fn reads_titles(rt: &impl Abort, bytes: &[u8], failing: usize) -> bool {
+    let mut decoder = Decoder::from(FailingReader::new(bytes, Failing::Call(failing)));
+    let mut calls = 0usize;
+    for _ in 0..bytes.len().saturating_add(3) {
+        let start = decoder.offset();
+        let answer = decoder.pull();
+        let mut behind = start;
+        let want = plain::next_title(bytes, &mut behind);
+        let is_right = match answer {
+            Ok(header) => matches!(want, Ok(title) if title.header() == header),
+            Err(Error::Syntax(place)) => want.err() == Some(Fault::Syntax(place)),
+            Err(Error::Io(DeviceFault::Short)) => want.err() == Some(Fault::Short),
+            // The first byte was not read, or was read and its affix was not.
+            Err(Error::Io(DeviceFault::Planned)) => {
+                let read = decoder.offset().saturating_sub(start);
+                behind = start.saturating_add(read);
+                read <= 1 && calls.saturating_add(read).saturating_add(1) == failing
+            }
+            Err(_) => false,
+        };
+        assert!(rt; is_right, "at {start} of {bytes:?}, call {failing}");
+        assert_eq!(rt; decoder.offset(), behind, "in {bytes:?}, call {failing}");
+        calls = calls.saturating_add(want.map_or(1, |title| title.reads()));
+        if want.err() == Some(Fault::Short) && start >= bytes.len() {
+            break;
+        }
+    }
+    let offset = decoder.offset();
+    let reader = decoder.into_inner();
+    assert_eq!(rt; offset.saturating_add(reader.left().len()), bytes.len());
+    reader.has_failed()
+}
+
+// The call of each number fails in turn, until none does. Nothing but that one answer is another one.
+#[test]
+fn each_read_fails_under_pull(rt: HostRuntime) -> Result<(), Fail> {
+    for hex in samples(rt.alloc())? {
+        let bytes = hex::decode(rt.alloc(), hex)?;
+        let last = (1..=64usize).find(|call| !reads_titles(&rt, bytes.as_slice(), *call));
+        assert!(rt; last.is_some(), "at {hex}");
+    }
+    Ok(())
+}
+
+// A title with no affix is two calls all the same, the second one of no bytes, on the way to a refusal too. Behind a
+// reserved minor there is no second call.
+#[test]
+fn an_empty_affix_is_a_call(rt: HostRuntime) {
+    let bytes = [5, 0xff, 0x1f, 0x3f, 0xdf, 0x1c];
+    let mut decoder = Decoder::from(FailingReader::new(&bytes, Failing::Empty));
+    for offset in 1..=5 {
+        assert!(rt; matches!(decoder.pull(), Err(Error::Io(DeviceFault::Planned))));
+        assert_eq!(rt; decoder.offset(), offset);
+    }
+    assert!(rt; matches!(decoder.pull(), Err(Error::Syntax(5))));
+    for (header, first) in [(Header::Positive(5), 5), (Header::Break, 0xff)] {
+        let mut space = [0; 1];
+        let mut encoder = Encoder::from(FailingWriter::new(&mut space, Failing::Empty));
+        assert!(rt; matches!(encoder.push(header), Err(DeviceFault::Planned)));
+        assert!(rt; matches!(encoder.write_all(&[]), Err(DeviceFault::Planned)));
+        assert!(rt; encoder.into_inner().written() == [first].as_slice());
+    }
+}
+
+// A failure at the first byte loses nothing, so that the next call gives the title. One at the affix lost that byte.
+#[test]
+fn a_title_is_asked_for_once_more(rt: HostRuntime) {
+    let bytes = [0x19, 0x18, 0x18];
+    let mut decoder = Decoder::from(FailingReader::new(&bytes, Failing::Call(1)));
+    assert!(rt; matches!(decoder.pull(), Err(Error::Io(DeviceFault::Planned))));
+    assert_eq!(rt; decoder.offset(), 0);
+    assert!(rt; matches!(decoder.pull(), Ok(Header::Positive(0x1818))));
+    let mut decoder = Decoder::from(FailingReader::new(&bytes, Failing::Call(2)));
+    assert!(rt; matches!(decoder.pull(), Err(Error::Io(DeviceFault::Planned))));
+    assert_eq!(rt; decoder.offset(), 1);
+    assert!(rt; matches!(decoder.pull(), Ok(Header::Positive(0x18))));
+    assert!(rt; Decoder::from(SliceReader::new(&bytes)).pull().is_ok());
+}
