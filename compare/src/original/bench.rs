@@ -10,13 +10,16 @@ use ciborium_ll::{Decoder, Encoder, Error, Header};
 /// The greatest buffer that bodies of strings are read through.
 const MOST_SIZE: usize = 4096;
 
+/// How many levels deep the items are that are skipped, at most.
+const DEPTH: usize = 256;
+
 /// How a work is done.
 pub struct Task<'a> {
     /// The name of the work.
     pub work: &'a str,
-    /// The size of the buffer of `recode` and `skip`, and the limit of the segments of `text`.
+    /// The size of the buffer that bodies of strings are read through, and the limit of the segments of `text`.
     pub size: usize,
-    /// How many elements are copied.
+    /// How many elements are copied, or items skipped.
     pub count: usize,
     /// How often it is done.
     pub rounds: usize,
@@ -36,6 +39,7 @@ impl Task<'_> {
                 "push" => pushed(input, &mut output, sum),
                 "recode" => recoded(input, &mut output, self.count, buffer, sum),
                 "skip" => skipped(input, buffer, sum),
+                "items" => items_skipped(input, self.count, buffer, sum),
                 "text" => written(text, self.size, &mut output, sum),
                 "walk" => walked(input, sum),
                 "copy" => copied(input, &mut output, sum),
@@ -128,6 +132,65 @@ fn skipped(input: &[u8], buffer: &mut [u8], before: u64) -> u64 {
         Ok(()) => before.wrapping_add(decoder.offset() as u64),
         Err(_) => before,
     }
+}
+
+/// Adds how many bytes the items have, where all of them were skipped.
+#[inline(never)]
+fn items_skipped(input: &[u8], count: usize, buffer: &mut [u8], before: u64) -> u64 {
+    let mut decoder = Decoder::from(input);
+    for _ in 0..count {
+        if skip_item(&mut decoder, DEPTH, buffer).is_none() {
+            return before;
+        }
+    }
+    before.wrapping_add(decoder.offset() as u64)
+}
+
+/// Skips one item, if one is there, with tags, arrays and maps at most `depth` levels deep.
+fn skip_item(decoder: &mut Decoder<&[u8]>, depth: usize, buffer: &mut [u8]) -> Option<()> {
+    let header = decoder.pull().ok()?;
+    skip_behind(decoder, header, depth, buffer)
+}
+
+/// Skips what belongs to an item behind its header.
+fn skip_behind(
+    decoder: &mut Decoder<&[u8]>,
+    header: Header,
+    depth: usize,
+    buffer: &mut [u8],
+) -> Option<()> {
+    match header {
+        Header::Positive(_) | Header::Negative(_) | Header::Float(_) | Header::Simple(_) => Some(()),
+        Header::Break => None,
+        Header::Bytes(length) => read_bytes(decoder, length, buffer, &mut Dropped).ok(),
+        Header::Text(length) => read_text(decoder, length, buffer, &mut Dropped).ok(),
+        Header::Tag(_) => skip_item(decoder, depth.checked_sub(1)?, buffer),
+        Header::Array(count) => skip_items(decoder, count, 1, depth.checked_sub(1)?, buffer),
+        Header::Map(count) => skip_items(decoder, count, 2, depth.checked_sub(1)?, buffer),
+    }
+}
+
+/// Skips so many groups of so many items, or those in front of a break where their number is not known.
+fn skip_items(
+    decoder: &mut Decoder<&[u8]>,
+    groups: Option<usize>,
+    size: usize,
+    depth: usize,
+    buffer: &mut [u8],
+) -> Option<()> {
+    let mut left = groups;
+    while left != Some(0) {
+        let header = decoder.pull().ok()?;
+        if left.is_none() && matches!(header, Header::Break) {
+            break;
+        }
+        skip_behind(decoder, header, depth, buffer)?;
+        for _ in 1..size {
+            skip_item(decoder, depth, buffer)?;
+        }
+        left = left.map(|groups| groups - 1);
+    }
+    Some(())
 }
 
 /// Adds how many bytes the text has in segments.

@@ -36,6 +36,10 @@ enum Beside {
     Branches,
     /// The least that a copy has to do.
     Memory,
+    /// Our own pulls and bodies alone, with no look at what contains them.
+    Flat,
+    /// Our own work of this name, by a decoder that isn't strict.
+    Plain(&'static str),
 }
 
 impl Row {
@@ -59,6 +63,16 @@ const fn bodies(
     stream: fn(usize) -> Stream,
 ) -> Row {
     Row { name, work, size, stream, times: 8, beside: Beside::Crate }
+}
+
+/// A row of a strict decoder, beside the same work by another one. Each title of the stream is its shortest.
+const fn strict(
+    name: &'static str,
+    work: &'static str,
+    stream: fn(usize) -> Stream,
+    plain: &'static str,
+) -> Row {
+    titles(name, work, stream).beside(Beside::Plain(plain))
 }
 
 /// All rows.
@@ -92,6 +106,16 @@ const ROWS: &[Row] = &[
         .beside(Beside::Memory),
     bodies("`recode` by 4,096 bytes", "recode", 4096, streams::multibyte_text)
         .beside(Beside::Memory),
+    titles("`skip_item` by 64 bytes", "items", streams::mixed_items),
+    titles("`skip_item` by 64 bytes", "items", streams::nested_items),
+    titles("`skip_item` by 64 bytes", "items", streams::mixed_items).beside(Beside::Flat),
+    titles("`skip_item` by 64 bytes", "items", streams::nested_items).beside(Beside::Flat),
+    strict("headers pulled, strict", "strict-pull", streams::titles, "pull"),
+    strict("`recode` by 64 bytes, strict", "strict-recode", streams::titles, "recode"),
+    strict("`recode` by 64 bytes, strict", "strict-recode", streams::mixed, "recode"),
+    strict("`recode` by 64 bytes, strict", "strict-recode", streams::pieces, "recode"),
+    strict("`recode` by 64 bytes, strict", "strict-recode", streams::byte_string, "recode"),
+    strict("`recode` by 64 bytes, strict", "strict-recode", streams::multibyte_text, "recode"),
 ];
 
 /// Measures all rows, and prints the table.
@@ -110,6 +134,8 @@ fn measure_row(asked: &Asked, row: &Row) -> io::Result<()> {
         Beside::Libcbor => ("libcbor", &asked.libcbor, row.work),
         Beside::Branches => ("one branch a title", &asked.original, "walk"),
         Beside::Memory => ("a copy of memory", &asked.original, "copy"),
+        Beside::Flat => ("a bare loop of `pull`", &asked.bench, "flat"),
+        Beside::Plain(work) => ("a decoder not strict", &asked.bench, work),
     };
     let runs = |rounds: usize| {
         [(&asked.bench, row.work), (program, work)].map(|(program, work)| Run {

@@ -107,14 +107,44 @@ pub fn plain_text(size: usize) -> Stream {
 
 /// What documents have: small maps with short texts as keys, numbers, short strings, halves and simple values.
 pub fn mixed(size: usize) -> Stream {
+    mixed_maps(size).0
+}
+
+/// The same bytes, of which the maps are counted.
+pub fn mixed_items(size: usize) -> Stream {
+    let (stream, count) = mixed_maps(size);
+    Stream { count, ..stream }
+}
+
+/// Such maps as elements, and how many maps there are.
+fn mixed_maps(size: usize) -> (Stream, usize) {
     let mut stream = Stream::new("small mixed items", size);
     let mut random = Random::new(2);
+    let mut maps = 0;
     while stream.bytes.len() < size {
         stream.title_alone(5, 3);
         for _ in 0..3 {
             short_string(&mut stream, &mut random, 3, 12);
             value(&mut stream, &mut random);
         }
+        maps += 1;
+    }
+    (stream, maps)
+}
+
+/// Arrays of three, each of two numbers and another such array, eight levels deep. The outermost are counted.
+pub fn nested_items(size: usize) -> Stream {
+    let mut stream = Stream::new("arrays of numbers within arrays", size);
+    let mut random = Random::new(5);
+    while stream.bytes.len() < size {
+        for _ in 0..8 {
+            stream.title(4, 3);
+            for _ in 0..2 {
+                let number = random.number() >> random.pick(&[32, 48, 56, 60]);
+                stream.title(0, number);
+            }
+        }
+        stream.title_alone(7, 22);
     }
     stream
 }

@@ -14,7 +14,7 @@ use std::process::ExitCode;
 fn main(rt: HostRuntime) -> ExitCode {
     let Ok(Some(task)) = task_of(&rt) else {
         let _ = eprintln!(rt;
-            "usage: ciborium_ll_bench pull|push|recode|skip|text SIZE COUNT ROUNDS"
+            "usage: ciborium_ll_bench pull|strict-pull|push|recode|strict-recode|skip|items|flat|text SIZE COUNT ROUNDS"
         );
         return ExitCode::from(2);
     };
@@ -38,13 +38,8 @@ fn task_of(rt: &HostRuntime) -> io::Result<Option<Task>> {
     if words.len() != 4 {
         return Ok(None);
     }
-    let work = match words[0].as_str() {
-        "pull" => Work::Pull,
-        "push" => Work::Push,
-        "recode" => Work::Recode,
-        "skip" => Work::Skip,
-        "text" => Work::Text,
-        _ => return Ok(None),
+    let Some(work) = work_named(words[0].as_str()) else {
+        return Ok(None);
     };
     match (
         words[1].as_str().parse::<usize>(),
@@ -58,6 +53,22 @@ fn task_of(rt: &HostRuntime) -> io::Result<Option<Task>> {
             rounds,
         })),
         _ => Ok(None),
+    }
+}
+
+/// The work of this name, if there is one.
+fn work_named(name: &str) -> Option<Work> {
+    match name {
+        "pull" => Some(Work::Pull),
+        "strict-pull" => Some(Work::StrictPull),
+        "push" => Some(Work::Push),
+        "recode" => Some(Work::Recode),
+        "strict-recode" => Some(Work::StrictRecode),
+        "skip" => Some(Work::Skip),
+        "items" => Some(Work::Items),
+        "flat" => Some(Work::Flat),
+        "text" => Some(Work::Text),
+        _ => None,
     }
 }
 

@@ -2,6 +2,7 @@
 
 ghost use Rattle.std.specs.Prelude.{◌≤◌, length};
 
+use cbor_skip::skip_item;
 use ciborium_ll::io::{SliceReader, SliceWriter};
 use ciborium_ll::laws::{skip_bytes, skip_text};
 use ciborium_ll::recode::recode;
@@ -10,17 +11,28 @@ use ciborium_ll::{Decoder, Encoder, Error, Header};
 /// The greatest buffer that bodies of strings are read through.
 const MOST_SIZE: usize = 4096;
 
+/// How many levels deep the items are that are skipped, at most.
+const DEPTH: usize = 256;
+
 /// What is done with the bytes.
 #[derive(Clone, Copy)]
 pub enum Work {
     /// Headers are pulled. Bodies of strings are read as titles.
     Pull,
+    /// The same by a strict decoder.
+    StrictPull,
     /// Headers are pulled and pushed. Bodies of strings are read as titles.
     Push,
     /// Elements are copied.
     Recode,
+    /// The same by a strict decoder.
+    StrictRecode,
     /// The string in front is read to its end.
     Skip,
+    /// Items are skipped.
+    Items,
+    /// Headers are pulled and bodies of strings skipped, with no look at what contains them.
+    Flat,
     /// The bytes are written as a text.
     Text,
 }
@@ -30,9 +42,9 @@ pub enum Work {
 pub struct Task {
     /// What is done.
     pub work: Work,
-    /// The size of the buffer of `Recode` and `Skip`, and the limit of the segments of `Text`.
+    /// The size of the buffer that bodies of strings are read through, and the limit of the segments of `Text`.
     pub size: usize,
-    /// How many elements are copied.
+    /// How many elements are copied, or items skipped.
     pub count: usize,
     /// How often it is done.
     pub rounds: usize,
@@ -49,9 +61,13 @@ impl Task {
         'rounds: for _ in 0..task.rounds {
             sum = match task.work {
                 Work::Pull => pulled(input, sum),
+                Work::StrictPull => strictly_pulled(input, sum),
                 Work::Push => pushed(input, output, sum),
                 Work::Recode => recoded(input, output, task.count, buffer, sum),
+                Work::StrictRecode => strictly_recoded(input, output, task.count, buffer, sum),
                 Work::Skip => skipped(input, buffer, sum),
+                Work::Items => items_skipped(input, task.count, buffer, sum),
+                Work::Flat => bodies_skipped(input, buffer, sum),
                 Work::Text => written(text, task.size, output, sum),
             };
         }
@@ -62,9 +78,24 @@ impl Task {
 /// Adds the numbers of the positive headers, and 1 for each other title.
 #[inline(never)]
 fn pulled(input: &[u8], before: u64) -> u64 {
-    let mut decoder = Decoder::from(SliceReader::new(input));
+    pulled_by(Decoder::from(SliceReader::new(input)), input.len(), before)
+}
+
+/// The same by a strict decoder.
+#[inline(never)]
+fn strictly_pulled(input: &[u8], before: u64) -> u64 {
+    pulled_by(
+        Decoder::strict(SliceReader::new(input)),
+        input.len(),
+        before,
+    )
+}
+
+/// The same by this decoder, over at most so many titles.
+#[inline(always)]
+fn pulled_by(mut decoder: Decoder<SliceReader<'_>>, most: usize, before: u64) -> u64 {
     let mut sum: u64 = before;
-    'titles: for _ in 0..input.len() {
+    'titles: for _ in 0..most {
         match decoder.pull() {
             Ok(Header::Positive(number)) => sum = sum.wrapping_add(number),
             Ok(_) | Err(Error::Syntax(_)) => sum = sum.wrapping_add(1),
@@ -100,7 +131,46 @@ fn pushed(input: &[u8], output: &mut [u8], before: u64) -> u64 {
 fn recoded(input: &[u8], output: &mut [u8], count: usize, buffer: &mut [u8], before: u64) -> u64
     requires room { 4 ≤ length buffer.old }
 {
-    let mut decoder = Decoder::from(SliceReader::new(input));
+    recoded_by(
+        Decoder::from(SliceReader::new(input)),
+        output,
+        count,
+        buffer,
+        before,
+    )
+}
+
+/// The same by a strict decoder.
+#[inline(never)]
+fn strictly_recoded(
+    input: &[u8],
+    output: &mut [u8],
+    count: usize,
+    buffer: &mut [u8],
+    before: u64,
+) -> u64
+    requires room { 4 ≤ length buffer.old }
+{
+    recoded_by(
+        Decoder::strict(SliceReader::new(input)),
+        output,
+        count,
+        buffer,
+        before,
+    )
+}
+
+/// The same by this decoder.
+#[inline(always)]
+fn recoded_by(
+    mut decoder: Decoder<SliceReader<'_>>,
+    output: &mut [u8],
+    count: usize,
+    buffer: &mut [u8],
+    before: u64,
+) -> u64
+    requires room { 4 ≤ length buffer.old }
+{
     let mut encoder = Encoder::from(SliceWriter::new(output));
     match recode(&mut decoder, &mut encoder, count, buffer) {
         Ok(()) => before.wrapping_add(decoder.offset() as u64),
@@ -123,6 +193,40 @@ fn skipped(input: &[u8], buffer: &mut [u8], before: u64) -> u64
         Ok(()) => before.wrapping_add(decoder.offset() as u64),
         Err(_) => before,
     }
+}
+
+/// Adds how many bytes the items have, where all of them were skipped.
+#[inline(never)]
+fn items_skipped(input: &[u8], count: usize, buffer: &mut [u8], before: u64) -> u64
+    requires room { 4 ≤ length buffer.old }
+{
+    let mut decoder = Decoder::from(SliceReader::new(input));
+    'items: for _ in 0..count {
+        if skip_item(&mut decoder, DEPTH, buffer).is_err() {
+            return before;
+        }
+    }
+    before.wrapping_add(decoder.offset() as u64)
+}
+
+/// Adds how many bytes were read.
+#[inline(never)]
+fn bodies_skipped(input: &[u8], buffer: &mut [u8], before: u64) -> u64
+    requires room { 4 ≤ length buffer.old }
+{
+    let mut decoder = Decoder::from(SliceReader::new(input));
+    'titles: for _ in 0..input.len() {
+        let is_read = match decoder.pull() {
+            Ok(Header::Bytes(length)) => skip_bytes(&mut decoder, length, buffer).is_ok(),
+            Ok(Header::Text(length)) => skip_text(&mut decoder, length, buffer).is_ok(),
+            Ok(_) => true,
+            Err(_) => false,
+        };
+        if !is_read {
+            break;
+        }
+    }
+    before.wrapping_add(decoder.offset() as u64)
 }
 
 /// Adds how many bytes the text has in segments.
