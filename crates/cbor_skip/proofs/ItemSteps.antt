@@ -1,10 +1,10 @@
 -- The steps of the read of an item, over any reader.
 use Rattle.std.proofs.Common.{◌≡◌, ℕ, zero, suc, ◌<◌, ◌*◌, Bool, true, false, List, [], ◌∷◌, ◌++◌, length, Option, Some, None, Result, Ok, Err, refl, sym, ap, subst, ◌∙◌, inl, arith, append_assoc, append-nil}
-use Rattle.ciborium_ll.specs.declared.io.Read.{Ghosts}
-use Rattle.ciborium_ll.specs.declared.hdr.Header.{Header}
-use Rattle.ciborium_ll.specs.declared.hdr.Header.TheVariants as h
-use Rattle.ciborium_ll.specs.declared.dec.Decoder.{Decoder}
-use Rattle.ciborium_ll.specs.declared.dec.Error.{Error}
+use Rattle.ciborium_ll.specs.Types.Read.{Ghosts}
+use Rattle.ciborium_ll.specs.Types.Header.{Header}
+use Rattle.ciborium_ll.specs.Types.Header.TheVariants as h
+use Rattle.ciborium_ll.specs.Types.Decoder.{Decoder}
+use Rattle.ciborium_ll.specs.Types.Error.{Error}
 use Rattle.ciborium_ll.specs.Title.{IsTitle, shortest_title}
 use Rattle.ciborium_ll.specs.Strings.{Kind, Bytes, Text, kind_header, IsString, AreStrings}
 use Rattle.ciborium_ll.specs.Strings.IsString.{definite, indefinite}

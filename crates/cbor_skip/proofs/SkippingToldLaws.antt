@@ -3,16 +3,16 @@ use Rattle.std.proofs.Common.{◌≡◌, ℕ, ◌+◌, ◌-◌, ◌^◌, ◌<◌
 use Rattle.std.proofs.lemmas.List.{length-take}
 use Rattle.std.proofs.Math.Seq.{drop-append_seam}
 use Rattle.std.proofs.lemmas.Bool.{cases_lt}
-use Rattle.ciborium_ll.specs.declared.io.Read.{Ghosts}
-use Rattle.ciborium_ll.specs.declared.hdr.Header.{Header}
-use Rattle.ciborium_ll.specs.declared.hdr.Header.TheVariants as h
-use Rattle.ciborium_ll.specs.declared.dec.Decoder.{Decoder}
-use Rattle.ciborium_ll.specs.declared.dec.Error.{Error}
-use Rattle.ciborium_ll.specs.declared.dec.Error.TheVariants as e
+use Rattle.ciborium_ll.specs.Types.Read.{Ghosts}
+use Rattle.ciborium_ll.specs.Types.Header.{Header}
+use Rattle.ciborium_ll.specs.Types.Header.TheVariants as h
+use Rattle.ciborium_ll.specs.Types.Decoder.{Decoder}
+use Rattle.ciborium_ll.specs.Types.Error.{Error}
+use Rattle.ciborium_ll.specs.Types.Error.TheVariants as e
 use Rattle.ciborium_ll.specs.Title.{BeginsRefused, title_len}
 use Rattle.ciborium_ll.specs.Strings.{Kind, Text, kind_header}
-use Rattle.ciborium_ll.specs.Text.{IsCharacters}
-use Rattle.ciborium_ll.specs.Faults.{Place, Due, In, Body, IsAtTitle, IsInside, IsMisplaced, FirstFault, CutTitle, NoTitle, OtherTitle, DamagedText, CutBody, CutDamagedText, BeginsNoText, Short, Syntax, with_front}
+use Rattle.ciborium_ll.specs.Text.{IsCharacters, BeginsNoText}
+use Rattle.ciborium_ll.specs.Faults.{Place, Due, In, Body, IsAtTitle, IsInside, IsMisplaced, FirstFault, CutTitle, NoTitle, OtherTitle, DamagedText, CutBody, CutDamagedText, Short, Syntax, with_front}
 use Rattle.ciborium_ll.specs.Decoding.{view, next_read, Passes, PullsHeader, PullsTitle, IsSteady}
 use Rattle.ciborium_ll.specs.Finishing.{EndsBody, RestFails, RestPasses, RestDamaged}
 use Rattle.ciborium_ll.specs.Skipping.{SkipsString, SkipsInside, MeetsNoTitle, MeetsBody}
@@ -20,7 +20,8 @@ use Rattle.ciborium_ll.proofs.TitleLaws.{shortest_no_longer}
 use Rattle.ciborium_ll.proofs.TextLaws.{IsCharacters-nil}
 use Rattle.ciborium_ll.proofs.BodyLaws.{view_none}
 use Rattle.ciborium_ll.proofs.CopyingTold.{consumes_told, next_read_small, first_gone, refused_byte}
-use Rattle.ciborium_ll.proofs.RecodingToldLaws.{first_counted, front_of, front_behind, no_text_behind}
+use Rattle.ciborium_ll.proofs.Lists.{first_counted, front_of, front_behind}
+use Rattle.ciborium_ll.proofs.FrontLaws.{no_text_behind}
 use Rattle.ciborium_ll.proofs.NestLaws.{alone_bytes, open_alone}
 use Rattle.ciborium_ll.proofs.DecodingLaws.{lenient_refuses, Passes-then, Passes-pulled, Passes-none}
 use Rattle.cbor_skip.specs.declared.SkipError.{SkipError}

@@ -1,6 +1,6 @@
 -- What stands in front of some bytes, as a read of one item sees it: a whole item, or what stops the read.
 use Rattle.std.specs.Prelude.{◌≡◌, ℕ, false, Bool, List, [], ◌∷◌, ◌++◌}
-use Rattle.ciborium_ll.specs.declared.hdr.Header.{Header}
+use Rattle.ciborium_ll.specs.Types.Header.{Header}
 use Rattle.ciborium_ll.specs.Title.{IsTitle}
 use Rattle.ciborium_ll.specs.Items.{IsItem}
 use Rattle.ciborium_ll.specs.Faults.{Place, Answer, FirstFault}

@@ -1,8 +1,8 @@
 -- What `skip_item` does where the bytes are told, and the reader fails only where bytes are missing.
 use Rattle.std.specs.Prelude.{◌≡◌, ℕ, ◌+◌, ◌<◌, false, List, length, drop, Some, Result, Ok, Err}
-use Rattle.ciborium_ll.specs.declared.io.Read.{Ghosts}
-use Rattle.ciborium_ll.specs.declared.dec.Decoder.{Decoder}
-use Rattle.ciborium_ll.specs.declared.dec.Error.TheVariants as e
+use Rattle.ciborium_ll.specs.Types.Read.{Ghosts}
+use Rattle.ciborium_ll.specs.Types.Decoder.{Decoder}
+use Rattle.ciborium_ll.specs.Types.Error.TheVariants as e
 use Rattle.ciborium_ll.specs.Faults.{Answer, Short, Syntax}
 use Rattle.ciborium_ll.specs.Decoding.{offset_limit, view, IsSteady}
 use Rattle.cbor_skip.specs.declared.SkipError.{SkipError}

@@ -5,21 +5,22 @@ use Rattle.std.proofs.lemmas.Bool.{cases_lt}
 use Rattle.std.proofs.Math.Seq.{take-append_seam}
 use Rattle.std.proofs.lemmas.List.{drop_more, take-append-drop, take-append-le}
 use Rattle.std.proofs.lemmas.List.Sums.{sum_by_push}
-use Rattle.ciborium_ll.specs.declared.io.Read.{Ghosts as Reader}
-use Rattle.ciborium_ll.specs.declared.io.Write.{Ghosts as Writer}
-use Rattle.ciborium_ll.specs.declared.seg.Parser.{Ghosts as Parser}
-use Rattle.ciborium_ll.specs.declared.seg.Segment.{Segment}
-use Rattle.ciborium_ll.specs.Strings.{Kind, Bytes, Text}
-use Rattle.ciborium_ll.specs.Faults.{most_kept}
-use Rattle.ciborium_ll.specs.Kept.{kept_bytes}
-use Rattle.ciborium_ll.specs.Decoding.{IsSteady}
-use Rattle.ciborium_ll.specs.Encoding.{WritesAll}
-use Rattle.ciborium_ll.specs.Chunks.{IsSplit, GivesChunk, left_of}
+use Rattle.ciborium_ll_io.specs.declared.io.Read.{Ghosts as Reader}
+use Rattle.ciborium_ll_io.specs.declared.io.Write.{Ghosts as Writer}
+use Rattle.ciborium_ll_decoder.specs.declared.seg.Parser.{Ghosts as Parser}
+use Rattle.ciborium_ll_decoder.specs.declared.seg.Segment.{Segment}
+use Rattle.ciborium_ll_grammar.specs.Strings.{Kind, Bytes, Text}
+use Rattle.ciborium_ll_grammar.specs.Faults.{most_kept}
+use Rattle.ciborium_ll_decoder.specs.Kept.{kept_bytes}
+use Rattle.ciborium_ll_decoder.specs.Decoding.{IsSteady}
+use Rattle.ciborium_ll_encoder.specs.Encoding.{WritesAll}
+use Rattle.ciborium_ll_decoder.specs.Chunks.{IsSplit, GivesChunk, left_of}
 use Rattle.ciborium_ll.specs.Drains.{gains, greatest, HasBehind, HandsOut, DrainsSome}
-use Rattle.ciborium_ll.proofs.DecodingLaws.{Passes-none, length_zero}
-use Rattle.ciborium_ll.proofs.EncodingLaws.{WritesBytes-then}
-use Rattle.ciborium_ll.proofs.CopyingLaws.{Shrinks-zero}
-use Rattle.ciborium_ll.proofs.BodyLaws.{split_parts, writable_nil, writable_chunk, few_kept, Passes-read}
+use Rattle.ciborium_ll_decoder.proofs.DecodingLaws.{Passes-none}
+use Rattle.ciborium_ll_text.proofs.Lists.{length_zero}
+use Rattle.ciborium_ll_encoder.proofs.EncodingLaws.{WritesBytes-then}
+use Rattle.ciborium_ll_decoder.proofs.CopyingLaws.{Shrinks-zero}
+use Rattle.ciborium_ll_decoder.proofs.BodyLaws.{split_parts, writable_nil, writable_chunk, few_kept, Passes-read}
 
 -- ---- sizes
 

@@ -8,26 +8,26 @@ use Rattle.std.proofs.lemmas.List.{take-append-drop, take-append-le}
 use Rattle.std.proofs.lemmas.List.Sums.{sum_by-cons}
 use Rattle.std.specs.List.{AllByRecursion}
 use Rattle.std.proofs.lemmas.List.Elements.{All-take, recursion_from_All}
-use Rattle.ciborium_ll.specs.declared.io.Read.{Ghosts as Reader}
-use Rattle.ciborium_ll.specs.declared.io.Write.{Ghosts as Writer}
-use Rattle.ciborium_ll.specs.declared.dec.Error.TheVariants as e
-use Rattle.ciborium_ll.specs.declared.recode.RecodeError.{RecodeError}
-use Rattle.ciborium_ll.specs.declared.recode.RecodeError.TheVariants as r
+use Rattle.ciborium_ll_io.specs.declared.io.Read.{Ghosts as Reader}
+use Rattle.ciborium_ll_io.specs.declared.io.Write.{Ghosts as Writer}
+use Rattle.ciborium_ll_decoder.specs.declared.dec.Error.TheVariants as e
+use Rattle.ciborium_ll_decoder.specs.declared.recode.RecodeError.{RecodeError}
+use Rattle.ciborium_ll_decoder.specs.declared.recode.RecodeError.TheVariants as r
 use Rattle.ciborium_ll.specs.declared.laws.drains.Drained.{Drained}
 use Rattle.ciborium_ll.specs.declared.laws.drains.End.{End}
 use Rattle.ciborium_ll.specs.declared.laws.drains.End.TheVariants as end
-use Rattle.ciborium_ll.specs.declared.seg.Parser.{Ghosts as Parser}
-use Rattle.ciborium_ll.specs.declared.seg.Segment.{Segment}
-use Rattle.ciborium_ll.specs.Strings.{Kind, Bytes, Text}
-use Rattle.ciborium_ll.specs.Text.{IsCharacters}
-use Rattle.ciborium_ll.specs.Faults.{IsWritable, most_kept}
-use Rattle.ciborium_ll.specs.Kept.{kept_bytes}
-use Rattle.ciborium_ll.specs.Decoding.{ReadsAll}
-use Rattle.ciborium_ll.specs.Chunks.{IsSplit, EndsInCharacter, KeepsTooMuch, rest}
+use Rattle.ciborium_ll_decoder.specs.declared.seg.Parser.{Ghosts as Parser}
+use Rattle.ciborium_ll_decoder.specs.declared.seg.Segment.{Segment}
+use Rattle.ciborium_ll_grammar.specs.Strings.{Kind, Bytes, Text}
+use Rattle.ciborium_ll_text.specs.Text.{IsCharacters}
+use Rattle.ciborium_ll_grammar.specs.Faults.{IsWritable, most_kept}
+use Rattle.ciborium_ll_decoder.specs.Kept.{kept_bytes}
+use Rattle.ciborium_ll_decoder.specs.Decoding.{ReadsAll}
+use Rattle.ciborium_ll_decoder.specs.Chunks.{IsSplit, EndsInCharacter, KeepsTooMuch, rest}
 use Rattle.ciborium_ll.specs.Drains.{gains, calls_for, IsEnough, AddUp, DrainsSome, DrainsAll, DrainsSizes, DrainFails, DrainUnwritten, EndsDrain, Drains, IsDrainable, WritesBody, LeavesRest, FindsNoText, EndsTold, DrainsTold, HasEnded}
-use Rattle.ciborium_ll.proofs.BodyLaws.{view_none, split_parts, stuck_is_no_text, too_much_is_no_text}
-use Rattle.ciborium_ll.proofs.CopyingTold.{consumes_told, appends_told, shrinks_told}
-use Rattle.ciborium_ll.proofs.DecodingLaws.{length_zero}
+use Rattle.ciborium_ll_decoder.proofs.BodyLaws.{view_none, split_parts, stuck_is_no_text, too_much_is_no_text}
+use Rattle.ciborium_ll_decoder.proofs.CopyingTold.{consumes_told, appends_told, shrinks_told}
+use Rattle.ciborium_ll_text.proofs.Lists.{length_zero}
 
 -- ---- sizes
 

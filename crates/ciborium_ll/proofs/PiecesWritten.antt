@@ -3,28 +3,28 @@ use Rattle.std.proofs.Common.{◌≡◌, ℕ, suc, ◌<◌, ◌≤◌, ◌^◌, 
 use Rattle.std.proofs.lemmas.List.{append-nil}
 use Rattle.std.proofs.KnownBytes.{Appends-nil}
 use Rattle.std.specs.Borrow.{Bor}
-use Rattle.ciborium_ll.specs.declared.io.Read.{Ghosts as Reader}
-use Rattle.ciborium_ll.specs.declared.io.Write.{Ghosts}
-use Rattle.ciborium_ll.specs.declared.dec.Decoder.{Decoder}
-use Rattle.ciborium_ll.specs.declared.recode.RecodeError.{RecodeError}
-use Rattle.ciborium_ll.specs.Faults.{RunInFront}
-use Rattle.ciborium_ll.specs.RecodingTold.{CopiesFront, RecodesTold}
-use Rattle.ciborium_ll.specs.declared.hdr.Header.{Header}
+use Rattle.ciborium_ll_io.specs.declared.io.Read.{Ghosts as Reader}
+use Rattle.ciborium_ll_io.specs.declared.io.Write.{Ghosts}
+use Rattle.ciborium_ll_decoder.specs.declared.dec.Decoder.{Decoder}
+use Rattle.ciborium_ll_decoder.specs.declared.recode.RecodeError.{RecodeError}
+use Rattle.ciborium_ll_grammar.specs.Faults.{RunInFront}
+use Rattle.ciborium_ll_decoder.specs.RecodingTold.{CopiesFront, RecodesTold}
+use Rattle.ciborium_ll_grammar.specs.declared.hdr.Header.{Header}
 use Rattle.ciborium_ll.specs.declared.laws.pieces.Piece.{Piece}
 use Rattle.ciborium_ll.specs.declared.laws.pieces.Piece.TheVariants as p
-use Rattle.ciborium_ll.specs.Title.{IsInRange, shortest_title}
-use Rattle.ciborium_ll.specs.Strings.{Kind, Bytes, Text}
-use Rattle.ciborium_ll.specs.Text.{joined}
-use Rattle.ciborium_ll.specs.Elements.{IsSound, Mark, Plain, IsPlain, spelling, IsElement, plain, IsRun, done, next}
-use Rattle.ciborium_ll.specs.Values.{least_limit, value_limit, segments, IsWritten, in_one, in_pieces}
-use Rattle.ciborium_ll.specs.Encoding.{WritesAll, WritesFront, WritesBytes, WritesValue}
+use Rattle.ciborium_ll_grammar.specs.Title.{IsInRange, shortest_title}
+use Rattle.ciborium_ll_grammar.specs.Strings.{Kind, Bytes, Text}
+use Rattle.ciborium_ll_text.specs.Text.{joined}
+use Rattle.ciborium_ll_grammar.specs.Elements.{IsSound, Mark, Plain, IsPlain, spelling, IsElement, plain, IsRun, done, next}
+use Rattle.ciborium_ll_grammar.specs.Values.{least_limit, value_limit, segments, IsWritten, in_one, in_pieces}
+use Rattle.ciborium_ll_encoder.specs.Encoding.{WritesAll, WritesFront, WritesBytes, WritesValue}
 use Rattle.ciborium_ll.specs.Pieces.{IsValue, IsPiece, ArePieces, AreSpelled, CopiesSame, IsSpelled, HasMarks, WritesPiece, WritesElements}
 use Rattle.ciborium_ll.specs.Pieces.ArePieces.{none as no_pieces, next as next_piece}
-use Rattle.ciborium_ll.proofs.TitleLaws.{IsTitle-shortest}
-use Rattle.ciborium_ll.proofs.CopyingLaws.{Shrinks-zero}
-use Rattle.ciborium_ll.proofs.ElementLaws.{spelling-append, one_run}
-use Rattle.ciborium_ll.proofs.EncodingLaws.{WritesBytes-then, WritesBytes-stopped}
-use Rattle.ciborium_ll.proofs.ValueLaws.{one_writing, some_writing, written_element, sound_pieces, segments_of_pieces}
+use Rattle.ciborium_ll_grammar.proofs.TitleLaws.{IsTitle-shortest}
+use Rattle.ciborium_ll_decoder.proofs.CopyingLaws.{Shrinks-zero}
+use Rattle.ciborium_ll_grammar.proofs.ElementLaws.{spelling-append, one_run}
+use Rattle.ciborium_ll_encoder.proofs.EncodingLaws.{WritesBytes-then, WritesBytes-stopped}
+use Rattle.ciborium_ll_grammar.proofs.ValueLaws.{one_writing, some_writing, written_element, sound_pieces, segments_of_pieces}
 
 -- ---- the marks of a value
 

@@ -1,29 +1,29 @@
 -- A string that is read to its end.
 use Rattle.std.proofs.Common.{◌≡◌, ℕ, zero, suc, ◌+◌, ◌-◌, ◌^◌, ◌<◌, ◌⊎◌, List, [], ◌∷◌, ◌++◌, length, Option, Some, None, Result, Ok, Err, refl, sym, ap, subst, ◌∙◌, inl, inr, arith, append_assoc, length-append}
-use Rattle.ciborium_ll.specs.declared.io.Read.{Ghosts as Reader}
-use Rattle.ciborium_ll.specs.declared.io.Write.{Ghosts as Writer}
-use Rattle.ciborium_ll.specs.declared.hdr.Header.TheVariants as h
-use Rattle.ciborium_ll.specs.declared.dec.Decoder.{Decoder}
-use Rattle.ciborium_ll.specs.declared.dec.Error.{Error}
-use Rattle.ciborium_ll.specs.declared.dec.Error.TheVariants as e
-use Rattle.ciborium_ll.specs.declared.seg.Body.{Body}
-use Rattle.ciborium_ll.specs.declared.seg.Progress.{Progress}
-use Rattle.ciborium_ll.specs.declared.seg.Progress.TheVariants as p
-use Rattle.ciborium_ll.specs.Title.{IsTitle, IsInRange, shortest_title, title_len}
-use Rattle.ciborium_ll.specs.Strings.{Kind, kind_header, IsString, definite, indefinite}
-use Rattle.ciborium_ll.specs.Steps.{IsInsideAt, one_open, more_open}
-use Rattle.ciborium_ll.specs.Decoding.{Passes, IsSteady, TakesBack}
-use Rattle.ciborium_ll.specs.Encoding.{WritesAll}
-use Rattle.ciborium_ll.specs.Segments.{AdvancesFrom, AdvancesTo}
-use Rattle.ciborium_ll.specs.Recoding.{CopiesWhole}
-use Rattle.ciborium_ll.specs.Finishing.{ReadsRest, BeginsRest, EndsBody}
+use Rattle.ciborium_ll_io.specs.declared.io.Read.{Ghosts as Reader}
+use Rattle.ciborium_ll_io.specs.declared.io.Write.{Ghosts as Writer}
+use Rattle.ciborium_ll_grammar.specs.declared.hdr.Header.TheVariants as h
+use Rattle.ciborium_ll_decoder.specs.declared.dec.Decoder.{Decoder}
+use Rattle.ciborium_ll_decoder.specs.declared.dec.Error.{Error}
+use Rattle.ciborium_ll_decoder.specs.declared.dec.Error.TheVariants as e
+use Rattle.ciborium_ll_decoder.specs.declared.seg.Body.{Body}
+use Rattle.ciborium_ll_decoder.specs.declared.seg.Progress.{Progress}
+use Rattle.ciborium_ll_decoder.specs.declared.seg.Progress.TheVariants as p
+use Rattle.ciborium_ll_grammar.specs.Title.{IsTitle, IsInRange, shortest_title, title_len}
+use Rattle.ciborium_ll_grammar.specs.Strings.{Kind, kind_header, IsString, definite, indefinite}
+use Rattle.ciborium_ll_grammar.specs.Steps.{IsInsideAt, one_open, more_open}
+use Rattle.ciborium_ll_decoder.specs.Decoding.{Passes, IsSteady, TakesBack}
+use Rattle.ciborium_ll_encoder.specs.Encoding.{WritesAll}
+use Rattle.ciborium_ll_decoder.specs.Segments.{AdvancesFrom, AdvancesTo}
+use Rattle.ciborium_ll_decoder.specs.Recoding.{CopiesWhole}
+use Rattle.ciborium_ll_decoder.specs.Finishing.{ReadsRest, BeginsRest, EndsBody}
 use Rattle.ciborium_ll.specs.Skipping.{SkipsWhole, SkipsInside, MeetsBody, StopsInside, SkipsString}
-use Rattle.ciborium_ll.proofs.TitleLaws.{IsTitle-shortest}
-use Rattle.ciborium_ll.proofs.StepLaws.{counted, never}
-use Rattle.ciborium_ll.proofs.DecodingLaws.{Passes-none, Passes-then, Passes-pulled}
-use Rattle.ciborium_ll.proofs.NestLaws.{alone_bytes, open_length, title_some, advance_definite, FindsOnly}
-use Rattle.ciborium_ll.proofs.RecodeLaws.{sound_body, passes_same}
-use Rattle.ciborium_ll.proofs.SegmentLaws.{StringSoFar, AdvancesAmong, IsAmong, advances_among, segment_added, opens_counted, misplaced_inside, some_open}
+use Rattle.ciborium_ll_grammar.proofs.TitleLaws.{IsTitle-shortest}
+use Rattle.ciborium_ll_grammar.proofs.StepLaws.{counted, never}
+use Rattle.ciborium_ll_decoder.proofs.DecodingLaws.{Passes-none, Passes-then, Passes-pulled}
+use Rattle.ciborium_ll_decoder.proofs.NestLaws.{alone_bytes, open_length, title_some, advance_definite, FindsOnly}
+use Rattle.ciborium_ll_decoder.proofs.RecodeLaws.{sound_body, passes_same}
+use Rattle.ciborium_ll_decoder.proofs.SegmentLaws.{StringSoFar, AdvancesAmong, IsAmong, advances_among, segment_added, opens_counted, misplaced_inside, some_open}
 
 -- a writer that tells nothing
 abbrev silent : Writer (Unit {0}) (Unit {0})

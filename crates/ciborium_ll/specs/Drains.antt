@@ -1,23 +1,23 @@
 -- A body drained into a writer, through buffers of given sizes.
 use Rattle.std.specs.Prelude.{◌≡◌, ℕ, ◌+◌, ◌-◌, ◌/◌, ◌<◌, ◌≤◌, ◌⊎◌, max, false, List, [], ◌∷◌, ◌++◌, length, take, sum, sum_by, Some, Result, Ok, Err}
-use Rattle.ciborium_ll.specs.declared.io.Read.{Ghosts as Reader}
-use Rattle.ciborium_ll.specs.declared.io.Write.{Ghosts as Writer}
-use Rattle.ciborium_ll.specs.declared.dec.Error.{Error}
-use Rattle.ciborium_ll.specs.declared.dec.Error.TheVariants as e
-use Rattle.ciborium_ll.specs.declared.recode.RecodeError.{RecodeError}
-use Rattle.ciborium_ll.specs.declared.recode.RecodeError.TheVariants as r
+use Rattle.ciborium_ll_io.specs.declared.io.Read.{Ghosts as Reader}
+use Rattle.ciborium_ll_io.specs.declared.io.Write.{Ghosts as Writer}
+use Rattle.ciborium_ll_decoder.specs.declared.dec.Error.{Error}
+use Rattle.ciborium_ll_decoder.specs.declared.dec.Error.TheVariants as e
+use Rattle.ciborium_ll_decoder.specs.declared.recode.RecodeError.{RecodeError}
+use Rattle.ciborium_ll_decoder.specs.declared.recode.RecodeError.TheVariants as r
 use Rattle.ciborium_ll.specs.declared.laws.drains.Drained.{Drained}
 use Rattle.ciborium_ll.specs.declared.laws.drains.End.{End}
 use Rattle.ciborium_ll.specs.declared.laws.drains.End.TheVariants as end
-use Rattle.ciborium_ll.specs.declared.seg.Parser.{Ghosts as Parser}
-use Rattle.ciborium_ll.specs.declared.seg.Segment.{Segment}
-use Rattle.ciborium_ll.specs.Strings.{Kind, Text}
-use Rattle.ciborium_ll.specs.Text.{IsCharacters}
-use Rattle.ciborium_ll.specs.Faults.{IsWritable, most_kept}
-use Rattle.ciborium_ll.specs.Kept.{kept_bytes}
-use Rattle.ciborium_ll.specs.Decoding.{offset_limit, IsSteady, Passes}
-use Rattle.ciborium_ll.specs.Encoding.{WritesAll, WritesFront}
-use Rattle.ciborium_ll.specs.Chunks.{GivesChunk, PullsChunk, SegmentEnds, left_of, rest}
+use Rattle.ciborium_ll_decoder.specs.declared.seg.Parser.{Ghosts as Parser}
+use Rattle.ciborium_ll_decoder.specs.declared.seg.Segment.{Segment}
+use Rattle.ciborium_ll_grammar.specs.Strings.{Kind, Text}
+use Rattle.ciborium_ll_text.specs.Text.{IsCharacters}
+use Rattle.ciborium_ll_grammar.specs.Faults.{IsWritable, most_kept}
+use Rattle.ciborium_ll_decoder.specs.Kept.{kept_bytes}
+use Rattle.ciborium_ll_decoder.specs.Decoding.{offset_limit, IsSteady, Passes}
+use Rattle.ciborium_ll_encoder.specs.Encoding.{WritesAll, WritesFront}
+use Rattle.ciborium_ll_decoder.specs.Chunks.{GivesChunk, PullsChunk, SegmentEnds, left_of, rest}
 
 -- ---- sizes
 

@@ -1,16 +1,16 @@
 -- Pieces that are written one by one: headers, and values of bytes and of text (RFC 7049, 2.1).
 use Rattle.std.specs.Prelude.{◌≡◌, ℕ, List, [], ◌∷◌, ◌++◌, length, Option, Some, Result, IsOk}
-use Rattle.ciborium_ll.specs.declared.io.Read.{Ghosts as Reader}
-use Rattle.ciborium_ll.specs.declared.io.Write.{Ghosts}
-use Rattle.ciborium_ll.specs.declared.dec.Decoder.{Decoder}
+use Rattle.ciborium_ll_io.specs.declared.io.Read.{Ghosts as Reader}
+use Rattle.ciborium_ll_io.specs.declared.io.Write.{Ghosts}
+use Rattle.ciborium_ll_decoder.specs.declared.dec.Decoder.{Decoder}
 use Rattle.ciborium_ll.specs.declared.laws.pieces.Piece.{Piece}
 use Rattle.ciborium_ll.specs.declared.laws.pieces.Piece.TheVariants as p
-use Rattle.ciborium_ll.specs.Text.{joined}
-use Rattle.ciborium_ll.specs.Strings.{Kind, Bytes, Text}
-use Rattle.ciborium_ll.specs.Elements.{Mark, Plain, IsPlain, IsElement, IsRun, spelling}
-use Rattle.ciborium_ll.specs.Values.{value_limit, IsWritten, segments}
-use Rattle.ciborium_ll.specs.Decoding.{view}
-use Rattle.ciborium_ll.specs.Encoding.{WritesBytes}
+use Rattle.ciborium_ll_text.specs.Text.{joined}
+use Rattle.ciborium_ll_grammar.specs.Strings.{Kind, Bytes, Text}
+use Rattle.ciborium_ll_grammar.specs.Elements.{Mark, Plain, IsPlain, IsElement, IsRun, spelling}
+use Rattle.ciborium_ll_grammar.specs.Values.{value_limit, IsWritten, segments}
+use Rattle.ciborium_ll_decoder.specs.Decoding.{view}
+use Rattle.ciborium_ll_encoder.specs.Encoding.{WritesBytes}
 
 -- a header piece begins no string; strings are pieces of bytes and of text
 abbrev pub IsPlainPiece : Piece → Type 0

@@ -1,17 +1,17 @@
 -- What `skip_bytes` and `skip_text` do: a string is read to its end, behind its header. The old decoder stands behind
 -- that header, and the bytes of the string are those of the header's shortest title and then those that are consumed.
 use Rattle.std.specs.Prelude.{◌≡◌, ℕ, ◌-◌, ◌⊎◌, List, [], ◌++◌, Option, Some, None, Result, Ok, Err}
-use Rattle.ciborium_ll.specs.declared.io.Read.{Ghosts}
-use Rattle.ciborium_ll.specs.declared.hdr.Header.{Header}
-use Rattle.ciborium_ll.specs.declared.dec.Decoder.{Decoder}
-use Rattle.ciborium_ll.specs.declared.dec.Error.{Error}
-use Rattle.ciborium_ll.specs.declared.dec.Error.TheVariants as e
-use Rattle.ciborium_ll.specs.Title.{shortest_title, title_len}
-use Rattle.ciborium_ll.specs.Strings.{Kind, kind_header, IsString}
-use Rattle.ciborium_ll.specs.Elements.{IsSound}
-use Rattle.ciborium_ll.specs.Faults.{IsInside, IsRefusedIn}
-use Rattle.ciborium_ll.specs.Decoding.{IsSteady, Passes, PullsHeader, PullsTitle}
-use Rattle.ciborium_ll.specs.Finishing.{EndsBody}
+use Rattle.ciborium_ll_io.specs.declared.io.Read.{Ghosts}
+use Rattle.ciborium_ll_grammar.specs.declared.hdr.Header.{Header}
+use Rattle.ciborium_ll_decoder.specs.declared.dec.Decoder.{Decoder}
+use Rattle.ciborium_ll_decoder.specs.declared.dec.Error.{Error}
+use Rattle.ciborium_ll_decoder.specs.declared.dec.Error.TheVariants as e
+use Rattle.ciborium_ll_grammar.specs.Title.{shortest_title, title_len}
+use Rattle.ciborium_ll_grammar.specs.Strings.{Kind, kind_header, IsString}
+use Rattle.ciborium_ll_grammar.specs.Elements.{IsSound}
+use Rattle.ciborium_ll_grammar.specs.Faults.{IsInside, IsRefusedIn}
+use Rattle.ciborium_ll_decoder.specs.Decoding.{IsSteady, Passes, PullsHeader, PullsTitle}
+use Rattle.ciborium_ll_decoder.specs.Finishing.{EndsBody}
 
 module _ {R E : Type 0} (source : Ghosts R E) (kind : Kind) where
   -- all of the string was read: the bytes behind its header make one string, and its bodies are sound

@@ -3,34 +3,22 @@
 //! The functions for laws are empty: their contracts are the laws.
 
 mod copy;
-mod cuts;
 mod drains;
-mod elements;
-mod faults;
 mod headers;
-mod items;
 mod pieces;
-mod strings;
-mod text;
-mod titles;
-mod values;
 mod whole;
 
 pub use self::copy::copy_headers;
-pub use self::cuts::full_cuts;
 pub use self::drains::{Drained, End, drain_bytes, drain_text, enough_sizes};
-pub use self::elements::{one_element, one_run, spelled_run};
-pub use self::faults::{no_fault, one_fault, run_or_fault};
 pub use self::headers::{copied_float, copied_header, pull_again, same_float, same_header};
-pub use self::items::one_item;
 pub use self::pieces::{Piece, copy_spelled, spelled_pieces, write_pieces};
-pub use self::strings::one_string;
-pub use self::text::{
-    damage_by_state, joined_texts, no_rest_of_text, no_text_begins, one_front, rest_of_text,
-    same_text, text_by_state, text_or_front,
-};
-pub use self::titles::{
-    cut_titles, one_title, refused_first_bytes, shortest_titles, title_header, title_length,
-};
-pub use self::values::{fewest_segments, written_values};
 pub use self::whole::{skip_bytes, skip_text};
+pub use ciborium_ll_grammar::laws::{
+    cut_titles, fewest_segments, no_fault, one_element, one_fault, one_item, one_run, one_string,
+    one_title, refused_first_bytes, run_or_fault, shortest_titles, spelled_run, title_header,
+    title_length, written_values,
+};
+pub use ciborium_ll_text::laws::{
+    damage_by_state, full_cuts, joined_texts, no_rest_of_text, no_text_begins, one_front,
+    rest_of_text, same_text, text_by_state, text_or_front,
+};

@@ -4,18 +4,14 @@
 //! each as its shortest title, and strings in pieces of a limited length. What each call does is its contract.
 #![tactic(auto)]
 
-mod dec;
-mod enc;
-mod hdr;
-pub mod io;
 pub mod laws;
-pub mod recode;
-pub(crate) mod seg;
 pub mod simple;
 pub mod tag;
 
-pub use self::dec::{Decoder, Error};
-pub use self::enc::Encoder;
-pub use self::hdr::{Float, Header};
-pub use self::recode::RecodeError;
-pub use self::seg::{Body, Bytes, Segment, Segments, Text};
+pub use ciborium_ll_decoder::dec::{Decoder, Error};
+pub use ciborium_ll_decoder::recode;
+pub use ciborium_ll_decoder::recode::RecodeError;
+pub use ciborium_ll_decoder::seg::{Body, Bytes, Segment, Segments, Text};
+pub use ciborium_ll_encoder::enc::Encoder;
+pub use ciborium_ll_grammar::hdr::{Float, Header};
+pub use ciborium_ll_io::io;

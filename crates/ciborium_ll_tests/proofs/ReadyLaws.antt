@@ -1,8 +1,8 @@
 -- A fresh decoder over a steady reader that tells its bytes, and a writer with room for as many, are ready for a copy.
 use Rattle.std.proofs.Common.{◌≡◌, ℕ, ◌+◌, ◌<◌, ◌≤◌, IsTrue, List, length, Some, subst, sym, ap, ◌∙◌, inr, arith}
-use Rattle.ciborium_ll.specs.declared.io.Read.{Ghosts as Reader}
-use Rattle.ciborium_ll.specs.declared.io.Write.{Ghosts as Writer}
-use Rattle.ciborium_ll.specs.declared.dec.Decoder.{Decoder}
+use Rattle.ciborium_ll.specs.Types.Read.{Ghosts as Reader}
+use Rattle.ciborium_ll.specs.Types.Write.{Ghosts as Writer}
+use Rattle.ciborium_ll.specs.Types.Decoder.{Decoder}
 use Rattle.ciborium_ll.specs.Decoding.{IsFresh, offset_limit, view}
 use Rattle.ciborium_ll.specs.Copying.{IsReady as IsReadyForTitles}
 use Rattle.ciborium_ll.specs.RecodingTold.{IsReady}

@@ -2,9 +2,9 @@
 --
 -- `got writer bytes` says what the writer has where the copy stopped, and `left reader bytes` what the reader has still.
 use Rattle.std.specs.Prelude.{◌≡◌, ℕ, ◌+◌, ◌≤◌, List, ◌++◌, length, drop, Option, Some, Result, Ok, Err}
-use Rattle.ciborium_ll.specs.declared.dec.Error.TheVariants as e
-use Rattle.ciborium_ll.specs.declared.recode.RecodeError.{RecodeError}
-use Rattle.ciborium_ll.specs.declared.recode.RecodeError.TheVariants as r
+use Rattle.ciborium_ll.specs.Types.Error.TheVariants as e
+use Rattle.ciborium_ll.specs.Types.RecodeError.{RecodeError}
+use Rattle.ciborium_ll.specs.Types.RecodeError.TheVariants as r
 use Rattle.ciborium_ll.specs.Elements.{spelling}
 use Rattle.ciborium_ll.specs.Faults.{Syntax, RunInFront, HasFault}
 use Rattle.ciborium_ll.specs.Decoding.{offset_limit}

@@ -1,14 +1,14 @@
 //! Headers copied from a decoder to an encoder.
 
 ghost use Rattle.std.specs.Prelude.{◌≡◌, ℕ, List, ◌↔◌, IsOk};
-ghost use Rattle.ciborium_ll.specs.Decoding.{IsSteady, refusals_of};
-ghost use Rattle.ciborium_ll.specs.Encoding.{writer_of};
-ghost use Rattle.ciborium_ll.specs.Copying.{CopiesHeaders, CopiesTold, IsReady, TitlesInFront};
+ghost use Rattle.ciborium_ll_decoder.specs.Decoding.{IsSteady, refusals_of};
+ghost use Rattle.ciborium_ll_encoder.specs.Encoding.{writer_of};
+ghost use Rattle.ciborium_ll_decoder.specs.Copying.{CopiesHeaders, CopiesTold, IsReady, TitlesInFront};
 
-use crate::dec::Decoder;
-use crate::enc::Encoder;
-use crate::io::{Read, Write};
-use crate::recode::RecodeError;
+use ciborium_ll_decoder::dec::Decoder;
+use ciborium_ll_decoder::recode::RecodeError;
+use ciborium_ll_encoder::enc::Encoder;
+use ciborium_ll_io::io::{Read, Write};
 
 /// Pulls `count` headers, and pushes each as soon as it has it. Bodies are not followed.
 ///

@@ -1,17 +1,17 @@
 //! Bodies read through buffers of any sizes.
 
 ghost use Rattle.std.specs.Prelude.{◌≡◌, ◌≤◌, ◌<◌, ◌+◌, ◌↔◌, ℕ, List, All, IfOk, length};
-ghost use Rattle.ciborium_ll.specs.Decoding.{IsSteady, refusals_of};
-ghost use Rattle.ciborium_ll.specs.Encoding.{writer_of};
-ghost use Rattle.ciborium_ll.specs.Strings.{Kind, Text as text_strings};
-ghost use Rattle.ciborium_ll.specs.Text.{IsCharacters};
-ghost use Rattle.ciborium_ll.specs.Faults.{most_kept};
+ghost use Rattle.ciborium_ll_decoder.specs.Decoding.{IsSteady, refusals_of};
+ghost use Rattle.ciborium_ll_encoder.specs.Encoding.{writer_of};
+ghost use Rattle.ciborium_ll_grammar.specs.Strings.{Kind, Text as text_strings};
+ghost use Rattle.ciborium_ll_text.specs.Text.{IsCharacters};
+ghost use Rattle.ciborium_ll_grammar.specs.Faults.{most_kept};
 ghost use Rattle.ciborium_ll.specs.Drains.{calls_for, AddUp, Drains, DrainsTold, HasEnded, IsDrainable, IsEnough};
 
-use crate::enc::Encoder;
-use crate::io::{Read, Write};
-use crate::recode::RecodeError;
-use crate::seg::{Bytes, Chunked, Segment, Text};
+use ciborium_ll_decoder::recode::RecodeError;
+use ciborium_ll_decoder::seg::{Bytes, Chunked, Segment, Text};
+use ciborium_ll_encoder::enc::Encoder;
+use ciborium_ll_io::io::{Read, Write};
 
 /// How far a drain came.
 #[derive(Debug, PartialEq, Eq, Drop)]

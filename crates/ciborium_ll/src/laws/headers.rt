@@ -1,11 +1,11 @@
 //! Laws of headers, and of a header that is given back.
 
 ghost use Rattle.std.specs.Prelude.{◌≡◌, ◌↔◌, IsTrue};
-ghost use Rattle.ciborium_ll.specs.Decoding.{IsSteady, PullsAgain, refusals_of};
+ghost use Rattle.ciborium_ll_decoder.specs.Decoding.{IsSteady, PullsAgain, refusals_of};
 
-use crate::dec::{Decoder, Error};
-use crate::hdr::{Float, Header};
-use crate::io::Read;
+use ciborium_ll_decoder::dec::{Decoder, Error};
+use ciborium_ll_grammar::hdr::{Float, Header};
+use ciborium_ll_io::io::Read;
 
 /// Headers are equal where their variants and numbers are.
 pub fn same_header(one: Header, other: Header) -> bool

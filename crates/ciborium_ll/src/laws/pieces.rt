@@ -2,17 +2,17 @@
 
 ghost use Rattle.std.specs.Prelude.{◌≤◌, ◌++◌, ℕ, List, length, Option};
 ghost use Rattle.std.specs.List.{All};
-ghost use Rattle.ciborium_ll.specs.Strings.{Bytes, Text};
-ghost use Rattle.ciborium_ll.specs.Elements.{Mark, IsRun, spelling};
-ghost use Rattle.ciborium_ll.specs.Encoding.{writer_of};
-ghost use Rattle.ciborium_ll.specs.RecodingTold.{IsReady};
+ghost use Rattle.ciborium_ll_grammar.specs.Strings.{Bytes, Text};
+ghost use Rattle.ciborium_ll_grammar.specs.Elements.{Mark, IsRun, spelling};
+ghost use Rattle.ciborium_ll_encoder.specs.Encoding.{writer_of};
+ghost use Rattle.ciborium_ll_decoder.specs.RecodingTold.{IsReady};
 ghost use Rattle.ciborium_ll.specs.Pieces.{AreSpelled, CopiesSame, HasMarks, IsPlainPiece, IsSpelled, WritesElements, WritesPiece};
 
-use crate::dec::Decoder;
-use crate::enc::Encoder;
-use crate::hdr::Header;
-use crate::io::{Read, Write};
-use crate::recode::{RecodeError, recode};
+use ciborium_ll_decoder::dec::Decoder;
+use ciborium_ll_decoder::recode::{RecodeError, recode};
+use ciborium_ll_encoder::enc::Encoder;
+use ciborium_ll_grammar::hdr::Header;
+use ciborium_ll_io::io::{Read, Write};
 
 /// What one call writes: a header, or a value in segments of limited length.
 #[derive(Drop)]

@@ -1,17 +1,17 @@
 //! Strings read to their end.
 
 ghost use Rattle.std.specs.Prelude.{◌≡◌, ◌≤◌, ℕ, Option, None, length};
-ghost use Rattle.ciborium_ll.specs.declared.dec.Decoder.{Decoder as AnyDecoder};
-ghost use Rattle.ciborium_ll.specs.declared.hdr.Header.TheVariants as Header;
-ghost use Rattle.ciborium_ll.specs.declared.seg.Progress.TheVariants.{Open};
-ghost use Rattle.ciborium_ll.specs.Title.{IsInRange, title_len};
-ghost use Rattle.ciborium_ll.specs.Strings.{Bytes as byte_strings, Text as text_strings, kind_header};
-ghost use Rattle.ciborium_ll.specs.Decoding.{IsSteady, TakesBack, offset_of, refusals_of, waiting_of};
+ghost use Rattle.ciborium_ll_decoder.specs.declared.dec.Decoder.{Decoder as AnyDecoder};
+ghost use Rattle.ciborium_ll_grammar.specs.declared.hdr.Header.TheVariants as Header;
+ghost use Rattle.ciborium_ll_decoder.specs.declared.seg.Progress.TheVariants.{Open};
+ghost use Rattle.ciborium_ll_grammar.specs.Title.{IsInRange, title_len};
+ghost use Rattle.ciborium_ll_grammar.specs.Strings.{Bytes as byte_strings, Text as text_strings, kind_header};
+ghost use Rattle.ciborium_ll_decoder.specs.Decoding.{IsSteady, TakesBack, offset_of, refusals_of, waiting_of};
 ghost use Rattle.ciborium_ll.specs.Skipping.{SkipsString};
 
-use crate::dec::{Decoder, Error};
-use crate::io::Read;
-use crate::seg::{Bytes, Chunked, Segments, Text};
+use ciborium_ll_decoder::dec::{Decoder, Error};
+use ciborium_ll_decoder::seg::{Bytes, Chunked, Segments, Text};
+use ciborium_ll_io::io::Read;
 
 /// Reads a byte string to its end, behind its header with this length, which was just pulled.
 ///

@@ -1,7 +1,7 @@
 use Rattle.std.proofs.Common.{◌≡◌, List, length}
-use Rattle.ciborium_ll.specs.declared.hdr.Header.{Header}
-use Rattle.ciborium_ll.specs.Decoding.{refusals_of}
-use Rattle.ciborium_ll.specs.Copying.{Copies}
+use Rattle.ciborium_ll_grammar.specs.declared.hdr.Header.{Header}
+use Rattle.ciborium_ll_decoder.specs.Decoding.{refusals_of}
+use Rattle.ciborium_ll_decoder.specs.Copying.{Copies}
 use Rattle.ciborium_ll.proofs.laws.copy.copy_headers.Given as goal
 
 abbrev pub invariant-headers : goal.invariant-headers

@@ -1,6 +1,6 @@
 use Rattle.std.proofs.Common.{rules, ◌≡◌, ℕ, length, take, get_or, refl, subst, sym, arith, Err, length-take-le}
 use Rattle.std.proofs.lemmas.List.{take_more, take_all}
-use Rattle.ciborium_ll.specs.Chunks.{GivesChunk, PullsChunk}
+use Rattle.ciborium_ll_decoder.specs.Chunks.{GivesChunk, PullsChunk}
 use Rattle.ciborium_ll.proofs.DrainLaws.{behind_at, drains_none, drains_more}
 use Rattle.ciborium_ll.proofs.laws.drains.drain.Goals as goal
 

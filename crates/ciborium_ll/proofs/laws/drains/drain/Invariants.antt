@@ -1,5 +1,5 @@
 use Rattle.std.proofs.Common.{◌≡◌, take}
-use Rattle.ciborium_ll.specs.Decoding.{IsSteady, refusals_of}
+use Rattle.ciborium_ll_decoder.specs.Decoding.{IsSteady, refusals_of}
 use Rattle.ciborium_ll.specs.Drains.{DrainsSome}
 use Rattle.ciborium_ll.proofs.laws.drains.drain.Given as goal
 

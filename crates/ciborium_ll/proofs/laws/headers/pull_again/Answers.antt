@@ -1,4 +1,4 @@
-use Rattle.ciborium_ll.proofs.DecodingLaws.{pulls_again}
+use Rattle.ciborium_ll_decoder.proofs.DecodingLaws.{pulls_again}
 use Rattle.ciborium_ll.proofs.laws.headers.pull_again.Goals as goal
 
 pub returns-clause-again : goal.returns-clause-again

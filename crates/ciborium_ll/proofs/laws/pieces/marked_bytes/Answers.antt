@@ -1,5 +1,5 @@
 use Rattle.std.proofs.Common.{rules}
-use Rattle.ciborium_ll.specs.Strings.{Bytes}
+use Rattle.ciborium_ll_grammar.specs.Strings.{Bytes}
 use Rattle.ciborium_ll.proofs.PiecesWritten.{some_marks}
 use Rattle.ciborium_ll.proofs.laws.pieces.marked_bytes.Goals as goal
 

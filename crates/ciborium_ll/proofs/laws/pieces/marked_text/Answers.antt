@@ -1,6 +1,6 @@
 use Rattle.std.proofs.Common.{rules}
-use Rattle.ciborium_ll.specs.Strings.{Text}
-use Rattle.ciborium_ll.proofs.Utf8Laws.{from_std}
+use Rattle.ciborium_ll_grammar.specs.Strings.{Text}
+use Rattle.ciborium_ll_text.proofs.Utf8Laws.{from_std}
 use Rattle.ciborium_ll.proofs.PiecesWritten.{some_marks}
 use Rattle.ciborium_ll.proofs.laws.pieces.marked_text.Goals as goal
 

@@ -1,8 +1,8 @@
 use Rattle.std.proofs.Common.{◌≡◌, ◌-◌, ◌^◌, ℕ, Option, None}
-use Rattle.ciborium_ll.specs.declared.dec.Decoder.{Decoder}
-use Rattle.ciborium_ll.specs.Title.{IsInRange}
-use Rattle.ciborium_ll.specs.Strings.{kind_header}
-use Rattle.ciborium_ll.specs.Decoding.{IsSteady, TakesBack, refusals_of, waiting_of}
+use Rattle.ciborium_ll_decoder.specs.declared.dec.Decoder.{Decoder}
+use Rattle.ciborium_ll_grammar.specs.Title.{IsInRange}
+use Rattle.ciborium_ll_grammar.specs.Strings.{kind_header}
+use Rattle.ciborium_ll_decoder.specs.Decoding.{IsSteady, TakesBack, refusals_of, waiting_of}
 use Rattle.ciborium_ll.proofs.SkipLaws.{SkipsSoFar}
 use Rattle.ciborium_ll.proofs.laws.whole.skip_segments.Given as goal
 

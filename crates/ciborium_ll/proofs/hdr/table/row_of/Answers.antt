@@ -1,6 +1,0 @@
-use Rattle.std.proofs.Common.{arith}
-use Rattle.ciborium_ll.proofs.TitleRowLaws.{row_says}
-use Rattle.ciborium_ll.proofs.hdr.table.row_of.Goals as goal
-
-pub returns : goal.returns
-returns c = row_says c.args.first (omega arith)

@@ -1,5 +1,0 @@
-use Rattle.ciborium_ll.proofs.Complete.{complete}
-use Rattle.ciborium_ll.proofs.laws.faults.run_or_fault.Goals as goal
-
-pub returns : goal.returns
-returns c = λ count bytes f. complete count bytes f

@@ -1,6 +1,0 @@
-use Rattle.std.proofs.Common.{rules, refl}
-use Rattle.ciborium_ll.proofs.ChunkLaws.{IsStuck-nil}
-use Rattle.ciborium_ll.proofs.seg.Segments.segment.Goals as goal
-
-pub invariant_of-result : goal.invariant_of-result
-invariant_of-result g c = record { counted = search rules; none_waits = c.requires; stuck = IsStuck-nil; told = refl; text_alone = λ _. refl }

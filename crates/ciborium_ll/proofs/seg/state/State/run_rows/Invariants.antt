@@ -1,7 +1,0 @@
-use Rattle.std.proofs.Common.{◌≡◌, ◌%◌, take}
-use Rattle.ciborium_ll.specs.Rows.{shift_of}
-use Rattle.ciborium_ll.specs.States.{after}
-use Rattle.ciborium_ll.proofs.seg.state.State.run_rows.Given as goal
-
-abbrev pub invariant-loop-byte : goal.invariant-loop-byte
-invariant-loop-byte l = l.row % 64 ≡ shift_of (after l.fn.self (take l.byte-index l.bytes))

@@ -1,0 +1,21 @@
+-- The types of the library, by their names alone.
+pub use Rattle.ciborium_ll_decoder.specs.declared.dec.Decoder
+pub use Rattle.ciborium_ll_decoder.specs.declared.dec.Error
+pub use Rattle.ciborium_ll_decoder.specs.declared.recode.RecodeError
+pub use Rattle.ciborium_ll_decoder.specs.declared.seg.Body
+pub use Rattle.ciborium_ll_decoder.specs.declared.seg.Segment
+pub use Rattle.ciborium_ll_decoder.specs.declared.seg.Segments
+pub use Rattle.ciborium_ll_encoder.specs.declared.enc.Encoder
+pub use Rattle.ciborium_ll_grammar.specs.declared.hdr.Float
+pub use Rattle.ciborium_ll_grammar.specs.declared.hdr.Header
+pub use Rattle.ciborium_ll_io.specs.declared.io.Read
+pub use Rattle.ciborium_ll_io.specs.declared.io.Write
+pub use Rattle.ciborium_ll_io.specs.declared.io.buffered.BufferedReader
+pub use Rattle.ciborium_ll_io.specs.declared.io.buffered.BufferedWriter
+pub use Rattle.ciborium_ll_io.specs.declared.io.buffered.FaultKept
+pub use Rattle.ciborium_ll_io.specs.declared.io.slices.SliceReader
+pub use Rattle.ciborium_ll_io.specs.declared.io.slices.SliceWriter
+pub use Rattle.ciborium_ll_io.specs.declared.io.streams.ReadFault
+pub use Rattle.ciborium_ll_io.specs.declared.io.streams.StdReader
+pub use Rattle.ciborium_ll_io.specs.declared.io.streams.StdWriter
+pub use Rattle.ciborium_ll_io.specs.declared.io.streams.WriteFault

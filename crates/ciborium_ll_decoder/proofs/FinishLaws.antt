@@ -1,0 +1,158 @@
+-- What is left of a body, read chunk by chunk.
+use Rattle.std.proofs.Common.{◌≡◌, ℕ, ◌+◌, ◌≤◌, true, List, [], ◌++◌, length, Err, refl, sym, ap, subst, ◌∙◌, inl, inr, arith, append_assoc, append-nil, length-append}
+use Rattle.ciborium_ll_io.specs.declared.io.Read.{Ghosts as Reader}
+use Rattle.ciborium_ll_decoder.specs.declared.dec.Decoder.{Decoder}
+use Rattle.ciborium_ll_decoder.specs.declared.dec.Error.{Error}
+use Rattle.ciborium_ll_decoder.specs.declared.dec.Error.TheVariants as e
+use Rattle.ciborium_ll_decoder.specs.declared.seg.Parser.{Ghosts as Parser}
+use Rattle.ciborium_ll_decoder.specs.declared.seg.Segment.{Segment}
+use Rattle.ciborium_ll_grammar.specs.Strings.{Kind, Bytes, Text}
+use Rattle.ciborium_ll_grammar.specs.Faults.{IsWritable}
+use Rattle.ciborium_ll_decoder.specs.Kept.{kept_bytes}
+use Rattle.ciborium_ll_decoder.specs.Decoding.{IsSteady, Passes}
+use Rattle.ciborium_ll_decoder.specs.Chunks.{IsSplit, GivesChunk, FindsDamage, EndsInCharacter, KeepsTooMuch, ChunkFails, ChunkPasses, PullsChunk, read_count}
+use Rattle.ciborium_ll_decoder.specs.Finishing.{BeginsRest, RestFails, RestPasses, RestDamaged, Finishes}
+use Rattle.ciborium_ll_decoder.proofs.DecodingLaws.{Passes-none}
+use Rattle.ciborium_ll_decoder.proofs.BodyLaws.{split_parts, writable_nil, writable_chunk, three_kept, few_kept, stuck_is_no_text, too_much_is_no_text, Passes-read}
+
+module _ {R E P : Type 0} {parser : Parser P} (source : Reader R E) where
+  -- of the rest of the first segment these bytes were read, and those behind the chunks are kept
+  pub record RestSoFar (first segment : Segment R P parser) : Type 0 where
+    pub read : List ℕ
+    pub front : List ℕ
+    pub parts : kept_bytes first.kept ++ read ≡ front ++ kept_bytes segment.kept
+    pub sound : IsWritable parser.kind front
+    pub counted : segment.unread + length read ≡ first.unread
+    pub passed : Passes source first.reader.now read segment.reader.now
+    pub at : segment.place ≡ first.place
+    pub damage : segment.damaged ≡ first.damaged
+    pub still : segment.damaged ≡ true → segment.reader.now ≡ first.reader.now
+
+  pub rest_start : (segment : Segment R P parser) → RestSoFar segment segment
+  rest_start segment = record {
+    read = [];
+    front = [];
+    parts = append-nil (kept_bytes segment.kept);
+    sound = writable_nil parser.kind;
+    counted = omega arith;
+    passed = Passes-none source segment.reader.now;
+    at = refl;
+    damage = refl;
+    still = λ damaged. refl;
+  }
+
+  module _ (first segment : Segment R P parser) (so_far : RestSoFar first segment) where
+    pub rest_chunk : (room : ℕ) (chunk : List ℕ) (new : Segment R P parser) (gives : GivesChunk source room segment chunk new)
+        → (IsSteady source segment.reader.now → IsSteady source new.reader.now) → RestSoFar first new
+    rest_chunk room chunk new gives steady =
+        let more = gives.read in
+        record {
+          read = so_far.read ++ more;
+          front = so_far.front ++ chunk;
+          parts = sym (append_assoc (kept_bytes first.kept) so_far.read more) ∙ ap (λ (z : List ℕ). z ++ more) so_far.parts
+              ∙ append_assoc so_far.front (kept_bytes segment.kept) more
+              ∙ ap (λ (z : List ℕ). so_far.front ++ z) (split_parts parser.kind (kept_bytes segment.kept ++ more) chunk (kept_bytes new.kept) gives.split)
+              ∙ sym (append_assoc so_far.front chunk (kept_bytes new.kept));
+          sound = writable_chunk parser.kind so_far.front _ chunk _ so_far.sound gives.split;
+          counted = omega (arith, so_far.counted, gives.reads.unread, length-append so_far.read more);
+          passed = Passes-read source first.reader.now segment.reader.now new.reader.now so_far.read more so_far.passed gives.reads.reads steady;
+          at = gives.reads.place ∙ so_far.at;
+          damage = gives.still_sound ∙ sym gives.reads.sound ∙ so_far.damage;
+          still = λ damaged. absurd (let never = gives.still_sound in cc);
+        }
+
+    part : BeginsRest source parser.kind (kept_bytes first.kept) first.unread first.reader.now segment.reader.now
+    part = record {
+      read = so_far.read;
+      front = so_far.front;
+      left = kept_bytes segment.kept;
+      parts = so_far.parts;
+      few = few_kept parser.kind segment.kept segment.text_alone;
+      sound = so_far.sound;
+      within = omega (arith, so_far.counted);
+      passed = so_far.passed;
+    }
+
+    rest_fails : (room : ℕ) (new : Segment R P parser) → 4 ≤ room → ChunkFails source room segment new
+        → RestFails source parser.kind (kept_bytes first.kept) first.unread first.reader.now new.reader.now
+    unfolding part
+    rest_fails room new four fails = record {
+      between = segment.reader.now;
+      part = part;
+      count = read_count room segment;
+      some = omega (arith, four, fails.some_unread, three_kept segment.kept);
+      more = omega (arith, so_far.counted);
+      fails = fails.fails;
+    }
+
+    rest_passes : (room : ℕ) (new : Segment R P parser) → ChunkPasses source room segment new
+        → RestPasses source parser.kind (kept_bytes first.kept) first.unread room first.reader.now new.reader.now
+    unfolding part
+    rest_passes room new passes = record {
+      between = segment.reader.now;
+      part = part;
+      count = read_count room segment;
+      held = omega arith;
+      more = omega (arith, so_far.counted);
+      full = passes.full;
+      untouched = passes.untouched;
+    }
+
+    damaged_end : (new : Segment R P parser) → (kind : Kind) → parser.kind ≡ kind → EndsInCharacter source segment new → IsWritable kind so_far.front
+        → RestDamaged source kind (kept_bytes first.kept) first.unread first.reader.now new.reader.now
+    damaged_end new Bytes is ends sound = absurd (let none = ap length (segment.text_alone is) in let some = ends.some_kept in omega (arith, none, some))
+    damaged_end new Text is ends sound = record {
+      textual = refl;
+      read = so_far.read;
+      within = omega (arith, so_far.counted);
+      no_text = inl (
+        omega (arith, so_far.counted, ends.none_unread),
+        stuck_is_no_text (kept_bytes first.kept ++ so_far.read) so_far.front (kept_bytes segment.kept) so_far.parts sound segment.stuck ends.some_kept,
+      );
+      passed = subst (λ (d : Decoder R). Passes source first.reader.now so_far.read d) (sym ends.decoder) so_far.passed;
+    }
+
+    damaged_middle : (room : ℕ) (new : Segment R P parser) → (IsSteady source segment.reader.now → IsSteady source new.reader.now) → (kind : Kind) → parser.kind ≡ kind
+        → (keeps : KeepsTooMuch source room segment new) → IsWritable kind so_far.front → IsSplit kind (kept_bytes segment.kept ++ keeps.read) keeps.front keeps.left
+        → RestDamaged source kind (kept_bytes first.kept) first.unread first.reader.now new.reader.now
+    damaged_middle room new steady Bytes is keeps sound split = absurd (let none = ap length split.1 in let much = keeps.too_much in omega (arith, none, much))
+    damaged_middle room new steady Text is keeps sound split =
+        let kept = kept_bytes first.kept in
+        let parts = sym (append_assoc kept so_far.read keeps.read) ∙ ap (λ (z : List ℕ). z ++ keeps.read) so_far.parts ∙ append_assoc so_far.front (kept_bytes segment.kept) keeps.read in
+        record {
+          textual = refl;
+          read = so_far.read ++ keeps.read;
+          within = omega (arith, so_far.counted, keeps.reads.unread, length-append so_far.read keeps.read);
+          no_text = inr (too_much_is_no_text (kept ++ (so_far.read ++ keeps.read)) so_far.front (kept_bytes segment.kept) keeps.read keeps.front keeps.left parts sound split keeps.too_much);
+          passed = Passes-read source first.reader.now segment.reader.now new.reader.now so_far.read keeps.read so_far.passed keeps.reads.reads steady;
+        }
+
+    rest_damaged : (room at : ℕ) (new : Segment R P parser) → (IsSteady source segment.reader.now → IsSteady source new.reader.now) → FindsDamage source room segment at new
+        → Finishes source room first (Err (e.Syntax at)) new.reader.now
+    rest_damaged room at new steady finds =
+        let placed = finds.place ∙ so_far.at in
+        elim finds.cause [
+          | inl stays ↦ inr (record {
+            damaged = sym so_far.damage ∙ stays.damaged-before;
+            answer = ap (λ (z : ℕ). Err (e.Syntax z)) placed;
+            same = stays.decoder ∙ so_far.still stays.damaged-before;
+          })
+          | inr found ↦ elim found [
+            | inl ends ↦ inl (record {
+              undamaged = sym so_far.damage ∙ ends.sound;
+              ends = (placed, damaged_end new parser.kind refl ends so_far.sound);
+            })
+            | inr keeps ↦ inl (record {
+              undamaged = sym so_far.damage ∙ keeps.reads.sound;
+              ends = (placed, damaged_middle room new steady parser.kind refl keeps so_far.sound keeps.split);
+            })
+          ]
+        ]
+
+    -- a pull that fails is the last one
+    pub rest_error : (room : ℕ) (error : Error E) (new : Segment R P parser) → 4 ≤ room → (IsSteady source segment.reader.now → IsSteady source new.reader.now)
+        → PullsChunk source room segment (Err error) new → Finishes source room first (Err error) new.reader.now
+    rest_error room (e.Io fault) new four steady fails = inl (record { undamaged = sym so_far.damage ∙ fails.sound; ends = rest_fails room new four fails })
+    rest_error room (e.Syntax at) new four steady finds = rest_damaged room at new steady finds
+    rest_error room e.TooLong new four steady passes = inl (record { undamaged = sym so_far.damage ∙ passes.sound; ends = rest_passes room new passes })
+    rest_error room e.Waiting new four steady never = absurd never

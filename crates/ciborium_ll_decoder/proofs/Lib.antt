@@ -1,0 +1,17 @@
+pub mod AdvanceLaws
+pub mod BodyLaws
+pub mod ChunkLaws
+pub mod CopyLaws
+pub mod CopyingLaws
+pub mod CopyingTold
+pub mod DecodingLaws
+pub mod FinishLaws
+pub mod NestLaws
+pub mod RecodeLaws
+pub mod RecodingToldLaws
+pub mod RoomLaws
+pub mod RunLaws
+pub mod SegmentLaws
+pub mod SpelledLaws
+pub mod StrictFaultLaws
+pub mod StrictLaws

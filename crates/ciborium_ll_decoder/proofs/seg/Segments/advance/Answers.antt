@@ -1,0 +1,43 @@
+use Rattle.std.proofs.Common.{rules, arith, refl, ◌≡◌, Some, Ok, Err}
+use Rattle.std.proofs.lemmas.Result.{err_from_is_err_and}
+use Rattle.ciborium_ll_decoder.proofs.AdvanceLaws.{Reached-start, Reached-step, Reached-ends}
+use Rattle.ciborium_ll_decoder.proofs.seg.Segments.advance.Goals as goal
+
+pub titles-init : goal.titles-init
+titles-init g c = record {
+  same = refl;
+  reached = Reached-start g.R.Read g.P.Parser.kind c.args.self.now.progress c.args.self.now.reader.now;
+  rises = omega arith;
+  opens = omega arith;
+  steady = λ s. s;
+  refusals = refl;
+}
+
+pub titles-preserved : goal.titles-preserved
+titles-preserved g c =
+    let kept = c.titles.invariant in
+    let step = c.in_ok-body.ensures in
+    let reached = rw c.in-Open.is at kept.reached in
+    record {
+      same = search rules;
+      reached = Reached-step g.R.Read g.P.Parser.kind c.args.self.now.progress c.in-Open.opens _ _ _ _ reached step.steady (rw c.in_default-2.is at step.steps);
+      rises = omega (arith, kept.rises, step.rises);
+      opens = let counted = rw c.in-Open.is at kept.opens in omega (arith, counted, step.opens);
+      steady = λ s. step.steady (kept.steady s);
+      refusals = cc (step.refusals, kept.refusals);
+    }
+
+pub returns-in_err-body-clause-advances : goal.returns-in_err-body-clause-advances
+returns-in_err-body-clause-advances g c =
+    let p = err_from_is_err_and c.from_residual.result c.from_residual.ensures.1 in
+    let q = p.1 in
+    let r = p.2 in
+    let same : c.from_residual.result ≡ Err c.in_err-body.field-0.0 = cc in
+    let reached = rw c.in-Open.is at c.titles.invariant.reached in
+    rw same (Reached-ends g.R.Read g.P.Parser.kind c.args.self.now.progress c.in-Open.opens _ _ _ (Err c.in_err-body.field-0.0) _ reached c.in_err-body.ensures.steps)
+
+pub returns-in-Some-clause-advances : goal.returns-in-Some-clause-advances
+returns-in-Some-clause-advances g c =
+    let reached = rw c.in-Open.is at c.titles.invariant.reached in
+    let step = rw c.in-Some.is at c.in_ok-body.ensures.steps in
+    Reached-ends g.R.Read g.P.Parser.kind c.args.self.now.progress c.in-Open.opens _ _ _ (Ok (Some c.in-Some.body)) _ reached step

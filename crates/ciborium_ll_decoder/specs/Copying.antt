@@ -1,0 +1,131 @@
+-- Headers copied from a decoder to a writer.
+use Rattle.std.specs.Prelude.{◌≡◌, ℕ, false, ◌+◌, ◌<◌, ◌≤◌, List, [], ◌∷◌, ◌++◌, length, take, drop, Some, Result, Ok, Err}
+use Rattle.ciborium_ll_io.specs.declared.io.Read.{Ghosts as Reader}
+use Rattle.ciborium_ll_io.specs.declared.io.Write.{Ghosts as Writer}
+use Rattle.ciborium_ll_grammar.specs.declared.hdr.Header.{Header}
+use Rattle.ciborium_ll_decoder.specs.declared.dec.Decoder.{Decoder}
+use Rattle.ciborium_ll_decoder.specs.declared.dec.Error.{Error}
+use Rattle.ciborium_ll_decoder.specs.declared.recode.RecodeError.{RecodeError}
+use Rattle.ciborium_ll_decoder.specs.declared.recode.RecodeError.TheVariants as r
+use Rattle.ciborium_ll_decoder.specs.declared.dec.Error.TheVariants as e
+use Rattle.ciborium_ll_grammar.specs.Title.{IsTitle, shortest_title, BeginsRefused, IsCutTitle}
+use Rattle.ciborium_ll_decoder.specs.Decoding.{offset_limit, view, IsSteady, Passes, PullsHeader}
+use Rattle.ciborium_ll_encoder.specs.Encoding.{WritesAll, WritesFront}
+
+-- the bytes are titles of the headers, joined
+pub data AreTitles : List ℕ → List Header → Type 0 where
+  none : AreTitles [] []
+  next : {title rest : List ℕ} {header : Header} {headers : List Header} → IsTitle title header → AreTitles rest headers
+      → AreTitles (title ++ rest) (header ∷ headers)
+
+-- the shortest titles of the headers, joined
+abbrev pub shortest_titles : List Header → List ℕ
+shortest_titles [] = []
+shortest_titles (header ∷ headers) = shortest_title header ++ shortest_titles headers
+
+-- this many titles stand in front of the bytes
+pub record TitlesInFront (count : ℕ) (bytes : List ℕ) : Type 0 where
+  pub headers : List Header
+  pub all : length headers ≡ count
+  pub front : List ℕ
+  pub rest : List ℕ
+  pub parts : bytes ≡ front ++ rest
+  pub titles : AreTitles front headers
+
+module _ {R E W F : Type 0} (source : Reader R E) (sink : Writer W F) where
+  -- the titles of the headers were read, and their shortest titles written
+  pub record Copies (headers : List Header) (old : Decoder R) (writer : W) (new : Decoder R) (writer' : W) : Type 0 where
+    pub bytes : List ℕ
+    pub titles : AreTitles bytes headers
+    pub passed : Passes source old bytes new
+    pub written : WritesAll sink writer (shortest_titles headers) writer'
+
+  -- all headers were copied; what was written are titles of just these headers again
+  pub record CopiesAll (count : ℕ) (old : Decoder R) (writer : W) (new : Decoder R) (writer' : W) : Type 0 where
+    pub headers : List Header
+    pub all : length headers ≡ count
+    pub copied : Copies headers old writer new writer'
+    pub again : AreTitles (shortest_titles headers) headers
+
+  -- behind fewer headers, `pull` failed with this error
+  pub record StopsReading (count : ℕ) (old : Decoder R) (writer : W) (error : Error E) (new : Decoder R) (writer' : W) : Type 0 where
+    pub headers : List Header
+    pub fewer : length headers < count
+    pub between : Decoder R
+    pub copied : Copies headers old writer between writer'
+    pub stopped : PullsHeader source between (Err error) new
+
+  -- behind fewer headers, `push` of the next one failed
+  pub record StopsWriting (count : ℕ) (old : Decoder R) (writer : W) (new : Decoder R) (writer' : W) : Type 0 where
+    pub headers : List Header
+    pub fewer : length headers < count
+    pub between : Decoder R
+    pub writer-between : W
+    pub copied : Copies headers old writer between writer-between
+    pub last : Header
+    pub pulled : PullsHeader source between (Ok last) new
+    pub stopped : WritesFront sink writer-between (shortest_title last) writer'
+
+  -- the copy of so many headers, by its answer
+  abbrev pub CopiesHeaders : ℕ → Decoder R → W → Result (Unit {0}) (RecodeError E F) → Decoder R → W → Type 0
+  CopiesHeaders count old writer (Ok done) new writer' = CopiesAll count old writer new writer'
+  CopiesHeaders count old writer (Err (r.Read error)) new writer' = StopsReading count old writer error new writer'
+  CopiesHeaders count old writer (Err (r.Write fault)) new writer' = StopsWriting count old writer new writer'
+
+  -- ---- what that means where the bytes are told
+
+  -- the reader gives the bytes that it tells, the writer has room for as many, and the offset fits
+  pub record IsReady (decoder : Decoder R) (writer : W) (due written : List ℕ) : Type 0 where
+    pub lenient : decoder.strict ≡ false
+    pub steady : IsSteady source decoder
+    pub due-told : view source decoder ≡ Some due
+    pub written-told : sink.written writer ≡ Some written
+    pub room : ℕ
+    pub room-told : sink.room writer ≡ Some room
+    pub enough : length due ≤ room
+    pub fits : decoder.offset + length due + 8 < offset_limit
+
+  -- titles of the headers stand in front of the bytes due, and their shortest titles were written
+  pub record CopiesFront (headers : List Header) (due written : List ℕ) (writer' : W) : Type 0 where
+    pub front : List ℕ
+    pub rest : List ℕ
+    pub parts : due ≡ front ++ rest
+    pub titles : AreTitles front headers
+    pub output : sink.written writer' ≡ Some (written ++ shortest_titles headers)
+
+  -- as many titles were copied, and what follows them is left
+  pub record CopiesCount (count : ℕ) (due written : List ℕ) (old new : Decoder R) (writer' : W) : Type 0 where
+    pub headers : List Header
+    pub all : length headers ≡ count
+    pub copied : CopiesFront headers due written writer'
+    pub again : AreTitles (shortest_titles headers) headers
+    pub left : view source new ≡ Some copied.rest
+    pub offset : new.offset ≡ old.offset + length copied.front
+
+  -- behind fewer titles the bytes end, at once or inside a title, of which the first byte is gone
+  pub record MeetsCutTitle (count : ℕ) (due written : List ℕ) (old new : Decoder R) (writer' : W) : Type 0 where
+    pub headers : List Header
+    pub fewer : length headers < count
+    pub copied : CopiesFront headers due written writer'
+    pub cut : IsCutTitle copied.rest
+    pub left : view source new ≡ Some (drop 1 copied.rest)
+    pub offset : new.offset ≡ old.offset + length copied.front + length (take 1 copied.rest)
+
+  -- behind fewer titles stands a byte with which no title begins; it is gone, and the place is its offset
+  pub record MeetsNoTitle (count : ℕ) (due written : List ℕ) (place : ℕ) (old new : Decoder R) (writer' : W) : Type 0 where
+    pub headers : List Header
+    pub fewer : length headers < count
+    pub copied : CopiesFront headers due written writer'
+    pub refused : BeginsRefused copied.rest
+    pub at : place ≡ old.offset + length copied.front
+    pub left : view source new ≡ Some (drop 1 copied.rest)
+    pub offset : new.offset ≡ place + 1
+
+  -- copying ends with all titles, or at the first place where none stands
+  abbrev pub CopiesTold : ℕ → List ℕ → List ℕ → Decoder R → Result (Unit {0}) (RecodeError E F) → Decoder R → W → Type 0
+  CopiesTold count due written old (Ok done) new writer' = CopiesCount count due written old new writer'
+  CopiesTold count due written old (Err (r.Read (e.Io fault))) new writer' = MeetsCutTitle count due written old new writer'
+  CopiesTold count due written old (Err (r.Read (e.Syntax place))) new writer' = MeetsNoTitle count due written place old new writer'
+  CopiesTold count due written old (Err (r.Read e.TooLong)) new writer' = ⊥
+  CopiesTold count due written old (Err (r.Read e.Waiting)) new writer' = ⊥
+  CopiesTold count due written old (Err (r.Write fault)) new writer' = ⊥

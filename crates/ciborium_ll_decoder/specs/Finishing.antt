@@ -1,0 +1,84 @@
+-- What `finish` does with a segment: it reads what is left of the body.
+use Rattle.std.specs.Prelude.{◌≡◌, ℕ, ◌+◌, ◌<◌, ◌≤◌, ◌⊎◌, true, false, List, ◌++◌, length, Result, Ok, Err}
+use Rattle.ciborium_ll_io.specs.declared.io.Read.{Ghosts}
+use Rattle.ciborium_ll_decoder.specs.declared.dec.Decoder.{Decoder}
+use Rattle.ciborium_ll_decoder.specs.declared.dec.Error.{Error}
+use Rattle.ciborium_ll_decoder.specs.declared.dec.Error.TheVariants as e
+use Rattle.ciborium_ll_decoder.specs.declared.seg.Parser.{Ghosts as Parser}
+use Rattle.ciborium_ll_decoder.specs.declared.seg.Segment.{Segment}
+use Rattle.ciborium_ll_grammar.specs.Strings.{Kind, Text}
+use Rattle.ciborium_ll_text.specs.Text.{IsCharacters, BeginsNoText}
+use Rattle.ciborium_ll_grammar.specs.Faults.{IsWritable, most_kept}
+use Rattle.ciborium_ll_decoder.specs.Kept.{kept_bytes}
+use Rattle.ciborium_ll_decoder.specs.Decoding.{offset_limit, Passes, ReadFails, IsUntouched}
+
+-- of a body these bytes are kept, and so many are unread
+module _ {R E : Type 0} (source : Ghosts R E) (kind : Kind) (kept : List ℕ) (unread : ℕ) where
+  -- all of the rest was read; behind the kept bytes it is text, where the body is of a text
+  pub record ReadsRest (old new : Decoder R) : Type 0 where
+    pub read : List ℕ
+    pub all : length read ≡ unread
+    pub sound : IsWritable kind (kept ++ read)
+    pub passed : Passes source old read new
+
+  -- a beginning of the rest was read; of a text it is characters, but for up to three bytes behind them
+  pub record BeginsRest (old between : Decoder R) : Type 0 where
+    pub read : List ℕ
+    pub front : List ℕ
+    pub left : List ℕ
+    pub parts : kept ++ read ≡ front ++ left
+    pub few : length left ≤ most_kept kind
+    pub sound : IsWritable kind front
+    pub within : length read ≤ unread
+    pub passed : Passes source old read between
+
+  -- the reader failed at more bytes of the rest
+  pub record RestFails (old new : Decoder R) : Type 0 where
+    pub between : Decoder R
+    pub part : BeginsRest old between
+    pub count : ℕ
+    pub some : 0 < count
+    pub more : length part.read + count ≤ unread
+    pub fails : ReadFails source between count new
+
+  -- the offset can't take the read of more bytes of the rest, which are no more than the buffer holds
+  pub record RestPasses (room : ℕ) (old new : Decoder R) : Type 0 where
+    pub between : Decoder R
+    pub part : BeginsRest old between
+    pub count : ℕ
+    pub held : count ≤ room
+    pub more : length part.read + count ≤ unread
+    pub full : offset_limit ≤ between.offset + count
+    pub untouched : IsUntouched between new
+
+  -- what was read is no text: as the whole body, or however it goes on
+  pub record RestDamaged (old new : Decoder R) : Type 0 where
+    pub textual : kind ≡ Text
+    pub read : List ℕ
+    pub within : length read ≤ unread
+    pub no_text : ((length read ≡ unread) × (IsCharacters (kept ++ read) → ⊥)) ⊎ BeginsNoText (kept ++ read)
+    pub passed : Passes source old read new
+
+  -- the rest of a body at this place is read through a buffer of so much room
+  abbrev pub EndsBody : ℕ → ℕ → Decoder R → Result (Unit {0}) (Error E) → Decoder R → Type 0
+  EndsBody room place old (Ok done) new = ReadsRest old new
+  EndsBody room place old (Err (e.Io fault)) new = RestFails old new
+  EndsBody room place old (Err (e.Syntax at)) new = (at ≡ place) × RestDamaged old new
+  EndsBody room place old (Err e.TooLong) new = RestPasses room old new
+  EndsBody room place old (Err e.Waiting) new = ⊥
+
+module _ {R E P : Type 0} {parser : Parser P} (source : Ghosts R E) where
+  -- the segment was found to be damaged before, and nothing is read
+  pub record EndsDamaged (segment : Segment R P parser) (result : Result (Unit {0}) (Error E)) (new : Decoder R) : Type 0 where
+    pub damaged : segment.damaged ≡ true
+    pub answer : result ≡ Err (e.Syntax segment.place)
+    pub same : new ≡ segment.reader.now
+
+  -- the segment is sound so far, and the rest of its body is read
+  pub record EndsSound (room : ℕ) (segment : Segment R P parser) (result : Result (Unit {0}) (Error E)) (new : Decoder R) : Type 0 where
+    pub undamaged : segment.damaged ≡ false
+    pub ends : EndsBody source parser.kind (kept_bytes segment.kept) segment.unread room segment.place segment.reader.now result new
+
+  -- `finish` through a buffer of so much room, and the decoder afterwards
+  abbrev pub Finishes : ℕ → Segment R P parser → Result (Unit {0}) (Error E) → Decoder R → Type 0
+  Finishes room segment result new = EndsSound room segment result new ⊎ EndsDamaged segment result new

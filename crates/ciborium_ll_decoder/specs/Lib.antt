@@ -1,0 +1,10 @@
+pub mod Chunks
+pub mod Copying
+pub mod Decoding
+pub mod Finishing
+pub mod Kept
+pub mod Lend
+pub mod Recoding
+pub mod RecodingTold
+pub mod Segments
+pub mod StrictRecoding

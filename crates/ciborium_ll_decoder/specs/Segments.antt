@@ -1,0 +1,120 @@
+-- What the calls on strings do, which lend a decoder piece by piece.
+use Rattle.std.specs.Prelude.{◌≡◌, ℕ, ◌≤◌, IsTrue, suc, ◌+◌, ◌-◌, ◌<◌, ◌^◌, ◌⊎◌, Bool, true, List, [], ◌++◌, length, Option, Some, None, Result, Ok, Err}
+use Rattle.ciborium_ll_io.specs.declared.io.Read.{Ghosts}
+use Rattle.ciborium_ll_grammar.specs.declared.hdr.Header.{Header}
+use Rattle.ciborium_ll_grammar.specs.declared.hdr.Header.TheVariants as h
+use Rattle.ciborium_ll_decoder.specs.declared.dec.Decoder.{Decoder}
+use Rattle.ciborium_ll_decoder.specs.declared.dec.Error.{Error}
+use Rattle.ciborium_ll_decoder.specs.declared.dec.Error.TheVariants as e
+use Rattle.ciborium_ll_decoder.specs.declared.seg.Body.{Body}
+use Rattle.ciborium_ll_decoder.specs.declared.seg.Progress.{Progress}
+use Rattle.ciborium_ll_decoder.specs.declared.seg.Progress.TheVariants as p
+use Rattle.ciborium_ll_grammar.specs.Title.{IsTitle}
+use Rattle.ciborium_ll_grammar.specs.Strings.{Kind, kind_header}
+use Rattle.ciborium_ll_grammar.specs.Faults.{IsMisplaced}
+use Rattle.ciborium_ll_decoder.specs.Decoding.{Passes, PullsHeader, PullsTitle}
+
+-- ---- opens and breaks in a row
+
+-- `Nests kind opens bytes left`: the bytes are opens of the kind and breaks in a row, which lead from so many opens that
+-- aren't closed to so many, and leave one at least behind each (RFC 7049, 2.2.2)
+pub data Nests (kind : Kind) (opens : ℕ) : List ℕ → ℕ → Type 0 where
+  in_place : Nests kind opens [] opens
+  deeper : {bytes title : List ℕ} {left : ℕ} → Nests kind opens bytes left → IsTitle title (kind_header kind None) → Nests kind opens (bytes ++ title) (suc left)
+  back : {bytes title : List ℕ} {left : ℕ} → Nests kind opens bytes (suc (suc left)) → IsTitle title h.Break → Nests kind opens (bytes ++ title) (suc left)
+
+-- ---- the segments of a string
+
+-- how many opens are counted
+abbrev pub opens_of : Progress → ℕ
+opens_of (p.Open opens) = opens
+opens_of p.Ended = 0
+opens_of (p.Damaged place) = 0
+opens_of p.TooDeep = 0
+
+-- a header that may not stand where so many opens aren't closed
+abbrev pub IsMisplacedAt : Kind → ℕ → Header → Type 0
+IsMisplacedAt kind opens header = ((opens ≡ 0) × (header ≡ h.Break)) ⊎ IsMisplaced kind header
+
+module _ {A E : Type 0} where
+  -- an answer that stays is given again: that the string has ended, that it is damaged, that it is nested too deep
+  abbrev pub GivesAgain : Progress → Result (Option A) (Error E) → Type 0
+  GivesAgain (p.Open opens) result = Unit {0}
+  GivesAgain p.Ended result = result ≡ Ok None
+  GivesAgain (p.Damaged place) result = result ≡ Err (e.Syntax place)
+  GivesAgain p.TooDeep result = result ≡ Err e.TooLong
+
+module _ {R E : Type 0} (source : Ghosts R E) (kind : Kind) where
+  -- a title with a length announces a segment; a lone string ends with it
+  pub record FindsBody (opens : ℕ) (old : Decoder R) (body : Body) (progress : Progress) (new : Decoder R) : Type 0 where
+    pub pulled : PullsTitle source old (kind_header kind (Some body.length)) new
+    pub place : body.place ≡ old.offset
+    pub after : ((opens ≡ 0) × (progress ≡ p.Ended)) ⊎ ((0 < opens) × (progress ≡ p.Open opens))
+
+  -- the break of the only open that isn't closed ends the string
+  pub record ClosesString (opens : ℕ) (old : Decoder R) (progress : Progress) (new : Decoder R) : Type 0 where
+    pub pulled : PullsTitle source old h.Break new
+    pub last : opens ≡ 1
+    pub after : progress ≡ p.Ended
+
+  -- a header that may not stand there damages the string at the place of its title
+  pub record FindsOther (opens : ℕ) (old : Decoder R) (at : ℕ) (progress : Progress) (new : Decoder R) : Type 0 where
+    pub header : Header
+    pub pulled : PullsTitle source old header new
+    pub misplaced : IsMisplacedAt kind opens header ⊎ ((0 < opens) × (old.strict ≡ true) × (header ≡ kind_header kind None))
+    pub place : at ≡ old.offset
+    pub after : progress ≡ p.Damaged at
+
+  -- an open behind as many as can be counted
+  pub record NestsTooDeep (opens : ℕ) (old : Decoder R) (progress : Progress) (new : Decoder R) : Type 0 where
+    pub pulled : PullsTitle source old (kind_header kind None) new
+    pub most : opens ≡ 2 ^ 64 - 1
+    pub after : progress ≡ p.TooDeep
+
+  -- how the titles of a string lead to an answer, with so many opens that aren't closed
+  abbrev pub EndsAdvance : ℕ → Decoder R → Result (Option Body) (Error E) → Progress → Decoder R → Type 0
+  EndsAdvance opens old (Ok (Some body)) progress new = FindsBody opens old body progress new
+  EndsAdvance opens old (Ok None) progress new = ClosesString opens old progress new
+  EndsAdvance opens old (Err (e.Io fault)) progress new = PullsHeader source old (Err (e.Io fault)) new × (progress ≡ p.Open opens)
+  EndsAdvance opens old (Err (e.Syntax place)) progress new =
+      (PullsHeader source old (Err (e.Syntax place)) new × (progress ≡ p.Damaged place)) ⊎ FindsOther opens old place progress new
+  EndsAdvance opens old (Err e.TooLong) progress new =
+      (PullsHeader source old (Err e.TooLong) new × (progress ≡ p.Open opens)) ⊎ NestsTooDeep opens old progress new
+  EndsAdvance opens old (Err e.Waiting) progress new = ⊥
+
+  -- a title that leads on: a further open, or a break behind which one is left
+  pub record Deepens (opens : ℕ) (old : Decoder R) (progress : Progress) (new : Decoder R) : Type 0 where
+    pub pulled : PullsTitle source old (kind_header kind None) new
+    pub after : progress ≡ p.Open (opens + 1)
+    -- a strict decoder takes the first open alone
+    pub level : IsTrue old.strict → opens ≡ 0
+
+  -- a break behind which an open is left
+  pub record ClosesInner (opens : ℕ) (old : Decoder R) (progress : Progress) (new : Decoder R) : Type 0 where
+    pub pulled : PullsTitle source old h.Break new
+    pub inner : 1 < opens
+    pub after : progress ≡ p.Open (opens - 1)
+
+  -- one title of a string
+  abbrev pub StepsOver : ℕ → Decoder R → Result (Option Body) (Error E) → Progress → Decoder R → Type 0
+  StepsOver opens old (Ok (Some body)) progress new = FindsBody opens old body progress new
+  StepsOver opens old (Ok None) progress new = ClosesString opens old progress new ⊎ (Deepens opens old progress new ⊎ ClosesInner opens old progress new)
+  StepsOver opens old (Err error) progress new = EndsAdvance opens old (Err error) progress new
+
+  -- `advance` with so many opens that aren't closed: opens and breaks in a row, and the title that decides
+  pub record AdvancesFrom (opens : ℕ) (old : Decoder R) (result : Result (Option Body) (Error E)) (progress : Progress) (new : Decoder R) : Type 0 where
+    pub nest : List ℕ
+    pub left : ℕ
+    pub nests : Nests kind opens nest left
+    pub between : Decoder R
+    pub passed : Passes source old nest between
+    -- of a strict decoder no title leads on but the first open
+    pub shallow : IsTrue old.strict → opens ≤ 1 → opens + length nest ≤ 1
+    pub ends : EndsAdvance left between result progress new
+
+  -- `advance`: an answer that stays is given again, and nothing is read
+  abbrev pub AdvancesTo : Progress → Decoder R → Result (Option Body) (Error E) → Progress → Decoder R → Type 0
+  AdvancesTo (p.Open opens) old result progress new = AdvancesFrom opens old result progress new
+  AdvancesTo p.Ended old result progress new = (result ≡ Ok None) × (progress ≡ p.Ended) × (new ≡ old)
+  AdvancesTo (p.Damaged place) old result progress new = (result ≡ Err (e.Syntax place)) × (progress ≡ p.Damaged place) × (new ≡ old)
+  AdvancesTo p.TooDeep old result progress new = (result ≡ Err e.TooLong) × (progress ≡ p.TooDeep) × (new ≡ old)

@@ -1,0 +1,421 @@
+//! The decoder: headers out of a reader.
+
+ghost use Rattle.std.specs.Prelude.{◌≡◌, ◌+◌, ◌≤◌, ◌<◌, ◌^◌};
+ghost use Rattle.std.specs.Int.{to_be_bytes, w8, w16, w32, w64};
+ghost use Rattle.ciborium_ll_grammar.specs.Title.{waiting_len};
+
+use crate::seg::{Bytes, Parser, Segments, Text};
+use ciborium_ll_grammar::hdr::table::{Affix, row_of};
+use ciborium_ll_grammar::hdr::{Header, Minor, Title, shortest};
+use ciborium_ll_io::io::{Failures, Read};
+
+/// Why a decoder failed.
+#[derive(Debug, Drop)]
+pub enum Error<T> {
+    /// The reader failed, and this is its error.
+    Io(T),
+    /// The bytes at this offset are no CBOR that could stand there.
+    Syntax(usize),
+    /// The offset would pass `usize::MAX`.
+    TooLong,
+    /// A header waits, so the decoder gives no bytes as a reader.
+    Waiting,
+}
+
+impl<T> From<T> for Error<T> {
+    ghost use Rattle.ciborium_ll_decoder.specs.declared.dec.Error.TheVariants.{Io};
+
+    ghost from_gives = { λ fault error. error ≡ Io fault };
+
+    fn from(fault: T) -> Error<T> {
+        Error::Io(fault)
+    }
+}
+
+/// Reads headers, and counts the bytes that it consumed.
+///
+/// A header that was pulled may be pushed back. It then waits, and is the next one to be pulled.
+#[derive(Drop)]
+pub struct Decoder<R> {
+    reader: R,
+    offset: usize,
+    waiting: Option<Header>,
+    strict: bool,
+    refusals: Failures,
+    ghost covered: { offset + waiting_len waiting < 2 ^ 64 },
+}
+
+impl<R: Read> From<R> for Decoder<R> {
+    ghost use Rattle.ciborium_ll_decoder.specs.Decoding.{IsFresh};
+
+    ghost from_gives = { λ reader decoder. IsFresh reader 0 decoder };
+
+    /// A decoder at the offset 0.
+    fn from(reader: R) -> Decoder<R> {
+        Decoder::with_offset(reader, 0)
+    }
+}
+
+impl<R: Read> Decoder<R> {
+    ghost use Rattle.std.specs.Prelude.{◌<◌, ◌^◌, ◌%◌, IsTrue, true, ◌↔◌, None, Some, Err, IfOk, MatchResult, IsErrOf};
+    ghost use Rattle.ciborium_ll_decoder.specs.declared.seg.Progress.TheVariants.{Open};
+    ghost use Rattle.ciborium_ll_grammar.specs.Title.{title_len, IsTitle};
+    ghost use Rattle.ciborium_ll_grammar.specs.Parts.{IsParts, title_bytes};
+    ghost use Rattle.ciborium_ll_grammar.specs.TitleRows.{IsAffix};
+    ghost use Rattle.ciborium_ll_grammar.specs.Strings.{kind_header};
+    ghost use Rattle.ciborium_ll_decoder.specs.Decoding.{IsFresh, IsFreshAs, IsSteady, IsWaiting, PullsHeader, PullsTitle, ReadsBytes, ReadsMinor, TakesBack, offset_of, reader_of, refusals_of, strict_of, waiting_of};
+
+    /// A decoder that counts from this offset, in bytes.
+    pub fn with_offset(reader: R, offset: usize) -> Decoder<R>
+        ensures { IsFresh reader offset result }
+    {
+        Decoder {
+            reader,
+            offset,
+            waiting: None,
+            strict: false,
+            refusals: Failures::new(),
+        }
+    }
+
+    /// A strict decoder at the offset 0. It takes each header by its shortest title alone (RFC 7049, 3.9), no simple
+    /// value from 24 to 31 (2.3), and no string of indefinite length within another one (2.2.2).
+    ///
+    /// Its `pull` answers `Syntax` for any other title, and its strings do so for an open behind one that isn't closed:
+    /// with the offset of that title's start, and all of the title is consumed. A header that was pushed back is given
+    /// as it was pushed.
+    pub fn strict(reader: R) -> Decoder<R>
+        ensures { IsFreshAs true reader 0 result }
+    {
+        Decoder {
+            reader,
+            offset: 0,
+            waiting: None,
+            strict: true,
+            refusals: Failures::new(),
+        }
+    }
+
+    /// The reader. A waiting header is given up.
+    pub fn into_inner(self) -> R
+        ensures { result ≡ reader_of self }
+    {
+        self.reader
+    }
+
+    /// How many bytes were consumed, counted from the offset at the start. A waiting header is not consumed.
+    pub fn offset(&mut self) -> usize
+        ensures value { result ≡ offset_of self.old }
+        ensures same { self.new ≡ self.old }
+    {
+        self.offset
+    }
+
+    /// Whether a header waits.
+    pub fn is_waiting(&self) -> bool
+        ensures { IsTrue result ↔ IsWaiting self.now }
+    {
+        self.waiting.is_some()
+    }
+
+    /// Whether the decoder is strict.
+    pub(crate) fn is_strict(&self) -> bool
+        ensures { result ≡ strict_of self.now }
+    {
+        self.strict
+    }
+
+    /// Takes the next header (RFC 7049, 2.1 to 2.3): the waiting one, or else one title from the reader.
+    ///
+    /// The errors are `Syntax` with the offset of the title's start, for one of the 27 first bytes with which no
+    /// title begins, and that byte is consumed; `Io` where the reader failed; and `TooLong` where the offset
+    /// can't take the next read. After the last two a first byte that was read stays consumed.
+    ///
+    /// A strict decoder answers `Syntax` also for a title that isn't the shortest of its header, and for a simple value
+    /// below 32 in two bytes. All of that title is then consumed.
+    #[inline(always)]
+    #[tactic(auto, using(ciborium_ll_grammar::proofs::TitleLaws::shortest_no_longer))]
+    pub fn pull(&mut self) -> Result<Header, Error<R::Error>>
+        ensures header { PullsHeader R.Read self.old result self.new }
+        ensures covered { IfOk result (λ header. title_len header ≤ offset_of self.new) }
+        ensures mode { strict_of self.new ≡ strict_of self.old }
+        ensures full { waiting_of self.old ≡ None → offset_of self.old ≡ usize.MAX → IsErrOf result Error.TooLong }
+        ensures steady { IsSteady R.Read self.old → IsSteady R.Read self.new }
+        ensures refusals { refusals_of self.new ≡ refusals_of self.old }
+    {
+        // No call here takes `&mut self`: so in a loop over a slice the decoder's fields stay in registers.
+        if let Some(header) = self.waiting {
+            self.waiting = None;
+            self.offset += header.title_len();
+            return Ok(header);
+        }
+        match self.title() {
+            Ok((header, _title)) => Ok(header),
+            Err(error) => Err(error),
+        }
+    }
+
+    /// Takes the next header, and a title of it in its parts: the one that was read, or of a waiting header the
+    /// shortest.
+    #[inline(always)]
+    pub(crate) fn pull_title(&mut self) -> Result<(Header, Title), Error<R::Error>>
+        ensures header { MatchResult result (λ pulled. PullsTitle R.Read self.old pulled.0 self.new)
+            (λ error. PullsHeader R.Read self.old (Err error) self.new) }
+        ensures parts { IfOk result (λ pulled. IsParts pulled.1) }
+        ensures title { IfOk result (λ pulled. IsTitle (title_bytes pulled.1) pulled.0) }
+        ensures mode { strict_of self.new ≡ strict_of self.old }
+        ensures full { waiting_of self.old ≡ None → offset_of self.old ≡ usize.MAX → IsErrOf result Error.TooLong }
+        ensures steady { IsSteady R.Read self.old → IsSteady R.Read self.new }
+        ensures refusals { refusals_of self.new ≡ refusals_of self.old }
+    {
+        if let Some(header) = self.waiting {
+            return Ok(self.pull_waiting(header));
+        }
+        self.title()
+    }
+
+    /// Reads the next title, and gives the header that it means, too.
+    #[inline(always)]
+    fn title(&mut self) -> Result<(Header, Title), Error<R::Error>>
+        requires none_waits { waiting_of self.old ≡ None }
+        ensures header { MatchResult result (λ pulled. PullsTitle R.Read self.old pulled.0 self.new)
+            (λ error. PullsHeader R.Read self.old (Err error) self.new) }
+        ensures parts { IfOk result (λ pulled. IsParts pulled.1) }
+        ensures title { IfOk result (λ pulled. IsTitle (title_bytes pulled.1) pulled.0) }
+        ensures mode { strict_of self.new ≡ strict_of self.old }
+        ensures full { offset_of self.old ≡ usize.MAX → IsErrOf result Error.TooLong }
+        ensures steady { IsSteady R.Read self.old → IsSteady R.Read self.new }
+        ensures refusals { refusals_of self.new ≡ refusals_of self.old }
+    {
+        let start = self.offset;
+        let mut first = [0; 1];
+        self.read(&mut first)?;
+        let row = row_of(first[0]);
+        let Some(minor) = self.minor(row.affix, first[0])? else {
+            return Err(Error::Syntax(start));
+        };
+        let title = Title {
+            major: first[0] / 32,
+            minor,
+        };
+        match title.header(row.kind) {
+            Some(header) => Ok((header, title)),
+            None => Err(Error::Syntax(start)),
+        }
+    }
+
+    /// Takes the header that waits, and its shortest title. It is kept apart from the path of a title that is read.
+    #[cold]
+    #[inline(never)]
+    fn pull_waiting(&mut self, header: Header) -> (Header, Title)
+        requires waits { waiting_of self.old ≡ Some header }
+        ensures header { PullsTitle R.Read self.old result.0 self.new }
+        ensures parts { IsParts result.1 }
+        ensures title { IsTitle (title_bytes result.1) result.0 }
+        ensures mode { strict_of self.new ≡ strict_of self.old }
+        ensures steady { IsSteady R.Read self.old → IsSteady R.Read self.new }
+        ensures refusals { refusals_of self.new ≡ refusals_of self.old }
+    {
+        self.waiting = None;
+        self.offset += header.title_len();
+        (header, shortest(header))
+    }
+
+    /// Gives a header back, to be pulled next. The offset falls by the length of its shortest title.
+    pub fn push(&mut self, item: Header)
+        requires none_waits { waiting_of self.old ≡ None }
+        requires covered { title_len item ≤ offset_of self.old }
+        ensures back { TakesBack R.Read self.old item self.new }
+        ensures refusals { refusals_of self.new ≡ refusals_of self.old }
+    {
+        self.offset -= item.title_len();
+        self.waiting = Some(item);
+    }
+
+    /// The segments of a byte string, behind its header with this length, which was just pulled.
+    ///
+    /// The header waits again until the first segment is asked for. Another length than the header's is not refused:
+    /// the string is then read with that length.
+    pub fn bytes(&mut self, len: Option<usize>) -> Segments<'_, R, Bytes>
+        requires none_waits { waiting_of self.old ≡ None }
+        requires covered { title_len (Header.Bytes len) ≤ offset_of self.old }
+        ensures same_reference { result.reader.ghost_name ≡ self.entry.ghost_name }
+        ensures back { TakesBack R.Read self.old (Header.Bytes len) result.reader.now }
+        ensures fresh { result.progress ≡ Open 0 }
+        ensures refusals { refusals_of result.reader.now ≡ refusals_of self.old }
+    {
+        self.string(len)
+    }
+
+    /// The segments of a text string, behind its header with this length, which was just pulled.
+    ///
+    /// The header waits again until the first segment is asked for. Another length than the header's is not refused:
+    /// the string is then read with that length.
+    pub fn text(&mut self, len: Option<usize>) -> Segments<'_, R, Text>
+        requires none_waits { waiting_of self.old ≡ None }
+        requires covered { title_len (Header.Text len) ≤ offset_of self.old }
+        ensures same_reference { result.reader.ghost_name ≡ self.entry.ghost_name }
+        ensures back { TakesBack R.Read self.old (Header.Text len) result.reader.now }
+        ensures fresh { result.progress ≡ Open 0 }
+        ensures refusals { refusals_of result.reader.now ≡ refusals_of self.old }
+    {
+        self.string(len)
+    }
+
+    /// The segments of a string of either kind, behind its header.
+    pub(crate) fn string<P: Parser>(&mut self, len: Option<usize>) -> Segments<'_, R, P>
+        requires none_waits { waiting_of self.old ≡ None }
+        requires covered { title_len (kind_header P.kind len) ≤ offset_of self.old }
+        ensures same_reference { result.reader.ghost_name ≡ self.entry.ghost_name }
+        ensures back { TakesBack R.Read self.old (kind_header P.kind len) result.reader.now }
+        ensures fresh { result.progress ≡ Open 0 }
+        ensures refusals { refusals_of result.reader.now ≡ refusals_of self.old }
+    {
+        self.push(P::header(len));
+        Segments::new(self)
+    }
+
+    /// Reads the affix that a first byte announces: nothing for a reserved minor, nor for a number that a strict
+    /// decoder refuses there.
+    #[inline(always)]
+    fn minor(&mut self, affix: Affix, first: u8) -> Result<Option<Minor>, Error<R::Error>>
+        requires affix { IsAffix affix (first % 32) }
+        requires none_waits { waiting_of self.old ≡ None }
+        ensures minor { ReadsMinor R.Read first self.old result self.new }
+        ensures mode { strict_of self.new ≡ strict_of self.old }
+        ensures steady { IsSteady R.Read self.old → IsSteady R.Read self.new }
+        ensures refusals { refusals_of self.new ≡ refusals_of self.old }
+    {
+        let minor = match affix {
+            Affix::Within => {
+                self.read(&mut [])?;
+                return Ok(Some(Minor::Small(u64::from(first % 32))));
+            }
+            Affix::One => {
+                let mut bytes = [0; 1];
+                self.read(&mut bytes)?;
+                Minor::One(u64::from(one(bytes)))
+            }
+            Affix::Two => {
+                let mut bytes = [0; 2];
+                self.read(&mut bytes)?;
+                Minor::Two(u64::from(two(bytes)))
+            }
+            Affix::Four => {
+                let mut bytes = [0; 4];
+                self.read(&mut bytes)?;
+                Minor::Four(u64::from(four(bytes)))
+            }
+            Affix::Eight => {
+                let mut bytes = [0; 8];
+                self.read(&mut bytes)?;
+                Minor::Eight(eight(bytes))
+            }
+            Affix::Open => {
+                self.read(&mut [])?;
+                return Ok(Some(Minor::Open));
+            }
+            Affix::Reserved => return Ok(None),
+        };
+        if self.strict && minor.is_longer(first / 32) {
+            return Ok(None);
+        }
+        Ok(Some(minor))
+    }
+
+    /// Reads bytes while no header waits.
+    #[inline(always)]
+    pub(crate) fn read(&mut self, data: &mut [u8]) -> Result<(), Error<R::Error>>
+        requires { waiting_of self.old ≡ None }
+        ensures bytes { ReadsBytes R.Read self.old result «data».new self.new }
+        ensures mode { strict_of self.new ≡ strict_of self.old }
+        ensures steady { IsSteady R.Read self.old → IsSteady R.Read self.new }
+        ensures refusals { refusals_of self.new ≡ refusals_of self.old }
+    {
+        if data.len() > usize::MAX - self.offset {
+            return Err(Error::TooLong);
+        }
+        self.reader.read_exact(data)?;
+        self.offset += data.len();
+        Ok(())
+    }
+}
+
+impl<R: Read> Read for Decoder<R> {
+    ghost use Rattle.std.specs.Prelude.{false, IsTrue, OnOk, OnErr, length, MatchResult};
+    ghost use Rattle.std.specs.Io.KnownBytes.{Consumes};
+    ghost use Rattle.std.proofs.Common.{rules};
+    ghost use Rattle.ciborium_ll_decoder.specs.Decoding.{CountsRefusal, IsSteady, ReadsBytes, refusals_of, told_unless_waiting};
+
+    type Error = Error<R::Error>;
+
+    ghost ahead = { λ d. told_unless_waiting d.waiting (R.ahead d.reader) };
+
+    ghost steady = { λ _. false };
+
+    ghost failures = { λ d. d.refusals.count + R.failures d.reader };
+
+    ghost steady_is_told = { λ _ h. Prim.search rules };
+
+    /// Reads the bytes of a body, behind the header that was pulled. The offset rises by their number.
+    ///
+    /// The errors are `Waiting` where a header waits, then `TooLong` where the offset would pass `usize::MAX`, and
+    /// `Io` where the reader failed. None of them moves the offset.
+    fn read_exact(&mut self, data: &mut [u8]) -> Result<(), Error<R::Error>>
+        // The trait's.
+        ensures bytes { OnOk result (Consumes (told_unless_waiting self.old.waiting (R.ahead self.old.reader))
+            (told_unless_waiting self.new.waiting (R.ahead self.new.reader)) «data».new) }
+        ensures ok { OnOk result (refusals_of self.new + R.failures self.new.reader
+            ≡ refusals_of self.old + R.failures self.old.reader) }
+        ensures err { OnErr result (refusals_of self.new + R.failures self.new.reader
+            ≡ refusals_of self.old + R.failures self.old.reader + 1) }
+
+        // The decoder's own.
+        ensures read { ReadsBytes R.Read self.old result «data».new self.new }
+        ensures steady { IsSteady R.Read self.old → IsSteady R.Read self.new }
+        ensures refusals { MatchResult result (λ _. refusals_of self.new ≡ refusals_of self.old)
+            (λ error. CountsRefusal error (refusals_of self.old) (refusals_of self.new)) }
+    {
+        let outcome = if self.waiting.is_some() {
+            Err(Error::Waiting)
+        } else {
+            self.read(data)
+        };
+        if matches!(outcome, Err(Error::Waiting | Error::TooLong)) {
+            self.refusals.raise();
+        }
+        outcome
+    }
+}
+
+/// The number in one byte.
+fn one(bytes: [u8; 1]) -> u8
+    ensures below { result < 2 ^ 8 }
+    ensures bytes { bytes ≡ to_be_bytes w8 result }
+{
+    u8::from_be_bytes(bytes)
+}
+
+/// The number in two bytes.
+fn two(bytes: [u8; 2]) -> u16
+    ensures below { result < 2 ^ 16 }
+    ensures bytes { bytes ≡ to_be_bytes w16 result }
+{
+    u16::from_be_bytes(bytes)
+}
+
+/// The number in four bytes.
+fn four(bytes: [u8; 4]) -> u32
+    ensures below { result < 2 ^ 32 }
+    ensures bytes { bytes ≡ to_be_bytes w32 result }
+{
+    u32::from_be_bytes(bytes)
+}
+
+/// The number in eight bytes.
+fn eight(bytes: [u8; 8]) -> u64
+    ensures below { result < 2 ^ 64 }
+    ensures bytes { bytes ≡ to_be_bytes w64 result }
+{
+    u64::from_be_bytes(bytes)
+}

@@ -1,0 +1,228 @@
+//! Elements copied from a decoder to an encoder, each in its shortest spelling.
+
+ghost use Rattle.std.specs.Prelude.{◌≡◌, ◌≤◌, ◌↔◌, ℕ, true, List, length, IsOk, None, Some};
+ghost use Rattle.ciborium_ll_grammar.specs.Title.{title_len};
+ghost use Rattle.ciborium_ll_grammar.specs.Strings.{kind_header};
+ghost use Rattle.ciborium_ll_decoder.specs.Decoding.{IsSteady, offset_of, refusals_of, waiting_of};
+ghost use Rattle.ciborium_ll_encoder.specs.Encoding.{writer_of};
+ghost use Rattle.ciborium_ll_decoder.specs.Chunks.{IsWhole};
+ghost use Rattle.ciborium_ll_grammar.specs.Faults.{RunInFront};
+ghost use Rattle.ciborium_ll_decoder.specs.RecodingTold.{IsReady, IsReadyAs, IsTold, IsToldAs, RecodesAnyhow, RecodesTold};
+ghost use Rattle.ciborium_ll_decoder.specs.StrictRecoding.{RecodesStrictly, RecodesStrictlyAnyhow, StrictRunInFront};
+ghost use Rattle.ciborium_ll_decoder.specs.Recoding.{CopiesBehind, CopiesBody, CopiesElement, CopiesElements, CopiesSegments, WritesHeader};
+
+mod strict;
+
+pub use self::strict::strict_len;
+use crate::dec::{Decoder, Error};
+use crate::seg::{Body, Bytes, Chunked, Segment, Text};
+use ciborium_ll_encoder::enc::{Encoder, push_title};
+use ciborium_ll_grammar::hdr::Header;
+use ciborium_ll_io::io::{Read, Write};
+
+/// Why a copy stopped.
+#[derive(Debug, Drop)]
+pub enum RecodeError<E, F> {
+    /// The decoder failed, and this is its error.
+    Read(Error<E>),
+    /// The writer failed, and this is its error.
+    Write(F),
+}
+
+/// Copies the body of a segment, each chunk as soon as it is handed out.
+#[inline(always)]
+fn copy_body<R: Read, W: Write, P: Chunked>(
+    segment: &mut Segment<'_, R, P>,
+    encoder: &mut Encoder<W>,
+    body: Body,
+    buffer: &mut [u8],
+) -> Result<(), RecodeError<R::Error, W::Error>>
+    requires room { 4 ≤ length buffer.old }
+    requires whole { IsWhole body segment.old }
+    ensures same_reference { segment.new.reader.ghost_name ≡ segment.old.reader.ghost_name }
+    ensures copied { CopiesBody R.Read W.Write P.kind body.length (length buffer.old) body.place
+        segment.old.reader.now (writer_of encoder.old) result segment.new.reader.now (writer_of encoder.new) }
+    ensures steady { IsSteady R.Read segment.old.reader.now → IsSteady R.Read segment.new.reader.now }
+    ensures refusals { refusals_of segment.new.reader.now ≡ refusals_of segment.old.reader.now }
+{
+    'chunks: loop {
+        let chunk = match P::chunk(segment, buffer) {
+            Ok(Some(chunk)) => chunk,
+            Ok(None) => return Ok(()),
+            Err(error) => return Err(RecodeError::Read(error)),
+        };
+        if let Err(fault) = encoder.write_all(chunk) {
+            return Err(RecodeError::Write(fault));
+        }
+    }
+}
+
+/// Writes a header.
+#[inline(always)]
+fn write_header<E, W: Write>(
+    encoder: &mut Encoder<W>,
+    header: Header,
+) -> Result<(), RecodeError<E, W::Error>>
+    ensures { WritesHeader W.Write (writer_of encoder.old) result header (writer_of encoder.new) }
+{
+    match encoder.push(header) {
+        Ok(()) => Ok(()),
+        Err(fault) => Err(RecodeError::Write(fault)),
+    }
+}
+
+/// Copies a string of a definite length, behind its header.
+#[inline(always)]
+fn copy_definite<R: Read, W: Write, P: Chunked>(
+    decoder: &mut Decoder<R>,
+    encoder: &mut Encoder<W>,
+    len: usize,
+    buffer: &mut [u8],
+) -> Result<(), RecodeError<R::Error, W::Error>>
+    requires room { 4 ≤ length buffer.old }
+    requires none_waits { waiting_of decoder.old ≡ None }
+    requires covered { title_len (kind_header P.kind (Some len)) ≤ offset_of decoder.old }
+    ensures copied { CopiesBehind R.Read W.Write (kind_header P.kind (Some len)) (length buffer.old)
+        decoder.old (writer_of encoder.old) result decoder.new (writer_of encoder.new) }
+    ensures steady { IsSteady R.Read decoder.old → IsSteady R.Read decoder.new }
+    ensures refusals { refusals_of decoder.new ≡ refusals_of decoder.old }
+{
+    write_header::<R::Error, W>(encoder, P::header(Some(len)))?;
+    // What `advance` would answer for the header pushed back, which counts as its shortest title.
+    let body = Body {
+        length: len,
+        place: decoder.offset() - P::header(Some(len)).title_len(),
+    };
+    let mut segment = Segment::<R, P>::new(decoder, body);
+    copy_body(&mut segment, encoder, body, buffer)
+}
+
+/// Copies a string of indefinite length, behind its open.
+fn copy_indefinite<R: Read, W: Write, P: Chunked>(
+    decoder: &mut Decoder<R>,
+    encoder: &mut Encoder<W>,
+    buffer: &mut [u8],
+) -> Result<(), RecodeError<R::Error, W::Error>>
+    requires room { 4 ≤ length buffer.old }
+    requires none_waits { waiting_of decoder.old ≡ None }
+    requires covered { title_len (kind_header P.kind None) ≤ offset_of decoder.old }
+    ensures copied { CopiesBehind R.Read W.Write (kind_header P.kind None) (length buffer.old)
+        decoder.old (writer_of encoder.old) result decoder.new (writer_of encoder.new) }
+    ensures steady { IsSteady R.Read decoder.old → IsSteady R.Read decoder.new }
+    ensures refusals { refusals_of decoder.new ≡ refusals_of decoder.old }
+{
+    write_header::<R::Error, W>(encoder, P::header(None))?;
+    copy_segments::<R, W, P>(decoder, encoder, buffer)?;
+    write_header(encoder, Header::Break)
+}
+
+/// Copies the segments of a string of indefinite length, up to its last break.
+fn copy_segments<R: Read, W: Write, P: Chunked>(
+    decoder: &mut Decoder<R>,
+    encoder: &mut Encoder<W>,
+    buffer: &mut [u8],
+) -> Result<(), RecodeError<R::Error, W::Error>>
+    requires room { 4 ≤ length buffer.old }
+    requires none_waits { waiting_of decoder.old ≡ None }
+    requires covered { title_len (kind_header P.kind None) ≤ offset_of decoder.old }
+    ensures copied { CopiesSegments R.Read W.Write P.kind (length buffer.old)
+        decoder.old (writer_of encoder.old) result decoder.new (writer_of encoder.new) }
+    ensures steady { IsSteady R.Read decoder.old → IsSteady R.Read decoder.new }
+    ensures refusals { refusals_of decoder.new ≡ refusals_of decoder.old }
+{
+    let mut segments = decoder.string::<P>(None);
+    'segments: loop {
+        let body = match segments.advance() {
+            Ok(Some(body)) => body,
+            Ok(None) => return Ok(()),
+            Err(error) => return Err(RecodeError::Read(error)),
+        };
+        write_header::<R::Error, W>(encoder, P::header(Some(body.length)))?;
+        let mut segment = Segment::<R, P>::new(&mut *segments.reader, body);
+        copy_body(&mut segment, encoder, body, buffer)?;
+    }
+}
+
+/// Copies one element.
+fn copy_element<R: Read, W: Write>(
+    decoder: &mut Decoder<R>,
+    encoder: &mut Encoder<W>,
+    buffer: &mut [u8],
+) -> Result<(), RecodeError<R::Error, W::Error>>
+    requires room { 4 ≤ length buffer.old }
+    ensures copied { CopiesElement R.Read W.Write (length buffer.old)
+        decoder.old (writer_of encoder.old) result decoder.new (writer_of encoder.new) }
+    ensures steady { IsSteady R.Read decoder.old → IsSteady R.Read decoder.new }
+    ensures refusals { refusals_of decoder.new ≡ refusals_of decoder.old }
+{
+    let (header, title) = match decoder.pull_title() {
+        Ok(pulled) => pulled,
+        Err(error) => return Err(RecodeError::Read(error)),
+    };
+    match header {
+        Header::Bytes(Some(length)) => copy_definite::<R, W, Bytes>(
+            decoder, encoder, length, buffer,
+        ),
+        Header::Bytes(None) => copy_indefinite::<R, W, Bytes>(decoder, encoder, buffer),
+        Header::Text(Some(length)) => copy_definite::<R, W, Text>(decoder, encoder, length, buffer),
+        Header::Text(None) => copy_indefinite::<R, W, Text>(decoder, encoder, buffer),
+        // What `push` of the header would write, without a look at which header it is.
+        _ => match push_title(encoder, title.shortest(header)) {
+            Ok(()) => Ok(()),
+            Err(fault) => Err(RecodeError::Write(fault)),
+        },
+    }
+}
+
+/// Copies `count` elements, each in its shortest spelling. An element is a header that begins no string, or a whole
+/// string (RFC 7049, 2.1 and 2.2).
+///
+/// Every title becomes the shortest one of its header. The bodies of a string of indefinite length stay the segments
+/// that they were, in one string: strings within it lose their opens and breaks. Bodies go through `buffer`, each chunk
+/// as soon as it is read, and each body of a text is UTF-8 by itself.
+///
+/// `Read` carries the decoder's error. `Syntax` names the offset of a title that is none or may not stand there; of a
+/// body that is no text the offset of its title, or, where a whole string's title is longer than its shortest one, of
+/// the byte from which the shortest would reach the body. `Io` says that the reader failed, `TooLong` that the offset
+/// can't take the next read. `Write` carries the writer's error. The titles and chunks before the error are written.
+///
+/// A strict decoder gives elements in their shortest spelling alone, with no string of indefinite length inside
+/// another, and they are written as they are.
+pub fn recode<R: Read, W: Write>(
+    decoder: &mut Decoder<R>,
+    encoder: &mut Encoder<W>,
+    count: usize,
+    buffer: &mut [u8],
+) -> Result<(), RecodeError<R::Error, W::Error>>
+    requires room { 4 ≤ length buffer.old }
+    ensures copied { CopiesElements R.Read W.Write count (length buffer.old)
+        decoder.old (writer_of encoder.old) result decoder.new (writer_of encoder.new) }
+    ensures steady { IsSteady R.Read decoder.old → IsSteady R.Read decoder.new }
+    ensures refusals { refusals_of decoder.new ≡ refusals_of decoder.old }
+    ensures told { (due written : List ℕ)
+        → IsReady R.Read W.Write count (length buffer.old) decoder.old (writer_of encoder.old) due written
+        → RecodesTold R.Read W.Write count due written decoder.old result decoder.new (writer_of encoder.new) }
+    ensures exactly { (due written : List ℕ)
+        → IsReady R.Read W.Write count (length buffer.old) decoder.old (writer_of encoder.old) due written
+        → (IsOk result ↔ RunInFront count due) }
+    ensures anyhow { (due written : List ℕ) → IsTold R.Read W.Write decoder.old (writer_of encoder.old) due written
+        → RecodesAnyhow R.Read W.Write count (length buffer.old) due written decoder.old result decoder.new (writer_of encoder.new) }
+    ensures strictly { (due written : List ℕ)
+        → IsReadyAs R.Read W.Write true count (length buffer.old) decoder.old (writer_of encoder.old) due written
+        → waiting_of decoder.old ≡ None
+        → RecodesStrictly R.Read W.Write count due written decoder.old result decoder.new (writer_of encoder.new) }
+    ensures strictly_exactly { (due written : List ℕ)
+        → IsReadyAs R.Read W.Write true count (length buffer.old) decoder.old (writer_of encoder.old) due written
+        → waiting_of decoder.old ≡ None
+        → (IsOk result ↔ StrictRunInFront count due) }
+    ensures strictly_anyhow { (due written : List ℕ)
+        → IsToldAs R.Read W.Write true decoder.old (writer_of encoder.old) due written
+        → waiting_of decoder.old ≡ None
+        → RecodesStrictlyAnyhow R.Read W.Write count (length buffer.old) due written decoder.old result
+        decoder.new (writer_of encoder.new) }
+{
+    'elements: for _copied in 0..count {
+        copy_element(decoder, encoder, buffer)?;
+    }
+    Ok(())
+}

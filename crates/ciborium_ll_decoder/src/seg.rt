@@ -1,0 +1,484 @@
+//! Strings, lent piece by piece (RFC 7049, 2.2.2).
+
+ghost use Rattle.std.specs.Prelude.{◌≡◌, ◌≤◌, ◌<◌, ◌+◌, ◌^◌, ◌⊎◌, length, take, drop, true, IfOk, IfSome, IfNone, [], None, Some};
+ghost use Rattle.ciborium_ll_text.specs.States.{after};
+ghost use Rattle.ciborium_ll_text.specs.declared.state.State.TheVariants.{Between};
+ghost use Rattle.ciborium_ll_grammar.specs.declared.hdr.Header.TheVariants.{Break};
+ghost use Rattle.ciborium_ll_grammar.specs.Strings.{Kind, kind_header, Bytes as byte_strings};
+ghost use Rattle.ciborium_ll_decoder.specs.Kept.{kept_bytes};
+ghost use Rattle.ciborium_ll_text.specs.Text.{IsStuck};
+ghost use Rattle.ciborium_ll_grammar.specs.Faults.{IsMisplaced};
+
+mod chunked;
+
+pub use self::chunked::Chunked;
+use crate::dec::{Decoder, Error};
+use ciborium_ll_grammar::hdr::Header;
+use ciborium_ll_io::io::Read;
+use ciborium_ll_text::state::{State, text_front};
+use std::marker::PhantomData;
+
+/// A kind of string: which headers begin one.
+pub trait Parser: Sized {
+    ghost kind: { Kind };
+
+    /// The length in a header of the kind, or `Some(None)` for the indefinite form.
+    fn length(header: Header) -> Option<Option<usize>>
+        ensures of_kind { IfSome result (λ length. header ≡ kind_header kind length) }
+        ensures other { IfNone result ((header ≡ Break) ⊎ IsMisplaced kind header) };
+
+    /// The header of the kind with this length, or of the indefinite form.
+    fn header(length: Option<usize>) -> Header
+        ensures { result ≡ kind_header kind length };
+}
+
+/// The kind of byte strings.
+#[derive(Default, Drop)]
+pub struct Bytes(());
+
+impl Parser for Bytes {
+    ghost kind = { byte_strings };
+
+    fn length(header: Header) -> Option<Option<usize>> {
+        match header {
+            Header::Bytes(length) => Some(length),
+            _ => None,
+        }
+    }
+
+    fn header(length: Option<usize>) -> Header {
+        Header::Bytes(length)
+    }
+}
+
+/// The kind of text strings.
+#[derive(Default, Drop)]
+pub struct Text(());
+
+impl Parser for Text {
+    ghost use Rattle.ciborium_ll_grammar.specs.Strings.{Text as text_strings};
+
+    ghost kind = { text_strings };
+
+    fn length(header: Header) -> Option<Option<usize>> {
+        match header {
+            Header::Text(length) => Some(length),
+            _ => None,
+        }
+    }
+
+    fn header(length: Option<usize>) -> Header {
+        Header::Text(length)
+    }
+}
+
+/// The body of the next segment: its length in bytes, and the offset of its title.
+#[derive(Clone, Copy)]
+pub struct Body {
+    /// How many bytes the body has.
+    pub length: usize,
+    /// The offset before the title was pulled, which a damage of the body names.
+    pub place: usize,
+}
+
+/// How far the titles of a string were read.
+#[derive(Clone, Copy)]
+pub(crate) enum Progress {
+    /// A title is due, and so many opens aren't closed.
+    Open(usize),
+    /// The string has ended.
+    Ended,
+    /// The bytes at this offset are no part of a string.
+    Damaged(usize),
+    /// There are more opens than can be counted.
+    TooDeep,
+}
+
+/// The segments of a string: its one body, or the bodies between an open and its break, to any depth.
+#[derive(Drop)]
+pub struct Segments<'r, R, P: Parser> {
+    pub(crate) reader: &'r mut Decoder<R>,
+    progress: Progress,
+    parser: PhantomData<P>,
+}
+
+impl<'r, R: Read, P: Parser> Segments<'r, R, P> {
+    ghost use Rattle.std.specs.Prelude.{OnOk};
+    ghost use Rattle.ciborium_ll_decoder.specs.declared.seg.Progress.TheVariants.{Open};
+    ghost use Rattle.ciborium_ll_decoder.specs.Decoding.{IsSteady, offset_of, refusals_of, waiting_of};
+    ghost use Rattle.std.specs.Borrow.{sem};
+    ghost use Rattle.ciborium_ll_decoder.specs.Segments.{AdvancesTo, GivesAgain, StepsOver, opens_of};
+    ghost use Rattle.ciborium_ll_decoder.specs.Chunks.{IsWhole, PullsSegment};
+    ghost use Rattle.ciborium_ll_decoder.specs.Lend.{lends_segment, pulls_segment};
+
+    /// The segments of the string whose header waits.
+    pub(crate) fn new(reader: &'r mut Decoder<R>) -> Segments<'r, R, P>
+        ensures same_reference { result.reader.ghost_name ≡ reader.entry.ghost_name }
+        ensures lent { result.reader.now ≡ reader.old }
+        ensures fresh { result.progress ≡ Open 0 }
+    {
+        Segments {
+            reader,
+            progress: Progress::Open(0),
+            parser: PhantomData,
+        }
+    }
+
+    /// Goes on to the next segment, past opens and breaks, and gives its body's length and place.
+    ///
+    /// `None` says that the string has ended, and stays. The errors are `Syntax` with the offset of a title that may
+    /// not stand there or is none, which stays; `Io` where the reader failed, and `TooLong` where the offset can't
+    /// take the next read: the opens so far stay counted, and the next call reads on; and `TooLong` for an open that
+    /// can't be counted, which stays. An answer that stays reads nothing.
+    #[inline(always)]
+    pub fn advance(&mut self) -> Result<Option<Body>, Error<R::Error>>
+        ensures same_reference { self.new.reader.ghost_name ≡ self.old.reader.ghost_name }
+        ensures advances { AdvancesTo R.Read P.kind self.old.progress self.old.reader.now result
+            self.new.progress self.new.reader.now }
+        ensures rises { offset_of self.old.reader.now ≤ offset_of self.new.reader.now }
+        ensures opens { opens_of self.new.progress + offset_of self.old.reader.now
+            ≤ opens_of self.old.progress + offset_of self.new.reader.now }
+        ensures steady { IsSteady R.Read self.old.reader.now → IsSteady R.Read self.new.reader.now }
+        ensures refusals { refusals_of self.new.reader.now ≡ refusals_of self.old.reader.now }
+    {
+        'titles: while let Progress::Open(opens) = self.progress {
+            if let Some(body) = self.step(opens)? {
+                return Ok(Some(body));
+            }
+        }
+        match self.progress {
+            Progress::Damaged(place) => Err(Error::Syntax(place)),
+            Progress::TooDeep => Err(Error::TooLong),
+            Progress::Open(_) | Progress::Ended => Ok(None),
+        }
+    }
+
+    /// The segment of a body that `advance` gave last. It lends the decoder on.
+    ///
+    /// A body that was not given by the last `advance` makes a segment of so many bytes all the same.
+    pub fn segment(&mut self, body: Body) -> Segment<'_, R, P>
+        requires { waiting_of self.old.reader.now ≡ None }
+        ensures* lends { sem 𝓛 (lends_segment R.row P.row self.entry result) }
+        ensures lent { result.reader.now ≡ self.old.reader.now }
+        ensures whole { IsWhole body result }
+    {
+        Segment {
+            reader: self.reader,
+            unread: body.length,
+            place: body.place,
+            kept: Kept::Nothing,
+            state: State::Between,
+            damaged: false,
+            parser: PhantomData,
+        }
+    }
+
+    /// The next segment of the string. The answers are those of `advance`.
+    ///
+    /// A segment that is dropped early leaves the rest of its body in the reader, where the next call reads on.
+    pub fn pull(&mut self) -> Result<Option<Segment<'_, R, P>>, Error<R::Error>>
+        ensures* lends { sem 𝓛 (pulls_segment R.row P.row R.Read self.entry result) }
+        ensures pulls { PullsSegment R.Read P.kind self.old.progress self.old.reader.now result }
+        ensures stays { GivesAgain self.old.progress result }
+    {
+        match self.advance() {
+            Ok(Some(body)) => Ok(Some(self.segment(body))),
+            Ok(None) => Ok(None),
+            Err(error) => Err(error),
+        }
+    }
+
+    /// Pulls one title, with so many opens that aren't closed.
+    #[inline(always)]
+    fn step(&mut self, opens: usize) -> Result<Option<Body>, Error<R::Error>>
+        requires { self.old.progress ≡ Open opens }
+        ensures same_reference { self.new.reader.ghost_name ≡ self.old.reader.ghost_name }
+        ensures steps { StepsOver R.Read P.kind opens self.old.reader.now result self.new.progress self.new.reader.now }
+        ensures rises { offset_of self.old.reader.now ≤ offset_of self.new.reader.now }
+        ensures goes_on { OnOk result (offset_of self.old.reader.now < offset_of self.new.reader.now) }
+        ensures opens { opens_of self.new.progress + offset_of self.old.reader.now
+            ≤ opens + offset_of self.new.reader.now }
+        ensures steady { IsSteady R.Read self.old.reader.now → IsSteady R.Read self.new.reader.now }
+        ensures refusals { refusals_of self.new.reader.now ≡ refusals_of self.old.reader.now }
+    {
+        let place = self.reader.offset();
+        let header = match self.reader.pull() {
+            Ok(header) => header,
+            Err(error) => {
+                if let Error::Syntax(refused) = &error {
+                    self.progress = Progress::Damaged(*refused);
+                }
+                return Err(error);
+            }
+        };
+        match P::length(header) {
+            Some(Some(length)) => {
+                if opens == 0 {
+                    self.progress = Progress::Ended;
+                }
+                Ok(Some(Body { length, place }))
+            }
+            Some(None) if opens == usize::MAX => {
+                self.progress = Progress::TooDeep;
+                Err(Error::TooLong)
+            }
+            Some(None) if opens > 0 && self.reader.is_strict() => {
+                self.progress = Progress::Damaged(place);
+                Err(Error::Syntax(place))
+            }
+            Some(None) => {
+                self.progress = Progress::Open(opens + 1);
+                Ok(None)
+            }
+            None if header == Header::Break && opens > 0 => {
+                self.progress = if opens == 1 {
+                    Progress::Ended
+                } else {
+                    Progress::Open(opens - 1)
+                };
+                Ok(None)
+            }
+            None => {
+                self.progress = Progress::Damaged(place);
+                Err(Error::Syntax(place))
+            }
+        }
+    }
+}
+
+/// Up to three bytes of a text that may begin a character.
+#[derive(Clone, Copy)]
+pub(crate) enum Kept {
+    Nothing,
+    One(u8),
+    Two(u8, u8),
+    Three(u8, u8, u8),
+}
+
+impl Kept {
+    ghost use Rattle.ciborium_ll_decoder.specs.Kept.{kept_bytes};
+
+    /// How many bytes are kept.
+    fn len(self) -> usize
+        ensures { result ≡ length (kept_bytes self) }
+    {
+        match self {
+            Kept::Nothing => 0,
+            Kept::One(..) => 1,
+            Kept::Two(..) => 2,
+            Kept::Three(..) => 3,
+        }
+    }
+
+    /// Writes the kept bytes to the front of a slice.
+    fn put(self, buffer: &mut [u8])
+        requires { length (kept_bytes self) ≤ length buffer.old }
+        ensures { take (length (kept_bytes self)) buffer.new ≡ kept_bytes self }
+    {
+        match self {
+            Kept::Nothing => {}
+            Kept::One(first) => buffer[0] = first,
+            Kept::Two(first, second) => {
+                buffer[0] = first;
+                buffer[1] = second;
+            }
+            Kept::Three(first, second, third) => {
+                buffer[0] = first;
+                buffer[1] = second;
+                buffer[2] = third;
+            }
+        }
+    }
+
+    /// Keeps bytes, if they are at most three.
+    fn keep(bytes: &[u8]) -> Option<Kept>
+        ensures some { IfSome result (λ kept. kept_bytes kept ≡ bytes.now) }
+        ensures none { IfNone result (3 < length bytes.now) }
+    {
+        match bytes {
+            [] => Some(Kept::Nothing),
+            [first] => Some(Kept::One(*first)),
+            [first, second] => Some(Kept::Two(*first, *second)),
+            [first, second, third] => Some(Kept::Three(*first, *second, *third)),
+            _ => None,
+        }
+    }
+}
+
+/// One segment of a string, which lends the decoder until it is dropped.
+///
+/// It holds the bytes of its body that were not read yet, and of a text up to three that were read and may begin a
+/// character.
+#[derive(Drop)]
+pub struct Segment<'r, R, P: Parser> {
+    reader: &'r mut Decoder<R>,
+    unread: usize,
+    place: usize,
+    kept: Kept,
+    state: State,
+    damaged: bool,
+    parser: PhantomData<P>,
+    ghost counted: { unread + length (kept_bytes kept) < 2 ^ 64 },
+    ghost none_waits: { reader.now.waiting ≡ None },
+    ghost stuck: { IsStuck (kept_bytes kept) },
+    ghost told: { state ≡ after Between (kept_bytes kept) },
+    ghost text_alone: { P.kind ≡ byte_strings → kept_bytes kept ≡ [] },
+}
+
+impl<'r, R: Read, P: Parser> Segment<'r, R, P> {
+    ghost use Rattle.ciborium_ll_decoder.specs.Chunks.{IsWhole, left_of};
+    ghost use Rattle.ciborium_ll_decoder.specs.Decoding.{waiting_of};
+
+    /// The segment of a body that is next in the decoder's reader.
+    pub(crate) fn new(reader: &'r mut Decoder<R>, body: Body) -> Segment<'r, R, P>
+        requires { waiting_of reader.old ≡ None }
+        ensures same_reference { result.reader.ghost_name ≡ reader.entry.ghost_name }
+        ensures lent { result.reader.now ≡ reader.old }
+        ensures whole { IsWhole body result }
+    {
+        Segment {
+            reader,
+            unread: body.length,
+            place: body.place,
+            kept: Kept::Nothing,
+            state: State::Between,
+            damaged: false,
+            parser: PhantomData,
+        }
+    }
+
+    /// How many bytes of the body were not handed out: those that were not read, and those that are kept. After a
+    /// damage those that were not read alone.
+    pub fn left(&self) -> usize
+        ensures { result ≡ left_of self.now }
+    {
+        self.unread + self.kept.len()
+    }
+}
+
+impl<'r, R: Read> Segment<'r, R, Bytes> {
+    ghost use Rattle.std.specs.Io.KnownBytes.{Consumes};
+    ghost use Rattle.ciborium_ll_decoder.specs.Decoding.{IsSteady, offset_of, refusals_of};
+    ghost use Rattle.ciborium_ll_decoder.specs.Chunks.{PullsChunk, left_of, rest};
+
+    /// Reads the next bytes of the body, as many as there are and the buffer holds.
+    ///
+    /// `None` says that the body has ended. An empty buffer gives an empty chunk while bytes are left. The errors are
+    /// `Io` where the reader failed, and `TooLong` where the offset would pass `usize::MAX`; both leave the segment as
+    /// it was.
+    pub fn pull<'a>(&mut self, buffer: &'a mut [u8]) -> Result<Option<&'a [u8]>, Error<R::Error>>
+        ensures same_reference { self.new.reader.ghost_name ≡ self.old.reader.ghost_name }
+        ensures chunk { PullsChunk R.Read (length buffer.old) self.old result self.new }
+        ensures left { IfOk result (λ chunk. IfSome chunk (λ c. length c.now + left_of self.new ≡ left_of self.old)) }
+        ensures rest { IfOk result (λ chunk. IfSome chunk (λ c. Consumes (rest R.Read self.old) (rest R.Read self.new) c.now)) }
+        ensures rises { offset_of self.old.reader.now ≤ offset_of self.new.reader.now }
+        ensures steady { IsSteady R.Read self.old.reader.now → IsSteady R.Read self.new.reader.now }
+        ensures refusals { refusals_of self.new.reader.now ≡ refusals_of self.old.reader.now }
+    {
+        if self.damaged {
+            return Err(Error::Syntax(self.place));
+        }
+        if self.unread == 0 {
+            return Ok(None);
+        }
+        let size = buffer.len().min(self.unread);
+        let chunk = &mut buffer[..size];
+        self.reader.read(chunk)?;
+        self.unread -= size;
+        Ok(Some(chunk))
+    }
+}
+
+impl<'r, R: Read> Segment<'r, R, Text> {
+    ghost use Rattle.std.specs.Io.KnownBytes.{Consumes};
+    ghost use Rattle.ciborium_ll_decoder.specs.Decoding.{IsSteady, ReadsBytes, offset_of, refusals_of};
+    ghost use Rattle.ciborium_ll_decoder.specs.Chunks.{FillsBehind, IsSame, PullsChunk, left_of, rest};
+
+    /// Reads the next bytes of the body, as many as there are and the buffer holds, and hands out the longest front of
+    /// them that is text. Up to three bytes behind it are kept, since they may begin a character.
+    ///
+    /// `None` says that the body has ended. A buffer of fewer than four bytes may give an empty chunk while bytes are
+    /// left. The errors are `Syntax` with the segment's place where the body is no text, which stays and reads nothing;
+    /// `Io` where the reader failed, and `TooLong` where the offset would pass `usize::MAX`: both leave the segment as
+    /// it was. A damaged end can give a chunk first, and its error on the next call.
+    pub fn pull<'a>(&mut self, buffer: &'a mut [u8]) -> Result<Option<&'a str>, Error<R::Error>>
+        ensures same_reference { self.new.reader.ghost_name ≡ self.old.reader.ghost_name }
+        ensures chunk { PullsChunk R.Read (length buffer.old) self.old result self.new }
+        ensures left { IfOk result (λ chunk. IfSome chunk (λ c. length c.now + left_of self.new ≡ left_of self.old)) }
+        ensures rest { IfOk result (λ chunk. IfSome chunk (λ c. Consumes (rest R.Read self.old) (rest R.Read self.new) c.now)) }
+        ensures rises { offset_of self.old.reader.now ≤ offset_of self.new.reader.now }
+        ensures steady { IsSteady R.Read self.old.reader.now → IsSteady R.Read self.new.reader.now }
+        ensures refusals { refusals_of self.new.reader.now ≡ refusals_of self.old.reader.now }
+    {
+        if self.damaged {
+            return Err(Error::Syntax(self.place));
+        }
+        if self.unread == 0 {
+            return match self.kept {
+                Kept::Nothing => Ok(None),
+                _ => Err(self.damage()),
+            };
+        }
+        let kept = self.kept.len();
+        let size = buffer.len().min(self.unread + kept);
+        if size <= kept {
+            self.read_nothing()?;
+            return Ok(Some(""));
+        }
+        let filled = &mut buffer[..size];
+        self.fill(filled)?;
+        let (text, state) = text_front(filled, kept, self.state);
+        self.unread -= size - kept;
+        match Kept::keep(&filled[text.len()..]) {
+            Some(rest) => {
+                self.kept = rest;
+                self.state = state;
+                Ok(Some(text))
+            }
+            None => Err(self.damage()),
+        }
+    }
+
+    /// Reads no bytes, where none fit behind the kept ones. It is a call of the reader all the same.
+    fn read_nothing(&mut self) -> Result<(), Error<R::Error>>
+        ensures same_reference { self.new.reader.ghost_name ≡ self.old.reader.ghost_name }
+        ensures same { IsSame self.old self.new }
+        ensures read { ReadsBytes R.Read self.old.reader.now result [] self.new.reader.now }
+        ensures rises { offset_of self.old.reader.now ≤ offset_of self.new.reader.now }
+        ensures steady { IsSteady R.Read self.old.reader.now → IsSteady R.Read self.new.reader.now }
+        ensures refusals { refusals_of self.new.reader.now ≡ refusals_of self.old.reader.now }
+    {
+        self.reader.read(&mut [])
+    }
+
+    /// Reads behind the kept bytes, which it writes to the front.
+    fn fill(&mut self, filled: &mut [u8]) -> Result<(), Error<R::Error>>
+        requires { length (kept_bytes self.old.kept) ≤ length filled.old }
+        ensures same_reference { self.new.reader.ghost_name ≡ self.old.reader.ghost_name }
+        ensures same { IsSame self.old self.new }
+        ensures filled { FillsBehind R.Read (kept_bytes self.old.kept) self.old.reader.now result filled.new self.new.reader.now }
+        ensures rises { offset_of self.old.reader.now ≤ offset_of self.new.reader.now }
+        ensures steady { IsSteady R.Read self.old.reader.now → IsSteady R.Read self.new.reader.now }
+        ensures refusals { refusals_of self.new.reader.now ≡ refusals_of self.old.reader.now }
+    {
+        let kept = self.kept.len();
+        self.kept.put(filled);
+        self.reader.read(&mut filled[kept..])
+    }
+
+    /// The body is no text: nothing is kept any more, and the error stays.
+    fn damage(&mut self) -> Error<R::Error>
+        ensures same_reference { self.new.reader.ghost_name ≡ self.old.reader.ghost_name }
+        ensures same { self.new.reader.now ≡ self.old.reader.now }
+        ensures unread { self.new.unread ≡ self.old.unread }
+        ensures place { self.new.place ≡ self.old.place }
+        ensures kept { kept_bytes self.new.kept ≡ [] }
+        ensures damaged { self.new.damaged ≡ true }
+        ensures error { result ≡ Error.Syntax self.old.place }
+    {
+        self.kept = Kept::Nothing;
+        self.state = State::Between;
+        self.damaged = true;
+        Error::Syntax(self.place)
+    }
+}

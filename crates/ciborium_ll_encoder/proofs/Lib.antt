@@ -1,0 +1,2 @@
+pub mod EncodingLaws
+pub mod PieceLaws

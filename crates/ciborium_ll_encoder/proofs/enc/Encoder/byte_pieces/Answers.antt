@@ -1,0 +1,36 @@
+use Rattle.std.proofs.Common.{[], ◌∷◌, arith}
+use Rattle.ciborium_ll_grammar.specs.Strings.{Bytes}
+use Rattle.ciborium_ll_grammar.proofs.ValueLaws.{byte_pieces}
+use Rattle.ciborium_ll_encoder.proofs.PieceLaws.{Leads, bytes_lead, bytes_last, Progress-more, Progress-stopped, Progress-last}
+use Rattle.ciborium_ll_encoder.proofs.enc.Encoder.byte_pieces.Given as given
+use Rattle.ciborium_ll_encoder.proofs.enc.Encoder.byte_pieces.Goals as goal
+use Rattle.ciborium_ll_encoder.proofs.enc.Encoder.byte_pieces.Goals.{After-split_at}
+
+-- the piece that was split off leads what is behind it
+leads : (g : given.Over) (c : After-split_at g)
+    → Leads Bytes c.args.limit c.pieces.rest.now (c.split_at.result.0.now ∷ []) c.split_at.result.1.now
+leads g c = bytes_lead c.args.limit c.pieces.rest.now _ _ c.split_at.ensures.by_index.0 c.split_at.ensures.front_len
+
+pub pieces-preserved : goal.pieces-preserved
+pieces-preserved g c =
+    let cut = (goal.at.pieces-preserved g c).After-split_at in
+    record {
+      some = omega arith;
+      progress = Progress-more g.W.Write Bytes c.args.limit _ _ _ _ c.split_at.result.0.now _ _ c.pieces.invariant.progress (leads g cut)
+          c.in_ok-string.ensures;
+    }
+
+pub returns-in_err-string : goal.returns-in_err-string
+returns-in_err-string g c =
+    let cut = (goal.at.returns-in_err-string g c).After-split_at in
+    let behind = c.split_at.result.1.now in
+    let others = byte_pieces behind c.args.limit (omega arith) c.requires.some in
+    Progress-stopped g.W.Write c.from_residual.result c.from_residual.ensures.0 Bytes c.args.limit _ _ _ _ c.split_at.result.0.now behind
+    others.0 _
+    c.pieces.invariant.progress (leads g cut) others.1 c.in_err-string.ensures
+
+pub returns : goal.returns
+returns g c =
+    let rest = c.pieces.rest.now in
+    Progress-last g.W.Write c.string-2.result Bytes c.args.limit _ _ rest _ _ c.pieces.invariant.progress
+    (bytes_last c.args.limit rest c.pieces.invariant.some c.pieces-test.false) c.string-2.ensures

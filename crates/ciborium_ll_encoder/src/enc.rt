@@ -1,0 +1,96 @@
+//! The encoder: headers and values into a writer.
+
+ghost use Rattle.std.specs.Prelude.{◌≡◌, ◌<◌, ◌⊎◌, ℕ, List, length};
+ghost use Rattle.ciborium_ll_grammar.specs.Title.{IsTitle, shortest_title};
+ghost use Rattle.ciborium_ll_grammar.specs.Parts.{IsMinor, IsParts, minor_affix, title_bytes};
+ghost use Rattle.ciborium_ll_encoder.specs.Encoding.{WritesBytes, writer_of};
+
+mod values;
+
+use ciborium_ll_grammar::hdr::{Header, Minor, Title, shortest};
+use ciborium_ll_io::io::Write;
+
+/// Writes headers, each as its shortest title, and values of bytes and of text.
+///
+/// As a writer it passes on to the writer that it holds, which takes the bytes of bodies.
+#[derive(Drop)]
+pub struct Encoder<W> {
+    writer: W,
+}
+
+impl<W: Write> From<W> for Encoder<W> {
+    ghost from_gives = { λ writer encoder. writer_of encoder ≡ writer };
+
+    /// An encoder that appends to what was written.
+    fn from(writer: W) -> Encoder<W> {
+        Encoder { writer }
+    }
+}
+
+impl<W: Write> Write for Encoder<W> {
+    type Error = W::Error;
+
+    ghost written = { λ encoder. W.written encoder.writer };
+
+    ghost room = { λ encoder. W.room encoder.writer };
+
+    ghost failures = { λ encoder. W.failures encoder.writer };
+
+    ghost flushed = { λ old new. W.flushed old.writer new.writer };
+
+    /// Appends the bytes of a body. The error is the writer's.
+    fn write_all(&mut self, data: &[u8]) -> Result<(), W::Error> {
+        self.writer.write_all(data)
+    }
+
+    /// Flushes the writer. The error is the writer's.
+    fn flush(&mut self) -> Result<(), W::Error> {
+        self.writer.flush()
+    }
+}
+
+impl<W: Write> Encoder<W> {
+    /// The writer.
+    pub fn into_inner(self) -> W
+        ensures { result ≡ writer_of self }
+    {
+        self.writer
+    }
+
+    /// Writes the shortest title of a header (RFC 7049, 3.9), as its first byte and its affix.
+    ///
+    /// The error is the writer's. A beginning of the title was then written.
+    #[inline(always)]
+    pub fn push(&mut self, header: Header) -> Result<(), W::Error>
+        ensures title { WritesBytes W.Write (writer_of self.old) result (shortest_title header) (writer_of self.new) }
+        ensures shortest { (other : List ℕ) → IsTitle other header
+            → (other ≡ shortest_title header) ⊎ (length (shortest_title header) < length other) }
+    {
+        push_title(self, shortest(header))
+    }
+
+    /// Writes the bytes behind a first byte.
+    #[inline(always)]
+    fn affix(&mut self, minor: Minor) -> Result<(), W::Error>
+        requires { IsMinor minor }
+        ensures { WritesBytes W.Write (writer_of self.old) result (minor_affix minor) (writer_of self.new) }
+    {
+        match minor {
+            Minor::Small(_) | Minor::Open => self.writer.write_all(&[]),
+            Minor::One(n) => self.writer.write_all(&(n as u8).to_be_bytes()),
+            Minor::Two(n) => self.writer.write_all(&(n as u16).to_be_bytes()),
+            Minor::Four(n) => self.writer.write_all(&(n as u32).to_be_bytes()),
+            Minor::Eight(n) => self.writer.write_all(&n.to_be_bytes()),
+        }
+    }
+}
+
+/// Writes a title, as its first byte and its affix.
+#[inline(always)]
+pub fn push_title<W: Write>(encoder: &mut Encoder<W>, title: Title) -> Result<(), W::Error>
+    requires { IsParts title }
+    ensures { WritesBytes W.Write (writer_of encoder.old) result (title_bytes title) (writer_of encoder.new) }
+{
+    encoder.writer.write_all(&[title.first_byte()])?;
+    encoder.affix(title.minor)
+}

@@ -1,0 +1,122 @@
+//! Values of bytes and of text, in pieces of limited length.
+
+ghost use Rattle.std.specs.Prelude.{◌<◌, ◌≤◌, ◌+◌, ◌++◌, ◌↔◌, ℕ, length, IsTrue, OnOk};
+ghost use Rattle.std.specs.Str.{IsCharBoundary};
+ghost use Rattle.ciborium_ll_grammar.specs.Title.{shortest_title};
+ghost use Rattle.ciborium_ll_grammar.specs.Strings.{Bytes, Text};
+ghost use Rattle.ciborium_ll_text.specs.Text.{IsTail};
+ghost use Rattle.ciborium_ll_grammar.specs.Values.{value_limit};
+ghost use Rattle.ciborium_ll_encoder.specs.Encoding.{WritesBytes, WritesPieces, WritesValue, WritesFewest, writer_of};
+
+use crate::enc::Encoder;
+use ciborium_ll_grammar::hdr::Header;
+use ciborium_ll_io::io::Write;
+
+impl<W: Write> Encoder<W> {
+    /// Writes a byte string (RFC 7049, 2.1), in segments of `segment` bytes (2.2.2), or in one where that is `None`.
+    ///
+    /// A limit of 0 counts as 1. A value no longer than the limit is one string of a definite length. A longer one is a
+    /// string of indefinite length, whose segments have as many bytes as the limit, but for the last one, which has
+    /// the remainder.
+    ///
+    /// The only errors are the writer's. A beginning of the string was then written.
+    pub fn bytes(&mut self, value: &[u8], segment: Option<usize>) -> Result<(), W::Error>
+        ensures { WritesValue W.Write Bytes segment value.now (writer_of self.old) result (writer_of self.new) }
+    {
+        let limit = segment.unwrap_or(value.len()).max(1);
+        if value.len() <= limit {
+            return self.string(Header::Bytes(Some(value.len())), value);
+        }
+        self.push(Header::Bytes(None))?;
+        self.byte_pieces(value, limit)?;
+        self.push(Header::Break)
+    }
+
+    /// Writes a text string (RFC 7049, 2.1), in segments of at most `segment` bytes (2.2.2), or in one where that is
+    /// `None`.
+    ///
+    /// A limit below 4 counts as 4, which is the length of the longest character. A value no longer than the limit is
+    /// one string of a definite length. A longer one is a string of indefinite length, whose segments are texts: each
+    /// is as long as the limit allows with no character cut. No other segments within the limit are fewer.
+    ///
+    /// The only errors are the writer's. A beginning of the string was then written.
+    pub fn text(&mut self, value: &str, segment: Option<usize>) -> Result<(), W::Error>
+        ensures value { WritesValue W.Write Text segment value.now (writer_of self.old) result (writer_of self.new) }
+        ensures fewest { OnOk result (0 < length value.now
+            → WritesFewest W.Write (value_limit Text segment value.now) value.now (writer_of self.old) (writer_of self.new)) }
+    {
+        let limit = segment.unwrap_or(value.len()).max(4);
+        if value.len() <= limit {
+            return self.string(Header::Text(Some(value.len())), value.as_bytes());
+        }
+        self.push(Header::Text(None))?;
+        self.text_pieces(value, limit)?;
+        self.push(Header::Break)
+    }
+
+    /// Writes a body behind its title.
+    fn string(&mut self, title: Header, body: &[u8]) -> Result<(), W::Error>
+        ensures { WritesBytes W.Write (writer_of self.old) result (shortest_title title ++ body.now) (writer_of self.new) }
+    {
+        self.push(title)?;
+        self.writer.write_all(body)
+    }
+
+    /// Writes the pieces of bytes that are longer than the limit.
+    fn byte_pieces(&mut self, value: &[u8], limit: usize) -> Result<(), W::Error>
+        requires some { 0 < limit }
+        requires longer { limit < length value.now }
+        ensures { WritesPieces W.Write Bytes limit value.now (writer_of self.old) result (writer_of self.new) }
+    {
+        let mut rest = value;
+        'pieces: while rest.len() > limit {
+            let (piece, behind) = rest.split_at(limit);
+            self.string(Header::Bytes(Some(piece.len())), piece)?;
+            rest = behind;
+        }
+        self.string(Header::Bytes(Some(rest.len())), rest)
+    }
+
+    /// Writes the pieces of a text that is longer than the limit.
+    fn text_pieces(&mut self, value: &str, limit: usize) -> Result<(), W::Error>
+        requires four { 4 ≤ limit }
+        requires longer { limit < length value.now }
+        ensures { WritesPieces W.Write Text limit value.now (writer_of self.old) result (writer_of self.new) }
+    {
+        let mut rest = value;
+        'pieces: while rest.len() > limit {
+            let (piece, behind) = rest.split_at(piece_len(rest, limit));
+            self.string(Header::Text(Some(piece.len())), piece.as_bytes())?;
+            rest = behind;
+        }
+        self.string(Header::Text(Some(rest.len())), rest.as_bytes())
+    }
+}
+
+/// How many bytes the first piece of a text has that is longer than the limit.
+///
+/// The piece ends at the limit, or else in front of the character that lies across it. Such a character has at most
+/// three later bytes, so no more are stepped over, however long the text is.
+fn piece_len(text: &str, limit: usize) -> usize
+    requires four { 4 ≤ limit }
+    requires longer { limit < length text.now }
+    ensures boundary { IsCharBoundary text.now result }
+    ensures within { result ≤ limit }
+    ensures some { 0 < result }
+    ensures back { limit ≤ result + 3 }
+    ensures longest { (other : ℕ) → result < other → other ≤ limit → ¬ (IsCharBoundary text.now other) }
+{
+    let bytes = text.as_bytes();
+    let mut len = limit;
+    'shorter: while is_continuation(bytes[len]) {
+        len -= 1;
+    }
+    len
+}
+
+/// Whether a byte stands behind the first one of a character (Unicode, Table 3-7).
+fn is_continuation(byte: u8) -> bool
+    ensures { IsTrue result ↔ IsTail byte }
+{
+    matches!(byte, 0x80..=0xbf)
+}

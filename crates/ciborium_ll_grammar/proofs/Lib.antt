@@ -1,0 +1,15 @@
+pub mod AffixLaws
+pub mod Complete
+pub mod ElementLaws
+pub mod FaultLaws
+pub mod HaltLaws
+pub mod ItemLaws
+pub mod OneFault
+pub mod PartsLaws
+pub mod RefusedBytes
+pub mod StepLaws
+pub mod StringLaws
+pub mod TightLaws
+pub mod TitleLaws
+pub mod TitleRowLaws
+pub mod ValueLaws

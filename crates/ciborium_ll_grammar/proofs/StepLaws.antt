@@ -1,0 +1,62 @@
+-- The steps of a loop over titles.
+use Rattle.std.proofs.Common.{ℕ, zero, suc, List, [], ◌∷◌, ◌++◌, None, subst, append_assoc}
+use Rattle.std.proofs.lemmas.List.{append-nil}
+use Rattle.ciborium_ll_grammar.specs.Title.{IsTitle}
+use Rattle.ciborium_ll_grammar.specs.Strings.{Kind, kind_header, IsString, indefinite, AreStrings, none, more}
+use Rattle.ciborium_ll_grammar.specs.Elements.IsElement.{indefinite as open_element}
+use Rattle.ciborium_ll_grammar.specs.Elements.{IsSound, Mark, Open, Close, pieces, IsElement, IsRun, done, next}
+use Rattle.ciborium_ll_grammar.specs.Faults.{IsInside, opened, deeper}
+use Rattle.ciborium_ll_grammar.specs.Steps.{IsInsideAt, one_open, more_open}
+use Rattle.ciborium_ll_grammar.proofs.ElementLaws.{AreStrings-append}
+
+-- a string behind strings
+AreStrings-add : (k : Kind) (w v : List ℕ) (bs cs : List (List ℕ)) → AreStrings k w bs → IsString k v cs → AreStrings k (w ++ v) (bs ++ cs)
+AreStrings-add k w v bs cs s p =
+    subst (λ (z : List (List ℕ)). AreStrings k (w ++ v) (bs ++ z)) (append-nil cs)
+    (subst (λ (z : List ℕ). AreStrings k (w ++ z) (bs ++ (cs ++ []))) (append-nil v)
+    (AreStrings-append k w bs s (v ++ []) (cs ++ []) (more p none)))
+
+-- counted opens that aren't closed are opens that aren't closed
+pub counted : (k : Kind) (j : ℕ) (u : List ℕ) (bs : List (List ℕ)) → IsInsideAt k j u bs → IsInside k u bs
+counted k j u bs (one_open p s) = opened p s
+counted k j u bs (more_open {outer = x} {bodies = ds} q p s) = deeper (counted k _ x ds q) (opened p s)
+
+-- a string within a string
+pub add_string : (k : Kind) (j : ℕ) (u w : List ℕ) (bs cs : List (List ℕ)) → IsInsideAt k j u bs → IsString k w cs
+    → IsInsideAt k j (u ++ w) (bs ++ cs)
+add_string k j u w bs cs (one_open {title = t} {strings = x} p s) q = rw (append_assoc t x w) (one_open p (AreStrings-add k x w bs cs s q))
+add_string k j u w bs cs (more_open {outer = y} {title = t} {strings = x} {bodies = ds} {others = es} i p s) q =
+    rw (append_assoc y (t ++ x) w, append_assoc t x w, append_assoc ds es cs) (more_open i p (AreStrings-add k x w es cs s q))
+
+-- an open within a string
+pub add_open : (k : Kind) (j : ℕ) (u t : List ℕ) (bs : List (List ℕ)) → IsInsideAt k j u bs → IsTitle t (kind_header k None)
+    → IsInsideAt k (suc j) (u ++ t) bs
+add_open k j u t bs i p =
+    subst (λ (z : List (List ℕ)). IsInsideAt k (suc j) (u ++ t) z) (append-nil bs)
+    (subst (λ (z : List ℕ). IsInsideAt k (suc j) (u ++ z) (bs ++ [])) (append-nil t) (more_open i p none))
+
+-- some open is not closed
+pub never : (k : Kind) (u : List ℕ) (bs : List (List ℕ)) → IsInsideAt k zero u bs → ⊥
+never k u bs i = elim i [ ]
+
+-- a break within further opens
+pub close_inner : (k : Kind) (j : ℕ) (u : List ℕ) (bs : List (List ℕ)) → IsInsideAt k (suc (suc j)) u bs
+    → IsInsideAt k (suc j) (u ++ 0xff ∷ []) bs
+close_inner k j u bs (more_open {outer = y} {title = t} {strings = x} {bodies = ds} {others = es} i p s) =
+    rw (append_assoc y (t ++ x) (0xff ∷ []), append_assoc t x (0xff ∷ []))
+    (add_string k (suc j) y (t ++ (x ++ 0xff ∷ [])) ds es i (indefinite p s))
+
+-- the last break makes an element
+pub close_last : (k : Kind) (u : List ℕ) (bs : List (List ℕ)) → IsInsideAt k (suc zero) u bs → IsSound k bs
+    → IsElement (u ++ 0xff ∷ []) (Open k ∷ (pieces k bs ++ Close ∷ []))
+close_last k u bs (one_open {title = t} {strings = x} p s) ok = rw (append_assoc t x (0xff ∷ [])) (open_element k p s ok)
+close_last k u bs (more_open {outer = y} {bodies = ds} i p s) ok = absurd (never k y ds i)
+
+-- an element behind a run
+pub add_element : (n : ℕ) (u : List ℕ) (ms : List Mark) → IsRun n u ms → (w : List ℕ) (ns : List Mark) → IsElement w ns
+    → IsRun (suc n) (u ++ w) (ms ++ ns)
+add_element n u ms done w ns e =
+    subst (λ (z : List Mark). IsRun (suc zero) w z) (append-nil ns)
+    (subst (λ (z : List ℕ). IsRun (suc zero) z (ns ++ [])) (append-nil w) (next e done))
+add_element n u ms (next {count = m} {first = a} {rest = b} {marks = os} {others = ps} p r) w ns e =
+    rw (append_assoc a b w, append_assoc os ps ns) (next p (add_element m b ps r w ns e))

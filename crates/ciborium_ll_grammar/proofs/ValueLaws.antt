@@ -1,0 +1,182 @@
+-- Each value has pieces under a limit, and what is written of it is one element.
+use Rattle.std.proofs.Common.{◌≡◌, ℕ, zero, suc, ◌+◌, ◌^◌, ◌<◌, ◌≤◌, List, [], ◌∷◌, ◌++◌, length, take, drop, Some, None, refl, sym, ap, ◌∙◌, subst, inl, inr, arith, append_assoc}
+use Rattle.std.proofs.lemmas.Bool.{cases_lt}
+use Rattle.std.proofs.lemmas.List.{append-nil, length-append, take-append-drop, length-take-le, length-drop}
+use Rattle.std.specs.List.{AllByRecursion}
+use Rattle.ciborium_ll_grammar.specs.declared.hdr.Header.TheVariants as h
+use Rattle.ciborium_ll_grammar.specs.Title.{IsTitle, shortest_title}
+use Rattle.ciborium_ll_grammar.specs.Strings.{Kind, Bytes, Text, kind_header, AreStrings, none, more}
+use Rattle.ciborium_ll_grammar.specs.Strings.IsString.{definite as definite_str}
+use Rattle.ciborium_ll_text.specs.Text.{IsCharacter, joined, IsCharacters}
+use Rattle.ciborium_ll_grammar.specs.Elements.{IsSound, Mark, Whole, Close, spelling, pieces, open_marks, IsElement, definite, indefinite}
+use Rattle.ciborium_ll_text.specs.Cuts.{IsMember, IsNonempty, IsCut, IsFilled, AreFilled, IsFullCut}
+use Rattle.ciborium_ll_grammar.specs.Values.{least_limit, AreChunks, AreBytePieces, ArePieces, IsWritten, in_one, in_pieces, segments, HasFewestSegments}
+use Rattle.ciborium_ll_text.proofs.Lists.{same_front}
+use Rattle.ciborium_ll_grammar.proofs.TitleLaws.{IsTitle-shortest}
+use Rattle.ciborium_ll_text.proofs.TextLaws.{character_length, character_is_text, IsCharacters-append}
+use Rattle.ciborium_ll_grammar.proofs.ElementLaws.{open_spelled}
+use Rattle.ciborium_ll_text.proofs.CutLaws.{one_character, fewest, one_full}
+use Rattle.ciborium_ll_text.proofs.FullCutLaws.{full_cut}
+
+-- ---- bytes
+
+-- a piece as long as the limit, in front of pieces
+pub chunk_first : (limit : ℕ) (piece : List ℕ) (members : List (List ℕ)) → length piece ≡ limit → AreChunks limit members
+    → AreChunks limit (piece ∷ members)
+chunk_first limit piece [] l c = absurd c
+chunk_first limit piece (following ∷ others) l c = (l, c)
+
+-- bytes have pieces, by their length
+chunks_of : (fuel limit : ℕ) (value : List ℕ) → length value < fuel → 0 < length value → 0 < limit
+    → (members : List (List ℕ)) × AreBytePieces limit value members
+chunks_of zero limit value l some one = absurd (omega arith)
+chunks_of (suc fuel) limit value l some one =
+    elim (cases_lt limit (length value)) [
+      | inl longer ↦
+          (let rest = drop limit value in
+          let c = chunks_of fuel limit rest (omega (arith, length-drop limit value)) (omega (arith, length-drop limit value)) one in
+          let all = c.1 in (
+            take limit value ∷ c.0,
+            (
+              sym (take-append-drop limit value) ∙ ap (λ (z : List ℕ). take limit value ++ z) all.0,
+              chunk_first limit (take limit value) c.0 (length-take-le limit value (omega arith)) all.1,
+            ),
+          ))
+      | inr fits ↦ (value ∷ [], (sym (append-nil value), (some, fits)))
+    ]
+
+-- bytes have pieces for each limit of at least one
+pub byte_pieces : (value : List ℕ) (limit : ℕ) → 0 < length value → 0 < limit
+    → (members : List (List ℕ)) × AreBytePieces limit value members
+byte_pieces value limit some one = chunks_of (suc (length value)) limit value (omega arith) some one
+
+-- ---- one list of pieces
+
+-- pieces joined aren't empty
+chunk_some : (limit : ℕ) (piece : List ℕ) (members : List (List ℕ)) → AreChunks limit (piece ∷ members)
+    → 0 < length (joined (piece ∷ members))
+chunk_some limit piece [] c = let l = c.0 in omega (arith, length-append piece [])
+chunk_some limit piece (x ∷ xs) c = let l = chunk_some limit x xs c.1 in omega (arith, length-append piece (joined (x ∷ xs)))
+
+-- bytes have one list of pieces
+same_chunks : (limit : ℕ) (cs ds : List (List ℕ)) → AreChunks limit cs → AreChunks limit ds → joined cs ≡ joined ds → cs ≡ ds
+same_chunks limit [] ds a b e = absurd a
+same_chunks limit (c ∷ []) [] a b e = absurd b
+same_chunks limit (c ∷ []) (d ∷ []) a b e =
+    let same : c ≡ d = sym (append-nil c) ∙ (e ∙ append-nil d) in
+    ap (λ (z : List ℕ). z ∷ []) same
+same_chunks limit (c ∷ []) (d ∷ x ∷ ds) a b e =
+    let some = chunk_some limit x ds b.1 in
+    absurd (omega (arith, a, b.0, some, ap length e, length-append c [], length-append d (x ++ joined ds)))
+same_chunks limit (c ∷ y ∷ cs) [] a b e = absurd b
+same_chunks limit (c ∷ y ∷ cs) (d ∷ []) a b e =
+    let some = chunk_some limit y cs a.1 in
+    absurd (omega (arith, b, a.0, some, ap length e, length-append d [], length-append c (y ++ joined cs)))
+same_chunks limit (c ∷ y ∷ cs) (d ∷ x ∷ ds) a b e =
+    let f = same_front c d (y ++ joined cs) (x ++ joined ds) (a.0 ∙ sym b.0) e in
+    let heads : c ≡ d = f.0 in
+    let tails : y ∷ cs ≡ x ∷ ds = same_chunks limit (y ∷ cs) (x ∷ ds) a.1 b.1 f.1 in
+    cc (heads, tails)
+
+-- a value has one list of pieces
+same_pieces : (k : Kind) (limit : ℕ) (value : List ℕ) (cs ds : List (List ℕ)) → ArePieces k limit value cs → ArePieces k limit value ds
+    → cs ≡ ds
+same_pieces Bytes limit value cs ds p q = same_chunks limit cs ds p.1 q.1 (sym p.0 ∙ q.0)
+same_pieces Text limit value cs ds p q = one_full value limit cs ds p q
+
+-- ---- what is written
+
+-- a value is written in one way
+pub one_writing : (k : Kind) (limit : ℕ) (value : List ℕ) (ms ns : List Mark) → IsWritten k limit value ms → IsWritten k limit value ns
+    → ms ≡ ns
+one_writing k limit value ms ns (in_one l) (in_one m) = refl
+one_writing k limit value ms ns (in_one l) (in_pieces ds m q) = absurd (omega arith)
+one_writing k limit value ms ns (in_pieces cs l p) (in_one m) = absurd (omega arith)
+one_writing k limit value ms ns (in_pieces cs l p) (in_pieces ds m q) = ap (open_marks k) (same_pieces k limit value cs ds p q)
+
+-- a value longer than the limit has pieces
+pub pieces_exist : (k : Kind) (limit : ℕ) (value : List ℕ) → least_limit k ≤ limit → IsSound k (value ∷ []) → limit < length value
+    → (members : List (List ℕ)) × ArePieces k limit value members
+pieces_exist Bytes limit value l s m = byte_pieces value limit (omega arith) l
+pieces_exist Text limit value l s m = full_cut value limit s.0 l
+
+-- each value is written
+pub some_writing : (k : Kind) (limit : ℕ) (value : List ℕ) → least_limit k ≤ limit → IsSound k (value ∷ [])
+    → (ms : List Mark) × IsWritten k limit value ms
+some_writing k limit value l s =
+    elim (cases_lt limit (length value)) [
+      | inl longer ↦ (let p = pieces_exist k limit value l s longer in (open_marks k p.0, in_pieces p.0 longer p.1))
+      | inr fits ↦ (Whole k value ∷ [], in_one fits)
+    ]
+
+-- ---- it is an element
+
+-- the shortest title of a string of a length is a title
+title_of_length : (k : Kind) (n : ℕ) → n < 2 ^ 64 → IsTitle (shortest_title (kind_header k (Some n))) (kind_header k (Some n))
+title_of_length Bytes n p = IsTitle-shortest (h.Bytes (Some n)) p
+title_of_length Text n p = IsTitle-shortest (h.Text (Some n)) p
+
+-- the open of a kind is a title
+open_title : (k : Kind) → IsTitle (shortest_title (kind_header k None)) (kind_header k None)
+open_title Bytes = IsTitle-shortest (h.Bytes None) tt
+open_title Text = IsTitle-shortest (h.Text None) tt
+
+-- the spelling of pieces are strings with these bodies
+piece_strings : (k : Kind) (members : List (List ℕ)) → length (joined members) < 2 ^ 64 → AreStrings k (spelling (pieces k members)) members
+piece_strings k [] l = none
+piece_strings k (x ∷ xs) l =
+    let n = length-append x (joined xs) in
+    more (definite_str (title_of_length k (length x) (omega arith))) (piece_strings k xs (omega arith))
+
+-- members are texts
+text_members : (limit : ℕ) (members : List (List ℕ)) → AllByRecursion (IsMember limit) members → AllByRecursion IsCharacters members
+text_members limit [] all = tt
+text_members limit (x ∷ xs) all = (all.0.0, text_members limit xs all.1)
+
+-- pieces joined are the value, and they are sound
+pub sound_pieces : (k : Kind) (limit : ℕ) (value : List ℕ) (members : List (List ℕ)) → ArePieces k limit value members
+    → (value ≡ joined members) × IsSound k members
+sound_pieces Bytes limit value members p = (p.0, tt)
+sound_pieces Text limit value members p = (p.cut.whole, text_members limit members p.cut.each)
+
+-- what is written is one element
+pub written_element : (k : Kind) (limit : ℕ) (value : List ℕ) (ms : List Mark) → IsWritten k limit value ms → IsSound k (value ∷ [])
+    → length value < 2 ^ 64 → IsElement (spelling ms) ms
+written_element k limit value ms (in_one l) s n =
+    let x = shortest_title (kind_header k (Some (length value))) in
+    subst (λ (z : List ℕ). IsElement z (Whole k value ∷ [])) (sym (append-nil (x ++ value)))
+    (definite k (title_of_length k (length value) n) s)
+written_element k limit value ms (in_pieces members l p) s n =
+    let q = sound_pieces k limit value members p in
+    let len = ap length q.0 in
+    subst (λ (z : List ℕ). IsElement z (open_marks k members)) (sym (open_spelled k members))
+    (indefinite k (open_title k) (piece_strings k members (omega arith)) q.1)
+
+-- ---- fewest segments
+
+-- pieces are the segments of what is written
+pub segments_of_pieces : (k : Kind) (members : List (List ℕ)) → segments (pieces k members ++ Close ∷ []) ≡ members
+segments_of_pieces k [] = refl
+segments_of_pieces k (x ∷ xs) = ap (λ (z : List (List ℕ)). x ∷ z) (segments_of_pieces k xs)
+
+-- members of a text that isn't empty are some
+some_members : (text : List ℕ) (members : List (List ℕ)) → 0 < length text → text ≡ joined members → 1 ≤ length members
+some_members text [] some e = absurd (omega (arith, ap length e))
+some_members text (x ∷ xs) some e = omega arith
+
+-- the segments of a text are texts, and no cut has fewer members
+pub fewest_segments : (limit : ℕ) (text : List ℕ) (ms : List Mark) → IsWritten Text limit text ms → IsCharacters text → 0 < length text
+    → HasFewestSegments limit text ms
+fewest_segments limit text ms (in_one l) u some =
+    record {
+      cut = record { whole = sym (append-nil text); each = ((u, l), tt) };
+      nonempty = (some, tt);
+      fewest = λ members c. some_members text members some c.whole;
+    }
+fewest_segments limit text ms (in_pieces members l p) u some =
+    let same = sym (segments_of_pieces Text members) in
+    record {
+      cut = subst (IsCut text limit) same p.cut;
+      nonempty = subst (AllByRecursion IsNonempty) same p.nonempty;
+      fewest = λ others c. subst (λ (z : List (List ℕ)). length z ≤ length others) same (fewest text limit members others p c);
+    }

@@ -1,0 +1,81 @@
+-- Elements, which are titles and whole strings, the marks that they leave, and the marks' shortest spelling.
+use Rattle.std.specs.Prelude.{◌≡◌, ℕ, zero, suc, List, [], ◌∷◌, ◌++◌, length, Some, None}
+use Rattle.std.specs.List.{AllByRecursion}
+use Rattle.ciborium_ll_grammar.specs.declared.hdr.Header.{Header}
+use Rattle.ciborium_ll_grammar.specs.declared.hdr.Header.TheVariants as h
+use Rattle.ciborium_ll_grammar.specs.Title.{IsTitle, IsSmallSimple, shortest_title}
+use Rattle.ciborium_ll_grammar.specs.Strings.{Kind, Bytes, Text, kind_header, AreStrings}
+use Rattle.ciborium_ll_text.specs.Text.{IsCharacters}
+
+-- the bodies of a text are each UTF-8 by itself (RFC 7049, 2.2.2)
+abbrev pub IsSound : Kind → List (List ℕ) → Type 0
+IsSound Bytes bodies = Unit {0}
+IsSound Text bodies = AllByRecursion IsCharacters bodies
+
+-- a header that begins no string (RFC 7049, 2.1)
+abbrev pub IsPlain : Header → Type 0
+IsPlain (h.Bytes len) = ⊥
+IsPlain (h.Text len) = ⊥
+IsPlain header = Unit {0}
+
+-- what an element leaves: a header that begins no string, or a string of a definite length, or the parts of one that
+-- isn't: its open, a piece for each body and its close (RFC 7049, 2.2.2)
+pub data Mark : Type 0 where
+  Plain : Header → Mark
+  Whole : Kind → List ℕ → Mark
+  Open : Kind → Mark
+  Piece : Kind → List ℕ → Mark
+  Close : Mark
+
+-- a body behind its shortest title
+abbrev pub body_spelling : Kind → List ℕ → List ℕ
+body_spelling kind body = shortest_title (kind_header kind (Some (length body))) ++ body
+
+-- the shortest bytes of a mark (RFC 7049, 2.1 and 2.2.2)
+abbrev pub mark_spelling : Mark → List ℕ
+mark_spelling (Plain header) = shortest_title header
+mark_spelling (Whole kind body) = body_spelling kind body
+mark_spelling (Open kind) = shortest_title (kind_header kind None)
+mark_spelling (Piece kind body) = body_spelling kind body
+mark_spelling Close = 0xff ∷ []
+
+-- the shortest bytes of marks
+abbrev pub spelling : List Mark → List ℕ
+spelling [] = []
+spelling (mark ∷ marks) = mark_spelling mark ++ spelling marks
+
+-- a piece for each body
+abbrev pub pieces : Kind → List (List ℕ) → List Mark
+pieces kind [] = []
+pieces kind (body ∷ bodies) = Piece kind body ∷ pieces kind bodies
+
+-- the marks of a string of indefinite length (RFC 7049, 2.2.2)
+abbrev pub open_marks : Kind → List (List ℕ) → List Mark
+open_marks kind bodies = Open kind ∷ (pieces kind bodies ++ Close ∷ [])
+
+-- the bytes are an element, and leave these marks: a title that begins no string, or a sound string (RFC 7049, 2.1 and
+-- 2.2.2). Opens inside a string leave no mark
+pub data IsElement : List ℕ → List Mark → Type 0 where
+  plain : {title : List ℕ} (header : Header) → IsTitle title header → IsPlain header → IsElement title (Plain header ∷ [])
+  definite : {title body : List ℕ} (kind : Kind) → IsTitle title (kind_header kind (Some (length body))) → IsSound kind (body ∷ [])
+      → IsElement (title ++ body) (Whole kind body ∷ [])
+  indefinite : {title strings : List ℕ} {bodies : List (List ℕ)} (kind : Kind) → IsTitle title (kind_header kind None)
+      → AreStrings kind strings bodies → IsSound kind bodies → IsElement (title ++ (strings ++ 0xff ∷ [])) (open_marks kind bodies)
+
+-- the bytes are this many elements, joined, with these marks
+pub data IsRun : ℕ → List ℕ → List Mark → Type 0 where
+  done : IsRun zero [] []
+  next : {count : ℕ} {first rest : List ℕ} {marks others : List Mark} → IsElement first marks → IsRun count rest others
+      → IsRun (suc count) (first ++ rest) (marks ++ others)
+
+-- ---- the elements of a strict decoder
+
+-- the mark is no small simple value in two bytes (RFC 7049, 2.3)
+abbrev pub IsMeant : Mark → Type 0
+IsMeant (Plain header) = IsSmallSimple header → ⊥
+IsMeant mark = Unit {0}
+
+-- the bytes are the marks' shortest spelling, with more behind it, and no mark is a small simple value
+pub record IsStrictSpelling (bytes : List ℕ) (marks : List Mark) (more : List ℕ) : Type 0 where
+  pub same : bytes ≡ spelling marks ++ more
+  pub meant : AllByRecursion IsMeant marks

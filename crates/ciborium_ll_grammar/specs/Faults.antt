@@ -1,0 +1,125 @@
+-- How far a copy of elements comes in bytes, what is due there, and the first fault, which stops it.
+use Rattle.std.specs.Prelude.{◌≡◌, ℕ, ◌+◌, ◌-◌, ◌<◌, ◌≤◌, ◌⊎◌, Bool, true, min, List, ◌∷◌, ◌++◌, length, take, Some, None}
+use Rattle.ciborium_ll_grammar.specs.declared.hdr.Header.{Header}
+use Rattle.ciborium_ll_grammar.specs.declared.hdr.Header.TheVariants as h
+use Rattle.ciborium_ll_grammar.specs.Title.{IsTitle, shortest_title, title_len, IsCutTitle, BeginsRefused}
+use Rattle.ciborium_ll_grammar.specs.Strings.{Kind, Bytes, Text, kind_header, AreStrings}
+use Rattle.ciborium_ll_text.specs.Text.{IsCharacters, BeginsNoText}
+use Rattle.ciborium_ll_grammar.specs.Elements.{IsSound, Mark, Open, pieces, spelling, IsRun}
+
+-- ---- how far a copy comes
+
+-- The bytes are within a string that isn't closed: opens of the kind, each with strings behind it, and none closed.
+-- The bodies are those so far (RFC 7049, 2.2.2)
+pub data IsInside (kind : Kind) : List ℕ → List (List ℕ) → Type 0 where
+  opened : {title strings : List ℕ} {bodies : List (List ℕ)} → IsTitle title (kind_header kind None) → AreStrings kind strings bodies
+      → IsInside kind (title ++ strings) bodies
+  deeper : {outer inner : List ℕ} {bodies others : List (List ℕ)} → IsInside kind outer bodies → IsInside kind inner others
+      → IsInside kind (outer ++ inner) (bodies ++ others)
+
+-- what is due: an element; within a string of the kind a further one or its end; or a body of so many bytes, to whose
+-- fault this offset is given
+pub data Place : Type 0 where
+  Due : Place
+  In : Kind → Place
+  Body : Kind → ℕ → ℕ → Place
+
+-- `Reaches count bytes marks place`: the bytes are a part of so many elements, which left the marks, and what is due
+-- behind them is the place
+pub data Reaches (count : ℕ) : List ℕ → List Mark → Place → Type 0 where
+  due : {before : ℕ} {bytes : List ℕ} {marks : List Mark} → before < count → IsRun before bytes marks → Reaches count bytes marks Due
+  inside : {before : ℕ} {bytes opens : List ℕ} {marks : List Mark} {bodies : List (List ℕ)} {kind : Kind} → before < count
+      → IsRun before bytes marks → IsInside kind opens bodies → IsSound kind bodies
+      → Reaches count (bytes ++ opens) (marks ++ Open kind ∷ pieces kind bodies) (In kind)
+  -- the offset is the end of the title less the length of the shortest one: late, where the title is a longer one
+  body : {bytes title : List ℕ} {marks : List Mark} {len : ℕ} (kind : Kind) → Reaches count bytes marks Due
+      → IsTitle title (kind_header kind (Some len))
+      → Reaches count (bytes ++ title) marks (Body kind len (length (bytes ++ title) - title_len (kind_header kind (Some len))))
+  body_inside : {bytes title : List ℕ} {marks : List Mark} {len : ℕ} {kind : Kind} → Reaches count bytes marks (In kind)
+      → IsTitle title (kind_header kind (Some len)) → Reaches count (bytes ++ title) marks (Body kind len (length bytes))
+
+-- ---- the first fault
+
+-- a title is due
+abbrev pub IsAtTitle : Place → Type 0
+IsAtTitle Due = Unit {0}
+IsAtTitle (In kind) = Unit {0}
+IsAtTitle (Body kind len start) = ⊥
+
+-- a header that may not stand within a string of the kind (RFC 7049, 2.2.2): neither of the kind nor a break
+abbrev pub IsMisplaced : Kind → Header → Type 0
+IsMisplaced Bytes (h.Bytes len) = ⊥
+IsMisplaced Text (h.Text len) = ⊥
+IsMisplaced kind h.Break = ⊥
+IsMisplaced kind header = Unit {0}
+
+-- a header that a decoder refuses within a string of the kind: a strict one a further open too
+abbrev pub IsRefusedIn : Bool → Kind → Header → Type 0
+IsRefusedIn strict kind header = IsMisplaced kind header ⊎ ((strict ≡ true) × (header ≡ kind_header kind None))
+
+-- the bytes end too early, or what stands at this offset is none of the grammar
+pub data Answer : Type 0 where
+  Short : Answer
+  Syntax : ℕ → Answer
+
+-- what may be written of a body that is cut: any bytes, of a text characters
+abbrev pub IsWritable : Kind → List ℕ → Type 0
+IsWritable Bytes front = Unit {0}
+IsWritable Text front = IsCharacters front
+
+-- how many bytes more than are written may be consumed of a body: of a text up to three
+abbrev pub most_kept : Kind → ℕ
+most_kept Bytes = 0
+most_kept Text = 3
+
+-- the marks, the shortest title of a string of this length, and a front of its body
+abbrev pub with_front : List Mark → Kind → ℕ → List ℕ → List ℕ
+with_front marks kind len front = spelling marks ++ (shortest_title (kind_header kind (Some len)) ++ front)
+
+-- `FirstFault before marks place ahead answer written consumed`: behind the bytes before, which left the marks, the bytes
+-- ahead are at fault where the place is due. The answer, what is written in all, and how many bytes ahead are consumed
+pub data FirstFault (before : List ℕ) (marks : List Mark) : Place → List ℕ → Answer → List ℕ → ℕ → Type 0 where
+  -- a title is due, and the bytes end before it or within it
+  CutTitle : {place : Place} {ahead : List ℕ} → IsAtTitle place → IsCutTitle ahead
+      → FirstFault before marks place ahead Short (spelling marks) (min 1 (length ahead))
+  -- a title is due, and a byte comes with which none begins
+  NoTitle : {place : Place} {ahead : List ℕ} → IsAtTitle place → BeginsRefused ahead
+      → FirstFault before marks place ahead (Syntax (length before)) (spelling marks) 1
+  -- within a string a title comes that may not stand there
+  OtherTitle : {kind : Kind} {title ahead : List ℕ} (header : Header) (rest : List ℕ) → IsTitle title header → IsMisplaced kind header
+      → ahead ≡ title ++ rest → FirstFault before marks (In kind) ahead (Syntax (length before)) (spelling marks) (length title)
+  -- the whole body of a text is no text
+  DamagedText : {len start consumed : ℕ} {ahead : List ℕ} (front rest : List ℕ) → len ≤ length ahead → (IsCharacters (take len ahead) → ⊥)
+      → take len ahead ≡ front ++ rest → IsCharacters front → consumed ≤ len
+      → FirstFault before marks (Body Text len start) ahead (Syntax start) (with_front marks Text len front) consumed
+  -- the bytes end within a body
+  CutBody : {kind : Kind} {len start consumed : ℕ} {ahead : List ℕ} (front rest : List ℕ) → length ahead < len → ahead ≡ front ++ rest
+      → IsWritable kind front → length front ≤ consumed → consumed ≤ length front + most_kept kind → consumed ≤ length ahead
+      → FirstFault before marks (Body kind len start) ahead Short (with_front marks kind len front) consumed
+  -- the bytes end within the body of a text, and no text begins as they do
+  CutDamagedText : {len start consumed : ℕ} {ahead : List ℕ} (front rest : List ℕ) → length ahead < len → BeginsNoText ahead
+      → ahead ≡ front ++ rest → IsCharacters front → consumed ≤ length ahead
+      → FirstFault before marks (Body Text len start) ahead (Syntax start) (with_front marks Text len front) consumed
+
+-- ---- both over whole lists
+
+-- so many elements stand in front of the bytes
+pub record RunInFront (count : ℕ) (bytes : List ℕ) : Type 0 where
+  pub elements : List ℕ
+  pub marks : List Mark
+  pub rest : List ℕ
+  pub run : IsRun count elements marks
+  pub is : bytes ≡ elements ++ rest
+
+-- a fault stops a copy of so many elements
+pub record HasFault (count : ℕ) (bytes : List ℕ) : Type 0 where
+  pub before : List ℕ
+  pub marks : List Mark
+  pub place : Place
+  pub ahead : List ℕ
+  pub answer : Answer
+  pub written : List ℕ
+  pub consumed : ℕ
+  pub reach : Reaches count before marks place
+  pub is : bytes ≡ before ++ ahead
+  pub fault : FirstFault before marks place ahead answer written consumed

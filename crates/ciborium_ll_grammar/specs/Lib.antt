@@ -1,0 +1,9 @@
+pub mod Elements
+pub mod Faults
+pub mod Items
+pub mod Parts
+pub mod Steps
+pub mod Strings
+pub mod Title
+pub mod TitleRows
+pub mod Values

@@ -1,0 +1,209 @@
+-- Titles: the first byte of an item and the number behind it (RFC 7049, 2.1 to 2.3), and the headers that they mean.
+--
+-- A number here has no range. `IsInRange header` says that a header's numbers are those of its Rust type.
+use Rattle.std.specs.Prelude.{◌≡◌, ℕ, ◌+◌, ◌*◌, ◌/◌, ◌%◌, ◌<◌, ◌≤◌, ◌^◌, ◌⊎◌, List, [], ◌∷◌, length, Option, Some, None, IfSome, if◌then◌else◌, nat_lt, ◌==◌, slice_index}
+use Rattle.std.specs.Int.{to_be_bytes, w8, w16, w32, w64}
+use Rattle.ciborium_ll_grammar.specs.declared.hdr.Header.{Header}
+use Rattle.ciborium_ll_grammar.specs.declared.hdr.Header.TheVariants as h
+use Rattle.ciborium_ll_grammar.specs.declared.hdr.Float.{Float}
+use Rattle.ciborium_ll_grammar.specs.declared.hdr.Float.TheVariants as f
+
+-- the major type, which the upper three bits of a first byte give (RFC 7049, 2.1)
+pub data Major : Type 0 where
+  Unsigned Negative ByteString TextString Array Map Tag Other : Major
+
+-- the number of a major type (RFC 7049, 2.1)
+abbrev pub major_code : Major → ℕ
+major_code Unsigned = 0
+major_code Negative = 1
+major_code ByteString = 2
+major_code TextString = 3
+major_code Array = 4
+major_code Map = 5
+major_code Tag = 6
+major_code Other = 7
+
+-- a first byte: the major type, and the minor in the lower five bits (RFC 7049, 2.1)
+abbrev pub first_byte : Major → ℕ → ℕ
+first_byte major minor = 32 * major_code major + minor
+
+-- where the number of a title stands: in the minor itself, or in the 1, 2, 4 or 8 bytes behind it (RFC 7049, 2.1)
+pub data Size : Type 0 where
+  Small One Two Four Eight : Size
+
+-- the numbers of a size are below this one (RFC 7049, 2.1)
+abbrev pub size_limit : Size → ℕ
+size_limit Small = 24
+size_limit One = 2 ^ 8
+size_limit Two = 2 ^ 16
+size_limit Four = 2 ^ 32
+size_limit Eight = 2 ^ 64
+
+-- the minor of a size (RFC 7049, 2.1): the number itself, or how many bytes follow
+abbrev pub minor_of : Size → ℕ → ℕ
+minor_of Small n = n
+minor_of One n = 24
+minor_of Two n = 25
+minor_of Four n = 26
+minor_of Eight n = 27
+
+-- the affix: the bytes behind the first one, the most significant first (RFC 7049, 2.1)
+abbrev pub affix_of : Size → ℕ → List ℕ
+affix_of Small n = []
+affix_of One n = to_be_bytes w8 n
+affix_of Two n = to_be_bytes w16 n
+affix_of Four n = to_be_bytes w32 n
+affix_of Eight n = to_be_bytes w64 n
+
+-- a first byte and its affix (RFC 7049, 2.1)
+abbrev pub numbered_title : Major → Size → ℕ → List ℕ
+numbered_title major size n = first_byte major (minor_of size n) ∷ affix_of size n
+
+-- major type 7: simple values and floats of 16, 32 and 64 bits (RFC 7049, 2.3)
+abbrev pub other_header : Size → ℕ → Header
+other_header Small n = h.Simple n
+other_header One n = h.Simple n
+other_header Two n = h.Float (f.Half n)
+other_header Four n = h.Float (f.Single n)
+other_header Eight n = h.Float (f.Double n)
+
+-- what a number says under each major type (RFC 7049, 2.1, 2.3 and 2.4)
+abbrev pub numbered_header : Major → Size → ℕ → Header
+numbered_header Unsigned size n = h.Positive n
+numbered_header Negative size n = h.Negative n
+numbered_header ByteString size n = h.Bytes (Some n)
+numbered_header TextString size n = h.Text (Some n)
+numbered_header Array size n = h.Array (Some n)
+numbered_header Map size n = h.Map (Some n)
+numbered_header Tag size n = h.Tag n
+numbered_header Other size n = other_header size n
+
+-- what the minor 31 says: the indefinite forms and the break (RFC 7049, 2.2)
+abbrev pub open_header : Major → Option Header
+open_header Unsigned = None
+open_header Negative = None
+open_header ByteString = Some (h.Bytes None)
+open_header TextString = Some (h.Text None)
+open_header Array = Some (h.Array None)
+open_header Map = Some (h.Map None)
+open_header Tag = None
+open_header Other = Some h.Break
+
+-- the bytes are a title of the header: a first byte with its number, or a first byte of minor 31 alone (RFC 7049, 2.1
+-- and 2.2)
+pub data IsTitle : List ℕ → Header → Type 0 where
+  numbered : (major : Major) (size : Size) (n : ℕ) → n < size_limit size → IsTitle (numbered_title major size n) (numbered_header major size n)
+  alone : (major : Major) (header : Header) → open_header major ≡ Some header → IsTitle (first_byte major 31 ∷ []) header
+
+-- ---- the shortest title
+
+-- the smallest size that holds the number (RFC 7049, 3.9)
+abbrev pub least_size : ℕ → Size
+least_size n =
+    if nat_lt n 24 then Small else (if nat_lt n (2 ^ 8) then One else (if nat_lt n (2 ^ 16) then Two else (if nat_lt n (2 ^ 32) then Four else Eight)))
+
+-- a number under a major type, in the smallest size that holds it (RFC 7049, 3.9)
+abbrev pub shortest_numbered : Major → ℕ → List ℕ
+shortest_numbered major n = numbered_title major (least_size n) n
+
+-- a length in the smallest size, or the indefinite form (RFC 7049, 2.2 and 3.9)
+abbrev pub shortest_with_length : Major → Option ℕ → List ℕ
+shortest_with_length major (Some n) = shortest_numbered major n
+shortest_with_length major None = first_byte major 31 ∷ []
+
+-- a float has one title alone (RFC 7049, 2.3)
+abbrev pub float_title : Float → List ℕ
+float_title (f.Half n) = numbered_title Other Two n
+float_title (f.Single n) = numbered_title Other Four n
+float_title (f.Double n) = numbered_title Other Eight n
+
+-- the title of a header that is shorter than every other one (RFC 7049, 3.9)
+abbrev pub shortest_title : Header → List ℕ
+shortest_title (h.Positive n) = shortest_numbered Unsigned n
+shortest_title (h.Negative n) = shortest_numbered Negative n
+shortest_title (h.Float float) = float_title float
+shortest_title (h.Simple n) = shortest_numbered Other n
+shortest_title (h.Tag n) = shortest_numbered Tag n
+shortest_title h.Break = first_byte Other 31 ∷ []
+shortest_title (h.Bytes len) = shortest_with_length ByteString len
+shortest_title (h.Text len) = shortest_with_length TextString len
+shortest_title (h.Array len) = shortest_with_length Array len
+shortest_title (h.Map len) = shortest_with_length Map len
+
+-- how many bytes a header's shortest title has
+abbrev pub title_len : Header → ℕ
+title_len header = length (shortest_title header)
+
+-- a simple value to which RFC 7049, 2.3, gives no meaning: 24 to 31, in two bytes
+abbrev pub IsSmallSimple : Header → Type 0
+IsSmallSimple (h.Simple n) = (24 ≤ n) × (n < 32)
+IsSmallSimple header = ⊥
+
+-- a title that a strict decoder takes: the shortest one of its header (RFC 7049, 3.9), and of no small simple value
+pub record IsStrictTitle (title : List ℕ) (header : Header) : Type 0 where
+  pub shortest : title ≡ shortest_title header
+  pub meant : IsSmallSimple header → ⊥
+
+-- the length of the title of a waiting header
+abbrev pub waiting_len : Option Header → ℕ
+waiting_len None = 0
+waiting_len (Some header) = title_len header
+
+-- ---- the numbers of a header are in the ranges of their types
+
+-- a float's bits fit its width (RFC 7049, 2.3)
+abbrev pub IsFloatInRange : Float → Type 0
+IsFloatInRange (f.Half n) = n < 2 ^ 16
+IsFloatInRange (f.Single n) = n < 2 ^ 32
+IsFloatInRange (f.Double n) = n < 2 ^ 64
+
+-- each number fits its Rust type: 64 bits, and 8 for a simple value (RFC 7049, 2.1 and 2.3)
+abbrev pub IsInRange : Header → Type 0
+IsInRange (h.Positive n) = n < 2 ^ 64
+IsInRange (h.Negative n) = n < 2 ^ 64
+IsInRange (h.Float float) = IsFloatInRange float
+IsInRange (h.Simple n) = n < 2 ^ 8
+IsInRange (h.Tag n) = n < 2 ^ 64
+IsInRange h.Break = Unit {0}
+IsInRange (h.Bytes len) = IfSome len (λ n. n < 2 ^ 64)
+IsInRange (h.Text len) = IfSome len (λ n. n < 2 ^ 64)
+IsInRange (h.Array len) = IfSome len (λ n. n < 2 ^ 64)
+IsInRange (h.Map len) = IfSome len (λ n. n < 2 ^ 64)
+
+-- ---- bytes in front of which no title stands
+
+-- a reserved minor (RFC 7049, 2.1): 28, 29 or 30
+abbrev pub IsReserved : ℕ → Type 0
+IsReserved minor = (28 ≤ minor) × (minor ≤ 30)
+
+-- the minor 31 under a major type that has no indefinite form (RFC 7049, 2.2): 0, 1 or 6
+abbrev pub IsNeverOpen : ℕ → Type 0
+IsNeverOpen major = (major ≡ 0) ⊎ ((major ≡ 1) ⊎ (major ≡ 6))
+
+-- the first bytes with which no title begins: 27 of the 256
+abbrev pub IsRefused : ℕ → Type 0
+IsRefused byte = IsReserved (byte % 32) ⊎ ((byte % 32 ≡ 31) × IsNeverOpen (byte / 32))
+
+-- the bytes begin with one of those
+abbrev pub BeginsRefused : List ℕ → Type 0
+BeginsRefused [] = ⊥
+BeginsRefused (byte ∷ rest) = IsRefused byte
+
+-- how many bytes of affix a minor announces (RFC 7049, 2.1)
+abbrev pub affix_len : ℕ → ℕ
+affix_len minor = if minor == 24 then 1 else (if minor == 25 then 2 else (if minor == 26 then 4 else (if minor == 27 then 8 else 0)))
+
+-- The bytes end inside a title: they are none, or fewer follow the first byte than it announces. By the law
+-- `cut_titles` just these, of lists of bytes, are the proper beginnings of titles.
+abbrev pub IsCutTitle : List ℕ → Type 0
+IsCutTitle [] = Unit {0}
+IsCutTitle (byte ∷ rest) = length rest < affix_len (byte % 32)
+
+-- each element is a byte
+abbrev pub AreBytes : List ℕ → Type 0
+AreBytes bytes = (i : ℕ) → slice_index bytes i < 256
+
+-- the 27 refused bytes, in order
+abbrev pub refused_bytes : List ℕ
+refused_bytes =
+    0x1c ∷ 0x1d ∷ 0x1e ∷ 0x1f ∷ 0x3c ∷ 0x3d ∷ 0x3e ∷ 0x3f ∷ 0x5c ∷ 0x5d ∷ 0x5e ∷ 0x7c ∷ 0x7d ∷ 0x7e ∷ 0x9c ∷ 0x9d ∷ 0x9e ∷ 0xbc ∷ 0xbd ∷ 0xbe ∷ 0xdc ∷ 0xdd ∷ 0xde ∷ 0xdf ∷ 0xfc ∷ 0xfd ∷ 0xfe ∷ []

@@ -1,0 +1,209 @@
+//! What each first byte says of its title (RFC 7049, 2.1 to 2.3), as a table.
+
+ghost use Rattle.ciborium_ll_grammar.specs.TitleRows.{IsRow};
+
+/// What a title means, but for its number: its major type (RFC 7049, 2.1).
+#[derive(Clone, Copy)]
+pub enum Kind {
+    /// An unsigned integer: the major type 0.
+    Positive,
+    /// A negative integer: 1.
+    Negative,
+    /// A byte string: 2.
+    Bytes,
+    /// A text string: 3.
+    Text,
+    /// An array: 4.
+    Array,
+    /// A map: 5.
+    Map,
+    /// A tag: 6.
+    Tag,
+    /// A simple value, a float or the break: 7.
+    Other,
+    /// Nothing: no title begins so.
+    Refused,
+}
+
+/// Where the number of a title stands (RFC 7049, 2.1).
+#[derive(Clone, Copy)]
+pub enum Affix {
+    /// In the first byte itself.
+    Within,
+    /// In one byte behind.
+    One,
+    /// In two bytes behind.
+    Two,
+    /// In four bytes behind.
+    Four,
+    /// In eight bytes behind.
+    Eight,
+    /// Nowhere: an indefinite form or a break.
+    Open,
+    /// Nowhere: the minors 28 to 30 are reserved, and nothing is read behind them.
+    Reserved,
+}
+
+/// What a first byte says of its title.
+#[derive(Clone, Copy)]
+pub struct Row {
+    pub kind: Kind,
+    pub affix: Affix,
+}
+
+macro_rules! row {
+    ($kind:ident, $affix:ident) => {
+        Row {
+            kind: Kind::$kind,
+            affix: Affix::$affix,
+        }
+    };
+}
+
+// Each is named for its kind and the length of the affix.
+const POSITIVE: Row = row!(Positive, Within);
+
+const POSITIVE_1: Row = row!(Positive, One);
+
+const POSITIVE_2: Row = row!(Positive, Two);
+
+const POSITIVE_4: Row = row!(Positive, Four);
+
+const POSITIVE_8: Row = row!(Positive, Eight);
+
+const NEGATIVE: Row = row!(Negative, Within);
+
+const NEGATIVE_1: Row = row!(Negative, One);
+
+const NEGATIVE_2: Row = row!(Negative, Two);
+
+const NEGATIVE_4: Row = row!(Negative, Four);
+
+const NEGATIVE_8: Row = row!(Negative, Eight);
+
+const BYTES: Row = row!(Bytes, Within);
+
+const BYTES_1: Row = row!(Bytes, One);
+
+const BYTES_2: Row = row!(Bytes, Two);
+
+const BYTES_4: Row = row!(Bytes, Four);
+
+const BYTES_8: Row = row!(Bytes, Eight);
+
+const BYTES_OPEN: Row = row!(Bytes, Open);
+
+const TEXT: Row = row!(Text, Within);
+
+const TEXT_1: Row = row!(Text, One);
+
+const TEXT_2: Row = row!(Text, Two);
+
+const TEXT_4: Row = row!(Text, Four);
+
+const TEXT_8: Row = row!(Text, Eight);
+
+const TEXT_OPEN: Row = row!(Text, Open);
+
+const ARRAY: Row = row!(Array, Within);
+
+const ARRAY_1: Row = row!(Array, One);
+
+const ARRAY_2: Row = row!(Array, Two);
+
+const ARRAY_4: Row = row!(Array, Four);
+
+const ARRAY_8: Row = row!(Array, Eight);
+
+const ARRAY_OPEN: Row = row!(Array, Open);
+
+const MAP: Row = row!(Map, Within);
+
+const MAP_1: Row = row!(Map, One);
+
+const MAP_2: Row = row!(Map, Two);
+
+const MAP_4: Row = row!(Map, Four);
+
+const MAP_8: Row = row!(Map, Eight);
+
+const MAP_OPEN: Row = row!(Map, Open);
+
+const TAG: Row = row!(Tag, Within);
+
+const TAG_1: Row = row!(Tag, One);
+
+const TAG_2: Row = row!(Tag, Two);
+
+const TAG_4: Row = row!(Tag, Four);
+
+const TAG_8: Row = row!(Tag, Eight);
+
+const OTHER: Row = row!(Other, Within);
+
+const OTHER_1: Row = row!(Other, One);
+
+const OTHER_2: Row = row!(Other, Two);
+
+const OTHER_4: Row = row!(Other, Four);
+
+const OTHER_8: Row = row!(Other, Eight);
+
+const OTHER_OPEN: Row = row!(Other, Open);
+
+const RESERVED: Row = row!(Refused, Reserved);
+/// The minor 31 under a major type that has no indefinite form.
+const NEVER_OPEN: Row = row!(Refused, Open);
+
+/// A row for each first byte: four lines, of eight rows each, for each major type.
+#[rattlefmt::skip]
+static ROWS: [Row; 256] = [
+    // unsigned integers
+    POSITIVE, POSITIVE, POSITIVE, POSITIVE, POSITIVE, POSITIVE, POSITIVE, POSITIVE,
+    POSITIVE, POSITIVE, POSITIVE, POSITIVE, POSITIVE, POSITIVE, POSITIVE, POSITIVE,
+    POSITIVE, POSITIVE, POSITIVE, POSITIVE, POSITIVE, POSITIVE, POSITIVE, POSITIVE,
+    POSITIVE_1, POSITIVE_2, POSITIVE_4, POSITIVE_8, RESERVED, RESERVED, RESERVED, NEVER_OPEN,
+    // negative integers
+    NEGATIVE, NEGATIVE, NEGATIVE, NEGATIVE, NEGATIVE, NEGATIVE, NEGATIVE, NEGATIVE,
+    NEGATIVE, NEGATIVE, NEGATIVE, NEGATIVE, NEGATIVE, NEGATIVE, NEGATIVE, NEGATIVE,
+    NEGATIVE, NEGATIVE, NEGATIVE, NEGATIVE, NEGATIVE, NEGATIVE, NEGATIVE, NEGATIVE,
+    NEGATIVE_1, NEGATIVE_2, NEGATIVE_4, NEGATIVE_8, RESERVED, RESERVED, RESERVED, NEVER_OPEN,
+    // byte strings
+    BYTES, BYTES, BYTES, BYTES, BYTES, BYTES, BYTES, BYTES,
+    BYTES, BYTES, BYTES, BYTES, BYTES, BYTES, BYTES, BYTES,
+    BYTES, BYTES, BYTES, BYTES, BYTES, BYTES, BYTES, BYTES,
+    BYTES_1, BYTES_2, BYTES_4, BYTES_8, RESERVED, RESERVED, RESERVED, BYTES_OPEN,
+    // text strings
+    TEXT, TEXT, TEXT, TEXT, TEXT, TEXT, TEXT, TEXT,
+    TEXT, TEXT, TEXT, TEXT, TEXT, TEXT, TEXT, TEXT,
+    TEXT, TEXT, TEXT, TEXT, TEXT, TEXT, TEXT, TEXT,
+    TEXT_1, TEXT_2, TEXT_4, TEXT_8, RESERVED, RESERVED, RESERVED, TEXT_OPEN,
+    // arrays
+    ARRAY, ARRAY, ARRAY, ARRAY, ARRAY, ARRAY, ARRAY, ARRAY,
+    ARRAY, ARRAY, ARRAY, ARRAY, ARRAY, ARRAY, ARRAY, ARRAY,
+    ARRAY, ARRAY, ARRAY, ARRAY, ARRAY, ARRAY, ARRAY, ARRAY,
+    ARRAY_1, ARRAY_2, ARRAY_4, ARRAY_8, RESERVED, RESERVED, RESERVED, ARRAY_OPEN,
+    // maps
+    MAP, MAP, MAP, MAP, MAP, MAP, MAP, MAP,
+    MAP, MAP, MAP, MAP, MAP, MAP, MAP, MAP,
+    MAP, MAP, MAP, MAP, MAP, MAP, MAP, MAP,
+    MAP_1, MAP_2, MAP_4, MAP_8, RESERVED, RESERVED, RESERVED, MAP_OPEN,
+    // tags
+    TAG, TAG, TAG, TAG, TAG, TAG, TAG, TAG,
+    TAG, TAG, TAG, TAG, TAG, TAG, TAG, TAG,
+    TAG, TAG, TAG, TAG, TAG, TAG, TAG, TAG,
+    TAG_1, TAG_2, TAG_4, TAG_8, RESERVED, RESERVED, RESERVED, NEVER_OPEN,
+    // simple values, floats and the break
+    OTHER, OTHER, OTHER, OTHER, OTHER, OTHER, OTHER, OTHER,
+    OTHER, OTHER, OTHER, OTHER, OTHER, OTHER, OTHER, OTHER,
+    OTHER, OTHER, OTHER, OTHER, OTHER, OTHER, OTHER, OTHER,
+    OTHER_1, OTHER_2, OTHER_4, OTHER_8, RESERVED, RESERVED, RESERVED, OTHER_OPEN,
+];
+
+/// The row of a first byte.
+#[inline(always)]
+pub fn row_of(first: u8) -> Row
+    ensures { IsRow first result }
+{
+    ROWS[first as usize]
+}

@@ -1,0 +1,48 @@
+//! Laws of titles.
+
+ghost use Rattle.std.specs.Prelude.{◌≡◌, ◌≤◌, ℕ, ◌<◌, ◌⊎◌, ◌++◌, List, length, ◌↔◌, [], ◌∷◌};
+ghost use Rattle.std.specs.List.{Contains};
+ghost use Rattle.std.specs.List.Sorted.{IsStrictlyIncreasing};
+ghost use Rattle.ciborium_ll_grammar.specs.declared.hdr.Header.{Header};
+ghost use Rattle.ciborium_ll_grammar.specs.Title.{IsTitle, shortest_title, IsInRange, IsRefused, IsCutTitle, AreBytes, refused_bytes};
+
+/// No title begins another one, and each is of one header.
+pub fn one_title()
+    ensures { (title other rest more : List ℕ) (header another : Header) → IsTitle title header → IsTitle other another
+        → title ++ rest ≡ other ++ more → (title ≡ other) × (header ≡ another) × (rest ≡ more) }
+{}
+
+/// The shortest title of a header is a title of it, and every other one is longer.
+pub fn shortest_titles()
+    ensures is_title { (header : Header) → IsInRange header → IsTitle (shortest_title header) header }
+    ensures is_shortest { (header : Header) (title : List ℕ) → IsTitle title header
+        → (title ≡ shortest_title header) ⊎ (length (shortest_title header) < length title) }
+{}
+
+/// The numbers of a title's header are in the ranges of their types.
+pub fn title_header()
+    ensures { (title : List ℕ) (header : Header) → IsTitle title header → IsInRange header }
+{}
+
+/// A title has from 1 to 9 bytes.
+pub fn title_length()
+    ensures { (title : List ℕ) (header : Header) → IsTitle title header → (1 ≤ length title) × (length title ≤ 9) }
+{}
+
+/// With just 27 of the 256 bytes no title begins.
+pub fn refused_first_bytes()
+    ensures none { (byte : ℕ) (rest : List ℕ) (header : Header) → IsRefused byte → IsTitle (byte ∷ rest) header → ⊥ }
+    ensures others { (byte : ℕ) → byte < 256
+        → (IsRefused byte) ⊎ ((rest : List ℕ) × (header : Header) × IsTitle (byte ∷ rest) header) }
+    ensures listed { (byte : ℕ) → byte < 256 → (IsRefused byte ↔ Contains refused_bytes byte) }
+    ensures ascending { IsStrictlyIncreasing refused_bytes }
+    ensures count { length refused_bytes ≡ 27 }
+{}
+
+/// Bytes are a cut title just where at least one byte more makes them a title.
+pub fn cut_titles()
+    ensures begins { (bytes : List ℕ) → AreBytes bytes → IsCutTitle bytes
+        → (byte : ℕ) × (more : List ℕ) × (header : Header) × IsTitle (bytes ++ byte ∷ more) header }
+    ensures cut { (bytes : List ℕ) (byte : ℕ) (more : List ℕ) (header : Header) → IsTitle (bytes ++ byte ∷ more) header
+        → IsCutTitle bytes }
+{}

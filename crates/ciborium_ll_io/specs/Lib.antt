@@ -1,0 +1,4 @@
+pub mod Buffers
+pub mod Slices
+pub mod Streams
+pub mod Transfer

@@ -1,0 +1,162 @@
+//! A reader and a writer over slices.
+
+ghost use Rattle.std.specs.Prelude.{true, ◌≡◌, ◌≤◌, [], Some, length, refl};
+
+use super::failures::Failures;
+use super::{Read, Write};
+
+/// Fewer bytes are left than were asked for. Nothing was consumed.
+#[derive(Debug, Drop)]
+pub struct EndOfFile;
+
+/// Reads from a slice. It is steady, and tells what is left of the slice.
+#[derive(Drop)]
+pub struct SliceReader<'a> {
+    left: &'a [u8],
+    failures: Failures,
+}
+
+impl<'a> SliceReader<'a> {
+    /// A reader of the whole slice.
+    pub fn new(bytes: &'a [u8]) -> SliceReader<'a>
+        ensures ahead { ⟦<SliceReader<'a> as Read>⟧.ahead result ≡ Some bytes.now }
+        ensures failures { ⟦<SliceReader<'a> as Read>⟧.failures result ≡ 0 }
+    {
+        SliceReader {
+            left: bytes,
+            failures: Failures::new(),
+        }
+    }
+
+    /// The bytes that were not read yet.
+    pub fn left(&self) -> &[u8]
+        ensures { ⟦<SliceReader<'a> as Read>⟧.ahead self.now ≡ Some result.now }
+    {
+        self.left
+    }
+}
+
+impl<'a> Read for SliceReader<'a> {
+    type Error = EndOfFile;
+
+    ghost ahead = { λ r. Some r.left.now };
+
+    ghost steady = { λ _. true };
+
+    ghost failures = { λ r. r.failures.count };
+
+    ghost steady_is_told = { λ _ _. refl };
+
+    fn read_exact(&mut self, data: &mut [u8]) -> Result<(), EndOfFile> {
+        if self.left.len() < data.len() {
+            self.failures.raise();
+            return Err(EndOfFile);
+        }
+        let (front, rest) = self.left.split_at(data.len());
+        data.copy_from_slice(front);
+        self.left = rest;
+        Ok(())
+    }
+}
+
+/// The room is smaller than what was to be written. Nothing was written.
+#[derive(Debug, Drop)]
+pub struct OutOfSpace;
+
+/// Writes into a slice, from its front on. It tells what it wrote and its room.
+#[derive(Drop)]
+pub struct SliceWriter<'a> {
+    buffer: &'a mut [u8],
+    filled: usize,
+    failures: Failures,
+    ghost within: { filled ≤ length buffer.now },
+}
+
+impl<'a> SliceWriter<'a> {
+    /// A writer with the whole slice as its room.
+    pub fn new(buffer: &'a mut [u8]) -> SliceWriter<'a>
+        ensures written { ⟦<SliceWriter<'a> as Write>⟧.written result ≡ Some [] }
+        ensures room { ⟦<SliceWriter<'a> as Write>⟧.room result ≡ Some (length buffer.old) }
+        ensures failures { ⟦<SliceWriter<'a> as Write>⟧.failures result ≡ 0 }
+        ensures same_reference { result.buffer.ghost_name ≡ buffer.entry.ghost_name }
+    {
+        SliceWriter {
+            buffer,
+            filled: 0,
+            failures: Failures::new(),
+        }
+    }
+
+    /// The bytes written so far.
+    pub fn written(&self) -> &[u8]
+        ensures { ⟦<SliceWriter<'a> as Write>⟧.written self.now ≡ Some result.now }
+    {
+        &self.buffer[..self.filled]
+    }
+
+    /// How many more bytes fit.
+    pub fn room(&self) -> usize
+        ensures { ⟦<SliceWriter<'a> as Write>⟧.room self.now ≡ Some result }
+    {
+        self.buffer.len() - self.filled
+    }
+}
+
+impl<'a> Write for SliceWriter<'a> {
+    ghost use Rattle.std.specs.Prelude.{◌≡◌, ◌+◌, ◌<◌, IsSome, IfSome, OnOk, OnErr, IsOk, length};
+    ghost use Rattle.std.specs.Io.KnownBytes.{Appends};
+    ghost use Rattle.ciborium_ll_io.specs.Transfer.{Shrinks, AppendsFront};
+    ghost use Rattle.ciborium_ll_io.specs.Slices.{written_of, room_of, failures_of};
+
+    type Error = OutOfSpace;
+
+    ghost written = { λ w. written_of w };
+
+    ghost room = { λ w. room_of w };
+
+    ghost failures = { λ w. failures_of w };
+
+    ghost flushed = { λ old new. written_of new ≡ written_of old };
+
+    /// Appends the whole of `data`, or nothing where the room is smaller.
+    fn write_all(&mut self, data: &[u8]) -> Result<(), OutOfSpace>
+        // The trait's.
+        ensures bytes { OnOk result (Appends (written_of self.old) (written_of self.new) «data».now) }
+        ensures fills { OnOk result (Shrinks (room_of self.old) (room_of self.new) (length «data».now)) }
+        ensures ok { OnOk result (failures_of self.new ≡ failures_of self.old) }
+        ensures front { OnErr result (AppendsFront (written_of self.old) (written_of self.new) (room_of self.old)
+            (room_of self.new) «data».now) }
+        ensures full { OnErr result (IfSome (room_of self.old) (λ n. n < length «data».now)) }
+        ensures err { OnErr result (failures_of self.new ≡ failures_of self.old + 1) }
+
+        // The slice's own.
+        ensures nothing { OnErr result (written_of self.new ≡ written_of self.old) }
+        ensures same_reference { self.new.buffer.ghost_name ≡ self.old.buffer.ghost_name }
+    {
+        if self.room() < data.len() {
+            self.failures.raise();
+            return Err(OutOfSpace);
+        }
+        let end = self.filled + data.len();
+        self.buffer[self.filled..end].copy_from_slice(data);
+        self.filled = end;
+        Ok(())
+    }
+
+    /// Does nothing, and never fails.
+    fn flush(&mut self) -> Result<(), OutOfSpace>
+        // The trait's.
+        ensures bytes { IsSome (room_of self.old) → written_of self.new ≡ written_of self.old }
+        ensures room { IsSome (room_of self.old) → room_of self.new ≡ room_of self.old }
+        ensures flushed { OnOk result (written_of self.new ≡ written_of self.old) }
+        ensures ok { OnOk result (failures_of self.new ≡ failures_of self.old) }
+        ensures err { OnErr result (failures_of self.new ≡ failures_of self.old + 1) }
+
+        // The slice's own.
+        ensures done { IsOk result }
+        ensures same_reference { self.new.buffer.ghost_name ≡ self.old.buffer.ghost_name }
+    {
+        // Nothing was kept back.
+        Ok(())
+    }
+}

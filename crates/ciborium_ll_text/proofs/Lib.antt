@@ -1,0 +1,11 @@
+pub mod BlockLaws
+pub mod CutLaws
+pub mod FrontLaws
+pub mod FullCutLaws
+pub mod LastEndLaws
+pub mod Lists
+pub mod RowLaws
+pub mod StateLaws
+pub mod TextLaws
+pub mod Utf8Laws
+pub mod WindowLaws

@@ -1,0 +1,46 @@
+-- Fronts and rests of lists, and empty ones.
+use Rattle.std.proofs.Common.{◌≡◌, ℕ, ◌+◌, ◌-◌, ◌≤◌, min, List, [], ◌∷◌, ◌++◌, length, take, drop, refl, sym, ap, ◌∙◌, arith}
+use Rattle.std.proofs.Math.Seq.{take-append_seam, take-append-add}
+
+-- two fronts of a list that are as long as each other are the same, and so are the rests
+pub same_front : (a b v v' : List ℕ) → length a ≡ length b → a ++ v ≡ b ++ v' → (a ≡ b) × (v ≡ v')
+same_front [] [] v v' l e = (refl, e)
+same_front [] (y ∷ b) v v' l e = absurd (omega arith)
+same_front (x ∷ a) [] v v' l e = absurd (omega arith)
+same_front (x ∷ a) (y ∷ b) v v' l e =
+    let heads : x ≡ y = cc in
+    let tails : a ++ v ≡ b ++ v' = cc in
+    let h = same_front a b v v' (omega arith) tails in
+    let ab : a ≡ b = h.0 in
+    (cc (heads, ab), h.1)
+
+-- the shorter of two fronts of a list begins the longer
+pub front_of_front : (a b r s : List ℕ) → a ++ r ≡ b ++ s → length a ≤ length b → (m : List ℕ) × (b ≡ a ++ m) × (r ≡ m ++ s)
+front_of_front [] b r s e l = (b, refl, e)
+front_of_front (x ∷ a) [] r s e l = absurd (omega arith)
+front_of_front (x ∷ a) (y ∷ b) r s e l =
+    let heads : x ≡ y = cc in
+    let tails : a ++ r ≡ b ++ s = cc in
+    let h = front_of_front a b r s tails (omega arith) in
+    let hb : b ≡ a ++ h.0 = h.1 in
+    (h.0, cc (heads, hb), h.2)
+
+-- no bytes, by the length
+pub length_zero : (bytes : List ℕ) → length bytes ≡ 0 → bytes ≡ []
+length_zero [] e = refl
+length_zero (byte ∷ bytes) e = absurd (omega arith)
+
+-- a first byte is counted where there is one
+pub first_counted : (rest : List ℕ) → drop (min 1 (length rest)) rest ≡ drop 1 rest
+first_counted [] = refl
+first_counted (b ∷ rest) = let one : min 1 (length (b ∷ rest)) ≡ 1 = omega arith in ap (λ (n : ℕ). drop n (b ∷ rest)) one
+
+-- a list as long as the front asked for is that front
+pub front_of : (len : ℕ) (rest read more : List ℕ) → rest ≡ read ++ more → length read ≡ len → take len rest ≡ read
+front_of len rest read more e l = ap (take len) e ∙ ap (λ (n : ℕ). take n (read ++ more)) (sym l) ∙ take-append_seam read more
+
+-- a front that goes on behind what was read
+pub front_behind : (len : ℕ) (rest read more : List ℕ) → rest ≡ read ++ more → length read ≤ len → take len rest ≡ read ++ take (len - length read) more
+front_behind len rest read more e l =
+    let sum : len ≡ length read + (len - length read) = omega (arith, l) in
+    ap (take len) e ∙ ap (λ (n : ℕ). take n (read ++ more)) sum ∙ take-append-add read more (len - length read)

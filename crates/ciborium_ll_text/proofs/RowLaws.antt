@@ -1,0 +1,86 @@
+-- The rows of the table have the state behind each byte.
+use Rattle.std.proofs.Common.{◌≡◌, ℕ, ◌/◌, ◌%◌, ◌^◌, ◌<◌, ◌+◌, List, map, length, take, get_or, refl, sym, ap, ◌∙◌, arith, if◌then◌else◌, ◌==◌}
+use Rattle.std.proofs.lemmas.List.{get_or-map}
+use Rattle.std.proofs.lemmas.List.FromFn.{get_or-map-range_with_len}
+use Rattle.std.specs.List.{range_with_len}
+use Rattle.ciborium_ll_text.specs.declared.state.State.{State}
+use Rattle.ciborium_ll_text.specs.declared.state.State.TheVariants as s
+use Rattle.ciborium_ll_text.specs.declared.rows.TheConstants.{ROWS}
+use Rattle.ciborium_ll_text.specs.Rows.{shift_of}
+use Rattle.ciborium_ll_text.specs.States.{is_from, after_first, after_next, after_byte, after}
+use Rattle.ciborium_ll_text.proofs.StateLaws.{after-run}
+
+-- a state's entry of a row
+abbrev entry : State → ℕ → ℕ
+entry state row = row / 2 ^ shift_of state % 64
+
+-- each entry is of the state behind the byte
+entries : (state : State)
+    → map (entry state) ROWS ≡ map (λ (b : ℕ). shift_of (after_byte state b)) (range_with_len 0 256)
+unfolding is_from after_first after_next
+entries s.Between = refl
+entries s.OneDue = refl
+entries s.TwoDue = refl
+entries s.ThreeDue = refl
+entries s.BehindE0 = refl
+entries s.BehindEd = refl
+entries s.BehindF0 = refl
+entries s.BehindF4 = refl
+entries s.Damaged = refl
+
+-- a state's entry begins below 64
+pub shift_of-lt : (state : State) → shift_of state < 64
+shift_of-lt s.Between = omega arith
+shift_of-lt s.OneDue = omega arith
+shift_of-lt s.TwoDue = omega arith
+shift_of-lt s.ThreeDue = omega arith
+shift_of-lt s.BehindE0 = omega arith
+shift_of-lt s.BehindEd = omega arith
+shift_of-lt s.BehindF0 = omega arith
+shift_of-lt s.BehindF4 = omega arith
+shift_of-lt s.Damaged = omega arith
+
+-- the entry of the state behind one byte
+pub row_step : (state : State) (b : ℕ) → b < 256
+    → get_or ROWS b 0 / 2 ^ shift_of state % 64 ≡ shift_of (after_byte state b)
+row_step state b l =
+    sym (get_or-map (entry state) ROWS b 0 0 l)
+    ∙ (ap (λ (t : List ℕ). get_or t b 0) (entries state)
+    ∙ get_or-map-range_with_len (λ (b : ℕ). shift_of (after_byte state b)) 0 256 b b 0 l (omega arith))
+
+-- a loop goes on by a byte
+pub row_on : (state : State) (x : List ℕ) (i row : ℕ) → row % 64 ≡ shift_of (after state (take i x)) → i < length x
+    → get_or x i 0 < 256
+    → get_or ROWS (get_or x i 0) 0 / 2 ^ (row % 64) % 64 ≡ shift_of (after state (take (i + 1) x))
+row_on state x i row e l f =
+    ap (λ (z : ℕ). get_or ROWS (get_or x i 0) 0 / 2 ^ z % 64) e
+    ∙ (row_step (after state (take i x)) (get_or x i 0) f ∙ ap shift_of (sym (after-run state x i l)))
+
+-- the state whose entry begins there
+abbrev state_at : ℕ → State
+state_at n =
+    if n == 0 then s.Between
+    else (if n == 6 then s.OneDue
+    else (if n == 12 then s.TwoDue
+    else (if n == 18 then s.ThreeDue
+    else (if n == 24 then s.BehindE0
+    else (if n == 30 then s.BehindEd
+    else (if n == 36 then s.BehindF0
+    else (if n == 42 then s.BehindF4
+    else s.Damaged)))))))
+
+-- is the state itself
+at_shift : (state : State) → state_at (shift_of state) ≡ state
+at_shift s.Between = refl
+at_shift s.OneDue = refl
+at_shift s.TwoDue = refl
+at_shift s.ThreeDue = refl
+at_shift s.BehindE0 = refl
+at_shift s.BehindEd = refl
+at_shift s.BehindF0 = refl
+at_shift s.BehindF4 = refl
+at_shift s.Damaged = refl
+
+-- two states whose entries begin at one place are the same
+pub same_shift : (state other : State) → shift_of state ≡ shift_of other → state ≡ other
+same_shift state other e = sym (at_shift state) ∙ (ap state_at e ∙ at_shift other)

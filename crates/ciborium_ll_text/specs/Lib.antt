@@ -1,0 +1,5 @@
+pub mod Cuts
+pub mod Rows
+pub mod States
+pub mod Text
+pub mod Windows

@@ -1,0 +1,48 @@
+-- Text in UTF-8: characters, each of the bytes of one row of Unicode's Table 3-7, joined.
+use Rattle.std.specs.Prelude.{◌≡◌, ℕ, ◌≤◌, List, [], ◌∷◌, ◌++◌, length}
+use Rattle.std.specs.List.{AllByRecursion}
+
+-- a byte from the lowest to the highest, both included
+abbrev pub IsFrom : ℕ → ℕ → ℕ → Type 0
+IsFrom lowest highest byte = (lowest ≤ byte) × (byte ≤ highest)
+
+-- a byte that may stand last in any character (Unicode, Table 3-7)
+abbrev pub IsTail : ℕ → Type 0
+IsTail byte = IsFrom 0x80 0xbf byte
+
+-- the bytes of one character: the nine rows of Unicode's Table 3-7
+pub data IsCharacter : List ℕ → Type 0 where
+  row1 : {a : ℕ} → IsFrom 0x00 0x7f a → IsCharacter (a ∷ [])
+  row2 : {a b : ℕ} → IsFrom 0xc2 0xdf a → IsTail b → IsCharacter (a ∷ b ∷ [])
+  row3 : {a b c : ℕ} → IsFrom 0xe0 0xe0 a → IsFrom 0xa0 0xbf b → IsTail c → IsCharacter (a ∷ b ∷ c ∷ [])
+  row4 : {a b c : ℕ} → IsFrom 0xe1 0xec a → IsTail b → IsTail c → IsCharacter (a ∷ b ∷ c ∷ [])
+  row5 : {a b c : ℕ} → IsFrom 0xed 0xed a → IsFrom 0x80 0x9f b → IsTail c → IsCharacter (a ∷ b ∷ c ∷ [])
+  row6 : {a b c : ℕ} → IsFrom 0xee 0xef a → IsTail b → IsTail c → IsCharacter (a ∷ b ∷ c ∷ [])
+  row7 : {a b c d : ℕ} → IsFrom 0xf0 0xf0 a → IsFrom 0x90 0xbf b → IsTail c → IsTail d → IsCharacter (a ∷ b ∷ c ∷ d ∷ [])
+  row8 : {a b c d : ℕ} → IsFrom 0xf1 0xf3 a → IsTail b → IsTail c → IsTail d → IsCharacter (a ∷ b ∷ c ∷ d ∷ [])
+  row9 : {a b c d : ℕ} → IsFrom 0xf4 0xf4 a → IsFrom 0x80 0x8f b → IsTail c → IsTail d → IsCharacter (a ∷ b ∷ c ∷ d ∷ [])
+
+-- the lists joined
+abbrev pub joined : List (List ℕ) → List ℕ
+joined [] = []
+joined (list ∷ lists) = list ++ joined lists
+
+-- the bytes are text: characters, joined (Unicode, Table 3-7)
+pub record IsCharacters (bytes : List ℕ) : Type 0 where
+  pub characters : List (List ℕ)
+  pub each : AllByRecursion IsCharacter characters
+  pub whole : bytes ≡ joined characters
+
+-- the bytes are a front that is text and a rest, and no longer beginning of them is text
+pub record IsFront (bytes front rest : List ℕ) : Type 0 where
+  pub parts : bytes ≡ front ++ rest
+  pub text : IsCharacters front
+  pub longest : (other more : List ℕ) → bytes ≡ other ++ more → IsCharacters other → length other ≤ length front
+
+-- no beginning of the bytes is text, but for the empty one
+abbrev pub IsStuck : List ℕ → Type 0
+IsStuck bytes = (front rest : List ℕ) → bytes ≡ front ++ rest → IsCharacters front → front ≡ []
+
+-- no text begins with the bytes
+abbrev pub BeginsNoText : List ℕ → Type 0
+BeginsNoText bytes = (more : List ℕ) → IsCharacters (bytes ++ more) → ⊥

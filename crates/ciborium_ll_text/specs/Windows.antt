@@ -1,0 +1,24 @@
+-- A text by windows of four bytes: each byte may follow the three before it (Unicode, Table 3-7).
+use Rattle.std.specs.Prelude.{ℕ, ◌-◌, ◌<◌, ◌≤◌, List, slice_index, nat_lt, nat_le, if◌then◌else◌}
+use Rattle.simdutf8.specs.Steps.{Step}
+use Rattle.ciborium_ll_text.specs.declared.state.State.{State}
+use Rattle.ciborium_ll_text.specs.declared.state.State.TheVariants as s
+use Rattle.ciborium_ll_text.specs.States.{after_first}
+
+-- each byte from one index on to another may follow the three before it
+abbrev pub MayFollow : List ℕ → ℕ → ℕ → Type 0
+MayFollow bytes from to =
+    (i : ℕ) → from ≤ i → i < to
+    → Step (slice_index bytes (i - 3)) (slice_index bytes (i - 2)) (slice_index bytes (i - 1)) (slice_index bytes i)
+
+-- the state behind the last three bytes of some that follow one another so: the last of them that begins a character
+-- tells it, and how far it stands from the end
+unfoldable pub after_window : ℕ → ℕ → ℕ → State
+after_window x y z =
+    if nat_lt z 0x80 then s.Between
+    else (if nat_le 0xc0 z then after_first z
+    else (if nat_le 0xf0 y then s.TwoDue
+    else (if nat_le 0xe0 y then s.OneDue
+    else (if nat_le 0xc0 y then s.Between
+    else (if nat_le 0xf0 x then s.OneDue
+    else s.Between)))))

@@ -1,0 +1,15 @@
+//! Laws of texts cut into members.
+
+ghost use Rattle.std.specs.Prelude.{◌≡◌, ◌≤◌, ℕ, List, length};
+ghost use Rattle.ciborium_ll_text.specs.Text.{IsCharacters};
+ghost use Rattle.ciborium_ll_text.specs.Cuts.{IsCut, IsFullCut};
+
+/// A text has just one full cut for a limit of at least 4, and no cut has fewer members.
+pub fn full_cuts()
+    ensures exists { (text : List ℕ) (limit : ℕ) → IsCharacters text → 4 ≤ limit
+        → (members : List (List ℕ)) × IsFullCut text limit members }
+    ensures one { (text : List ℕ) (limit : ℕ) (cut other : List (List ℕ)) → IsFullCut text limit cut
+        → IsFullCut text limit other → cut ≡ other }
+    ensures fewest { (text : List ℕ) (limit : ℕ) (cut other : List (List ℕ)) → IsFullCut text limit cut
+        → IsCut text limit other → length cut ≤ length other }
+{}

@@ -1,0 +1,69 @@
+//! Laws of text.
+
+ghost use Rattle.std.specs.Prelude.{◌≡◌, ℕ, ◌<◌, ◌++◌, List, length, ◌≢◌, ◌↔◌, IsOk, IfOk, IfErr, IsUtf8, [], take, drop};
+ghost use Rattle.std.specs.Str.{IsValidUpTo};
+ghost use Rattle.ciborium_ll_text.specs.States.{after};
+ghost use Rattle.ciborium_ll_text.specs.Text.{IsCharacters, IsFront};
+ghost use Rattle.ciborium_ll_text.specs.declared.state.State.TheVariants.{Between, Damaged};
+
+use simdutf8::compat;
+
+/// Characters joined are what std has as UTF-8.
+pub fn same_text()
+    ensures { (bytes : List ℕ) → (IsCharacters bytes ↔ IsUtf8 bytes) }
+{}
+
+/// What `simdutf8` accepts are just the texts. Of other bytes it gives the longest front that is one.
+pub fn text_or_front(bytes: &[u8]) -> Result<&str, &str>
+    ensures accepted { IsOk result ↔ IsCharacters bytes.now }
+    ensures whole { IfOk result (λ text. text.now ≡ bytes.now) }
+    ensures longest { IfErr result (λ front. IsFront bytes.now front.now (drop (length front.now) bytes.now)) }
+{
+    match compat::from_utf8(bytes) {
+        Ok(text) => Ok(text),
+        Err(error) => match compat::from_utf8(&bytes[..error.valid_up_to()]) {
+            Ok(front) => Err(front),
+            Err(_) => unreachable!(),
+        },
+    }
+}
+
+/// Texts joined are a text.
+pub fn joined_texts()
+    ensures { (text other : List ℕ) → IsCharacters text → IsCharacters other → IsCharacters (text ++ other) }
+{}
+
+/// What follows a text in a text is one.
+pub fn rest_of_text()
+    ensures { (text rest : List ℕ) → IsCharacters text → IsCharacters (text ++ rest) → IsCharacters rest }
+{}
+
+/// Bytes have just one longest front that is text, which is the one that std finds.
+pub fn one_front()
+    ensures exists { (bytes : List ℕ) → (front : List ℕ) × (rest : List ℕ) × IsFront bytes front rest }
+    ensures one { (bytes front rest other more : List ℕ) → IsFront bytes front rest → IsFront bytes other more
+        → (front ≡ other) × (rest ≡ more) }
+    ensures valid { (bytes : List ℕ) (n : ℕ) → IsValidUpTo bytes n → IsFront bytes (take n bytes) (drop n bytes) }
+{}
+
+/// No text begins with a front and four bytes or more that no character begins.
+pub fn no_text_begins()
+    ensures { (bytes front rest more : List ℕ) → IsFront bytes front rest → 3 < length rest
+        → IsCharacters (bytes ++ more) → ⊥ }
+{}
+
+/// Bytes with a rest behind their front are no text.
+pub fn no_rest_of_text()
+    ensures { (bytes front rest : List ℕ) → IsFront bytes front rest → IsCharacters bytes → rest ≡ [] }
+{}
+
+/// Bytes are text exactly where the state behind them is between two characters.
+pub fn text_by_state()
+    ensures { (bytes : List ℕ) → (IsCharacters bytes ↔ (after Between bytes ≡ Between)) }
+{}
+
+/// The state behind bytes is a damage exactly where no text begins with them.
+pub fn damage_by_state()
+    ensures none { (bytes more : List ℕ) → after Between bytes ≡ Damaged → IsCharacters (bytes ++ more) → ⊥ }
+    ensures some { (bytes : List ℕ) → after Between bytes ≢ Damaged → (more : List ℕ) × IsCharacters (bytes ++ more) }
+{}

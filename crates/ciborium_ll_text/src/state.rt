@@ -1,0 +1,177 @@
+//! How far the bytes of a text have come (Unicode, Table 3-7), and the longest front of them that is text.
+
+ghost use Rattle.std.specs.Prelude.{◌≡◌, ◌≢◌, ◌≤◌, length, take, drop};
+ghost use Rattle.ciborium_ll_text.specs.States.{after, IsLastEnd};
+ghost use Rattle.ciborium_ll_text.specs.Text.{IsCharacters, IsFront};
+ghost use Rattle.ciborium_ll_text.specs.Windows.{after_window};
+ghost use Rattle.ciborium_ll_text.specs.declared.state.State.TheVariants.{Between, Damaged};
+
+use crate::blocks::{LEAST_LEN, all_follow};
+use simdutf8::basic;
+
+/// Where the bytes so far end: between two characters, inside one, or where no text goes on.
+#[derive(Clone, Copy)]
+pub enum State {
+    /// Between two characters.
+    Between,
+    /// Inside a character: one byte is due, from 80 to bf.
+    OneDue,
+    /// Inside a character: two bytes are due, each from 80 to bf.
+    TwoDue,
+    /// Inside a character: three bytes are due, each from 80 to bf.
+    ThreeDue,
+    /// Behind e0: two bytes are due, the next one from a0 to bf.
+    BehindE0,
+    /// Behind ed: two bytes are due, the next one from 80 to 9f.
+    BehindEd,
+    /// Behind f0: three bytes are due, the next one from 90 to bf.
+    BehindF0,
+    /// Behind f4: three bytes are due, the next one from 80 to 8f.
+    BehindF4,
+    /// Where no text goes on.
+    Damaged,
+}
+
+impl State {
+    /// The state behind more bytes.
+    #[inline(always)]
+    fn run(self, bytes: &[u8]) -> State
+        ensures { result ≡ after self bytes.now }
+    {
+        if let State::Between = self
+            && bytes.is_ascii()
+        {
+            return State::Between;
+        }
+        if bytes.len() < LEAST_LEN {
+            return self.run_rows(bytes);
+        }
+        self.run_blocks(bytes)
+    }
+
+    /// The state behind more bytes, sixteen at once. Where they don't follow one another it goes byte by byte.
+    fn run_blocks(self, bytes: &[u8]) -> State
+        requires { 19 ≤ length bytes.now }
+        ensures { result ≡ after self bytes.now }
+    {
+        // The first three bytes stand behind the kept ones, of which the test below knows nothing.
+        if bytes[0] >= 0xf0 && bytes[1] >= 0xc0 {
+            return self.run_rows(bytes);
+        }
+        let first = self.run_rows(&bytes[..3]);
+        let window = behind_window(bytes[0], bytes[1], bytes[2]);
+        if first.shift() != window.shift() {
+            return self.run_rows(bytes);
+        }
+        if !all_follow(bytes) {
+            return self.run_rows(bytes);
+        }
+        let len = bytes.len();
+        behind_window(bytes[len - 3], bytes[len - 2], bytes[len - 1])
+    }
+
+    /// Where the last character of the bytes ends. `behind` is the state behind them, and this one that behind the first
+    /// `kept` of them, in which no character ends.
+    #[inline(always)]
+    fn front_len(self, bytes: &[u8], kept: usize, behind: State) -> usize
+        requires within { kept ≤ length bytes.now }
+        requires told { self ≡ after Between (take kept bytes.now) }
+        requires stuck { IsLastEnd (take kept bytes.now) 0 }
+        requires behind { behind ≡ after Between bytes.now }
+        ensures { IsLastEnd bytes.now result }
+    {
+        match behind {
+            State::Between => bytes.len(),
+            State::Damaged => self.last_end(bytes, kept),
+            _ => behind.cut_end(bytes),
+        }
+    }
+
+    /// Where the last character of the bytes ends, found byte by byte from the first new one on.
+    #[cold]
+    #[inline(never)]
+    fn last_end(self, bytes: &[u8], kept: usize) -> usize
+        requires within { kept ≤ length bytes.now }
+        requires told { self ≡ after Between (take kept bytes.now) }
+        requires stuck { IsLastEnd (take kept bytes.now) 0 }
+        ensures { IsLastEnd bytes.now result }
+    {
+        let mut state = self;
+        let mut end = 0;
+        for at in kept..bytes.len() {
+            state = state.step(bytes[at]);
+            if let State::Between = state {
+                end = at + 1;
+            }
+        }
+        end
+    }
+
+    /// Where the last character of the bytes ends, which lead to this state inside a further one: in front of the last
+    /// byte that begins a character, which is one of the last three.
+    fn cut_end(self, bytes: &[u8]) -> usize
+        requires told { self ≡ after Between bytes.now }
+        requires inside { (self ≢ Between) × (self ≢ Damaged) }
+        ensures { IsLastEnd bytes.now result }
+    {
+        let len = bytes.len();
+        if bytes[len - 1] >= 0xc0 {
+            len - 1
+        } else if bytes[len - 2] >= 0xc0 {
+            len - 2
+        } else {
+            len - 3
+        }
+    }
+}
+
+/// The state behind the last three bytes of some that follow one another as in a text: the last of the three that begins
+/// a character tells it.
+#[inline(always)]
+#[tactic(auto, unfolding(crate::specs::Windows::after_window))]
+fn behind_window(x: u8, y: u8, z: u8) -> State
+    ensures { result ≡ after_window x y z }
+{
+    if z < 0x80 {
+        State::Between
+    } else if z >= 0xc0 {
+        State::Between.step(z)
+    } else if y >= 0xf0 {
+        State::TwoDue
+    } else if y >= 0xe0 {
+        State::OneDue
+    } else if y >= 0xc0 {
+        State::Between
+    } else if x >= 0xf0 {
+        State::OneDue
+    } else {
+        State::Between
+    }
+}
+
+/// The bytes as text, which they are.
+#[inline(always)]
+fn text_of(bytes: &[u8]) -> &str
+    requires { IsCharacters bytes.now }
+    ensures { result.now ≡ bytes.now }
+{
+    match basic::from_utf8(bytes) {
+        Ok(text) => text,
+        Err(_) => unreachable!(),
+    }
+}
+
+/// The longest front of the bytes that is text, and the state behind them. `state` is that behind the first `kept` of
+/// them, in which no character ends.
+#[inline(always)]
+pub fn text_front(bytes: &[u8], kept: usize, state: State) -> (&str, State)
+    requires within { kept ≤ length bytes.now }
+    requires told { state ≡ after Between (take kept bytes.now) }
+    requires stuck { IsLastEnd (take kept bytes.now) 0 }
+    ensures front { IsFront bytes.now result.0.now (drop (length result.0.now) bytes.now) }
+    ensures state { result.1 ≡ after Between (drop (length result.0.now) bytes.now) }
+{
+    let behind = state.run(&bytes[kept..]);
+    let len = state.front_len(bytes, kept, behind);
+    (text_of(&bytes[..len]), behind)
+}
