@@ -1,5 +1,5 @@
 -- How the titles of a string lead on, one after the other.
-use Rattle.std.proofs.Common.{Some, IsTrue, ◌≤◌, ◌≡◌, ℕ, suc, ◌+◌, ◌-◌, ◌<◌, ◌⊎◌, List, [], ◌++◌, length, Option, None, Result, Ok, Err, refl, ap, subst, ◌∙◌, inl, inr, arith, add-one, length-append}
+use Rattle.std.proofs.Common.{Some, IsTrue, ◌≤◌, ◌≡◌, ℕ, suc, ◌+◌, ◌-◌, ◌<◌, ◌⊎◌, List, ◌++◌, length, Option, None, Result, Ok, Err, refl, ap, subst, ◌∙◌, inl, inr, arith, add-one, length-append}
 use Rattle.ciborium_ll_io.specs.declared.io.Read.{Ghosts}
 use Rattle.ciborium_ll_decoder.specs.declared.dec.Decoder.{Decoder}
 use Rattle.ciborium_ll_decoder.specs.declared.dec.Error.{Error}

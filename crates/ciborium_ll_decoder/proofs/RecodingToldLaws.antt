@@ -1,35 +1,33 @@
 -- What a copy of elements means where the bytes are told: the premises turn the general statement into an exact one.
-use Rattle.std.proofs.Common.{◌≡◌, ℕ, Bool, true, false, IsTrue, ◌+◌, ◌-◌, ◌^◌, ◌<◌, ◌≤◌, ◌⊎◌, List, [], ◌∷◌, ◌++◌, length, take, drop, min, max, Some, None, Option, IfSome, Result, Ok, Err, IsOk, ◌↔◌, refl, sym, ap, subst, ◌∙◌, inl, inr, arith, append_assoc, length-append}
+use Rattle.std.proofs.Common.{◌≡◌, ℕ, Bool, false, IsTrue, ◌+◌, ◌-◌, ◌^◌, ◌<◌, ◌≤◌, List, [], ◌∷◌, ◌++◌, length, take, drop, min, max, Some, None, Result, Ok, Err, IsOk, ◌↔◌, refl, sym, ap, subst, ◌∙◌, inl, inr, arith, append_assoc, length-append}
 use Rattle.std.proofs.lemmas.List.{append-nil, length-take, take-append-drop}
-use Rattle.std.proofs.Math.Seq.{take-append_seam, take-append-add, drop-append_seam}
+use Rattle.std.proofs.Math.Seq.{drop-append_seam}
 use Rattle.std.proofs.lemmas.Bool.{cases_lt}
 use Rattle.std.proofs.Math.Nat.{le-max_left, le-max_right}
-use Rattle.ciborium_ll_grammar.specs.declared.hdr.Header.{Header}
 use Rattle.ciborium_ll_io.specs.declared.io.Read.{Ghosts as Reader}
 use Rattle.ciborium_ll_io.specs.declared.io.Write.{Ghosts as Writer}
 use Rattle.ciborium_ll_decoder.specs.declared.dec.Decoder.{Decoder}
 use Rattle.ciborium_ll_decoder.specs.declared.dec.Error.TheVariants as e
 use Rattle.ciborium_ll_decoder.specs.declared.recode.RecodeError.{RecodeError}
 use Rattle.ciborium_ll_decoder.specs.declared.recode.RecodeError.TheVariants as r
-use Rattle.ciborium_ll_grammar.specs.Title.{IsTitle, shortest_title, title_len, BeginsRefused}
+use Rattle.ciborium_ll_grammar.specs.Title.{IsTitle, shortest_title, BeginsRefused}
 use Rattle.ciborium_ll_grammar.specs.Strings.{Kind, Text, kind_header}
 use Rattle.ciborium_ll_text.specs.Text.{IsCharacters, BeginsNoText}
-use Rattle.ciborium_ll_grammar.specs.Elements.{Mark, Open, pieces, spelling, IsElement, plain, definite, indefinite, IsRun, done, next, IsStrictSpelling}
-use Rattle.ciborium_ll_grammar.specs.Faults.{Place, Due, In, Body, IsAtTitle, IsMisplaced, IsInside, opened, deeper, Reaches, due, inside, body, body_inside, Answer, Short, Syntax, CutTitle, NoTitle, OtherTitle, DamagedText, CutBody, CutDamagedText, RunInFront, HasFault}
-use Rattle.ciborium_ll_decoder.specs.Decoding.{offset_limit, view, next_read, Begins, Passes, RefusesTitle, RefusesLonger}
+use Rattle.ciborium_ll_grammar.specs.Elements.{Mark, spelling, IsStrictSpelling}
+use Rattle.ciborium_ll_grammar.specs.Faults.{Place, Due, In, Body, IsAtTitle, IsMisplaced, Reaches, Answer, Short, Syntax, CutTitle, NoTitle, OtherTitle, DamagedText, CutBody, CutDamagedText, RunInFront, HasFault}
+use Rattle.ciborium_ll_decoder.specs.Decoding.{offset_limit, view, next_read, RefusesTitle, RefusesLonger}
 use Rattle.ciborium_ll_encoder.specs.Encoding.{WritesAll}
-use Rattle.ciborium_ll_decoder.specs.Recoding.{IsUnderWay, IsNoText, Copied, CopiesRun, CopiesAll, CopiesElements, CopiesPart, StopsAtTitle, StopsAtOther, StopsTooDeep, StopsInBody, StopsWriting}
+use Rattle.ciborium_ll_decoder.specs.Recoding.{IsNoText, Copied, CopiesRun, CopiesAll, CopiesElements, CopiesPart, StopsAtTitle, StopsAtOther, StopsTooDeep, StopsInBody, StopsWriting}
 use Rattle.ciborium_ll_decoder.specs.RecodingTold.{IsToldAs, IsReadyAs, CopiesFront, MeetsFault, RecodesTold, StopsAt, StopsShort, StopsUnwritten, RecodesAnyhow}
-use Rattle.ciborium_ll_decoder.specs.StrictRecoding.{due_title, Fault, LongTitle, NestedOpen, StrictRunInFront, HasStrictFault, CopiesStrictly, MeetsStrictFault, RecodesStrictly, RecodesStrictlyAnyhow}
+use Rattle.ciborium_ll_decoder.specs.StrictRecoding.{due_title, Fault, LongTitle, NestedOpen, StrictRunInFront, CopiesStrictly, MeetsStrictFault, RecodesStrictly, RecodesStrictlyAnyhow}
 use Rattle.ciborium_ll_decoder.proofs.DecodingLaws.{lenient_refuses}
 use Rattle.ciborium_ll_decoder.proofs.SpelledLaws.{spelled_alone, passes_settled}
-use Rattle.ciborium_ll_grammar.proofs.TitleLaws.{shortest_no_longer, shortest_some}
-use Rattle.ciborium_ll_grammar.proofs.ElementLaws.{respell_all, pieces-append, spelling-append, run_again, one_run}
+use Rattle.ciborium_ll_grammar.proofs.ElementLaws.{run_again, one_run}
 use Rattle.ciborium_ll_grammar.proofs.FaultLaws.{no_fault}
-use Rattle.ciborium_ll_decoder.proofs.StrictFaultLaws.{inside_shorter, no_strict_fault}
+use Rattle.ciborium_ll_decoder.proofs.StrictFaultLaws.{no_strict_fault}
 use Rattle.ciborium_ll_decoder.proofs.BodyLaws.{view_none}
 use Rattle.ciborium_ll_decoder.proofs.CopyingTold.{consumes_told, appends_told, next_read_small, first_gone, refused_byte}
-use Rattle.ciborium_ll_decoder.proofs.NestLaws.{alone_bytes, open_alone, open_length, title_some}
+use Rattle.ciborium_ll_decoder.proofs.NestLaws.{alone_bytes, open_alone, open_length}
 use Rattle.ciborium_ll_decoder.proofs.RecodeLaws.{writes_then}
 use Rattle.ciborium_ll_text.proofs.Lists.{first_counted, front_of, front_behind}
 use Rattle.ciborium_ll_text.proofs.FrontLaws.{no_text_behind}

@@ -1,16 +1,15 @@
 -- A copy of elements writes no more than the spelling of those that stand in front.
-use Rattle.std.proofs.Common.{◌≡◌, ℕ, ◌+◌, ◌<◌, ◌≤◌, ◌⊎◌, List, [], ◌∷◌, ◌++◌, length, Some, None, refl, sym, ap, subst, ◌∙◌, inl, inr, arith, append_assoc, append-nil, length-append}
-use Rattle.ciborium_ll_grammar.specs.declared.hdr.Header.{Header}
+use Rattle.std.proofs.Common.{◌≡◌, ℕ, ◌+◌, ◌<◌, ◌≤◌, List, [], ◌∷◌, ◌++◌, length, Some, None, sym, ap, subst, ◌∙◌, arith, append_assoc, length-append}
 use Rattle.ciborium_ll_grammar.specs.declared.hdr.Header.TheVariants as h
 use Rattle.ciborium_ll_grammar.specs.Title.{IsTitle, shortest_title, title_len}
-use Rattle.ciborium_ll_grammar.specs.Strings.{Kind, kind_header, IsString, AreStrings, none, more}
+use Rattle.ciborium_ll_grammar.specs.Strings.{Kind, kind_header, AreStrings, none, more}
 use Rattle.ciborium_ll_grammar.specs.Strings.IsString.{definite as definite_str, indefinite as indefinite_str}
 use Rattle.ciborium_ll_grammar.specs.Elements.{Mark, Open, pieces, spelling, IsElement, plain, definite, indefinite, IsPlain, IsRun, done, next}
-use Rattle.ciborium_ll_grammar.specs.Faults.{Place, Due, In, Body, Reaches, due, inside, body, body_inside}
+use Rattle.ciborium_ll_grammar.specs.Faults.{Place, Reaches, due, inside, body, body_inside}
 use Rattle.ciborium_ll_decoder.specs.Recoding.{IsUnderWay}
 use Rattle.ciborium_ll_grammar.proofs.TitleLaws.{one_title}
 use Rattle.ciborium_ll_grammar.proofs.StringLaws.{some_is, mixed, fronts, not_break, break_title, string_not_break, one_string}
-use Rattle.ciborium_ll_grammar.proofs.ElementLaws.{not_plain, string_fronts, one_element, one_run, pieces-append, spelling-append, open_spelled}
+use Rattle.ciborium_ll_grammar.proofs.ElementLaws.{not_plain, string_fronts, one_element, pieces-append, spelling-append, open_spelled}
 use Rattle.ciborium_ll_grammar.proofs.HaltLaws.{Opens, last, link, opens_of, opens_title}
 use Rattle.ciborium_ll_decoder.proofs.NestLaws.{open_length}
 

@@ -1,33 +1,18 @@
 -- Runs of elements: what is written of one is no longer than what was read, and whether a header waits behind it.
-use Rattle.std.proofs.Common.{◌≡◌, ℕ, Bool, true, false, IsTrue, ◌+◌, ◌-◌, ◌^◌, ◌<◌, ◌≤◌, ◌⊎◌, List, [], ◌∷◌, ◌++◌, length, take, drop, min, max, Some, None, Option, IfSome, Result, Ok, Err, IsOk, ◌↔◌, refl, sym, ap, subst, ◌∙◌, inl, inr, arith, append_assoc, length-append}
-use Rattle.std.proofs.lemmas.List.{append-nil, length-take, take-append-drop}
-use Rattle.std.proofs.Math.Seq.{take-append_seam, take-append-add, drop-append_seam}
-use Rattle.std.proofs.lemmas.Bool.{cases_lt}
-use Rattle.std.proofs.Math.Nat.{le-max_left, le-max_right}
+use Rattle.std.proofs.Common.{◌≡◌, ℕ, ◌+◌, ◌<◌, ◌≤◌, ◌⊎◌, List, [], ◌∷◌, ◌++◌, length, Some, None, Option, IfSome, refl, ap, ◌∙◌, inl, inr, arith, length-append}
 use Rattle.ciborium_ll_grammar.specs.declared.hdr.Header.{Header}
 use Rattle.ciborium_ll_io.specs.declared.io.Read.{Ghosts as Reader}
-use Rattle.ciborium_ll_io.specs.declared.io.Write.{Ghosts as Writer}
 use Rattle.ciborium_ll_decoder.specs.declared.dec.Decoder.{Decoder}
-use Rattle.ciborium_ll_decoder.specs.declared.dec.Error.TheVariants as e
-use Rattle.ciborium_ll_grammar.specs.Title.{IsTitle, shortest_title, title_len, BeginsRefused}
-use Rattle.ciborium_ll_grammar.specs.Strings.{Kind, Text, kind_header}
-use Rattle.ciborium_ll_text.specs.Text.{IsCharacters, BeginsNoText}
-use Rattle.ciborium_ll_grammar.specs.Elements.{Mark, Open, pieces, spelling, IsElement, plain, definite, indefinite, IsRun, done, next, IsStrictSpelling}
-use Rattle.ciborium_ll_grammar.specs.Faults.{Place, Due, In, Body, IsAtTitle, IsMisplaced, IsInside, opened, deeper, Reaches, due, inside, body, body_inside, Answer, Short, Syntax, CutTitle, NoTitle, OtherTitle, DamagedText, CutBody, CutDamagedText, RunInFront, HasFault}
-use Rattle.ciborium_ll_decoder.specs.Decoding.{offset_limit, view, next_read, Begins, Passes, RefusesTitle, RefusesLonger}
-use Rattle.ciborium_ll_encoder.specs.Encoding.{WritesAll}
+use Rattle.ciborium_ll_grammar.specs.Title.{shortest_title, title_len}
+use Rattle.ciborium_ll_grammar.specs.Strings.{kind_header}
+use Rattle.ciborium_ll_grammar.specs.Elements.{Mark, Open, pieces, spelling, IsElement, plain, definite, indefinite, IsRun, done, next}
+use Rattle.ciborium_ll_grammar.specs.Faults.{Place, Due, In, Body, Reaches, due, inside, body, body_inside}
+use Rattle.ciborium_ll_decoder.specs.Decoding.{Begins, Passes}
 use Rattle.ciborium_ll_decoder.specs.Recoding.{IsUnderWay}
-use Rattle.ciborium_ll_decoder.proofs.DecodingLaws.{lenient_refuses}
-use Rattle.ciborium_ll_decoder.proofs.SpelledLaws.{spelled_alone, passes_settled}
 use Rattle.ciborium_ll_grammar.proofs.TitleLaws.{shortest_no_longer, shortest_some}
-use Rattle.ciborium_ll_grammar.proofs.ElementLaws.{respell_all, pieces-append, spelling-append, run_again, one_run}
-use Rattle.ciborium_ll_grammar.proofs.FaultLaws.{no_fault}
-use Rattle.ciborium_ll_decoder.proofs.StrictFaultLaws.{inside_shorter, no_strict_fault}
-use Rattle.ciborium_ll_decoder.proofs.BodyLaws.{view_none}
-use Rattle.ciborium_ll_decoder.proofs.CopyingTold.{consumes_told, appends_told, next_read_small, first_gone, refused_byte}
-use Rattle.ciborium_ll_decoder.proofs.NestLaws.{alone_bytes, open_alone, open_length, title_some}
-use Rattle.ciborium_ll_decoder.proofs.RecodeLaws.{writes_then}
-use Rattle.ciborium_ll_decoder.proofs.RoomLaws.{spelled_within}
+use Rattle.ciborium_ll_grammar.proofs.ElementLaws.{spelling-append, run_again}
+use Rattle.ciborium_ll_decoder.proofs.StrictFaultLaws.{inside_shorter}
+use Rattle.ciborium_ll_decoder.proofs.NestLaws.{title_some}
 
 -- ---- what is written is no longer than what was read
 

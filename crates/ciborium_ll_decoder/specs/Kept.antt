@@ -1,8 +1,7 @@
 -- The bytes of a text that may begin a character, which a segment keeps.
-use Rattle.std.specs.Prelude.{◌≡◌, ℕ, List, [], ◌∷◌, ◌++◌}
+use Rattle.std.specs.Prelude.{ℕ, List, [], ◌∷◌}
 use Rattle.ciborium_ll_decoder.specs.declared.seg.Kept.{Kept}
 use Rattle.ciborium_ll_decoder.specs.declared.seg.Kept.TheVariants as k
-use Rattle.ciborium_ll_text.specs.Text.{IsCharacters}
 
 -- the kept bytes, in order
 abbrev pub kept_bytes : Kept → List ℕ

@@ -1,5 +1,5 @@
 -- Each value has pieces under a limit, and what is written of it is one element.
-use Rattle.std.proofs.Common.{◌≡◌, ℕ, zero, suc, ◌+◌, ◌^◌, ◌<◌, ◌≤◌, List, [], ◌∷◌, ◌++◌, length, take, drop, Some, None, refl, sym, ap, ◌∙◌, subst, inl, inr, arith, append_assoc}
+use Rattle.std.proofs.Common.{◌≡◌, ℕ, zero, suc, ◌^◌, ◌<◌, ◌≤◌, List, [], ◌∷◌, ◌++◌, length, take, drop, Some, None, refl, sym, ap, ◌∙◌, subst, inl, inr, arith}
 use Rattle.std.proofs.lemmas.Bool.{cases_lt}
 use Rattle.std.proofs.lemmas.List.{append-nil, length-append, take-append-drop, length-take-le, length-drop}
 use Rattle.std.specs.List.{AllByRecursion}
@@ -7,15 +7,14 @@ use Rattle.ciborium_ll_grammar.specs.declared.hdr.Header.TheVariants as h
 use Rattle.ciborium_ll_grammar.specs.Title.{IsTitle, shortest_title}
 use Rattle.ciborium_ll_grammar.specs.Strings.{Kind, Bytes, Text, kind_header, AreStrings, none, more}
 use Rattle.ciborium_ll_grammar.specs.Strings.IsString.{definite as definite_str}
-use Rattle.ciborium_ll_text.specs.Text.{IsCharacter, joined, IsCharacters}
+use Rattle.ciborium_ll_text.specs.Text.{joined, IsCharacters}
 use Rattle.ciborium_ll_grammar.specs.Elements.{IsSound, Mark, Whole, Close, spelling, pieces, open_marks, IsElement, definite, indefinite}
-use Rattle.ciborium_ll_text.specs.Cuts.{IsMember, IsNonempty, IsCut, IsFilled, AreFilled, IsFullCut}
+use Rattle.ciborium_ll_text.specs.Cuts.{IsMember, IsNonempty, IsCut}
 use Rattle.ciborium_ll_grammar.specs.Values.{least_limit, AreChunks, AreBytePieces, ArePieces, IsWritten, in_one, in_pieces, segments, HasFewestSegments}
 use Rattle.ciborium_ll_text.proofs.Lists.{same_front}
 use Rattle.ciborium_ll_grammar.proofs.TitleLaws.{IsTitle-shortest}
-use Rattle.ciborium_ll_text.proofs.TextLaws.{character_length, character_is_text, IsCharacters-append}
 use Rattle.ciborium_ll_grammar.proofs.ElementLaws.{open_spelled}
-use Rattle.ciborium_ll_text.proofs.CutLaws.{one_character, fewest, one_full}
+use Rattle.ciborium_ll_text.proofs.CutLaws.{fewest, one_full}
 use Rattle.ciborium_ll_text.proofs.FullCutLaws.{full_cut}
 
 -- ---- bytes

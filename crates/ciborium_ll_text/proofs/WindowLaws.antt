@@ -5,7 +5,7 @@ use Rattle.std.proofs.lemmas.List.{take_all}
 use Rattle.simdutf8.specs.Steps.{Step, first, second, later, least_after, most_after}
 use Rattle.ciborium_ll_text.specs.declared.state.State.{State}
 use Rattle.ciborium_ll_text.specs.declared.state.State.TheVariants as s
-use Rattle.ciborium_ll_text.specs.States.{after_first, after_next, after_byte, after}
+use Rattle.ciborium_ll_text.specs.States.{after_first, after_byte, after}
 use Rattle.ciborium_ll_text.specs.Windows.{MayFollow, after_window}
 use Rattle.ciborium_ll_text.proofs.StateLaws.{First, ascii, two, e0, three_low, ed, three_high, f0, four, f4, none, first_view, first_is, next_in, after-run}
 

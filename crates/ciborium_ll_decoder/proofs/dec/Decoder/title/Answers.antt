@@ -1,7 +1,5 @@
-use Rattle.std.proofs.Common.{◌≡◌, ◌+◌, ◌*◌, ◌%◌, ◌/◌, ◌++◌, ◌∷◌, [], length, Some, None, rules, sym, refl, ap, subst, ◌∙◌, inl, inr, arith, true, get_or, ◌<◌, ℕ}
-use Rattle.std.proofs.KnownBytes.{Consumes-trans}
-use Rattle.ciborium_ll_grammar.specs.Parts.{parts_bytes, minor_affix}
-use Rattle.ciborium_ll_decoder.specs.Decoding.{ReadsAffix, ReadsAll}
+use Rattle.std.proofs.Common.{◌≡◌, ◌/◌, length, rules, sym, refl, subst, inl, inr, get_or, ◌<◌, ℕ}
+use Rattle.ciborium_ll_grammar.specs.Parts.{parts_bytes}
 use Rattle.ciborium_ll_grammar.specs.TitleRows.{IsKind}
 use Rattle.ciborium_ll_decoder.proofs.StrictLaws.{parts_header, parts_taken, parts_refused, first_parts, first_refused, title_read}
 use Rattle.ciborium_ll_decoder.proofs.dec.Decoder.title.Goals as goal

@@ -1,7 +1,6 @@
 use Rattle.std.proofs.Common.{subst, ◌<◌}
-use Rattle.ciborium_ll_text.specs.States.{after}
 use Rattle.ciborium_ll_text.specs.declared.state.State.{State}
-use Rattle.ciborium_ll_text.proofs.LastEndLaws.{due, inside_due, cut_character, CutCharacter}
+use Rattle.ciborium_ll_text.proofs.LastEndLaws.{due, inside_due, cut_character}
 use Rattle.ciborium_ll_text.proofs.state.State.cut_end.Goals as goal
 
 pub overflow_sub-len-else-bytes-len-ge192 : goal.overflow_sub-len-else-bytes-len-ge192

@@ -1,4 +1,4 @@
-use Rattle.std.proofs.Common.{◌≡◌, ◌<◌, ◌≤◌, ◌∙◌, sym, length, take, get_or, arith, rules}
+use Rattle.std.proofs.Common.{◌≡◌, ◌<◌, ◌≤◌, ◌∙◌, sym, take, get_or, arith}
 use Rattle.ciborium_ll_text.specs.States.{after}
 use Rattle.ciborium_ll_text.specs.Windows.{after_window}
 use Rattle.ciborium_ll_text.proofs.RowLaws.{same_shift}

@@ -1,4 +1,4 @@
-use Rattle.std.proofs.Common.{◌<◌, get_or, arith}
+use Rattle.std.proofs.Common.{arith}
 use Rattle.ciborium_ll_text.proofs.RowLaws.{row_on}
 use Rattle.ciborium_ll_text.proofs.state.State.run_rows.Goals as goal
 

@@ -1,4 +1,3 @@
-use Rattle.std.proofs.Common.{rules}
 use Rattle.ciborium_ll_io.proofs.BufferLaws.{append_known-sent, appended_part, kept_Appends}
 use Rattle.ciborium_ll_io.proofs.io.buffered.BufferedWriter.write_on.Goals as goal
 
