@@ -4,7 +4,6 @@ ghost use Rattle.std.specs.Prelude.{◌≡◌, ◌+◌, ◌≤◌, ◌<◌, ◌^
 ghost use Rattle.std.specs.Int.{to_be_bytes, w8, w16, w32, w64};
 ghost use Rattle.ciborium_ll_grammar.specs.Title.{waiting_len};
 
-use crate::seg::{Bytes, Parser, Segments, Text};
 use ciborium_ll_grammar::hdr::table::{Affix, row_of};
 use ciborium_ll_grammar::hdr::{Header, Minor, Title, shortest};
 use ciborium_ll_io::io::{Failures, Read};
@@ -58,11 +57,9 @@ impl<R: Read> From<R> for Decoder<R> {
 
 impl<R: Read> Decoder<R> {
     ghost use Rattle.std.specs.Prelude.{◌<◌, ◌^◌, ◌%◌, IsTrue, true, ◌↔◌, None, Some, Err, IfOk, MatchResult, IsErrOf};
-    ghost use Rattle.ciborium_ll_decoder.specs.declared.seg.Progress.TheVariants.{Open};
     ghost use Rattle.ciborium_ll_grammar.specs.Title.{title_len, IsTitle};
     ghost use Rattle.ciborium_ll_grammar.specs.Parts.{IsParts, title_bytes};
     ghost use Rattle.ciborium_ll_grammar.specs.TitleRows.{IsAffix};
-    ghost use Rattle.ciborium_ll_grammar.specs.Strings.{kind_header};
     ghost use Rattle.ciborium_ll_decoder.specs.Decoding.{IsFresh, IsFreshAs, IsSteady, IsWaiting, PullsHeader, PullsTitle, ReadsBytes, ReadsMinor, TakesBack, offset_of, reader_of, refusals_of, strict_of, waiting_of};
 
     /// A decoder that counts from this offset, in bytes.
@@ -230,49 +227,6 @@ impl<R: Read> Decoder<R> {
     {
         self.offset -= item.title_len();
         self.waiting = Some(item);
-    }
-
-    /// The segments of a byte string, behind its header with this length, which was just pulled.
-    ///
-    /// The header waits again until the first segment is asked for. Another length than the header's is not refused:
-    /// the string is then read with that length.
-    pub fn bytes(&mut self, len: Option<usize>) -> Segments<'_, R, Bytes>
-        requires none_waits { waiting_of self.old ≡ None }
-        requires covered { title_len (Header.Bytes len) ≤ offset_of self.old }
-        ensures same_reference { result.reader.ghost_name ≡ self.entry.ghost_name }
-        ensures back { TakesBack R.Read self.old (Header.Bytes len) result.reader.now }
-        ensures fresh { result.progress ≡ Open 0 }
-        ensures refusals { refusals_of result.reader.now ≡ refusals_of self.old }
-    {
-        self.string(len)
-    }
-
-    /// The segments of a text string, behind its header with this length, which was just pulled.
-    ///
-    /// The header waits again until the first segment is asked for. Another length than the header's is not refused:
-    /// the string is then read with that length.
-    pub fn text(&mut self, len: Option<usize>) -> Segments<'_, R, Text>
-        requires none_waits { waiting_of self.old ≡ None }
-        requires covered { title_len (Header.Text len) ≤ offset_of self.old }
-        ensures same_reference { result.reader.ghost_name ≡ self.entry.ghost_name }
-        ensures back { TakesBack R.Read self.old (Header.Text len) result.reader.now }
-        ensures fresh { result.progress ≡ Open 0 }
-        ensures refusals { refusals_of result.reader.now ≡ refusals_of self.old }
-    {
-        self.string(len)
-    }
-
-    /// The segments of a string of either kind, behind its header.
-    pub(crate) fn string<P: Parser>(&mut self, len: Option<usize>) -> Segments<'_, R, P>
-        requires none_waits { waiting_of self.old ≡ None }
-        requires covered { title_len (kind_header P.kind len) ≤ offset_of self.old }
-        ensures same_reference { result.reader.ghost_name ≡ self.entry.ghost_name }
-        ensures back { TakesBack R.Read self.old (kind_header P.kind len) result.reader.now }
-        ensures fresh { result.progress ≡ Open 0 }
-        ensures refusals { refusals_of result.reader.now ≡ refusals_of self.old }
-    {
-        self.push(P::header(len));
-        Segments::new(self)
     }
 
     /// Reads the affix that a first byte announces: nothing for a reserved minor, nor for a number that a strict

@@ -10,6 +10,7 @@ ghost use Rattle.ciborium_ll_text.specs.Text.{IsStuck};
 ghost use Rattle.ciborium_ll_grammar.specs.Faults.{IsMisplaced};
 
 mod chunked;
+mod strings;
 
 pub use self::chunked::Chunked;
 use crate::dec::{Decoder, Error};

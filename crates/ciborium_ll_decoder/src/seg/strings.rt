@@ -1,0 +1,57 @@
+//! The strings of a decoder: it lends itself to what reads one.
+
+ghost use Rattle.std.specs.Prelude.{◌≡◌, ◌≤◌, None};
+ghost use Rattle.ciborium_ll_decoder.specs.declared.seg.Progress.TheVariants.{Open};
+ghost use Rattle.ciborium_ll_grammar.specs.Title.{title_len};
+ghost use Rattle.ciborium_ll_grammar.specs.Strings.{kind_header};
+ghost use Rattle.ciborium_ll_decoder.specs.Decoding.{TakesBack, offset_of, refusals_of, waiting_of};
+
+use crate::dec::Decoder;
+use crate::seg::{Bytes, Parser, Segments, Text};
+use ciborium_ll_grammar::hdr::Header;
+use ciborium_ll_io::io::Read;
+
+impl<R: Read> Decoder<R> {
+    /// The segments of a byte string, behind its header with this length, which was just pulled.
+    ///
+    /// The header waits again until the first segment is asked for. Another length than the header's is not refused:
+    /// the string is then read with that length.
+    pub fn bytes(&mut self, len: Option<usize>) -> Segments<'_, R, Bytes>
+        requires none_waits { waiting_of self.old ≡ None }
+        requires covered { title_len (Header.Bytes len) ≤ offset_of self.old }
+        ensures same_reference { result.reader.ghost_name ≡ self.entry.ghost_name }
+        ensures back { TakesBack R.Read self.old (Header.Bytes len) result.reader.now }
+        ensures fresh { result.progress ≡ Open 0 }
+        ensures refusals { refusals_of result.reader.now ≡ refusals_of self.old }
+    {
+        self.string(len)
+    }
+
+    /// The segments of a text string, behind its header with this length, which was just pulled.
+    ///
+    /// The header waits again until the first segment is asked for. Another length than the header's is not refused:
+    /// the string is then read with that length.
+    pub fn text(&mut self, len: Option<usize>) -> Segments<'_, R, Text>
+        requires none_waits { waiting_of self.old ≡ None }
+        requires covered { title_len (Header.Text len) ≤ offset_of self.old }
+        ensures same_reference { result.reader.ghost_name ≡ self.entry.ghost_name }
+        ensures back { TakesBack R.Read self.old (Header.Text len) result.reader.now }
+        ensures fresh { result.progress ≡ Open 0 }
+        ensures refusals { refusals_of result.reader.now ≡ refusals_of self.old }
+    {
+        self.string(len)
+    }
+
+    /// The segments of a string of either kind, behind its header.
+    pub(crate) fn string<P: Parser>(&mut self, len: Option<usize>) -> Segments<'_, R, P>
+        requires none_waits { waiting_of self.old ≡ None }
+        requires covered { title_len (kind_header P.kind len) ≤ offset_of self.old }
+        ensures same_reference { result.reader.ghost_name ≡ self.entry.ghost_name }
+        ensures back { TakesBack R.Read self.old (kind_header P.kind len) result.reader.now }
+        ensures fresh { result.progress ≡ Open 0 }
+        ensures refusals { refusals_of result.reader.now ≡ refusals_of self.old }
+    {
+        self.push(P::header(len));
+        Segments::new(self)
+    }
+}
