@@ -10,9 +10,9 @@ use Rattle.ciborium_ll.specs.Types.Decoder.{Decoder}
 use Rattle.ciborium_ll.specs.Types.Error.{Error}
 use Rattle.ciborium_ll.specs.Types.Error.TheVariants as e
 use Rattle.ciborium_ll.specs.Title.{BeginsRefused, title_len}
-use Rattle.ciborium_ll.specs.Strings.{Kind, Text, kind_header}
+use Rattle.ciborium_ll.specs.Strings.{Kind, Text, kind_header, IsMisplaced}
 use Rattle.ciborium_ll.specs.Text.{IsCharacters, BeginsNoText}
-use Rattle.ciborium_ll.specs.Faults.{Place, Due, In, Body, IsAtTitle, IsInside, IsMisplaced, FirstFault, CutTitle, NoTitle, OtherTitle, DamagedText, CutBody, CutDamagedText, Short, Syntax, with_front}
+use Rattle.ciborium_ll.specs.Faults.{Place, Due, In, Body, IsAtTitle, IsInside, FirstFault, CutTitle, NoTitle, OtherTitle, DamagedText, CutBody, CutDamagedText, Short, Syntax, with_front}
 use Rattle.ciborium_ll.specs.Decoding.{view, next_read, Passes, PullsHeader, PullsTitle, IsSteady}
 use Rattle.ciborium_ll.specs.Finishing.{EndsBody, RestFails, RestPasses, RestDamaged}
 use Rattle.ciborium_ll.specs.Skipping.{SkipsString, SkipsInside, MeetsNoTitle, MeetsBody}

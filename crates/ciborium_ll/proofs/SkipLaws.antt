@@ -11,7 +11,7 @@ use Rattle.ciborium_ll_decoder.specs.declared.seg.Progress.{Progress}
 use Rattle.ciborium_ll_decoder.specs.declared.seg.Progress.TheVariants as p
 use Rattle.ciborium_ll_grammar.specs.Title.{IsTitle, IsInRange, shortest_title, title_len}
 use Rattle.ciborium_ll_grammar.specs.Strings.{Kind, kind_header, IsString, definite, indefinite}
-use Rattle.ciborium_ll_grammar.specs.Steps.{IsInsideAt, one_open, more_open}
+use Rattle.ciborium_ll_grammar.proofs.OpenStrings.{IsInsideAt, one_open, more_open}
 use Rattle.ciborium_ll_decoder.specs.Decoding.{Passes, IsSteady, TakesBack}
 use Rattle.ciborium_ll_encoder.specs.Encoding.{WritesAll}
 use Rattle.ciborium_ll_decoder.specs.Segments.{AdvancesFrom, AdvancesTo}

@@ -11,9 +11,8 @@ use Rattle.ciborium_ll.specs.declared.laws.drains.End.{End}
 use Rattle.ciborium_ll.specs.declared.laws.drains.End.TheVariants as end
 use Rattle.ciborium_ll_decoder.specs.declared.seg.Parser.{Ghosts as Parser}
 use Rattle.ciborium_ll_decoder.specs.declared.seg.Segment.{Segment}
-use Rattle.ciborium_ll_grammar.specs.Strings.{Kind, Text}
+use Rattle.ciborium_ll_grammar.specs.Strings.{Kind, Text, IsWritable, most_kept}
 use Rattle.ciborium_ll_text.specs.Text.{IsCharacters}
-use Rattle.ciborium_ll_grammar.specs.Faults.{IsWritable, most_kept}
 use Rattle.ciborium_ll_decoder.specs.Kept.{kept_bytes}
 use Rattle.ciborium_ll_decoder.specs.Decoding.{offset_limit, IsSteady, Passes}
 use Rattle.ciborium_ll_encoder.specs.Encoding.{WritesAll, WritesFront}

@@ -11,7 +11,6 @@ pub use Rattle.ciborium_ll_grammar.specs.Elements
 pub use Rattle.ciborium_ll_grammar.specs.Faults
 pub use Rattle.ciborium_ll_grammar.specs.Items
 pub use Rattle.ciborium_ll_grammar.specs.Parts
-pub use Rattle.ciborium_ll_grammar.specs.Steps
 pub use Rattle.ciborium_ll_grammar.specs.Strings
 pub use Rattle.ciborium_ll_grammar.specs.Title
 pub use Rattle.ciborium_ll_grammar.specs.TitleRows

@@ -14,9 +14,8 @@ use Rattle.ciborium_ll_decoder.specs.declared.seg.Kept.TheVariants as k
 use Rattle.ciborium_ll_decoder.specs.declared.seg.Parser.{Ghosts as Parser}
 use Rattle.ciborium_ll_decoder.specs.declared.seg.Segment.{Segment}
 use Rattle.ciborium_ll_grammar.specs.Title.{shortest_title}
-use Rattle.ciborium_ll_grammar.specs.Strings.{Kind, Bytes, Text}
+use Rattle.ciborium_ll_grammar.specs.Strings.{Kind, Bytes, Text, IsWritable, most_kept}
 use Rattle.ciborium_ll_text.specs.Text.{IsCharacters, IsFront, IsStuck, BeginsNoText}
-use Rattle.ciborium_ll_grammar.specs.Faults.{IsWritable, most_kept}
 use Rattle.ciborium_ll_decoder.specs.Kept.{kept_bytes}
 use Rattle.ciborium_ll_decoder.specs.Decoding.{Begins, behind_waiting, IsSteady, Passes, ReadsAll}
 use Rattle.ciborium_ll_encoder.specs.Encoding.{WritesAll, WritesFront}

@@ -6,8 +6,7 @@ use Rattle.ciborium_ll_decoder.specs.declared.dec.Error.{Error}
 use Rattle.ciborium_ll_decoder.specs.declared.dec.Error.TheVariants as e
 use Rattle.ciborium_ll_decoder.specs.declared.seg.Parser.{Ghosts as Parser}
 use Rattle.ciborium_ll_decoder.specs.declared.seg.Segment.{Segment}
-use Rattle.ciborium_ll_grammar.specs.Strings.{Kind, Bytes, Text}
-use Rattle.ciborium_ll_grammar.specs.Faults.{IsWritable}
+use Rattle.ciborium_ll_grammar.specs.Strings.{Kind, Bytes, Text, IsWritable}
 use Rattle.ciborium_ll_decoder.specs.Kept.{kept_bytes}
 use Rattle.ciborium_ll_decoder.specs.Decoding.{IsSteady, Passes}
 use Rattle.ciborium_ll_decoder.specs.Chunks.{IsSplit, GivesChunk, FindsDamage, EndsInCharacter, KeepsTooMuch, ChunkFails, ChunkPasses, PullsChunk, read_count}

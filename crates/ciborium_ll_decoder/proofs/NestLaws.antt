@@ -13,7 +13,7 @@ use Rattle.ciborium_ll_decoder.specs.declared.seg.Progress.{Progress}
 use Rattle.ciborium_ll_decoder.specs.declared.seg.Progress.TheVariants as p
 use Rattle.ciborium_ll_grammar.specs.Title.{Major, Unsigned, Negative, ByteString, TextString, Array, Map, Tag, Other, Size, Small, One, Two, Four, Eight, IsTitle, numbered, alone, numbered_header, shortest_title, title_len, IsInRange}
 use Rattle.ciborium_ll_grammar.specs.Strings.{Kind, Bytes, Text, kind_header}
-use Rattle.ciborium_ll_grammar.specs.Steps.{IsInsideAt}
+use Rattle.ciborium_ll_grammar.proofs.OpenStrings.{IsInsideAt}
 use Rattle.ciborium_ll_decoder.specs.Decoding.{Begins, view, Passes, TakesBack}
 use Rattle.ciborium_ll_decoder.specs.Segments.{Nests, in_place, deeper, back, IsMisplacedAt, EndsAdvance, AdvancesFrom}
 use Rattle.ciborium_ll_text.proofs.Lists.{same_front}

@@ -10,9 +10,9 @@ use Rattle.ciborium_ll_decoder.specs.declared.dec.Error.TheVariants as e
 use Rattle.ciborium_ll_decoder.specs.declared.recode.RecodeError.{RecodeError}
 use Rattle.ciborium_ll_decoder.specs.declared.recode.RecodeError.TheVariants as r
 use Rattle.ciborium_ll_grammar.specs.Title.{IsTitle, IsStrictTitle, shortest_title, title_len}
-use Rattle.ciborium_ll_grammar.specs.Strings.{Kind, Bytes, Text, kind_header}
+use Rattle.ciborium_ll_grammar.specs.Strings.{Kind, Bytes, Text, kind_header, IsWritable}
 use Rattle.ciborium_ll_grammar.specs.Elements.{IsSound, Mark, Whole, spelling, definite, IsRun, IsStrictSpelling}
-use Rattle.ciborium_ll_grammar.specs.Faults.{Place, Due, Body, Reaches, due, body, IsWritable}
+use Rattle.ciborium_ll_grammar.specs.Faults.{Place, Due, Body, Reaches, due, body}
 use Rattle.ciborium_ll_decoder.specs.Decoding.{Begins, behind_waiting, view, Passes, Strictly}
 use Rattle.ciborium_ll_encoder.specs.Encoding.{WritesAll, WritesFront}
 use Rattle.ciborium_ll_decoder.specs.Recoding.{WritesHeader, CopiesBody, CopiesWhole, BodyUnwritten, IsUnderWay, Copied, StopsWriting, StopsCopy, AddsElement, GoesOn}

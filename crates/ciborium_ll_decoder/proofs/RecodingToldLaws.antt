@@ -11,10 +11,10 @@ use Rattle.ciborium_ll_decoder.specs.declared.dec.Error.TheVariants as e
 use Rattle.ciborium_ll_decoder.specs.declared.recode.RecodeError.{RecodeError}
 use Rattle.ciborium_ll_decoder.specs.declared.recode.RecodeError.TheVariants as r
 use Rattle.ciborium_ll_grammar.specs.Title.{IsTitle, shortest_title, BeginsRefused}
-use Rattle.ciborium_ll_grammar.specs.Strings.{Kind, Text, kind_header}
+use Rattle.ciborium_ll_grammar.specs.Strings.{Kind, Text, kind_header, IsMisplaced}
 use Rattle.ciborium_ll_text.specs.Text.{IsCharacters, BeginsNoText}
 use Rattle.ciborium_ll_grammar.specs.Elements.{Mark, spelling, IsStrictSpelling}
-use Rattle.ciborium_ll_grammar.specs.Faults.{Place, Due, In, Body, IsAtTitle, IsMisplaced, Reaches, Answer, Short, Syntax, CutTitle, NoTitle, OtherTitle, DamagedText, CutBody, CutDamagedText, RunInFront, HasFault}
+use Rattle.ciborium_ll_grammar.specs.Faults.{Place, Due, In, Body, IsAtTitle, Reaches, Answer, Short, Syntax, CutTitle, NoTitle, OtherTitle, DamagedText, CutBody, CutDamagedText, RunInFront, HasFault}
 use Rattle.ciborium_ll_decoder.specs.Decoding.{offset_limit, view, next_read, RefusesTitle, RefusesLonger}
 use Rattle.ciborium_ll_encoder.specs.Encoding.{WritesAll}
 use Rattle.ciborium_ll_decoder.specs.Recoding.{IsNoText, Copied, CopiesRun, CopiesAll, CopiesElements, CopiesPart, StopsAtTitle, StopsAtOther, StopsTooDeep, StopsInBody, StopsWriting}

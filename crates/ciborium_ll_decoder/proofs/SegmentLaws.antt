@@ -15,7 +15,7 @@ use Rattle.ciborium_ll_decoder.specs.declared.recode.RecodeError.{RecodeError}
 use Rattle.ciborium_ll_decoder.specs.declared.recode.RecodeError.TheVariants as r
 use Rattle.ciborium_ll_grammar.specs.Title.{IsTitle, shortest_title}
 use Rattle.ciborium_ll_grammar.specs.Strings.{Kind, Bytes, Text, kind_header, definite, none}
-use Rattle.ciborium_ll_grammar.specs.Steps.{IsInsideAt, one_open, more_open}
+use Rattle.ciborium_ll_grammar.proofs.OpenStrings.{IsInsideAt, one_open, more_open}
 use Rattle.ciborium_ll_grammar.specs.Elements.{IsSound, Mark, Open, Piece, spelling, pieces, open_marks, body_spelling, IsStrictSpelling}
 use Rattle.ciborium_ll_grammar.specs.Faults.{In, Body as BodyDue, Reaches, inside, body_inside, IsRefusedIn}
 use Rattle.ciborium_ll_decoder.specs.Decoding.{Passes, Strictly, IsSteady, TakesBack}

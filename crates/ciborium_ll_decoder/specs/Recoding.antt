@@ -9,10 +9,10 @@ use Rattle.ciborium_ll_decoder.specs.declared.dec.Error.TheVariants as e
 use Rattle.ciborium_ll_decoder.specs.declared.recode.RecodeError.{RecodeError}
 use Rattle.ciborium_ll_decoder.specs.declared.recode.RecodeError.TheVariants as r
 use Rattle.ciborium_ll_grammar.specs.Title.{IsTitle, IsStrictTitle, shortest_title}
-use Rattle.ciborium_ll_grammar.specs.Strings.{Kind, Text, kind_header}
+use Rattle.ciborium_ll_grammar.specs.Strings.{Kind, Text, kind_header, IsWritable, most_kept}
 use Rattle.ciborium_ll_text.specs.Text.{IsCharacters, BeginsNoText}
 use Rattle.ciborium_ll_grammar.specs.Elements.{Mark, Open, pieces, open_marks, spelling, IsElement, IsRun, IsStrictSpelling}
-use Rattle.ciborium_ll_grammar.specs.Faults.{Place, Due, In, Body, Reaches, IsAtTitle, IsRefusedIn, IsWritable, most_kept}
+use Rattle.ciborium_ll_grammar.specs.Faults.{Place, Due, In, Body, Reaches, IsAtTitle, IsRefusedIn}
 use Rattle.ciborium_ll_decoder.specs.Decoding.{offset_limit, Begins, Strictly, Passes, PullsHeader, PullsTitle, ReadFails, IsUntouched}
 use Rattle.ciborium_ll_encoder.specs.Encoding.{WritesAll, WritesFront}
 

@@ -7,9 +7,9 @@ use Rattle.ciborium_ll_decoder.specs.declared.dec.Error.TheVariants as e
 use Rattle.ciborium_ll_decoder.specs.declared.recode.RecodeError.{RecodeError}
 use Rattle.ciborium_ll_decoder.specs.declared.recode.RecodeError.TheVariants as r
 use Rattle.ciborium_ll_grammar.specs.Title.{shortest_title}
-use Rattle.ciborium_ll_grammar.specs.Strings.{kind_header}
+use Rattle.ciborium_ll_grammar.specs.Strings.{kind_header, IsWritable, most_kept}
 use Rattle.ciborium_ll_grammar.specs.Elements.{Mark, spelling, IsRun}
-use Rattle.ciborium_ll_grammar.specs.Faults.{Place, Due, In, Body, Reaches, IsWritable, most_kept, Answer, Short, Syntax, RunInFront, HasFault}
+use Rattle.ciborium_ll_grammar.specs.Faults.{Place, Due, In, Body, Reaches, Answer, Short, Syntax, RunInFront, HasFault}
 use Rattle.ciborium_ll_decoder.specs.Decoding.{offset_limit, Begins, view, IsSteady}
 use Rattle.ciborium_ll_decoder.specs.Recoding.{IsUnderWay}
 

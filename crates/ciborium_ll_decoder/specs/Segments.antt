@@ -10,8 +10,7 @@ use Rattle.ciborium_ll_decoder.specs.declared.seg.Body.{Body}
 use Rattle.ciborium_ll_decoder.specs.declared.seg.Progress.{Progress}
 use Rattle.ciborium_ll_decoder.specs.declared.seg.Progress.TheVariants as p
 use Rattle.ciborium_ll_grammar.specs.Title.{IsTitle}
-use Rattle.ciborium_ll_grammar.specs.Strings.{Kind, kind_header}
-use Rattle.ciborium_ll_grammar.specs.Faults.{IsMisplaced}
+use Rattle.ciborium_ll_grammar.specs.Strings.{Kind, kind_header, IsMisplaced}
 use Rattle.ciborium_ll_decoder.specs.Decoding.{Passes, PullsHeader, PullsTitle}
 
 -- ---- opens and breaks in a row

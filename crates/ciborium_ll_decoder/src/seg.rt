@@ -4,10 +4,9 @@ ghost use Rattle.std.specs.Prelude.{◌≡◌, ◌≤◌, ◌<◌, ◌+◌, ◌^
 ghost use Rattle.ciborium_ll_text.specs.States.{after};
 ghost use Rattle.ciborium_ll_text.specs.declared.state.State.TheVariants.{Between};
 ghost use Rattle.ciborium_ll_grammar.specs.declared.hdr.Header.TheVariants.{Break};
-ghost use Rattle.ciborium_ll_grammar.specs.Strings.{Kind, kind_header, Bytes as byte_strings};
+ghost use Rattle.ciborium_ll_grammar.specs.Strings.{Kind, kind_header, Bytes as byte_strings, IsMisplaced};
 ghost use Rattle.ciborium_ll_decoder.specs.Kept.{kept_bytes};
 ghost use Rattle.ciborium_ll_text.specs.Text.{IsStuck};
-ghost use Rattle.ciborium_ll_grammar.specs.Faults.{IsMisplaced};
 
 mod chunked;
 mod strings;

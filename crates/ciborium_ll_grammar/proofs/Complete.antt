@@ -5,12 +5,12 @@ use Rattle.std.proofs.lemmas.List.{append-nil, length-append, take-append-drop, 
 use Rattle.ciborium_ll_grammar.specs.declared.hdr.Header.{Header}
 use Rattle.ciborium_ll_grammar.specs.declared.hdr.Header.TheVariants as h
 use Rattle.ciborium_ll_grammar.specs.Title.{Major, Other, first_byte, Size, Small, numbered_header, open_header, IsTitle, numbered, alone, affix_len, IsCutTitle, BeginsRefused, AreBytes, title_len, shortest_title}
-use Rattle.ciborium_ll_grammar.specs.Strings.{Kind, Bytes, Text, kind_header, none}
+use Rattle.ciborium_ll_grammar.specs.Strings.{Kind, Bytes, Text, kind_header, none, IsMisplaced, IsWritable}
 use Rattle.ciborium_ll_grammar.specs.Strings.IsString.{definite as definite_str}
 use Rattle.ciborium_ll_text.specs.Text.{IsCharacters}
 use Rattle.ciborium_ll_grammar.specs.Elements.{IsSound, Mark, Plain, Whole, Open, Close, pieces, spelling, IsPlain, plain, definite, IsRun, done}
-use Rattle.ciborium_ll_grammar.specs.Faults.{Due, In, Body, Reaches, due, inside, body, body_inside, IsMisplaced, CutTitle, NoTitle, OtherTitle, DamagedText, CutBody, RunInFront, HasFault, Short, Syntax, IsWritable}
-use Rattle.ciborium_ll_grammar.specs.Steps.{IsInsideAt, one_open}
+use Rattle.ciborium_ll_grammar.specs.Faults.{Due, In, Body, Reaches, due, inside, body, body_inside, CutTitle, NoTitle, OtherTitle, DamagedText, CutBody, RunInFront, HasFault, Short, Syntax}
+use Rattle.ciborium_ll_grammar.proofs.OpenStrings.{IsInsideAt, one_open}
 use Rattle.ciborium_ll_grammar.proofs.AffixLaws.{AreBytes-take, title_or_refused}
 use Rattle.ciborium_ll_grammar.proofs.ElementLaws.{IsSound-append}
 use Rattle.ciborium_ll_text.proofs.TextLaws.{IsCharacters-nil}

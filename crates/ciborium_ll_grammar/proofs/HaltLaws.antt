@@ -4,11 +4,11 @@ use Rattle.std.proofs.lemmas.List.{length-append, take_at}
 use Rattle.ciborium_ll_grammar.specs.declared.hdr.Header.{Header}
 use Rattle.ciborium_ll_grammar.specs.declared.hdr.Header.TheVariants as h
 use Rattle.ciborium_ll_grammar.specs.Title.{IsTitle, IsCutTitle, BeginsRefused}
-use Rattle.ciborium_ll_grammar.specs.Strings.{Kind, Bytes, Text, kind_header, IsString, AreStrings, none, more}
+use Rattle.ciborium_ll_grammar.specs.Strings.{Kind, Bytes, Text, kind_header, IsString, AreStrings, none, more, IsMisplaced}
 use Rattle.ciborium_ll_grammar.specs.Strings.IsString.{definite as definite_str, indefinite as indefinite_str}
 use Rattle.ciborium_ll_text.specs.Text.{IsCharacters}
 use Rattle.ciborium_ll_grammar.specs.Elements.{IsSound, Mark, IsElement, plain, definite, indefinite, IsPlain}
-use Rattle.ciborium_ll_grammar.specs.Faults.{IsInside, opened, deeper, IsMisplaced}
+use Rattle.ciborium_ll_grammar.specs.Faults.{IsInside, opened, deeper}
 use Rattle.ciborium_ll_grammar.proofs.TitleLaws.{one_title, title_refused}
 use Rattle.ciborium_ll_grammar.proofs.AffixLaws.{title_not_cut}
 use Rattle.ciborium_ll_grammar.proofs.StringLaws.{some_is, mixed, fronts, not_break, break_title, string_not_break, one_string}

@@ -5,6 +5,7 @@ pub mod FaultLaws
 pub mod HaltLaws
 pub mod ItemLaws
 pub mod OneFault
+pub mod OpenStrings
 pub mod PartsLaws
 pub mod RefusedBytes
 pub mod StepLaws

@@ -3,9 +3,9 @@ use Rattle.std.proofs.Common.{arith, [], ◌≡◌, ℕ, ◌-◌, ◌<◌, ◌�
 use Rattle.std.proofs.lemmas.Bool.{cases_order}
 use Rattle.ciborium_ll_grammar.specs.declared.hdr.Header.{Header}
 use Rattle.ciborium_ll_grammar.specs.Title.{IsTitle, IsCutTitle, BeginsRefused, title_len}
-use Rattle.ciborium_ll_grammar.specs.Strings.{Kind, kind_header, IsString, AreStrings, none, more}
+use Rattle.ciborium_ll_grammar.specs.Strings.{Kind, kind_header, IsString, AreStrings, none, more, IsMisplaced}
 use Rattle.ciborium_ll_grammar.specs.Elements.{IsSound, Mark, Open, pieces, IsElement, IsRun}
-use Rattle.ciborium_ll_grammar.specs.Faults.{IsInside, Place, Due, In, Body, Reaches, due, inside, body, body_inside, IsMisplaced, Answer, FirstFault, HasFault, CutTitle, NoTitle, OtherTitle, DamagedText, CutBody, CutDamagedText}
+use Rattle.ciborium_ll_grammar.specs.Faults.{IsInside, Place, Due, In, Body, Reaches, due, inside, body, body_inside, Answer, FirstFault, HasFault, CutTitle, NoTitle, OtherTitle, DamagedText, CutBody, CutDamagedText}
 use Rattle.ciborium_ll_text.specs.Text.{BeginsNoText}
 use Rattle.ciborium_ll_grammar.proofs.TitleLaws.{one_title, title_refused}
 use Rattle.ciborium_ll_grammar.proofs.AffixLaws.{title_not_cut, refused_affix}

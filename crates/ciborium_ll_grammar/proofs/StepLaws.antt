@@ -6,7 +6,7 @@ use Rattle.ciborium_ll_grammar.specs.Strings.{Kind, kind_header, IsString, indef
 use Rattle.ciborium_ll_grammar.specs.Elements.IsElement.{indefinite as open_element}
 use Rattle.ciborium_ll_grammar.specs.Elements.{IsSound, Mark, Open, Close, pieces, IsElement, IsRun, done, next}
 use Rattle.ciborium_ll_grammar.specs.Faults.{IsInside, opened, deeper}
-use Rattle.ciborium_ll_grammar.specs.Steps.{IsInsideAt, one_open, more_open}
+use Rattle.ciborium_ll_grammar.proofs.OpenStrings.{IsInsideAt, one_open, more_open}
 use Rattle.ciborium_ll_grammar.proofs.ElementLaws.{AreStrings-append}
 
 -- a string behind strings

@@ -3,7 +3,7 @@ use Rattle.std.specs.Prelude.{◌≡◌, ℕ, ◌+◌, ◌-◌, ◌<◌, ◌≤�
 use Rattle.ciborium_ll_grammar.specs.declared.hdr.Header.{Header}
 use Rattle.ciborium_ll_grammar.specs.declared.hdr.Header.TheVariants as h
 use Rattle.ciborium_ll_grammar.specs.Title.{IsTitle, shortest_title, title_len, IsCutTitle, BeginsRefused}
-use Rattle.ciborium_ll_grammar.specs.Strings.{Kind, Bytes, Text, kind_header, AreStrings}
+use Rattle.ciborium_ll_grammar.specs.Strings.{Kind, Bytes, Text, kind_header, AreStrings, IsMisplaced, IsWritable, most_kept}
 use Rattle.ciborium_ll_text.specs.Text.{IsCharacters, BeginsNoText}
 use Rattle.ciborium_ll_grammar.specs.Elements.{IsSound, Mark, Open, pieces, spelling, IsRun}
 
@@ -46,13 +46,6 @@ IsAtTitle Due = Unit {0}
 IsAtTitle (In kind) = Unit {0}
 IsAtTitle (Body kind len start) = ⊥
 
--- a header that may not stand within a string of the kind (RFC 7049, 2.2.2): neither of the kind nor a break
-abbrev pub IsMisplaced : Kind → Header → Type 0
-IsMisplaced Bytes (h.Bytes len) = ⊥
-IsMisplaced Text (h.Text len) = ⊥
-IsMisplaced kind h.Break = ⊥
-IsMisplaced kind header = Unit {0}
-
 -- a header that a decoder refuses within a string of the kind: a strict one a further open too
 abbrev pub IsRefusedIn : Bool → Kind → Header → Type 0
 IsRefusedIn strict kind header = IsMisplaced kind header ⊎ ((strict ≡ true) × (header ≡ kind_header kind None))
@@ -61,16 +54,6 @@ IsRefusedIn strict kind header = IsMisplaced kind header ⊎ ((strict ≡ true) 
 pub data Answer : Type 0 where
   Short : Answer
   Syntax : ℕ → Answer
-
--- what may be written of a body that is cut: any bytes, of a text characters
-abbrev pub IsWritable : Kind → List ℕ → Type 0
-IsWritable Bytes front = Unit {0}
-IsWritable Text front = IsCharacters front
-
--- how many bytes more than are written may be consumed of a body: of a text up to three
-abbrev pub most_kept : Kind → ℕ
-most_kept Bytes = 0
-most_kept Text = 3
 
 -- the marks, the shortest title of a string of this length, and a front of its body
 abbrev pub with_front : List Mark → Kind → ℕ → List ℕ → List ℕ

@@ -2,7 +2,6 @@ pub mod Elements
 pub mod Faults
 pub mod Items
 pub mod Parts
-pub mod Steps
 pub mod Strings
 pub mod Title
 pub mod TitleRows

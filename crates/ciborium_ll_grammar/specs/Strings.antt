@@ -4,6 +4,7 @@ use Rattle.std.specs.Prelude.{ℕ, List, [], ◌∷◌, ◌++◌, length, Option
 use Rattle.ciborium_ll_grammar.specs.declared.hdr.Header.{Header}
 use Rattle.ciborium_ll_grammar.specs.declared.hdr.Header.TheVariants as h
 use Rattle.ciborium_ll_grammar.specs.Title.{IsTitle}
+use Rattle.ciborium_ll_text.specs.Text.{IsCharacters}
 
 -- the two kinds of string (RFC 7049, 2.1): byte strings and text strings
 pub data Kind : Type 0 where
@@ -26,3 +27,20 @@ mutual
     none : AreStrings kind [] []
     more : {first rest : List ℕ} {bodies others : List (List ℕ)} → IsString kind first bodies → AreStrings kind rest others
         → AreStrings kind (first ++ rest) (bodies ++ others)
+
+-- a header that may not stand within a string of the kind (RFC 7049, 2.2.2): neither of the kind nor a break
+abbrev pub IsMisplaced : Kind → Header → Type 0
+IsMisplaced Bytes (h.Bytes len) = ⊥
+IsMisplaced Text (h.Text len) = ⊥
+IsMisplaced kind h.Break = ⊥
+IsMisplaced kind header = Unit {0}
+
+-- what may be written of a body that is cut: any bytes, of a text characters
+abbrev pub IsWritable : Kind → List ℕ → Type 0
+IsWritable Bytes front = Unit {0}
+IsWritable Text front = IsCharacters front
+
+-- how many bytes more than are written may be consumed of a body: of a text up to three
+abbrev pub most_kept : Kind → ℕ
+most_kept Bytes = 0
+most_kept Text = 3

@@ -3,9 +3,8 @@
 ghost use Rattle.std.specs.Prelude.{◌≡◌, ◌≤◌, ◌<◌, ◌+◌, ◌↔◌, ℕ, List, All, IfOk, length};
 ghost use Rattle.ciborium_ll_decoder.specs.Decoding.{IsSteady, refusals_of};
 ghost use Rattle.ciborium_ll_encoder.specs.Encoding.{writer_of};
-ghost use Rattle.ciborium_ll_grammar.specs.Strings.{Kind, Text as text_strings};
+ghost use Rattle.ciborium_ll_grammar.specs.Strings.{Kind, Text as text_strings, most_kept};
 ghost use Rattle.ciborium_ll_text.specs.Text.{IsCharacters};
-ghost use Rattle.ciborium_ll_grammar.specs.Faults.{most_kept};
 ghost use Rattle.ciborium_ll.specs.Drains.{calls_for, AddUp, Drains, DrainsTold, HasEnded, IsDrainable, IsEnough};
 
 use ciborium_ll_decoder::recode::RecodeError;
