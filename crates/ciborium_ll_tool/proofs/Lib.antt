@@ -1,5 +1,1 @@
-mod ArgumentLaws
-pub mod NumberLaws
 mod RawLaws
-mod RequestLaws
-mod WordLaws

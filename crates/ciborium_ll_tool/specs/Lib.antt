@@ -1,9 +1,5 @@
-pub mod Choice
 pub mod Fault
 pub mod Line
-pub mod Number
 pub mod Raw
-pub mod Request
 pub mod Restoring
 pub mod Value
-pub mod Word

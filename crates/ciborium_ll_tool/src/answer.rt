@@ -1,10 +1,10 @@
 //! Answers to requests, as lines of text.
 
-use crate::request::Request;
 use crate::service::ToolError;
 use crate::{copy, skip, string, value};
 use ciborium_ll::io::SliceReader;
 use ciborium_ll::{Decoder, Error, Float, Header};
+use ciborium_ll_requests::request::Request;
 use std::alloc::Global;
 use std::fmt;
 use std::fmt::Write;

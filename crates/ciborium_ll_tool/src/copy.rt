@@ -1,10 +1,10 @@
 //! Elements that are copied.
 
 use crate::answer::Last;
-use crate::word::word_of;
 use ciborium_ll::io::{SliceReader, SliceWriter};
 use ciborium_ll::recode::recode;
 use ciborium_ll::{Decoder, Encoder, Error, RecodeError};
+use ciborium_ll_requests::word::word_of;
 use std::alloc::Global;
 use std::fmt;
 use std::fmt::Write;

@@ -5,30 +5,25 @@
 #![tactic(auto)]
 
 mod answer;
-mod arguments;
-mod choice;
 mod copy;
 mod fault;
 mod input;
 mod memory;
-mod number;
 mod raw;
-mod request;
 mod service;
 mod skip;
 mod string;
 #[cfg(test)]
 mod tests;
 mod value;
-mod word;
 
-pub use crate::arguments::chosen;
-pub use crate::choice::Chosen;
 pub use crate::fault::{Fault, fault_of_raw, fault_of_run};
 pub use crate::memory::{OutOfMemory, VecWriter};
 pub use crate::raw::{BufferedCopy, raw, raw_buffered};
 pub use crate::service::{ToolError, run};
-pub use crate::word::{bytes_of, word_of};
+pub use ciborium_ll_requests::arguments::chosen;
+pub use ciborium_ll_requests::choice::Chosen;
+pub use ciborium_ll_requests::word::{bytes_of, word_of};
 use std::process::ExitCode;
 use std::{env, io};
 

@@ -5,9 +5,9 @@ ghost use Rattle.ciborium_ll.specs.Decoding.{offset_of, waiting_of};
 ghost use Rattle.ciborium_ll.specs.Title.{title_len};
 
 use crate::answer::Last;
-use crate::word::word_of;
 use ciborium_ll::io::{Read, SliceReader};
 use ciborium_ll::{Bytes, Decoder, Error, Header, Segment, Text};
+use ciborium_ll_requests::word::word_of;
 use std::alloc::Global;
 use std::fmt;
 use std::fmt::Write;

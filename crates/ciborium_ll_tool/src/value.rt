@@ -6,8 +6,8 @@ ghost use Rattle.ciborium_ll_tool.specs.Value.{IsSpelled};
 
 use crate::memory::{OutOfMemory, VecWriter};
 use crate::service::ToolError;
-use crate::word::word_of;
 use ciborium_ll::Encoder;
+use ciborium_ll_requests::word::word_of;
 use std::alloc::Global;
 use std::fmt::Write;
 

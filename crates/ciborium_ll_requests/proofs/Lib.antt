@@ -1,0 +1,4 @@
+mod ArgumentLaws
+mod NumberLaws
+mod RequestLaws
+mod WordLaws

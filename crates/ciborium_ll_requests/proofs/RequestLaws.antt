@@ -1,0 +1,285 @@
+-- A request is spelled in ASCII, and cut where its words end.
+use Rattle.std.proofs.Common.{◌≡◌, ◌≢◌, ◌<◌, ◌==◌, ℕ, suc, zero, List, [], ◌∷◌, ◌++◌, length, get_or, Option, Some, None, MatchOption, IfNone, IsSomeAnd, sym, ap, ◌∙◌, Result, Ok, Err, Bool, true, not, nat_lt, codes, refl, arith, IsUtf8, Bor}
+use Rattle.std.specs.List.{AllPass, list_all}
+use Rattle.std.specs.Str.{IsAscii}
+use Rattle.std.proofs.lemmas.Str.{IsAscii-append, IsUtf8-from_ascii}
+use Rattle.std.proofs.lemmas.Str.Pattern.{IsSplitOnceResult, split_after}
+use Rattle.std.proofs.lemmas.Fmt.{IsAscii-from_digits}
+use Rattle.std.proofs.lemmas.Str.Ascii.{IsAscii-cons, IsAscii-from_all, IsAscii-nil}
+use Rattle.hex.specs.Hex.{decode_of, is_hex_digit}
+use Rattle.hex.specs.declared.error.FromHexError.{FromHexError}
+use Rattle.hex.proofs.HexLemmas.{decode_of-ok}
+use Rattle.ciborium_ll_requests.specs.Number.{IsDepth, IsLimit, IsNumber, IsSize}
+use Rattle.ciborium_ll_requests.specs.Request.{Asks, Spells, SpellsBuffered, SpellsCounted, SpellsLimited, SpellsNested, name_of, space}
+use Rattle.ciborium_ll_requests.specs.declared.request.Buffered.{Buffered}
+use Rattle.ciborium_ll_requests.specs.declared.request.Counted.{Counted}
+use Rattle.ciborium_ll_requests.specs.declared.request.Limited.{Limited}
+use Rattle.ciborium_ll_requests.specs.declared.request.Nested.{Nested}
+use Rattle.ciborium_ll_requests.specs.Word.{bytes_of_word, decoded}
+use Rattle.ciborium_ll_requests.specs.declared.request.Request.{Request}
+use Rattle.ciborium_ll_requests.specs.declared.request.Request.TheVariants.{Bytes, Chunks, Heads, Recode, Skip, Strict, Text}
+use Rattle.ciborium_ll_requests.proofs.NumberLaws.{limit_has_no_space, number_has_no_space}
+
+-- what was decoded to bytes is Ok
+decoded-some : (r : Result (List ℕ) FromHexError) (bytes : List ℕ) → decoded r ≡ Some bytes → r ≡ Ok bytes
+decoded-some (Ok found) bytes h = cc h
+decoded-some (Err e) bytes h = cc h
+
+-- a digit is ASCII
+is_hex_digit-below : (c : ℕ) → is_hex_digit c ≡ true → c < 128
+is_hex_digit-below c h = grind (arith)
+
+-- so are digits
+IsAscii-digits : (word : List ℕ) → AllPass is_hex_digit word → IsAscii word
+IsAscii-digits word h = IsAscii-from_all word (λ k d below. is_hex_digit-below _ (h k d below))
+
+-- and a word that has bytes
+IsAscii-word : (word bytes : List ℕ) → bytes_of_word word ≡ Some bytes → IsAscii word
+IsAscii-word [] bytes h = cc h
+IsAscii-word (digit ∷ []) bytes h =
+    let dash : digit ≡ 45 = grind (arith) in IsAscii-cons digit [] (omega arith) IsAscii-nil
+IsAscii-word (high ∷ low ∷ rest) bytes h =
+    let digits = decode_of-ok (high ∷ low ∷ rest) bytes (decoded-some (decode_of (high ∷ low ∷ rest)) bytes h) in
+    IsAscii-digits (high ∷ low ∷ rest) digits.1
+
+-- text is ASCII by a test of each byte
+IsAscii-from_test : (text : List ℕ) → list_all (λ byte. nat_lt byte 128) text ≡ true → IsAscii text
+IsAscii-from_test [] h = IsAscii-nil
+IsAscii-from_test (byte ∷ rest) h =
+    IsAscii-cons byte rest (grind (arith)) (IsAscii-from_test rest (grind (arith)))
+
+-- so are digits of a number
+IsAscii-number : (word : List ℕ) (n : ℕ) → IsNumber word n → IsAscii word
+IsAscii-number word n is = IsAscii-from_digits word is.numeral.1
+
+-- and a limit
+IsAscii-limit : (word : List ℕ) (limit : Option ℕ) → IsLimit word limit → IsAscii word
+IsAscii-limit word None is = rw is (IsAscii-from_test (codes "*") refl)
+IsAscii-limit word (Some n) is = IsAscii-number word n is
+
+-- two words with a space between
+IsAscii-two : (first word : List ℕ) → IsAscii first → IsAscii word → IsAscii (first ++ (space ∷ word))
+IsAscii-two first word left right =
+    IsAscii-append first (space ∷ word) left (IsAscii-cons space word (omega arith) right)
+
+-- the words of a request
+IsAscii-words : (words : List ℕ) (request : Request) → Spells words request → IsAscii words
+IsAscii-words words (Heads bytes) has = IsAscii-word words bytes.items has
+IsAscii-words words (Chunks asked) (first, word, parts, size, has) =
+    rw parts (IsAscii-two first word (IsAscii-number first asked.size size.0) (IsAscii-word word asked.bytes.items has))
+IsAscii-words words (Bytes asked) (first, word, parts, limit, has) =
+    rw parts (IsAscii-two first word (IsAscii-limit first asked.limit limit) (IsAscii-word word asked.bytes.items has))
+IsAscii-words words (Text asked) (first, word, parts, limit, has) =
+    rw parts (IsAscii-two first word (IsAscii-limit first asked.limit limit) (IsAscii-word word asked.bytes.items has))
+IsAscii-words words (Recode asked) (first, word, parts, count, has) =
+    rw parts (IsAscii-two first word (IsAscii-number first asked.count count) (IsAscii-word word asked.bytes.items has))
+IsAscii-words words (Strict asked) (first, word, parts, count, has) =
+    rw parts (IsAscii-two first word (IsAscii-number first asked.count count) (IsAscii-word word asked.bytes.items has))
+IsAscii-words words (Skip asked) (first, word, parts, depth, has) =
+    rw parts (IsAscii-two first word (IsAscii-number first asked.depth depth.0) (IsAscii-word word asked.bytes.items has))
+
+-- the name of a request
+IsAscii-name : (request : Request) → IsAscii (name_of request)
+IsAscii-name (Heads bytes) = IsAscii-from_test (codes "heads") refl
+IsAscii-name (Chunks asked) = IsAscii-from_test (codes "chunks") refl
+IsAscii-name (Bytes asked) = IsAscii-from_test (codes "bytes") refl
+IsAscii-name (Text asked) = IsAscii-from_test (codes "text") refl
+IsAscii-name (Recode asked) = IsAscii-from_test (codes "recode") refl
+IsAscii-name (Strict asked) = IsAscii-from_test (codes "strict") refl
+IsAscii-name (Skip asked) = IsAscii-from_test (codes "skip") refl
+
+-- a request is UTF-8
+pub IsUtf8-request : (line : List ℕ) (request : Request) → Asks line request → IsUtf8 line
+IsUtf8-request line request (words, parts, spelled) =
+    rw parts (IsUtf8-from_ascii _ (IsAscii-two (name_of request) words (IsAscii-name request) (IsAscii-words words request spelled)))
+
+-- ---- where a line is cut
+
+-- no byte is a space, by a test of each
+abbrev has_no_space : List ℕ → Bool
+has_no_space bytes = list_all (λ byte. not (byte == space)) bytes
+
+no_space_at : (bytes : List ℕ) → has_no_space bytes ≡ true → (i : ℕ) → i < length bytes → get_or bytes i 0 ≢ space
+no_space_at [] h i within = absurd (omega (arith, within))
+no_space_at (byte ∷ rest) h zero within = λ same. absurd (grind (arith))
+no_space_at (byte ∷ rest) h (suc i) within = no_space_at rest (grind (arith)) i (omega (arith, within))
+
+-- no name has a space
+name_has_no_space : (request : Request) → (i : ℕ) → i < length (name_of request) → get_or (name_of request) i 0 ≢ space
+name_has_no_space (Heads bytes) = no_space_at (codes "heads") refl
+name_has_no_space (Chunks asked) = no_space_at (codes "chunks") refl
+name_has_no_space (Bytes asked) = no_space_at (codes "bytes") refl
+name_has_no_space (Text asked) = no_space_at (codes "text") refl
+name_has_no_space (Recode asked) = no_space_at (codes "recode") refl
+name_has_no_space (Strict asked) = no_space_at (codes "strict") refl
+name_has_no_space (Skip asked) = no_space_at (codes "skip") refl
+
+-- a request is cut behind its name
+pub cut_behind_name : (line : List ℕ) (r : Option (Bor (List ℕ) × Bor (List ℕ))) → IsSplitOnceResult space line r
+    → (request : Request) → Asks line request → MatchOption r ⊥ (λ x. (x.0.now ≡ name_of request) × Spells x.1.now request)
+cut_behind_name line None cut request (words, parts, spelled) =
+    split_after space line (name_of request) words None cut (omega arith) parts (name_has_no_space request)
+cut_behind_name line (Some x) cut request (words, parts, spelled) =
+    let same = split_after space line (name_of request) words (Some x) cut (omega arith) parts (name_has_no_space request) in
+    (same.0, rw same.1 spelled)
+
+-- a size and bytes are cut behind the size
+pub cut_behind_size : (words : List ℕ) (r : Option (Bor (List ℕ) × Bor (List ℕ))) → IsSplitOnceResult space words r
+    → (asked : Buffered) → SpellsBuffered words asked
+    → MatchOption r ⊥ (λ x. IsSize x.0.now asked.size × (bytes_of_word x.1.now ≡ Some asked.bytes.items))
+cut_behind_size words None cut asked (first, word, parts, size, has) =
+    split_after space words first word None cut (omega arith) parts (number_has_no_space first asked.size size.0)
+cut_behind_size words (Some x) cut asked (first, word, parts, size, has) =
+    let same = split_after space words first word (Some x) cut (omega arith) parts (number_has_no_space first asked.size size.0) in
+    (rw same.0 size, rw same.1 has)
+
+-- a limit and bytes are cut behind the limit
+pub cut_behind_limit : (words : List ℕ) (r : Option (Bor (List ℕ) × Bor (List ℕ))) → IsSplitOnceResult space words r
+    → (asked : Limited) → SpellsLimited words asked
+    → MatchOption r ⊥ (λ x. IsLimit x.0.now asked.limit × (bytes_of_word x.1.now ≡ Some asked.bytes.items))
+cut_behind_limit words None cut asked (first, word, parts, limit, has) =
+    split_after space words first word None cut (omega arith) parts (limit_has_no_space first asked.limit limit)
+cut_behind_limit words (Some x) cut asked (first, word, parts, limit, has) =
+    let same = split_after space words first word (Some x) cut (omega arith) parts (limit_has_no_space first asked.limit limit) in
+    (rw same.0 limit, rw same.1 has)
+
+-- a count and bytes are cut behind the count
+pub cut_behind_count : (words : List ℕ) (r : Option (Bor (List ℕ) × Bor (List ℕ))) → IsSplitOnceResult space words r
+    → (asked : Counted) → SpellsCounted words asked
+    → MatchOption r ⊥ (λ x. IsNumber x.0.now asked.count × (bytes_of_word x.1.now ≡ Some asked.bytes.items))
+cut_behind_count words None cut asked (first, word, parts, count, has) =
+    split_after space words first word None cut (omega arith) parts (number_has_no_space first asked.count count)
+cut_behind_count words (Some x) cut asked (first, word, parts, count, has) =
+    let same = split_after space words first word (Some x) cut (omega arith) parts (number_has_no_space first asked.count count) in
+    (rw same.0 count, rw same.1 has)
+
+-- a depth and bytes are cut behind the depth
+pub cut_behind_depth : (words : List ℕ) (r : Option (Bor (List ℕ) × Bor (List ℕ))) → IsSplitOnceResult space words r
+    → (asked : Nested) → SpellsNested words asked
+    → MatchOption r ⊥ (λ x. IsDepth x.0.now asked.depth × (bytes_of_word x.1.now ≡ Some asked.bytes.items))
+cut_behind_depth words None cut asked (first, word, parts, depth, has) =
+    split_after space words first word None cut (omega arith) parts (number_has_no_space first asked.depth depth.0)
+cut_behind_depth words (Some x) cut asked (first, word, parts, depth, has) =
+    let none = number_has_no_space first asked.depth depth.0 in
+    let same = split_after space words first word (Some x) cut (omega arith) parts none in
+    (rw same.0 depth, rw same.1 has)
+
+-- ---- requests of one name
+
+-- the first byte, by which most names differ
+abbrev initial : List ℕ → ℕ
+initial [] = 0
+initial (byte ∷ bytes) = byte
+
+-- the second byte, by which the others do
+abbrev second : List ℕ → ℕ
+second [] = 0
+second (byte ∷ bytes) = initial bytes
+
+refuses_chunks : (name words : List ℕ) → name ≡ codes "chunks" → ((asked : Buffered) → SpellsBuffered words asked → ⊥)
+    → (request : Request) → name ≡ name_of request → Spells words request → ⊥
+refuses_chunks name words is refused (Heads bytes) named spelled = let other : 99 ≡ 104 = ap initial (sym is ∙ named) in omega (arith, other)
+refuses_chunks name words is refused (Chunks asked) named spelled = refused asked spelled
+refuses_chunks name words is refused (Bytes asked) named spelled = let other : 99 ≡ 98 = ap initial (sym is ∙ named) in omega (arith, other)
+refuses_chunks name words is refused (Text asked) named spelled = let other : 99 ≡ 116 = ap initial (sym is ∙ named) in omega (arith, other)
+refuses_chunks name words is refused (Recode asked) named spelled = let other : 99 ≡ 114 = ap initial (sym is ∙ named) in omega (arith, other)
+refuses_chunks name words is refused (Strict asked) named spelled = let other : 99 ≡ 115 = ap initial (sym is ∙ named) in omega (arith, other)
+refuses_chunks name words is refused (Skip asked) named spelled = let other : 99 ≡ 115 = ap initial (sym is ∙ named) in omega (arith, other)
+
+-- words that are refused behind the name are no request of it
+pub none_of_chunks : (name words : List ℕ) (found : Option Buffered) (result : Option Request) (P : Buffered → Request → Type 0)
+    → MatchOption found (result ≡ None) (λ x. IsSomeAnd result (P x)) → IfNone found ((asked : Buffered) → SpellsBuffered words asked → ⊥)
+    → name ≡ codes "chunks" → IfNone result ((request : Request) → name ≡ name_of request → Spells words request → ⊥)
+none_of_chunks name words found (Some request) P cases refused is = _
+none_of_chunks name words (Some asked) None P cases refused is = absurd cases
+none_of_chunks name words None None P cases refused is = refuses_chunks name words is refused
+
+refuses_bytes : (name words : List ℕ) → name ≡ codes "bytes" → ((asked : Limited) → SpellsLimited words asked → ⊥)
+    → (request : Request) → name ≡ name_of request → Spells words request → ⊥
+refuses_bytes name words is refused (Heads bytes) named spelled = let other : 98 ≡ 104 = ap initial (sym is ∙ named) in omega (arith, other)
+refuses_bytes name words is refused (Chunks asked) named spelled = let other : 98 ≡ 99 = ap initial (sym is ∙ named) in omega (arith, other)
+refuses_bytes name words is refused (Bytes asked) named spelled = refused asked spelled
+refuses_bytes name words is refused (Text asked) named spelled = let other : 98 ≡ 116 = ap initial (sym is ∙ named) in omega (arith, other)
+refuses_bytes name words is refused (Recode asked) named spelled = let other : 98 ≡ 114 = ap initial (sym is ∙ named) in omega (arith, other)
+refuses_bytes name words is refused (Strict asked) named spelled = let other : 98 ≡ 115 = ap initial (sym is ∙ named) in omega (arith, other)
+refuses_bytes name words is refused (Skip asked) named spelled = let other : 98 ≡ 115 = ap initial (sym is ∙ named) in omega (arith, other)
+
+-- words that are refused behind the name are no request of it
+pub none_of_bytes : (name words : List ℕ) (found : Option Limited) (result : Option Request) (P : Limited → Request → Type 0)
+    → MatchOption found (result ≡ None) (λ x. IsSomeAnd result (P x)) → IfNone found ((asked : Limited) → SpellsLimited words asked → ⊥)
+    → name ≡ codes "bytes" → IfNone result ((request : Request) → name ≡ name_of request → Spells words request → ⊥)
+none_of_bytes name words found (Some request) P cases refused is = _
+none_of_bytes name words (Some asked) None P cases refused is = absurd cases
+none_of_bytes name words None None P cases refused is = refuses_bytes name words is refused
+
+refuses_text : (name words : List ℕ) → name ≡ codes "text" → ((asked : Limited) → SpellsLimited words asked → ⊥)
+    → (request : Request) → name ≡ name_of request → Spells words request → ⊥
+refuses_text name words is refused (Heads bytes) named spelled = let other : 116 ≡ 104 = ap initial (sym is ∙ named) in omega (arith, other)
+refuses_text name words is refused (Chunks asked) named spelled = let other : 116 ≡ 99 = ap initial (sym is ∙ named) in omega (arith, other)
+refuses_text name words is refused (Bytes asked) named spelled = let other : 116 ≡ 98 = ap initial (sym is ∙ named) in omega (arith, other)
+refuses_text name words is refused (Text asked) named spelled = refused asked spelled
+refuses_text name words is refused (Recode asked) named spelled = let other : 116 ≡ 114 = ap initial (sym is ∙ named) in omega (arith, other)
+refuses_text name words is refused (Strict asked) named spelled = let other : 116 ≡ 115 = ap initial (sym is ∙ named) in omega (arith, other)
+refuses_text name words is refused (Skip asked) named spelled = let other : 116 ≡ 115 = ap initial (sym is ∙ named) in omega (arith, other)
+
+-- words that are refused behind the name are no request of it
+pub none_of_text : (name words : List ℕ) (found : Option Limited) (result : Option Request) (P : Limited → Request → Type 0)
+    → MatchOption found (result ≡ None) (λ x. IsSomeAnd result (P x)) → IfNone found ((asked : Limited) → SpellsLimited words asked → ⊥)
+    → name ≡ codes "text" → IfNone result ((request : Request) → name ≡ name_of request → Spells words request → ⊥)
+none_of_text name words found (Some request) P cases refused is = _
+none_of_text name words (Some asked) None P cases refused is = absurd cases
+none_of_text name words None None P cases refused is = refuses_text name words is refused
+
+refuses_recode : (name words : List ℕ) → name ≡ codes "recode" → ((asked : Counted) → SpellsCounted words asked → ⊥)
+    → (request : Request) → name ≡ name_of request → Spells words request → ⊥
+refuses_recode name words is refused (Heads bytes) named spelled = let other : 114 ≡ 104 = ap initial (sym is ∙ named) in omega (arith, other)
+refuses_recode name words is refused (Chunks asked) named spelled = let other : 114 ≡ 99 = ap initial (sym is ∙ named) in omega (arith, other)
+refuses_recode name words is refused (Bytes asked) named spelled = let other : 114 ≡ 98 = ap initial (sym is ∙ named) in omega (arith, other)
+refuses_recode name words is refused (Text asked) named spelled = let other : 114 ≡ 116 = ap initial (sym is ∙ named) in omega (arith, other)
+refuses_recode name words is refused (Recode asked) named spelled = refused asked spelled
+refuses_recode name words is refused (Strict asked) named spelled = let other : 114 ≡ 115 = ap initial (sym is ∙ named) in omega (arith, other)
+refuses_recode name words is refused (Skip asked) named spelled = let other : 114 ≡ 115 = ap initial (sym is ∙ named) in omega (arith, other)
+
+-- words that are refused behind the name are no request of it
+pub none_of_recode : (name words : List ℕ) (found : Option Counted) (result : Option Request) (P : Counted → Request → Type 0)
+    → MatchOption found (result ≡ None) (λ x. IsSomeAnd result (P x)) → IfNone found ((asked : Counted) → SpellsCounted words asked → ⊥)
+    → name ≡ codes "recode" → IfNone result ((request : Request) → name ≡ name_of request → Spells words request → ⊥)
+none_of_recode name words found (Some request) P cases refused is = _
+none_of_recode name words (Some asked) None P cases refused is = absurd cases
+none_of_recode name words None None P cases refused is = refuses_recode name words is refused
+
+refuses_strict : (name words : List ℕ) → name ≡ codes "strict" → ((asked : Counted) → SpellsCounted words asked → ⊥)
+    → (request : Request) → name ≡ name_of request → Spells words request → ⊥
+refuses_strict name words is refused (Heads bytes) named spelled = let other : 115 ≡ 104 = ap initial (sym is ∙ named) in omega (arith, other)
+refuses_strict name words is refused (Chunks asked) named spelled = let other : 115 ≡ 99 = ap initial (sym is ∙ named) in omega (arith, other)
+refuses_strict name words is refused (Bytes asked) named spelled = let other : 115 ≡ 98 = ap initial (sym is ∙ named) in omega (arith, other)
+refuses_strict name words is refused (Text asked) named spelled = let other : 115 ≡ 116 = ap initial (sym is ∙ named) in omega (arith, other)
+refuses_strict name words is refused (Recode asked) named spelled = let other : 115 ≡ 114 = ap initial (sym is ∙ named) in omega (arith, other)
+refuses_strict name words is refused (Strict asked) named spelled = refused asked spelled
+refuses_strict name words is refused (Skip asked) named spelled = let other : 116 ≡ 107 = ap second (sym is ∙ named) in omega (arith, other)
+
+-- words that are refused behind the name are no request of it
+pub none_of_strict : (name words : List ℕ) (found : Option Counted) (result : Option Request) (P : Counted → Request → Type 0)
+    → MatchOption found (result ≡ None) (λ x. IsSomeAnd result (P x)) → IfNone found ((asked : Counted) → SpellsCounted words asked → ⊥)
+    → name ≡ codes "strict" → IfNone result ((request : Request) → name ≡ name_of request → Spells words request → ⊥)
+none_of_strict name words found (Some request) P cases refused is = _
+none_of_strict name words (Some asked) None P cases refused is = absurd cases
+none_of_strict name words None None P cases refused is = refuses_strict name words is refused
+
+refuses_skip : (name words : List ℕ) → name ≡ codes "skip" → ((asked : Nested) → SpellsNested words asked → ⊥)
+    → (request : Request) → name ≡ name_of request → Spells words request → ⊥
+refuses_skip name words is refused (Heads bytes) named spelled = let other : 115 ≡ 104 = ap initial (sym is ∙ named) in omega (arith, other)
+refuses_skip name words is refused (Chunks asked) named spelled = let other : 115 ≡ 99 = ap initial (sym is ∙ named) in omega (arith, other)
+refuses_skip name words is refused (Bytes asked) named spelled = let other : 115 ≡ 98 = ap initial (sym is ∙ named) in omega (arith, other)
+refuses_skip name words is refused (Text asked) named spelled = let other : 115 ≡ 116 = ap initial (sym is ∙ named) in omega (arith, other)
+refuses_skip name words is refused (Recode asked) named spelled = let other : 115 ≡ 114 = ap initial (sym is ∙ named) in omega (arith, other)
+refuses_skip name words is refused (Strict asked) named spelled = let other : 107 ≡ 116 = ap second (sym is ∙ named) in omega (arith, other)
+refuses_skip name words is refused (Skip asked) named spelled = refused asked spelled
+
+-- words that are refused behind the name are no request of it
+pub none_of_skip : (name words : List ℕ) (found : Option Nested) (result : Option Request) (P : Nested → Request → Type 0)
+    → MatchOption found (result ≡ None) (λ x. IsSomeAnd result (P x)) → IfNone found ((asked : Nested) → SpellsNested words asked → ⊥)
+    → name ≡ codes "skip" → IfNone result ((request : Request) → name ≡ name_of request → Spells words request → ⊥)
+none_of_skip name words found (Some request) P cases refused is = _
+none_of_skip name words (Some asked) None P cases refused is = absurd cases
+none_of_skip name words None None P cases refused is = refuses_skip name words is refused

@@ -1,0 +1,4 @@
+pub mod Choice
+pub mod Number
+pub mod Request
+pub mod Word

@@ -1,0 +1,68 @@
+//! Numbers as words of a line.
+
+ghost use Rattle.std.specs.Prelude.{◌≡◌, ℕ, Option, IfNone, IfSome};
+ghost use Rattle.std.specs.Fmt.{decimal};
+ghost use Rattle.ciborium_ll_requests.specs.Number.{IsDepth, IsLimit, IsNumber, IsSize};
+
+/// The greatest size of a buffer that a line may ask for.
+const MOST_SIZE: u32 = 65_536;
+
+/// The greatest depth of an item that a line may ask for.
+const MOST_DEPTH: u32 = 256;
+
+/// The number that a word spells: `0`, or a digit from 1 to 9 and digits behind it, at most 4,294,967,295.
+///
+/// A number has just one such word, the one that is printed of it.
+pub fn number_of(word: &str) -> Option<u32>
+    ensures some { IfSome result (IsNumber word.now) }
+    ensures none { IfNone result ((n : ℕ) → IsNumber word.now n → ⊥) }
+    ensures printed { IfSome result (λ n. decimal n ≡ word.now) }
+{
+    let bytes = word.as_bytes();
+    if bytes.is_empty() || bytes[0] == b'+' {
+        return None;
+    }
+    if bytes[0] == b'0' && bytes.len() > 1 {
+        return None;
+    }
+    match word.parse::<u32>() {
+        Ok(number) => Some(number),
+        Err(_) => None,
+    }
+}
+
+/// The size of a buffer that a word spells: a number, at most 65,536.
+pub fn size_of(word: &str) -> Option<usize>
+    ensures some { IfSome result (IsSize word.now) }
+    ensures none { IfNone result ((size : ℕ) → IsSize word.now size → ⊥) }
+{
+    match number_of(word) {
+        Some(size) if size <= MOST_SIZE => Some(size as usize),
+        _ => None,
+    }
+}
+
+/// The depth of an item that a word spells: a number, at most 256.
+pub fn depth_of(word: &str) -> Option<usize>
+    ensures some { IfSome result (IsDepth word.now) }
+    ensures none { IfNone result ((depth : ℕ) → IsDepth word.now depth → ⊥) }
+{
+    match number_of(word) {
+        Some(depth) if depth <= MOST_DEPTH => Some(depth as usize),
+        _ => None,
+    }
+}
+
+/// The limit that a word spells: a number, or `*` for none.
+pub fn limit_of(word: &str) -> Option<Option<usize>>
+    ensures some { IfSome result (IsLimit word.now) }
+    ensures none { IfNone result ((limit : Option ℕ) → IsLimit word.now limit → ⊥) }
+{
+    if word == "*" {
+        return Some(None);
+    }
+    match number_of(word) {
+        Some(limit) => Some(Some(limit as usize)),
+        None => None,
+    }
+}
