@@ -3,3 +3,4 @@ pub mod ItemFaults
 pub mod Remaining
 pub mod Skipping
 pub mod SkippingTold
+pub mod SkipTexts

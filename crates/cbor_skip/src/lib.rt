@@ -9,6 +9,7 @@ ghost use Rattle.cbor_skip.specs.Skipping.{SkipsItem, SkipsWithin};
 ghost use Rattle.cbor_skip.specs.SkippingTold.{IsReady, SkipsFront, SkipsTold};
 
 pub mod laws;
+mod messages;
 mod remaining;
 
 use self::remaining::Remaining;

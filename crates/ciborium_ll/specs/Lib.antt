@@ -16,6 +16,7 @@ pub use Rattle.ciborium_ll_grammar.specs.Title
 pub use Rattle.ciborium_ll_grammar.specs.TitleRows
 pub use Rattle.ciborium_ll_grammar.specs.Values
 pub use Rattle.ciborium_ll_io.specs.Buffers
+pub use Rattle.ciborium_ll_io.specs.FaultTexts
 pub use Rattle.ciborium_ll_io.specs.Slices
 pub use Rattle.ciborium_ll_io.specs.Streams
 pub use Rattle.ciborium_ll_io.specs.Transfer
@@ -23,6 +24,7 @@ pub use Rattle.ciborium_ll_encoder.specs.Encoding
 pub use Rattle.ciborium_ll_decoder.specs.Chunks
 pub use Rattle.ciborium_ll_decoder.specs.Copying
 pub use Rattle.ciborium_ll_decoder.specs.Decoding
+pub use Rattle.ciborium_ll_decoder.specs.ErrorTexts
 pub use Rattle.ciborium_ll_decoder.specs.Finishing
 pub use Rattle.ciborium_ll_decoder.specs.Kept
 pub use Rattle.ciborium_ll_decoder.specs.Lend

@@ -1,6 +1,7 @@
 pub mod Chunks
 pub mod Copying
 pub mod Decoding
+pub mod ErrorTexts
 pub mod Finishing
 pub mod Kept
 pub mod Lend

@@ -5,5 +5,6 @@
 #![tactic(auto)]
 
 pub mod dec;
+mod messages;
 pub mod recode;
 pub mod seg;

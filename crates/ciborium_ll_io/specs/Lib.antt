@@ -1,4 +1,5 @@
 pub mod Buffers
+pub mod FaultTexts
 pub mod Slices
 pub mod Streams
 pub mod Transfer

@@ -10,6 +10,7 @@ ghost use Rattle.ciborium_ll_io.specs.Transfer.{Shrinks, AppendsFront};
 
 mod buffered;
 mod failures;
+mod messages;
 mod slices;
 mod streams;
 mod window;

@@ -16,6 +16,8 @@ mod exactly;
 #[cfg(test)]
 mod faults;
 #[cfg(test)]
+mod messages;
+#[cfg(test)]
 mod pieces;
 #[cfg(test)]
 mod readme;

@@ -1,5 +1,5 @@
 -- What the program says of an error.
-use Rattle.std.specs.Prelude.{◌≡◌}
+use Rattle.std.specs.Prelude.{◌≡◌, ℕ, List, ◌++◌, Option, Some, None, codes, decimal}
 use Rattle.ciborium_ll_tool.specs.declared.fault.Fault.{Fault}
 use Rattle.ciborium_ll_tool.specs.declared.fault.Fault.TheVariants as f
 use Rattle.ciborium_ll_tool.specs.declared.service.ToolError.{ToolError}
@@ -29,3 +29,17 @@ fault_of_copy (r.Read (d.Syntax place)) = f.Syntax place
 fault_of_copy (r.Read d.TooLong) = f.TooLong
 fault_of_copy (r.Read d.Waiting) = f.Read
 fault_of_copy (r.Write error) = f.Write
+
+-- what the program says of a fault, behind `error: `
+abbrev pub fault_text : Fault → List ℕ
+fault_text (f.Syntax place) = codes "syntax " ++ decimal place
+fault_text f.TooLong = codes "too long"
+fault_text f.Read = codes "read"
+fault_text f.Write = codes "write"
+fault_text f.Memory = codes "memory"
+
+-- what the error of a run says to a person. What std's own error says is open
+abbrev pub tool_error_text : ToolError → Option (List ℕ)
+tool_error_text e.Memory = Some (codes "there is no memory left")
+tool_error_text (e.Read error) = None
+tool_error_text (e.Write error) = None

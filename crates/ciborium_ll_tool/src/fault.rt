@@ -3,10 +3,11 @@
 ghost use Rattle.std.specs.Prelude.{◌≡◌};
 ghost use Rattle.ciborium_ll_tool.specs.Fault.{fault_of, fault_of_copy};
 
+use crate::memory::OutOfMemory;
 use crate::service::ToolError;
 use ciborium_ll::io::{ReadFault, WriteFault};
 use ciborium_ll::{Error, RecodeError};
-use std::fmt;
+use std::{error, fmt};
 
 /// Why the program failed, printed as one line.
 #[derive(Debug, Drop)]
@@ -24,6 +25,11 @@ pub enum Fault {
 }
 
 impl fmt::Display for Fault {
+    ghost use Rattle.std.specs.Prelude.{Some};
+    ghost use Rattle.ciborium_ll_tool.specs.Fault.{fault_text};
+
+    ghost output = { λ fault. Some (fault_text fault) };
+
     fn fmt<W: fmt::Write>(&self, f: &mut fmt::Formatter<W>) -> fmt::Result {
         match self {
             Fault::Syntax(place) => write!(f, "syntax {place}"),
@@ -34,6 +40,37 @@ impl fmt::Display for Fault {
         }
     }
 }
+
+impl error::Error for Fault {}
+
+impl fmt::Display for ToolError {
+    ghost use Rattle.ciborium_ll_tool.specs.Fault.{tool_error_text};
+
+    ghost output = { tool_error_text };
+
+    /// Of a reader or a writer that failed it is what its own error says.
+    fn fmt<W: fmt::Write>(&self, f: &mut fmt::Formatter<W>) -> fmt::Result {
+        match self {
+            ToolError::Memory => f.write_str("there is no memory left"),
+            ToolError::Read(error) => write!(f, "{error}"),
+            ToolError::Write(error) => write!(f, "{error}"),
+        }
+    }
+}
+
+impl error::Error for ToolError {}
+
+impl fmt::Display for OutOfMemory {
+    ghost use Rattle.std.specs.Prelude.{Some, codes};
+
+    ghost output = { λ _. Some (codes "there is no memory left") };
+
+    fn fmt<W: fmt::Write>(&self, f: &mut fmt::Formatter<W>) -> fmt::Result {
+        f.write_str("there is no memory left")
+    }
+}
+
+impl error::Error for OutOfMemory {}
 
 /// The fault that ended a run.
 pub fn fault_of_run(error: &ToolError) -> Fault

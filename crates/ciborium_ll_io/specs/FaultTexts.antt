@@ -1,0 +1,16 @@
+-- What the errors of readers and writers of std say to a person. What std's own error says is open.
+use Rattle.std.specs.Prelude.{ℕ, List, Option, Some, None, codes}
+use Rattle.ciborium_ll_io.specs.declared.io.streams.ReadFault.{ReadFault}
+use Rattle.ciborium_ll_io.specs.declared.io.streams.ReadFault.TheVariants as reading
+use Rattle.ciborium_ll_io.specs.declared.io.streams.WriteFault.{WriteFault}
+use Rattle.ciborium_ll_io.specs.declared.io.streams.WriteFault.TheVariants as writing
+
+-- of a reader that has ended, and of one that failed
+abbrev pub read_fault_text : ReadFault → Option (List ℕ)
+read_fault_text reading.End = Some (codes "the reader has ended")
+read_fault_text (reading.Failed error) = None
+
+-- of a writer that takes nothing, and of one that failed
+abbrev pub write_fault_text : WriteFault → Option (List ℕ)
+write_fault_text writing.Zero = Some (codes "the writer takes no more bytes")
+write_fault_text (writing.Failed error) = None
