@@ -17,6 +17,7 @@ pub use Rattle.ciborium_ll_grammar.specs.TitleRows
 pub use Rattle.ciborium_ll_grammar.specs.Values
 pub use Rattle.ciborium_ll_io.specs.Buffers
 pub use Rattle.ciborium_ll_io.specs.FaultTexts
+pub use Rattle.ciborium_ll_io.specs.Discards
 pub use Rattle.ciborium_ll_io.specs.Slices
 pub use Rattle.ciborium_ll_io.specs.Streams
 pub use Rattle.ciborium_ll_io.specs.Transfer

@@ -13,6 +13,7 @@ pub use Rattle.ciborium_ll_io.specs.declared.io.Write
 pub use Rattle.ciborium_ll_io.specs.declared.io.buffered.BufferedReader
 pub use Rattle.ciborium_ll_io.specs.declared.io.buffered.BufferedWriter
 pub use Rattle.ciborium_ll_io.specs.declared.io.buffered.FaultKept
+pub use Rattle.ciborium_ll_io.specs.declared.io.discard.Discard
 pub use Rattle.ciborium_ll_io.specs.declared.io.slices.SliceReader
 pub use Rattle.ciborium_ll_io.specs.declared.io.slices.SliceWriter
 pub use Rattle.ciborium_ll_io.specs.declared.io.streams.ReadFault

@@ -1,4 +1,5 @@
 pub mod Buffers
+pub mod Discards
 pub mod FaultTexts
 pub mod Slices
 pub mod Streams

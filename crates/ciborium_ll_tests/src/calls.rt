@@ -2,7 +2,9 @@ ghost use Rattle.std.specs.Prelude.{◌≡◌, ◌≤◌, IsTrue, None, length, 
 ghost use Rattle.ciborium_ll.specs.Decoding.{IsSteady, offset_of, waiting_of};
 ghost use Rattle.ciborium_ll.specs.Title.{title_len};
 
-use ciborium_ll::io::{EndOfFile, Failures, OutOfSpace, Read, SliceReader, SliceWriter, Write};
+use ciborium_ll::io::{
+    Discard, EndOfFile, Failures, OutOfSpace, Read, SliceReader, SliceWriter, Write,
+};
 use ciborium_ll::{Decoder, Encoder, Error, Header};
 use std::process::Abort;
 use std::test::Fail;
@@ -71,6 +73,26 @@ fn slices(rt: HostRuntime) -> Result<(), Fail> {
     assert!(rt; matches!(writes(&mut writer, &[9, 9]), Err(OutOfSpace)));
     assert_eq!(rt; writer.room(), 1);
     assert_eq!(rt; writer.written(), [7, 8].as_slice());
+    Ok(())
+}
+
+#[test]
+fn a_writer_that_keeps_nothing(rt: HostRuntime) -> Result<(), Fail> {
+    let mut writer = Discard::new(3);
+    writes(&mut writer, &[7, 8])?;
+    assert!(rt; matches!(writes(&mut writer, &[9, 9]), Err(OutOfSpace)));
+    assert_eq!(rt; writer.room(), 1);
+    writes(&mut writer, &[])?;
+    let mut encoder = Encoder::from(writer);
+    assert!(rt; matches!(pushes(&mut encoder, Header::Positive(24)), Err(OutOfSpace)));
+    assert_eq!(rt; encoder.into_inner().room(), 0);
+
+    // It takes no memory, so its room may pass all memory that there is.
+    let mut writer = Discard::new(usize::MAX);
+    for _ in 0..1000 {
+        writes(&mut writer, &[0; 1000])?;
+    }
+    assert_eq!(rt; usize::MAX - writer.room(), 1_000_000);
     Ok(())
 }
 

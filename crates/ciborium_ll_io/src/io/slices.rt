@@ -118,7 +118,8 @@ impl<'a> Write for SliceWriter<'a> {
 
     ghost flushed = { λ old new. written_of new ≡ written_of old };
 
-    /// Appends the whole of `data`, or nothing where the room is smaller.
+    /// Appends the whole of `data`, or nothing where the room is smaller. The slice is then as it was, behind what was
+    /// written too.
     fn write_all(&mut self, data: &[u8]) -> Result<(), OutOfSpace>
         // The trait's.
         ensures bytes { OnOk result (Appends (written_of self.old) (written_of self.new) «data».now) }
@@ -131,6 +132,7 @@ impl<'a> Write for SliceWriter<'a> {
 
         // The slice's own.
         ensures nothing { OnErr result (written_of self.new ≡ written_of self.old) }
+        ensures untouched { OnErr result (self.new.buffer.now ≡ self.old.buffer.now) }
         ensures same_reference { self.new.buffer.ghost_name ≡ self.old.buffer.ghost_name }
     {
         if self.room() < data.len() {

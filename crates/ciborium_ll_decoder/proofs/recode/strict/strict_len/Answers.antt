@@ -8,9 +8,9 @@ returns-in-Err-clause-none c = λ front.
     let exact = c.recode.ensures.strictly_exactly due [] (record {
       steady = search rules;
       told = record { mode = search rules; due-told = search rules; written-told = search rules };
-      room = length c.args.space.now;
+      room = length due;
       room-told = search rules;
-      enough = inr c.requires.room;
+      enough = inr (omega arith);
       fits-title = omega (arith, fresh.offset);
       fits-chunk = omega (arith, fresh.offset);
     }) fresh.none_waits in

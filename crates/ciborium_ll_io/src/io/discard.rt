@@ -1,0 +1,96 @@
+//! A writer that keeps no bytes.
+
+ghost use Rattle.std.specs.Prelude.{◌≡◌, [], Some};
+
+use super::Write;
+use super::failures::Failures;
+use super::slices::OutOfSpace;
+use super::taken::Taken;
+
+/// Takes bytes and keeps none of them, so it takes no memory. It tells what it took, and its room.
+///
+/// It is for a copy whose answer alone matters. Where the room covers what is due, no write is refused.
+#[derive(Drop)]
+pub struct Discard {
+    taken: Taken,
+    room: usize,
+    failures: Failures,
+}
+
+impl Discard {
+    /// A writer that takes at most `room` bytes.
+    pub fn new(room: usize) -> Discard
+        ensures written { ⟦<Discard as Write>⟧.written result ≡ Some [] }
+        ensures room { ⟦<Discard as Write>⟧.room result ≡ Some room }
+        ensures failures { ⟦<Discard as Write>⟧.failures result ≡ 0 }
+    {
+        Discard {
+            taken: Taken::new(),
+            room,
+            failures: Failures::new(),
+        }
+    }
+
+    /// How many more bytes it takes.
+    pub fn room(&self) -> usize
+        ensures { ⟦<Discard as Write>⟧.room self.now ≡ Some result }
+    {
+        self.room
+    }
+}
+
+impl Write for Discard {
+    ghost use Rattle.std.specs.Prelude.{◌≡◌, ◌+◌, ◌<◌, IsSome, IfSome, OnOk, OnErr, IsOk, length};
+    ghost use Rattle.std.specs.Io.KnownBytes.{Appends};
+    ghost use Rattle.ciborium_ll_io.specs.Transfer.{Shrinks, AppendsFront};
+    ghost use Rattle.ciborium_ll_io.specs.Discards.{taken_of, room_of, failures_of};
+
+    type Error = OutOfSpace;
+
+    ghost written = { λ w. taken_of w };
+
+    ghost room = { λ w. room_of w };
+
+    ghost failures = { λ w. failures_of w };
+
+    ghost flushed = { λ old new. taken_of new ≡ taken_of old };
+
+    /// Takes the whole of `data`, or nothing where the room is smaller.
+    fn write_all(&mut self, data: &[u8]) -> Result<(), OutOfSpace>
+        // The trait's.
+        ensures bytes { OnOk result (Appends (taken_of self.old) (taken_of self.new) «data».now) }
+        ensures fills { OnOk result (Shrinks (room_of self.old) (room_of self.new) (length «data».now)) }
+        ensures ok { OnOk result (failures_of self.new ≡ failures_of self.old) }
+        ensures front { OnErr result (AppendsFront (taken_of self.old) (taken_of self.new) (room_of self.old)
+            (room_of self.new) «data».now) }
+        ensures full { OnErr result (IfSome (room_of self.old) (λ n. n < length «data».now)) }
+        ensures err { OnErr result (failures_of self.new ≡ failures_of self.old + 1) }
+
+        // The writer's own.
+        ensures nothing { OnErr result (taken_of self.new ≡ taken_of self.old) }
+    {
+        if self.room < data.len() {
+            self.failures.raise();
+            return Err(OutOfSpace);
+        }
+        self.taken.append(data);
+        self.room -= data.len();
+        Ok(())
+    }
+
+    /// Does nothing, and never fails.
+    fn flush(&mut self) -> Result<(), OutOfSpace>
+        // The trait's.
+        ensures bytes { IsSome (room_of self.old) → taken_of self.new ≡ taken_of self.old }
+        ensures room { IsSome (room_of self.old) → room_of self.new ≡ room_of self.old }
+        ensures flushed { OnOk result (taken_of self.new ≡ taken_of self.old) }
+        ensures ok { OnOk result (failures_of self.new ≡ failures_of self.old) }
+        ensures err { OnErr result (failures_of self.new ≡ failures_of self.old + 1) }
+
+        // The writer's own.
+        ensures done { IsOk result }
+    {
+        // Nothing was kept back.
+        Ok(())
+    }
+}

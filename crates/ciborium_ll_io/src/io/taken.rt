@@ -1,0 +1,33 @@
+//! Bytes for contracts alone.
+
+ghost use Rattle.std.specs.Prelude.{◌≡◌, ℕ, List, [], ◌++◌};
+ghost use Rattle.std.specs.Borrow.{ftrue};
+
+use std::marker::{Model, PhantomData};
+
+/// The bytes that a writer took, in order. None of them is kept.
+#[derive(Drop)]
+pub struct Taken {
+    marker: PhantomData<()>,
+    pub ghost bytes: { List ℕ },
+}
+
+impl Model for Taken {
+    ghost also_owns = { λ _. ftrue };
+}
+
+impl Taken {
+    /// No byte yet.
+    pub fn new() -> Taken
+        ensures { result.bytes ≡ [] }
+    {
+        Taken {
+            marker: PhantomData,
+        }
+    }
+
+    /// Takes the bytes of `_data` too.
+    pub fn append(&mut self, _data: &[u8])
+        ensures { self.new.bytes ≡ self.old.bytes ++ _data.now }
+    {}
+}
