@@ -1,4 +1,5 @@
-// README.md shows these functions, and parts of their tests, word by word: what changes here has to change there.
+// README.md and docs/API.md show these functions, and parts of their tests, word by word: what changes here has to
+// change there.
 
 use ciborium_ll::io::{EndOfFile, Read, SliceReader, SliceWriter, Write};
 use ciborium_ll::{Decoder, Encoder, Error, Header};

@@ -7,7 +7,7 @@ use std::marker::{Model, PhantomData};
 
 /// The bytes that a writer took, in order. None of them is kept.
 #[derive(Drop)]
-pub struct Taken {
+pub(super) struct Taken {
     marker: PhantomData<()>,
     pub ghost bytes: { List ℕ },
 }
@@ -18,7 +18,7 @@ impl Model for Taken {
 
 impl Taken {
     /// No byte yet.
-    pub fn new() -> Taken
+    pub(super) fn new() -> Taken
         ensures { result.bytes ≡ [] }
     {
         Taken {
@@ -27,7 +27,7 @@ impl Taken {
     }
 
     /// Takes the bytes of `_data` too.
-    pub fn append(&mut self, _data: &[u8])
+    pub(super) fn append(&mut self, _data: &[u8])
         ensures { self.new.bytes ≡ self.old.bytes ++ _data.now }
     {}
 }

@@ -1,0 +1,5 @@
+mod MapLaws
+mod ShortestLaws
+mod StreamLaws
+mod SumLaws
+mod TextLaws

@@ -1,0 +1,39 @@
+-- The loop over the integers of an array.
+use Rattle.std.proofs.Common.{ℕ, suc, ◌<◌, ℤ, pos, [], ◌++◌, Option, Result, Ok, Err, subst, sym, inr, arith}
+use Rattle.ciborium_ll.specs.declared.io.Read.{Ghosts}
+use Rattle.ciborium_ll.specs.declared.hdr.Header.TheVariants as h
+use Rattle.ciborium_ll.specs.declared.dec.Decoder.{Decoder}
+use Rattle.ciborium_ll.specs.Decoding.{IsSteady, PullsTitle}
+use Rattle.ciborium_ll.proofs.DecodingLaws.{Passes-none, Passes-pull}
+use Rattle.ciborium_ll.proofs.NestLaws.{title_some}
+use Rattle.ciborium_ll_uses.specs.declared.sums.SumError.{SumError}
+use Rattle.ciborium_ll_uses.specs.declared.sums.SumError.TheVariants as s
+use Rattle.ciborium_ll_uses.specs.Sums.{AddUp, none, more, AddsInteger, ReadsIntegers, SumsArray, SumsBehind}
+
+module _ {R E : Type 0} (source : Ghosts R E) where
+  pub reads_none : (old : Decoder R) → ReadsIntegers source old 0 (pos 0) old
+  reads_none old = record { bytes = []; add_up = none; passed = Passes-none source old }
+
+  pub reads_more : (old now new : Decoder R) (count : ℕ) (total sum : ℤ) → ReadsIntegers source old count total now
+      → AddsInteger source total now sum new → (IsSteady source now → IsSteady source new)
+      → ReadsIntegers source old (suc count) sum new
+  reads_more old now new count total sum reads adds steady = record {
+    bytes = reads.bytes ++ adds.pulled.title;
+    add_up = subst (λ (z : ℤ). AddUp (suc count) (reads.bytes ++ adds.pulled.title) z) (sym adds.sum-is)
+        (more adds.number reads.add_up adds.pulled.is_title adds.is_integer);
+    passed = Passes-pull source old now new reads.bytes adds.header adds.pulled reads.passed steady;
+  }
+
+  -- a title takes a byte
+  pub adds_rises : (total sum : ℤ) (old new : Decoder R) → AddsInteger source total old sum new → old.offset < new.offset
+  adds_rises total sum old new adds =
+      omega (arith, adds.pulled.offset, title_some adds.pulled.title adds.header adds.pulled.is_title)
+
+  -- what is said of the integers is said of the array
+  pub opens_array : (len : Option ℕ) (old opened new : Decoder R) (result : Result ℤ (SumError E))
+      → PullsTitle source old (h.Array len) opened → SumsBehind source (h.Array len) opened result new → SumsArray source old result new
+  opens_array len old opened new (Ok total) pulled sums = record { len = len; opened = opened; pulled = pulled; sums = sums }
+  opens_array len old opened new (Err (s.Read error)) pulled sums = inr (record { len = len; opened = opened; pulled = pulled; sums = sums })
+  opens_array len old opened new (Err (s.NoArray at)) pulled sums = absurd sums.stops
+  opens_array len old opened new (Err (s.NoNumber at)) pulled sums = record { len = len; opened = opened; pulled = pulled; sums = sums }
+  opens_array len old opened new (Err (s.OutOfRange at)) pulled sums = record { len = len; opened = opened; pulled = pulled; sums = sums }

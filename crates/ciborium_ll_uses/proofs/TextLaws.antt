@@ -1,0 +1,54 @@
+-- Bodies that are read into a text.
+use Rattle.std.proofs.Common.{◌≡◌, ℕ, List, [], ◌++◌, Option, None, Some, Result, Ok, Err, IfOk, refl, ap, subst, sym, ◌∙◌, arith, append-nil}
+use Rattle.ciborium_ll.specs.declared.io.Read.{Ghosts as Reader}
+use Rattle.ciborium_ll.specs.declared.io.Write.{Ghosts as Writer}
+use Rattle.ciborium_ll.specs.declared.dec.Decoder.{Decoder}
+use Rattle.ciborium_ll.specs.declared.seg.Parser.{Ghosts as Parser}
+use Rattle.ciborium_ll.specs.declared.seg.Segment.{Segment}
+use Rattle.ciborium_ll.specs.declared.seg.Progress.{Progress}
+use Rattle.ciborium_ll.specs.declared.seg.Progress.TheVariants as p
+use Rattle.ciborium_ll.specs.declared.hdr.Header.TheVariants as h
+use Rattle.ciborium_ll.specs.Faults.{IsWritable}
+use Rattle.ciborium_ll.specs.Strings.{Kind, Text}
+use Rattle.ciborium_ll.specs.Chunks.{SegmentEnds}
+use Rattle.ciborium_ll.specs.Decoding.{Passes, PullsTitle}
+use Rattle.ciborium_ll.specs.Encoding.{WritesAll}
+use Rattle.ciborium_ll.proofs.BodyLaws.{BodySoFar}
+use Rattle.ciborium_ll_uses.specs.Texts.{AppendsBody, Gathers, none, GathersAll, ReadsText}
+
+-- a text as a writer that takes all
+abbrev pub onto_text : Writer (List ℕ) (Unit {0})
+onto_text = record { written = λ text. Some text; room = λ text. None; failures = λ text. 0; flushed = λ old new. Unit {0} }
+
+pub pushes : (text chunk text' : List ℕ) → text' ≡ text ++ chunk → WritesAll onto_text text chunk text'
+pushes text chunk text' same = record { appended = same; room = tt; failures = refl }
+
+module _ {R E P : Type 0} {parser : Parser P} (source : Reader R E) where
+  -- a body was read to its end
+  pub body_read : (len place : ℕ) (old : Decoder R) (text : List ℕ) (segment new : Segment R P parser) (text' : List ℕ)
+      → parser.kind ≡ Text → BodySoFar source onto_text len place old text segment text' → SegmentEnds source segment new
+      → AppendsBody source len old text new.reader.now text'
+  body_read len place old text segment new text' kind so_far ends =
+      let same : so_far.read ≡ so_far.front =
+      so_far.parts ∙ ap (λ (z : List ℕ). so_far.front ++ z) ends.none_kept ∙ append-nil so_far.front in
+      record {
+        body = so_far.read;
+        all = omega (arith, so_far.counted, ends.none_unread);
+        sound = subst (λ (k : Kind). IsWritable k so_far.read) kind
+            (subst (λ (z : List ℕ). IsWritable parser.kind z) (sym same) so_far.sound);
+        passed = subst (λ (d : Decoder R). Passes source old so_far.read d) (sym ends.decoder) so_far.passed;
+        appended = so_far.written.appended ∙ ap (λ (z : List ℕ). text ++ z) (sym same);
+      }
+
+module _ {R E : Type 0} (source : Reader R E) where
+  -- an empty text, at the start
+  pub gathers_none : (progress : Progress) (text : List ℕ) → text ≡ [] → Gathers source progress text progress
+  gathers_none progress text empty = subst (λ (z : List ℕ). Gathers source progress z progress) (sym empty) none
+
+  -- what the segments are, the text is
+  pub reads_text : {T X : Type 0} (bytes_of : T → List ℕ) (result : Result T X) (len : Option ℕ) (old titled new : Decoder R)
+      → PullsTitle source old (h.Text len) titled → IfOk result (λ text. GathersAll source (p.Open 0) (bytes_of text) new)
+      → IfOk result (λ text. ReadsText source old (bytes_of text) new)
+  reads_text bytes_of (Ok text) len old titled new pulled gathers =
+      record { len = len; titled = titled; pulled = pulled; segments = gathers }
+  reads_text bytes_of (Err error) len old titled new pulled gathers = tt

@@ -1,0 +1,7 @@
+use Rattle.std.proofs.Common.{drop}
+use Rattle.ciborium_ll_uses.proofs.MapLaws.{Midway}
+use Rattle.ciborium_ll_uses.proofs.maps.write_strings.Given as goal
+
+abbrev pub invariant-entries : goal.invariant-entries
+invariant-entries g l =
+    Midway g.W.Write l.fn.entries (drop l.entry-index l.fn.entries) l.fn.encoder.writer l.encoder.writer

@@ -1,0 +1,10 @@
+use Rattle.std.proofs.Common.{ℕ, ◌-◌, ◌^◌}
+use Rattle.ciborium_ll_uses.specs.Sums.{ReadsIntegers}
+use Rattle.ciborium_ll_uses.proofs.sums.sum_open.Given as goal
+
+abbrev pub invariant-numbers : goal.invariant-numbers
+invariant-numbers g l = (count : ℕ) × ReadsIntegers g.R.Read l.initial.decoder count l.total l.decoder
+
+-- each title takes a byte
+abbrev pub decreases-numbers : goal.decreases-numbers
+decreases-numbers g l = 2 ^ 64 - l.decoder.offset

@@ -1,0 +1,5 @@
+pub mod Maps
+pub mod Shortest
+pub mod Streams
+pub mod Sums
+pub mod Texts

@@ -1,0 +1,20 @@
+-- What a map of texts is written as (RFC 7049, 2.1).
+use Rattle.std.specs.Prelude.{ℕ, List, [], ◌∷◌, ◌++◌, length, Some}
+use Rattle.ciborium_ll.specs.declared.hdr.Header.TheVariants as h
+use Rattle.ciborium_ll.specs.Title.{shortest_title}
+use Rattle.ciborium_ll.specs.Strings.{Text}
+use Rattle.ciborium_ll.specs.Elements.{body_spelling}
+use Rattle.ciborium_ll_uses.specs.declared.maps.Entry.{Entry}
+
+-- the key and then the value, each behind the shortest title of its length
+abbrev pub entry_bytes : Entry → List ℕ
+entry_bytes entry = body_spelling Text entry.key.now ++ body_spelling Text entry.value.now
+
+-- the pairs, one behind the other
+abbrev pub entries_bytes : List Entry → List ℕ
+entries_bytes [] = []
+entries_bytes (entry ∷ entries) = entry_bytes entry ++ entries_bytes entries
+
+-- the shortest title with their count, and the pairs
+abbrev pub map_bytes : List Entry → List ℕ
+map_bytes entries = shortest_title (h.Map (Some (length entries))) ++ entries_bytes entries

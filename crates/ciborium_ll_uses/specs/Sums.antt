@@ -1,0 +1,126 @@
+-- The sum of an array of integers.
+use Rattle.std.specs.Prelude.{◌≡◌, ℕ, zero, suc, ◌<◌, ℤ, pos, negsuc, ◌+ℤ◌, FitsSigned, ◌⊎◌, List, [], ◌++◌, Option, Some, None, Result, Ok, Err}
+use Rattle.std.specs.Int.{w64}
+use Rattle.ciborium_ll.specs.declared.io.Read.{Ghosts}
+use Rattle.ciborium_ll.specs.declared.hdr.Header.{Header}
+use Rattle.ciborium_ll.specs.declared.hdr.Header.TheVariants as h
+use Rattle.ciborium_ll.specs.declared.dec.Decoder.{Decoder}
+use Rattle.ciborium_ll.specs.Title.{IsTitle}
+use Rattle.ciborium_ll.specs.Decoding.{Passes, PullsHeader, PullsTitle}
+use Rattle.ciborium_ll_uses.specs.declared.sums.SumError.{SumError}
+use Rattle.ciborium_ll_uses.specs.declared.sums.SumError.TheVariants as s
+
+-- the integer of a header (RFC 7049, 2.1): n, or -1 - n
+abbrev pub IsInteger : Header → ℤ → Type 0
+IsInteger (h.Positive n) number = number ≡ pos n
+IsInteger (h.Negative n) number = number ≡ negsuc n
+IsInteger header number = ⊥
+
+-- `AddUp count bytes total`: the bytes are titles of so many integers, and the total is their sum
+pub data AddUp : ℕ → List ℕ → ℤ → Type 0 where
+  none : AddUp zero [] (pos 0)
+  more : {count : ℕ} {bytes title : List ℕ} {total : ℤ} {header : Header} (number : ℤ) → AddUp count bytes total
+      → IsTitle title header → IsInteger header number → AddUp (suc count) (bytes ++ title) (total +ℤ number)
+
+module _ {R E : Type 0} (source : Ghosts R E) where
+  -- ---- one integer more
+
+  -- an integer came, and the sum is that with it
+  pub record AddsInteger (total : ℤ) (old : Decoder R) (sum : ℤ) (new : Decoder R) : Type 0 where
+    pub header : Header
+    pub pulled : PullsTitle source old header new
+    pub number : ℤ
+    pub is_integer : IsInteger header number
+    pub sum-is : sum ≡ total +ℤ number
+
+  -- a header came that is no integer
+  pub record MeetsOther (old : Decoder R) (at : ℕ) (new : Decoder R) : Type 0 where
+    pub header : Header
+    pub pulled : PullsTitle source old header new
+    pub place : at ≡ old.offset
+    pub no_integer : (number : ℤ) → IsInteger header number → ⊥
+
+  -- an integer came with which the sum is out of range
+  pub record PassesRange (total : ℤ) (old : Decoder R) (at : ℕ) (new : Decoder R) : Type 0 where
+    pub header : Header
+    pub pulled : PullsTitle source old header new
+    pub place : at ≡ old.offset
+    pub number : ℤ
+    pub is_integer : IsInteger header number
+    pub no_room : FitsSigned w64 (total +ℤ number) → ⊥
+
+  -- no sum with one integer more
+  abbrev pub StopsNext : ℤ → Decoder R → SumError E → Decoder R → Type 0
+  StopsNext total old (s.Read error) new = PullsHeader source old (Err error) new
+  StopsNext total old (s.NoArray at) new = ⊥
+  StopsNext total old (s.NoNumber at) new = MeetsOther old at new
+  StopsNext total old (s.OutOfRange at) new = PassesRange total old at new
+
+  -- the sum with one integer more, or a break
+  abbrev pub AddsNext : ℤ → Decoder R → Result (Option ℤ) (SumError E) → Decoder R → Type 0
+  AddsNext total old (Ok (Some sum)) new = AddsInteger total old sum new
+  AddsNext total old (Ok None) new = PullsTitle source old h.Break new
+  AddsNext total old (Err error) new = StopsNext total old error new
+
+  -- ---- those of an array
+
+  -- titles of so many integers were read, whose sum is the total
+  pub record ReadsIntegers (old : Decoder R) (count : ℕ) (total : ℤ) (new : Decoder R) : Type 0 where
+    pub bytes : List ℕ
+    pub add_up : AddUp count bytes total
+    pub passed : Passes source old bytes new
+
+  -- behind so many the array ends: as many as its header counts, or a break came (RFC 7049, 2.2.1)
+  abbrev pub EndsArray : Header → ℕ → Decoder R → Decoder R → Type 0
+  EndsArray (h.Array (Some len)) count between new = (count ≡ len) × (new ≡ between)
+  EndsArray (h.Array None) count between new = PullsTitle source between h.Break new
+  EndsArray header count between new = ⊥
+
+  -- behind so many one more may come
+  abbrev pub TakesMore : Header → ℕ → Type 0
+  TakesMore (h.Array (Some len)) count = count < len
+  TakesMore (h.Array None) count = Unit {0}
+  TakesMore header count = ⊥
+
+  -- all integers of the array were read
+  pub record SumsAll (header : Header) (old : Decoder R) (total : ℤ) (new : Decoder R) : Type 0 where
+    pub count : ℕ
+    pub between : Decoder R
+    pub reads : ReadsIntegers old count total between
+    pub ends : EndsArray header count between new
+
+  -- some were read, and no sum with one more came
+  pub record SumStops (header : Header) (old : Decoder R) (error : SumError E) (new : Decoder R) : Type 0 where
+    pub count : ℕ
+    pub total : ℤ
+    pub between : Decoder R
+    pub takes_more : TakesMore header count
+    pub reads : ReadsIntegers old count total between
+    pub stops : StopsNext total between error new
+
+  -- the sum of the integers behind the header of an array, by the answer
+  abbrev pub SumsBehind : Header → Decoder R → Result ℤ (SumError E) → Decoder R → Type 0
+  SumsBehind header old (Ok total) new = SumsAll header old total new
+  SumsBehind header old (Err error) new = SumStops header old error new
+
+  -- the header of an array came, and then what is said of those behind it
+  pub record OpensArray (old : Decoder R) (result : Result ℤ (SumError E)) (new : Decoder R) : Type 0 where
+    pub len : Option ℕ
+    pub opened : Decoder R
+    pub pulled : PullsTitle source old (h.Array len) opened
+    pub sums : SumsBehind (h.Array len) opened result new
+
+  -- a header came that begins no array
+  pub record MeetsNoArray (old : Decoder R) (at : ℕ) (new : Decoder R) : Type 0 where
+    pub header : Header
+    pub pulled : PullsTitle source old header new
+    pub place : at ≡ old.offset
+    pub no_array : (len : Option ℕ) → header ≡ h.Array len → ⊥
+
+  -- the sum of an array of integers, by the answer
+  abbrev pub SumsArray : Decoder R → Result ℤ (SumError E) → Decoder R → Type 0
+  SumsArray old (Ok total) new = OpensArray old (Ok total) new
+  SumsArray old (Err (s.Read error)) new = PullsHeader source old (Err error) new ⊎ OpensArray old (Err (s.Read error)) new
+  SumsArray old (Err (s.NoArray at)) new = MeetsNoArray old at new
+  SumsArray old (Err (s.NoNumber at)) new = OpensArray old (Err (s.NoNumber at)) new
+  SumsArray old (Err (s.OutOfRange at)) new = OpensArray old (Err (s.OutOfRange at)) new

@@ -1,0 +1,40 @@
+//! A map of texts, written.
+
+ghost use Rattle.ciborium_ll.specs.Encoding.{WritesBytes, writer_of};
+ghost use Rattle.ciborium_ll_uses.specs.Maps.{entry_bytes, map_bytes};
+
+use ciborium_ll::io::Write;
+use ciborium_ll::{Encoder, Header};
+
+/// A pair of a map from texts to texts.
+#[derive(Clone, Copy)]
+pub struct Entry<'a> {
+    /// The key.
+    pub key: &'a str,
+    /// The value.
+    pub value: &'a str,
+}
+
+/// Writes a map of texts to texts (RFC 7049, 2.1), whose pairs are counted, and each text in one string.
+///
+/// The only errors are the writer's. A beginning of the map was then written.
+pub fn write_strings<W: Write>(
+    encoder: &mut Encoder<W>,
+    entries: &[Entry<'_>],
+) -> Result<(), W::Error>
+    ensures { WritesBytes W.Write (writer_of encoder.old) result (map_bytes entries.now) (writer_of encoder.new) }
+{
+    encoder.push(Header::Map(Some(entries.len())))?;
+    'entries: for entry in entries {
+        write_entry(encoder, entry)?;
+    }
+    Ok(())
+}
+
+/// Writes a pair.
+fn write_entry<W: Write>(encoder: &mut Encoder<W>, entry: &Entry<'_>) -> Result<(), W::Error>
+    ensures { WritesBytes W.Write (writer_of encoder.old) result (entry_bytes entry.now) (writer_of encoder.new) }
+{
+    encoder.text(entry.key, None)?;
+    encoder.text(entry.value, None)
+}

@@ -1,0 +1,46 @@
+//! A stream, copied to its shortest spelling.
+
+ghost use Rattle.std.specs.Prelude.{◌≡◌, ◌≤◌, ◌+◌, ◌<◌, ◌^◌, ℕ, IsOk, IsTrue, List, MatchResult, Some, length};
+ghost use Rattle.ciborium_ll_uses.specs.Streams.{IsNormalised, Normalises};
+
+use ciborium_ll::io::{Read, Write};
+use ciborium_ll::recode::recode;
+use ciborium_ll::{Decoder, Encoder, RecodeError};
+
+/// Copies so many elements from a reader to a writer, each in its shortest spelling, and flushes the writer. It hands
+/// back both. An element is a header that begins no string, or a whole string (RFC 7049, 2.1 and 2.2).
+///
+/// The errors are those of `recode`, behind which nothing is flushed, and `Write` where the flush failed.
+pub fn normalise<R: Read, W: Write>(
+    reader: R,
+    writer: W,
+    count: usize,
+) -> (R, W, Result<(), RecodeError<R::Error, W::Error>>)
+    ensures copied { (due written : List ℕ) → R.ahead reader ≡ Some due → W.written writer ≡ Some written
+        → IsOk result.2 → Normalises R.Read W.Write count due written result.0 result.1 }
+    ensures exactly { (due written : List ℕ) (room : ℕ) → IsTrue (R.steady reader) → R.ahead reader ≡ Some due
+        → W.written writer ≡ Some written → W.room writer ≡ Some room → length due ≤ room → length due + 64 < 2 ^ 64
+        → IsNormalised R.Read W.Write count due written result.2 result.0 result.1 }
+{
+    let mut buffer = [0; 64];
+    let mut decoder = Decoder::from(reader);
+    let mut encoder = Encoder::from(writer);
+    let copied = recode(&mut decoder, &mut encoder, count, &mut buffer);
+    let reader = decoder.into_inner();
+    let mut writer = encoder.into_inner();
+    let outcome = match copied {
+        Ok(()) => flushed(&mut writer),
+        Err(error) => Err(error),
+    };
+    (reader, writer, outcome)
+}
+
+/// Flushes the writer.
+fn flushed<E, W: Write>(writer: &mut W) -> Result<(), RecodeError<E, W::Error>>
+    ensures { MatchResult result (λ _. W.flushed writer.old writer.new) (λ error. (fault : W.Error) × (error ≡ RecodeError.Write fault)) }
+{
+    match writer.flush() {
+        Ok(()) => Ok(()),
+        Err(fault) => Err(RecodeError::Write(fault)),
+    }
+}

@@ -1,0 +1,106 @@
+//! The sum of an array of integers.
+
+ghost use Rattle.std.specs.Prelude.{◌+ℤ◌, FitsSigned, negsuc, None, Some};
+ghost use Rattle.std.specs.Int.{w64};
+ghost use Rattle.std.specs.Option.{SomeIff};
+ghost use Rattle.ciborium_ll.specs.Decoding.{IsSteady};
+ghost use Rattle.ciborium_ll_uses.specs.Sums.{AddsNext, SumsArray, SumsBehind};
+
+use ciborium_ll::io::Read;
+use ciborium_ll::{Decoder, Error, Header};
+
+/// Why there is no sum.
+#[derive(Debug, Drop)]
+pub enum SumError<E> {
+    /// The decoder failed, and this is its error.
+    Read(Error<E>),
+    /// At this offset a title stands that begins no array.
+    NoArray(usize),
+    /// At this offset a title stands that is no integer.
+    NoNumber(usize),
+    /// With the integer at this offset the sum is out of the range of `i64`.
+    OutOfRange(usize),
+}
+
+/// The sum of an array of integers (RFC 7049, 2.1), of a definite length or not (2.2.1).
+///
+/// `NoArray` and `NoNumber` name the offset of the title that may not stand there, `OutOfRange` that of the integer with
+/// which the sum so far leaves the range of `i64`. `Read` carries the decoder's error. What was read before an error is
+/// consumed.
+pub fn sum_numbers<R: Read>(decoder: &mut Decoder<R>) -> Result<i64, SumError<R::Error>>
+    ensures { SumsArray R.Read decoder.old result decoder.new }
+{
+    let place = decoder.offset();
+    let header = match decoder.pull() {
+        Ok(header) => header,
+        Err(error) => return Err(SumError::Read(error)),
+    };
+    match header {
+        Header::Array(Some(count)) => sum_counted(decoder, count),
+        Header::Array(None) => sum_open(decoder),
+        _ => Err(SumError::NoArray(place)),
+    }
+}
+
+/// The sum of so many integers.
+fn sum_counted<R: Read>(decoder: &mut Decoder<R>, count: usize) -> Result<i64, SumError<R::Error>>
+    ensures sums { SumsBehind R.Read (Header.Array (Some count)) decoder.old result decoder.new }
+{
+    let mut total = 0;
+    'numbers: for _read in 0..count {
+        let place = decoder.offset();
+        match next_sum(decoder, total) {
+            Ok(Some(sum)) => total = sum,
+            Ok(None) => return Err(SumError::NoNumber(place)),
+            Err(error) => return Err(error),
+        }
+    }
+    Ok(total)
+}
+
+/// The sum of integers up to a break.
+fn sum_open<R: Read>(decoder: &mut Decoder<R>) -> Result<i64, SumError<R::Error>>
+    ensures sums { SumsBehind R.Read (Header.Array None) decoder.old result decoder.new }
+{
+    let mut total = 0;
+    // It ends: each title takes a byte, and no offset is greater than `usize::MAX`.
+    'numbers: loop {
+        match next_sum(decoder, total) {
+            Ok(Some(sum)) => total = sum,
+            Ok(None) => return Ok(total),
+            Err(error) => return Err(error),
+        }
+    }
+}
+
+/// The sum with the integer that is next, or `None` for a break.
+fn next_sum<R: Read>(
+    decoder: &mut Decoder<R>,
+    total: i64,
+) -> Result<Option<i64>, SumError<R::Error>>
+    ensures adds { AddsNext R.Read total decoder.old result decoder.new }
+    ensures steady { IsSteady R.Read decoder.old → IsSteady R.Read decoder.new }
+{
+    let place = decoder.offset();
+    let header = match decoder.pull() {
+        Ok(header) => header,
+        Err(error) => return Err(SumError::Read(error)),
+    };
+    let sum = match header {
+        Header::Positive(number) => total.checked_add_unsigned(number),
+        Header::Negative(number) => less(total, number),
+        Header::Break => return Ok(None),
+        _ => return Err(SumError::NoNumber(place)),
+    };
+    match sum {
+        Some(sum) => Ok(Some(sum)),
+        None => Err(SumError::OutOfRange(place)),
+    }
+}
+
+/// The sum with the integer -1 - `number`, where it is in range.
+fn less(total: i64, number: u64) -> Option<i64>
+    ensures { SomeIff result (FitsSigned w64 (total +ℤ negsuc number)) (total +ℤ negsuc number) }
+{
+    total.checked_sub_unsigned(number)?.checked_sub(1)
+}

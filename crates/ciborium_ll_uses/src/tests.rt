@@ -1,0 +1,278 @@
+//! Each function on bytes that were worked by hand, and beside failing readers and writers.
+
+use crate::{
+    Entry, SumError, TextError, normalise, read_string, shortest_item_len, sum_numbers,
+    write_strings,
+};
+use ciborium_ll::io::{EndOfFile, OutOfSpace, SliceReader, SliceWriter};
+use ciborium_ll::{Decoder, Encoder, Error, RecodeError};
+use std::test::Fail;
+
+// What a sum is, with the offset behind it.
+#[derive(Clone, Copy, Debug, PartialEq, Eq, Drop)]
+enum Sum {
+    Total(i64, usize),
+    NoArray(usize),
+    NoNumber(usize),
+    OutOfRange(usize),
+    Syntax(usize),
+    Short(usize),
+    Other,
+}
+
+fn sum_of(bytes: &[u8]) -> Sum {
+    let mut decoder = Decoder::from(SliceReader::new(bytes));
+    let outcome = sum_numbers(&mut decoder);
+    let offset = decoder.offset();
+    match outcome {
+        Ok(total) => Sum::Total(total, offset),
+        Err(SumError::NoArray(place)) => Sum::NoArray(place),
+        Err(SumError::NoNumber(place)) => Sum::NoNumber(place),
+        Err(SumError::OutOfRange(place)) => Sum::OutOfRange(place),
+        Err(SumError::Read(Error::Syntax(place))) => Sum::Syntax(place),
+        Err(SumError::Read(Error::Io(EndOfFile))) => Sum::Short(offset),
+        Err(SumError::Read(_)) => Sum::Other,
+    }
+}
+
+#[test]
+fn sums(rt: HostRuntime) {
+    let rows: [(&[u8], Sum); 16] = [
+        // 1, -1 and 255, behind which more stands
+        (&[0x83, 0x01, 0x20, 0x18, 0xff, 0x00], Sum::Total(255, 5)),
+        // no numbers
+        (&[0x80], Sum::Total(0, 1)),
+        (&[0x9f, 0xff], Sum::Total(0, 2)),
+        // of indefinite length, with longer titles than needed
+        (
+            &[0x9f, 0x19, 0x00, 0x07, 0x38, 0x64, 0xff, 0xff],
+            Sum::Total(-94, 7),
+        ),
+        // the greatest and the least sum, and one more
+        (
+            &[0x81, 0x1b, 0x7f, 0xff, 0xff, 0xff, 0xff, 0xff, 0xff, 0xff],
+            Sum::Total(i64::MAX, 10),
+        ),
+        (
+            &[
+                0x82, 0x1b, 0x7f, 0xff, 0xff, 0xff, 0xff, 0xff, 0xff, 0xff, 0x01,
+            ],
+            Sum::OutOfRange(10),
+        ),
+        (
+            &[0x81, 0x3b, 0x7f, 0xff, 0xff, 0xff, 0xff, 0xff, 0xff, 0xff],
+            Sum::Total(i64::MIN, 10),
+        ),
+        (&[0x81, 0x3b, 0x80, 0, 0, 0, 0, 0, 0, 0], Sum::OutOfRange(1)),
+        // -1 and then 2^63, which alone would be out of range
+        (
+            &[0x82, 0x20, 0x1b, 0x80, 0, 0, 0, 0, 0, 0, 0],
+            Sum::Total(i64::MAX, 11),
+        ),
+        // a text, a break where numbers are counted, an array within, a float
+        (&[0x82, 0x01, 0x61, 0x31], Sum::NoNumber(2)),
+        (&[0x82, 0x01, 0xff], Sum::NoNumber(2)),
+        (&[0x9f, 0x80, 0xff], Sum::NoNumber(1)),
+        (&[0x9f, 0xf9, 0x3c, 0x00, 0xff], Sum::NoNumber(1)),
+        // no array, no title, and bytes that end too early
+        (&[0xa0], Sum::NoArray(0)),
+        (&[0x81, 0x1c], Sum::Syntax(1)),
+        (&[0x82, 0x01], Sum::Short(2)),
+    ];
+    for (bytes, want) in rows {
+        assert_eq!(rt; sum_of(bytes), want);
+    }
+}
+
+#[test]
+fn a_map_of_strings(rt: HostRuntime) -> Result<(), Fail> {
+    let entries = [
+        Entry {
+            key: "a",
+            value: "Grüße",
+        },
+        Entry {
+            key: "",
+            value: "The quick brown fox jumps",
+        },
+    ];
+    let wanted = b"\xa2\x61a\x67Gr\xc3\xbc\xc3\x9fe\x60\x78\x19The quick brown fox jumps";
+    let mut space = [0; 64];
+    let mut encoder = Encoder::from(SliceWriter::new(&mut space));
+    write_strings(&mut encoder, &entries)?;
+    assert_eq!(rt; encoder.into_inner().written(), wanted.as_slice());
+    let mut encoder = Encoder::from(SliceWriter::new(&mut []));
+    assert!(rt; write_strings(&mut encoder, &[]).is_err());
+    Ok(())
+}
+
+#[test]
+fn a_map_without_room(rt: HostRuntime) {
+    // The title and the key fit, and the value's title.
+    let mut space = [0; 4];
+    let mut encoder = Encoder::from(SliceWriter::new(&mut space));
+    let entry = Entry {
+        key: "k",
+        value: "v",
+    };
+    assert!(rt; matches!(write_strings(&mut encoder, &[entry]), Err(OutOfSpace)));
+    assert_eq!(rt;
+        encoder.into_inner().written(),
+        [0xa1, 0x61, b'k', 0x61].as_slice()
+    );
+}
+
+#[test]
+fn a_stream(rt: HostRuntime) {
+    // An array of 1 in nine bytes, and a text of two pieces, within which another one stands.
+    let bytes = [
+        0x98, 0x01, 0x1b, 0, 0, 0, 0, 0, 0, 0, 1, 0x7f, 0x7f, 0x78, 0x01, b'a', 0xff, 0x61, b'b',
+        0xff, 0x05,
+    ];
+    let mut space = [0; 32];
+    let (reader, writer, outcome) = normalise(
+        SliceReader::new(&bytes),
+        SliceWriter::new(&mut space),
+        3,
+    );
+    assert!(rt; outcome.is_ok());
+    assert_eq!(rt; reader.left(), [0x05].as_slice());
+    assert_eq!(rt;
+        writer.written(),
+        [0x81, 0x01, 0x7f, 0x61, b'a', 0x61, b'b', 0xff].as_slice()
+    );
+}
+
+#[test]
+fn a_stream_with_a_fault(rt: HostRuntime) {
+    let mut space = [0; 32];
+    let (_, writer, outcome) = normalise(
+        SliceReader::new(&[0x18, 0x01, 0x1f]),
+        SliceWriter::new(&mut space),
+        2,
+    );
+    assert!(rt; matches!(outcome, Err(RecodeError::Read(Error::Syntax(2)))));
+    assert_eq!(rt; writer.written(), [0x01].as_slice());
+    let (reader, _, outcome) = normalise(
+        SliceReader::new(&[0x18, 0x18]),
+        SliceWriter::new(&mut [0; 1]),
+        1,
+    );
+    assert!(rt; matches!(outcome, Err(RecodeError::Write(OutOfSpace))));
+    assert_eq!(rt; reader.left(), [].as_slice());
+}
+
+#[test]
+fn shortest_items(rt: HostRuntime) {
+    let rows: [(&[u8], Option<usize>); 18] = [
+        (&[0x00], Some(1)),
+        (&[0x00, 0xff, 0xff], Some(1)),
+        (&[0x18, 0x18], Some(2)),
+        // a title that is longer than needed, in front and within
+        (&[0x18, 0x17], None),
+        (&[0x82, 0x01, 0x19, 0x00, 0xff], None),
+        (&[0x98, 0x01, 0x01], None),
+        // a map of a text to an array of indefinite length
+        (&[0xa1, 0x61, b'a', 0x9f, 0x01, 0x02, 0xff, 0x00], Some(7)),
+        // a text of indefinite length, and one with another one inside
+        (&[0x7f, 0x61, b'a', 0x60, 0xff, 0x60], Some(5)),
+        (&[0x7f, 0x7f, 0x61, b'a', 0xff, 0xff], None),
+        // a body that is no text, and bytes that are none
+        (&[0x61, 0xff], None),
+        (&[0x41, 0xff], Some(2)),
+        // simple values: the one of 31 has no meaning
+        (&[0xf8, 0x20], Some(2)),
+        (&[0xf8, 0x1f], None),
+        // no whole item: nothing, a break, a pair without its value, a tag alone
+        (&[], None),
+        (&[0xff], None),
+        (&[0xbf, 0x01, 0xff], None),
+        (&[0xc1], None),
+        (&[0xc1, 0xf9, 0x00, 0x00], Some(4)),
+    ];
+    let mut space = [0; 16];
+    for (bytes, want) in rows {
+        assert!(rt; bytes.len() <= 16);
+        assert_eq!(rt; shortest_item_len(bytes, &mut space), want);
+    }
+}
+
+#[test]
+fn nested_items(rt: HostRuntime) {
+    // Arrays of one item each, the innermost without any.
+    let mut bytes = [0x81; 65];
+    let mut space = [0; 65];
+    bytes[63] = 0x80;
+    assert_eq!(rt; shortest_item_len(&bytes, &mut space), Some(64));
+    bytes[63] = 0x81;
+    bytes[64] = 0x80;
+    assert_eq!(rt; shortest_item_len(&bytes, &mut space), None);
+}
+
+// Why no text was read.
+#[derive(Clone, Copy, Debug, PartialEq, Eq, Drop)]
+enum Fault {
+    NoText(usize),
+    TooLong,
+    Syntax(usize),
+    Short,
+    Other,
+}
+
+fn fault_of(error: TextError<EndOfFile>) -> Fault {
+    match error {
+        TextError::NoText(place) => Fault::NoText(place),
+        TextError::TooLong => Fault::TooLong,
+        TextError::Read(Error::Syntax(place)) => Fault::Syntax(place),
+        TextError::Read(Error::Io(EndOfFile)) => Fault::Short,
+        TextError::Read(_) | TextError::Memory => Fault::Other,
+    }
+}
+
+#[test]
+fn texts(rt: HostRuntime) {
+    let rows: [(&[u8], usize, Result<&str, Fault>); 15] = [
+        (b"\x65hello!", 5, Ok("hello")),
+        (b"\x65hello", 4, Err(Fault::TooLong)),
+        (b"\x60", 0, Ok("")),
+        // segments, an empty one, and a text within the text
+        (b"\x7f\x62ab\x60\x61c\xff", 3, Ok("abc")),
+        (b"\x7f\x62ab\x60\x61c\xff", 2, Err(Fault::TooLong)),
+        (b"\x7f\x7f\x61a\xff\x61b\xff", 2, Ok("ab")),
+        (b"\x7f\xff", 0, Ok("")),
+        // as many empty segments as are taken, and one more
+        (b"\x7f\x60\x60\xff", 1, Ok("")),
+        (b"\x7f\x60\x60\x60\xff", 1, Err(Fault::TooLong)),
+        // a character, and one that is cut between two segments
+        (b"\x62\xc3\xa9", 2, Ok("\u{e9}")),
+        (b"\x7f\x61\xc3\x61\xa9\xff", 9, Err(Fault::Syntax(1))),
+        (b"\x61\xff", 9, Err(Fault::Syntax(0))),
+        // bytes in place of a text, alone and within
+        (b"\x43abc", 9, Err(Fault::NoText(0))),
+        (b"\x7f\x41a\xff", 9, Err(Fault::Syntax(1))),
+        (b"\x62a", 9, Err(Fault::Short)),
+    ];
+    for (bytes, limit, want) in rows {
+        let mut decoder = Decoder::from(SliceReader::new(bytes));
+        match (read_string(rt.alloc(), &mut decoder, limit), want) {
+            (Ok(text), Ok(wanted)) => assert_eq!(rt; text.as_str(), wanted),
+            (Err(error), Err(wanted)) => assert_eq!(rt; fault_of(error), wanted),
+            _ => assert!(rt; false),
+        }
+    }
+}
+
+#[test]
+fn a_text_longer_than_the_buffer(rt: HostRuntime) -> Result<(), Fail> {
+    // The first read ends within the character of two bytes.
+    let mut bytes = [b'x'; 68];
+    bytes[0] = 0x78;
+    bytes[1] = 66;
+    bytes[65] = 0xc3;
+    bytes[66] = 0xa9;
+    let mut decoder = Decoder::from(SliceReader::new(&bytes));
+    let text = read_string(rt.alloc(), &mut decoder, 66)?;
+    assert_eq!(rt; text.as_bytes(), &bytes[2..]);
+    assert_eq!(rt; decoder.offset(), 68);
+    Ok(())
+}

@@ -1,0 +1,106 @@
+//! A text of any length, read whole.
+
+ghost use Rattle.std.specs.Prelude.{◌≡◌, ◌≤◌, ◌+◌, IfOk, OnOk, string_bytes, string_len};
+ghost use Rattle.ciborium_ll.specs.declared.seg.Body.{Body as AnyBody};
+ghost use Rattle.ciborium_ll.specs.Chunks.{IsWhole};
+ghost use Rattle.ciborium_ll.specs.Decoding.{IsSteady};
+ghost use Rattle.ciborium_ll_uses.specs.Texts.{AppendsBody, GathersAll, ReadsText};
+
+use ciborium_ll::io::Read;
+use ciborium_ll::{Decoder, Error, Header, Segment, Segments, Text};
+use std::alloc::Global;
+
+/// Why no text was read.
+#[derive(Debug, Drop)]
+pub enum TextError<E> {
+    /// The decoder failed, and this is its error.
+    Read(Error<E>),
+    /// At this offset a title stands that begins no text.
+    NoText(usize),
+    /// The text is longer than was allowed.
+    TooLong,
+    /// There is no memory for the text.
+    Memory,
+}
+
+/// Reads a whole text (RFC 7049, 2.1) of a definite length or not (2.2.2), of at most `limit` bytes in at most
+/// `limit + 1` segments.
+///
+/// `NoText` names the offset of the title that begins no text. `TooLong` comes before the body is read with which the
+/// text would be too long, so no more memory is taken than the limit asks for; and behind segments of which too many
+/// are empty. `Read` carries the decoder's error. What was read before an error is consumed.
+pub fn read_string<R: Read>(
+    alloc: Global,
+    decoder: &mut Decoder<R>,
+    limit: usize,
+) -> Result<String, TextError<R::Error>>
+    ensures limited { IfOk result (λ text. string_len text ≤ limit) }
+    ensures whole { IfOk result (λ text. ReadsText R.Read decoder.old (string_bytes text) decoder.new) }
+{
+    let place = decoder.offset();
+    let header = match decoder.pull() {
+        Ok(header) => header,
+        Err(error) => return Err(TextError::Read(error)),
+    };
+    let Header::Text(len) = header else {
+        return Err(TextError::NoText(place));
+    };
+    let mut segments = decoder.text(len);
+    read_segments(alloc, &mut segments, limit)
+}
+
+/// Reads the segments of a text, and joins them.
+fn read_segments<R: Read>(
+    alloc: Global,
+    segments: &mut Segments<'_, R, Text>,
+    limit: usize,
+) -> Result<String, TextError<R::Error>>
+    ensures same_reference { segments.new.reader.ghost_name ≡ segments.old.reader.ghost_name }
+    ensures limited { IfOk result (λ text. string_len text ≤ limit) }
+    ensures gathers { IfOk result (λ text. GathersAll R.Read segments.old.progress (string_bytes text) segments.new.reader.now) }
+{
+    let mut text = String::new(alloc);
+    // Empty segments could come without an end.
+    'segments: for _read in 0..=limit.saturating_add(1) {
+        let body = match segments.advance() {
+            Ok(Some(body)) => body,
+            Ok(None) => return Ok(text),
+            Err(error) => return Err(TextError::Read(error)),
+        };
+        if body.length > limit - text.len() {
+            return Err(TextError::TooLong);
+        }
+        let mut segment = segments.segment(body);
+        if let Err(error) = read_body(&mut segment, &mut text) {
+            return Err(error);
+        }
+    }
+    Err(TextError::TooLong)
+}
+
+/// Reads a segment to its end, and appends its body.
+fn read_body<R: Read>(
+    segment: &mut Segment<'_, R, Text>,
+    text: &mut String,
+) -> Result<(), TextError<R::Error>>
+    ensures same_reference { segment.new.reader.ghost_name ≡ segment.old.reader.ghost_name }
+    ensures appends { (body : AnyBody) → IsWhole body segment.old → OnOk result (AppendsBody R.Read body.length
+        segment.old.reader.now (string_bytes text.old) segment.new.reader.now (string_bytes text.new)) }
+    ensures grows { (body : AnyBody) → IsWhole body segment.old
+        → OnOk result (string_len text.new ≡ string_len text.old + body.length) }
+    ensures steady { IsSteady R.Read segment.old.reader.now → IsSteady R.Read segment.new.reader.now }
+{
+    let mut buffer = [0; 64];
+    // It ends: each chunk takes bytes of the body that were not read yet.
+    'chunks: loop {
+        let chunk = match segment.pull(&mut buffer) {
+            Ok(Some(chunk)) => chunk,
+            Ok(None) => return Ok(()),
+            Err(error) => return Err(TextError::Read(error)),
+        };
+        match text.push_str(chunk) {
+            Ok(()) => {}
+            Err(_) => return Err(TextError::Memory),
+        }
+    }
+}
