@@ -120,7 +120,8 @@ module _ {R E : Type 0} (source : Ghosts R E) where
   -- the sum of an array of integers, by the answer
   abbrev pub SumsArray : Decoder R → Result ℤ (SumError E) → Decoder R → Type 0
   SumsArray old (Ok total) new = OpensArray old (Ok total) new
-  SumsArray old (Err (s.Read error)) new = PullsHeader source old (Err error) new ⊎ OpensArray old (Err (s.Read error)) new
+  SumsArray old (Err (s.Read error)) new =
+      PullsHeader source old (Err error) new ⊎ OpensArray old (Err (s.Read error)) new
   SumsArray old (Err (s.NoArray at)) new = MeetsNoArray old at new
   SumsArray old (Err (s.NoNumber at)) new = OpensArray old (Err (s.NoNumber at)) new
   SumsArray old (Err (s.OutOfRange at)) new = OpensArray old (Err (s.OutOfRange at)) new

@@ -20,9 +20,9 @@ module _ {R E : Type 0} (source : Ghosts R E) where
     pub passed : Passes source old body new
     pub appended : text' ≡ text ++ body
 
-  -- `Gathers progress text progress'`: from the start of a string on, bodies were announced by `advance`, one after the
-  -- other, and each was read whole behind its title. The text is these bodies, joined in order. Where the decoder stands
-  -- between a body and the next title is left open, since a segment's loan does not tell its caller
+  -- `Gathers progress text progress'`: from the start of a string on, bodies were announced by `advance`, one after
+  -- the other, and each was read whole behind its title. The text is these bodies, joined in order. Where the decoder
+  -- stands between a body and the next title is left open, since a segment's loan does not tell its caller
   pub data Gathers (progress : Progress) : List ℕ → Progress → Type 0 where
     none : Gathers progress [] progress
     more : {text text' : List ℕ} {progress' progress'' : Progress} (body : Body) (now titled new : Decoder R)

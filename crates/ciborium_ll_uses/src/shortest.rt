@@ -13,8 +13,8 @@ pub const DEPTH: usize = 64;
 
 /// How many bytes in front are one item in its shortest spelling, whatever stands behind it (RFC 7049, 3.9).
 ///
-/// It is `None` where no such item stands in front, with tags, arrays and maps nested at most 64 levels deep. A check of
-/// a message that was signed as bytes may rest on it. What `space` holds afterwards is open.
+/// It is `None` where no such item stands in front, with tags, arrays and maps nested at most 64 levels deep. A check
+/// of a message that was signed as bytes may rest on it. What `space` holds afterwards is open.
 pub fn shortest_item_len(bytes: &[u8], space: &mut [u8]) -> Option<usize>
     requires room { length bytes.now ≤ length space.old }
     requires fits { length bytes.now + 64 < 2 ^ 64 }

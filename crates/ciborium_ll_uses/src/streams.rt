@@ -37,7 +37,8 @@ pub fn normalise<R: Read, W: Write>(
 
 /// Flushes the writer.
 fn flushed<E, W: Write>(writer: &mut W) -> Result<(), RecodeError<E, W::Error>>
-    ensures { MatchResult result (λ _. W.flushed writer.old writer.new) (λ error. (fault : W.Error) × (error ≡ RecodeError.Write fault)) }
+    ensures { MatchResult result (λ _. W.flushed writer.old writer.new)
+        (λ error. (fault : W.Error) × (error ≡ RecodeError.Write fault)) }
 {
     match writer.flush() {
         Ok(()) => Ok(()),

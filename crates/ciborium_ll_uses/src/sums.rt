@@ -24,9 +24,9 @@ pub enum SumError<E> {
 
 /// The sum of an array of integers (RFC 7049, 2.1), of a definite length or not (2.2.1).
 ///
-/// `NoArray` and `NoNumber` name the offset of the title that may not stand there, `OutOfRange` that of the integer with
-/// which the sum so far leaves the range of `i64`. `Read` carries the decoder's error. What was read before an error is
-/// consumed.
+/// `NoArray` and `NoNumber` name the offset of the title that may not stand there, `OutOfRange` that of the integer
+/// with which the sum so far leaves the range of `i64`. `Read` carries the decoder's error. What was read before an
+/// error is consumed.
 pub fn sum_numbers<R: Read>(decoder: &mut Decoder<R>) -> Result<i64, SumError<R::Error>>
     ensures { SumsArray R.Read decoder.old result decoder.new }
 {

@@ -57,7 +57,8 @@ fn read_segments<R: Read>(
 ) -> Result<String, TextError<R::Error>>
     ensures same_reference { segments.new.reader.ghost_name ≡ segments.old.reader.ghost_name }
     ensures limited { IfOk result (λ text. string_len text ≤ limit) }
-    ensures gathers { IfOk result (λ text. GathersAll R.Read segments.old.progress (string_bytes text) segments.new.reader.now) }
+    ensures gathers { IfOk result (λ text. GathersAll R.Read segments.old.progress (string_bytes text)
+        segments.new.reader.now) }
 {
     let mut text = String::new(alloc);
     // Empty segments could come without an end.
