@@ -3,6 +3,8 @@ pub use Rattle.ciborium_ll_decoder.specs.declared.dec.Decoder
 pub use Rattle.ciborium_ll_decoder.specs.declared.dec.Error
 pub use Rattle.ciborium_ll_decoder.specs.declared.recode.RecodeError
 pub use Rattle.ciborium_ll_decoder.specs.declared.seg.Body
+pub use Rattle.ciborium_ll_decoder.specs.declared.seg.Parser
+pub use Rattle.ciborium_ll_decoder.specs.declared.seg.Progress
 pub use Rattle.ciborium_ll_decoder.specs.declared.seg.Segment
 pub use Rattle.ciborium_ll_decoder.specs.declared.seg.Segments
 pub use Rattle.ciborium_ll_encoder.specs.declared.enc.Encoder

@@ -1,8 +1,8 @@
 -- A map written pair by pair.
 use Rattle.std.proofs.Common.{◌≡◌, ℕ, List, [], ◌∷◌, length, Option, Some, None, Result, Ok, IsErr, refl, sym, subst, arith, append-nil}
 use Rattle.std.proofs.KnownBytes.{Appends-nil}
-use Rattle.ciborium_ll.specs.declared.io.Write.{Ghosts}
-use Rattle.ciborium_ll.specs.declared.hdr.Header.TheVariants as h
+use Rattle.ciborium_ll.specs.Types.Write.{Ghosts}
+use Rattle.ciborium_ll.specs.Types.Header.TheVariants as h
 use Rattle.ciborium_ll.specs.Title.{shortest_title}
 use Rattle.ciborium_ll.specs.Transfer.{Shrinks}
 use Rattle.ciborium_ll.specs.Strings.{Text}

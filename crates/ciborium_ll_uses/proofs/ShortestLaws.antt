@@ -10,7 +10,7 @@ use Rattle.ciborium_ll.proofs.ItemLaws.{one_item}
 use Rattle.ciborium_ll.proofs.StepLaws.{add_element}
 use Rattle.ciborium_ll.specs.Strings.{kind_header}
 use Rattle.ciborium_ll.proofs.NestLaws.{title_some}
-use Rattle.ciborium_ll.proofs.DecodingLaws.{length_zero}
+use Rattle.ciborium_ll.proofs.Lists.{length_zero}
 use Rattle.cbor_skip.specs.ItemFaults.{ItemInFront}
 use Rattle.ciborium_ll_uses.specs.Shortest.{ShortestInFront}
 

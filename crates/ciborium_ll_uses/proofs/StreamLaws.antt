@@ -1,10 +1,10 @@
 -- A copy of a stream, and the flush behind it.
 use Rattle.std.proofs.Common.{◌≡◌, ℕ, zero, suc, ◌+◌, ◌<◌, ◌≤◌, ◌^◌, IsOk, IsTrue, List, length, MatchResult, None, Some, Result, Ok, Err, refl, sym, ap, subst, ◌∙◌, inr, arith}
-use Rattle.ciborium_ll.specs.declared.io.Read.{Ghosts as Reader}
-use Rattle.ciborium_ll.specs.declared.io.Write.{Ghosts as Writer}
-use Rattle.ciborium_ll.specs.declared.dec.Decoder.{Decoder}
-use Rattle.ciborium_ll.specs.declared.recode.RecodeError.{RecodeError}
-use Rattle.ciborium_ll.specs.declared.recode.RecodeError.TheVariants as r
+use Rattle.ciborium_ll.specs.Types.Read.{Ghosts as Reader}
+use Rattle.ciborium_ll.specs.Types.Write.{Ghosts as Writer}
+use Rattle.ciborium_ll.specs.Types.Decoder.{Decoder}
+use Rattle.ciborium_ll.specs.Types.RecodeError.{RecodeError}
+use Rattle.ciborium_ll.specs.Types.RecodeError.TheVariants as r
 use Rattle.ciborium_ll.specs.Faults.{RunInFront}
 use Rattle.ciborium_ll.specs.Decoding.{IsFresh, behind_waiting}
 use Rattle.ciborium_ll.specs.RecodingTold.{CopiesFront, IsReady, IsTold, RecodesTold}

@@ -1,8 +1,8 @@
 -- The loop over the integers of an array.
 use Rattle.std.proofs.Common.{ℕ, suc, ◌<◌, ℤ, pos, [], ◌++◌, Option, Result, Ok, Err, subst, sym, inr, arith}
-use Rattle.ciborium_ll.specs.declared.io.Read.{Ghosts}
-use Rattle.ciborium_ll.specs.declared.hdr.Header.TheVariants as h
-use Rattle.ciborium_ll.specs.declared.dec.Decoder.{Decoder}
+use Rattle.ciborium_ll.specs.Types.Read.{Ghosts}
+use Rattle.ciborium_ll.specs.Types.Header.TheVariants as h
+use Rattle.ciborium_ll.specs.Types.Decoder.{Decoder}
 use Rattle.ciborium_ll.specs.Decoding.{IsSteady, PullsTitle}
 use Rattle.ciborium_ll.proofs.DecodingLaws.{Passes-none, Passes-pull}
 use Rattle.ciborium_ll.proofs.NestLaws.{title_some}

@@ -1,15 +1,14 @@
 -- Bodies that are read into a text.
 use Rattle.std.proofs.Common.{◌≡◌, ℕ, List, [], ◌++◌, Option, None, Some, Result, Ok, Err, IfOk, refl, ap, subst, sym, ◌∙◌, arith, append-nil}
-use Rattle.ciborium_ll.specs.declared.io.Read.{Ghosts as Reader}
-use Rattle.ciborium_ll.specs.declared.io.Write.{Ghosts as Writer}
-use Rattle.ciborium_ll.specs.declared.dec.Decoder.{Decoder}
-use Rattle.ciborium_ll.specs.declared.seg.Parser.{Ghosts as Parser}
-use Rattle.ciborium_ll.specs.declared.seg.Segment.{Segment}
-use Rattle.ciborium_ll.specs.declared.seg.Progress.{Progress}
-use Rattle.ciborium_ll.specs.declared.seg.Progress.TheVariants as p
-use Rattle.ciborium_ll.specs.declared.hdr.Header.TheVariants as h
-use Rattle.ciborium_ll.specs.Faults.{IsWritable}
-use Rattle.ciborium_ll.specs.Strings.{Kind, Text}
+use Rattle.ciborium_ll.specs.Types.Read.{Ghosts as Reader}
+use Rattle.ciborium_ll.specs.Types.Write.{Ghosts as Writer}
+use Rattle.ciborium_ll.specs.Types.Decoder.{Decoder}
+use Rattle.ciborium_ll.specs.Types.Parser.{Ghosts as Parser}
+use Rattle.ciborium_ll.specs.Types.Segment.{Segment}
+use Rattle.ciborium_ll.specs.Types.Progress.{Progress}
+use Rattle.ciborium_ll.specs.Types.Progress.TheVariants as p
+use Rattle.ciborium_ll.specs.Types.Header.TheVariants as h
+use Rattle.ciborium_ll.specs.Strings.{Kind, Text, IsWritable}
 use Rattle.ciborium_ll.specs.Chunks.{SegmentEnds}
 use Rattle.ciborium_ll.specs.Decoding.{Passes, PullsTitle}
 use Rattle.ciborium_ll.specs.Encoding.{WritesAll}

@@ -1,6 +1,6 @@
 -- What a map of texts is written as (RFC 7049, 2.1).
 use Rattle.std.specs.Prelude.{ℕ, List, [], ◌∷◌, ◌++◌, length, Some}
-use Rattle.ciborium_ll.specs.declared.hdr.Header.TheVariants as h
+use Rattle.ciborium_ll.specs.Types.Header.TheVariants as h
 use Rattle.ciborium_ll.specs.Title.{shortest_title}
 use Rattle.ciborium_ll.specs.Strings.{Text}
 use Rattle.ciborium_ll.specs.Elements.{body_spelling}

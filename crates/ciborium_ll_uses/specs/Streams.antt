@@ -1,9 +1,9 @@
 -- What a copy of a stream to its shortest spelling does, where its bytes are told.
 use Rattle.std.specs.Prelude.{◌≡◌, ℕ, List, ◌++◌, Some, Result, Ok, Err}
-use Rattle.ciborium_ll.specs.declared.io.Read.{Ghosts as Reader}
-use Rattle.ciborium_ll.specs.declared.io.Write.{Ghosts as Writer}
-use Rattle.ciborium_ll.specs.declared.recode.RecodeError.{RecodeError}
-use Rattle.ciborium_ll.specs.declared.recode.RecodeError.TheVariants as r
+use Rattle.ciborium_ll.specs.Types.Read.{Ghosts as Reader}
+use Rattle.ciborium_ll.specs.Types.Write.{Ghosts as Writer}
+use Rattle.ciborium_ll.specs.Types.RecodeError.{RecodeError}
+use Rattle.ciborium_ll.specs.Types.RecodeError.TheVariants as r
 use Rattle.ciborium_ll.specs.Elements.{spelling}
 use Rattle.ciborium_ll.specs.Faults.{RunInFront}
 

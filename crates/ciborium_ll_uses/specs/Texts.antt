@@ -1,11 +1,11 @@
 -- A text that is read whole, segment by segment.
 use Rattle.std.specs.Prelude.{◌≡◌, ℕ, List, [], ◌++◌, length, Option, Some, None, Ok}
-use Rattle.ciborium_ll.specs.declared.io.Read.{Ghosts}
-use Rattle.ciborium_ll.specs.declared.hdr.Header.TheVariants as h
-use Rattle.ciborium_ll.specs.declared.dec.Decoder.{Decoder}
-use Rattle.ciborium_ll.specs.declared.seg.Body.{Body}
-use Rattle.ciborium_ll.specs.declared.seg.Progress.{Progress}
-use Rattle.ciborium_ll.specs.declared.seg.Progress.TheVariants as p
+use Rattle.ciborium_ll.specs.Types.Read.{Ghosts}
+use Rattle.ciborium_ll.specs.Types.Header.TheVariants as h
+use Rattle.ciborium_ll.specs.Types.Decoder.{Decoder}
+use Rattle.ciborium_ll.specs.Types.Body.{Body}
+use Rattle.ciborium_ll.specs.Types.Progress.{Progress}
+use Rattle.ciborium_ll.specs.Types.Progress.TheVariants as p
 use Rattle.ciborium_ll.specs.Text.{IsCharacters}
 use Rattle.ciborium_ll.specs.Strings.{Text}
 use Rattle.ciborium_ll.specs.Decoding.{Passes, PullsTitle}

@@ -1,6 +1,6 @@
 //! Whether an item stands in its shortest spelling.
 
-ghost use Rattle.std.specs.Prelude.{ℕ, ◌≤◌, ◌+◌, ◌<◌, ◌^◌, MatchOption, length};
+ghost use Rattle.std.specs.Prelude.{ℕ, ◌+◌, ◌<◌, ◌^◌, MatchOption, length};
 ghost use Rattle.ciborium_ll_uses.specs.Shortest.{ShortestInFront};
 
 use cbor_skip::skip_item;
@@ -14,9 +14,8 @@ pub const DEPTH: usize = 64;
 /// How many bytes in front are one item in its shortest spelling, whatever stands behind it (RFC 7049, 3.9).
 ///
 /// It is `None` where no such item stands in front, with tags, arrays and maps nested at most 64 levels deep. A check
-/// of a message that was signed as bytes may rest on it. What `space` holds afterwards is open.
-pub fn shortest_item_len(bytes: &[u8], space: &mut [u8]) -> Option<usize>
-    requires room { length bytes.now ≤ length space.old }
+/// of a message that was signed as bytes may rest on it.
+pub fn shortest_item_len(bytes: &[u8]) -> Option<usize>
     requires fits { length bytes.now + 64 < 2 ^ 64 }
     ensures { MatchOption result ((len : ℕ) → ShortestInFront DEPTH bytes.now len → ⊥)
         (λ len. ShortestInFront DEPTH bytes.now len) }
@@ -27,7 +26,7 @@ pub fn shortest_item_len(bytes: &[u8], space: &mut [u8]) -> Option<usize>
     // Each of the item's elements has to be there in the one spelling that a strict decoder takes.
     let mut rest = &bytes[..len];
     'elements: while !rest.is_empty() {
-        let Some(element) = strict_len(rest, 1, space) else {
+        let Some(element) = strict_len(rest, 1) else {
             return None;
         };
         rest = &rest[element..];

@@ -190,10 +190,8 @@ fn shortest_items(rt: HostRuntime) {
         (&[0xc1], None),
         (&[0xc1, 0xf9, 0x00, 0x00], Some(4)),
     ];
-    let mut space = [0; 16];
     for (bytes, want) in rows {
-        assert!(rt; bytes.len() <= 16);
-        assert_eq!(rt; shortest_item_len(bytes, &mut space), want);
+        assert_eq!(rt; shortest_item_len(bytes), want);
     }
 }
 
@@ -201,12 +199,11 @@ fn shortest_items(rt: HostRuntime) {
 fn nested_items(rt: HostRuntime) {
     // Arrays of one item each, the innermost without any.
     let mut bytes = [0x81; 65];
-    let mut space = [0; 65];
     bytes[63] = 0x80;
-    assert_eq!(rt; shortest_item_len(&bytes, &mut space), Some(64));
+    assert_eq!(rt; shortest_item_len(&bytes), Some(64));
     bytes[63] = 0x81;
     bytes[64] = 0x80;
-    assert_eq!(rt; shortest_item_len(&bytes, &mut space), None);
+    assert_eq!(rt; shortest_item_len(&bytes), None);
 }
 
 // Why no text was read.

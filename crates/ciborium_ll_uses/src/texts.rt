@@ -1,7 +1,7 @@
 //! A text of any length, read whole.
 
 ghost use Rattle.std.specs.Prelude.{◌≡◌, ◌≤◌, ◌+◌, IfOk, OnOk, string_bytes, string_len};
-ghost use Rattle.ciborium_ll.specs.declared.seg.Body.{Body as AnyBody};
+ghost use Rattle.ciborium_ll.specs.Types.Body.{Body as AnyBody};
 ghost use Rattle.ciborium_ll.specs.Chunks.{IsWhole};
 ghost use Rattle.ciborium_ll.specs.Decoding.{IsSteady};
 ghost use Rattle.ciborium_ll_uses.specs.Texts.{AppendsBody, GathersAll, ReadsText};

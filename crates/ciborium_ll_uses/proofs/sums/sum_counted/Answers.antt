@@ -2,7 +2,7 @@ use Rattle.std.proofs.Common.{rules, refl, arith, add-one}
 use mir.Syntax.{w64}
 use mir.Val.{SFits, to_z}
 use Rattle.std.proofs.lemmas.Int.{to_z-of_z}
-use Rattle.ciborium_ll.specs.declared.hdr.Header.TheVariants as h
+use Rattle.ciborium_ll.specs.Types.Header.TheVariants as h
 use Rattle.ciborium_ll_uses.proofs.SumLaws.{reads_none, reads_more}
 use Rattle.ciborium_ll_uses.proofs.sums.sum_counted.Goals as goal
 

@@ -1,5 +1,5 @@
 use Rattle.std.proofs.Common.{rules, ◌≡◌, None, Some}
-use Rattle.ciborium_ll.specs.declared.hdr.Header.TheVariants as h
+use Rattle.ciborium_ll.specs.Types.Header.TheVariants as h
 use Rattle.ciborium_ll_uses.proofs.SumLaws.{opens_array}
 use Rattle.ciborium_ll_uses.proofs.sums.sum_numbers.Goals as goal
 

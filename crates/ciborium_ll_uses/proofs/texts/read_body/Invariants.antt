@@ -1,5 +1,5 @@
 use Rattle.std.proofs.Common.{◌≡◌, ◌+◌, string_bytes, string_len}
-use Rattle.ciborium_ll.specs.declared.seg.Body.{Body}
+use Rattle.ciborium_ll.specs.Types.Body.{Body}
 use Rattle.ciborium_ll.specs.Chunks.{IsWhole, left_of}
 use Rattle.ciborium_ll.specs.Decoding.{IsSteady}
 use Rattle.ciborium_ll.proofs.BodyLaws.{BodySoFar}
