@@ -145,11 +145,11 @@ text_last limit rest u some fits = record {
 
 -- ---- the limit
 
--- the code's limit is the one that is asked for, or the value's length, raised to the least one
-pub limit_is : (k : Kind) (segment : Option ℕ) (value : List ℕ) (asked limit : ℕ) → asked ≡ unwrap_or segment (length value)
-    → limit ≡ max asked (least_limit k) → limit ≡ value_limit k segment value
-limit_is k None value asked limit e m = omega arith
-limit_is k (Some n) value asked limit e m = omega arith
+-- the limit is the one that is asked for, or the value's length, raised to the least one
+pub limit_is : (k : Kind) (segment : Option ℕ) (value : List ℕ) (limit : ℕ)
+    → limit ≡ max (least_limit k) (unwrap_or segment (length value)) → limit ≡ value_limit k segment value
+limit_is k None value limit e = e
+limit_is k (Some n) value limit e = e
 
 -- ---- the spelling of pieces
 

@@ -23,6 +23,7 @@ impl VecWriter {
     pub fn new(alloc: Global) -> VecWriter
         ensures written { ⟦<VecWriter as Write>⟧.written result ≡ Some [] }
         ensures failures { ⟦<VecWriter as Write>⟧.failures result ≡ 0 }
+        ensures capacity { vec_capacity result.bytes ≡ 0 }
     {
         VecWriter {
             bytes: Vec::new(alloc),

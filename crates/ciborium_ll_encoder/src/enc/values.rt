@@ -1,6 +1,6 @@
 //! Values of bytes and of text, in pieces of limited length.
 
-ghost use Rattle.std.specs.Prelude.{◌<◌, ◌≤◌, ◌+◌, ◌++◌, ◌↔◌, ℕ, length, IsTrue, OnOk};
+ghost use Rattle.std.specs.Prelude.{◌≡◌, max, unwrap_or, ◌<◌, ◌≤◌, ◌+◌, ◌++◌, ◌↔◌, ℕ, length, IsTrue, OnOk};
 ghost use Rattle.std.specs.Str.{IsCharBoundary};
 ghost use Rattle.ciborium_ll_grammar.specs.Title.{shortest_title};
 ghost use Rattle.ciborium_ll_grammar.specs.Strings.{Bytes, Text};
@@ -11,6 +11,14 @@ ghost use Rattle.ciborium_ll_encoder.specs.Encoding.{WritesBytes, WritesPieces, 
 use crate::enc::Encoder;
 use ciborium_ll_grammar::hdr::Header;
 use ciborium_ll_io::io::Write;
+
+/// The limit that is asked for, or else the length of the whole value, and no less than `least`.
+#[inline(always)]
+fn limit(segment: Option<usize>, len: usize, least: usize) -> usize
+    ensures { result ≡ max least (unwrap_or segment len) }
+{
+    segment.unwrap_or(len).max(least)
+}
 
 impl<W: Write> Encoder<W> {
     /// Writes a byte string (RFC 7049, 2.1), in segments of `segment` bytes (2.2.2), or in one where that is `None`.
@@ -23,7 +31,7 @@ impl<W: Write> Encoder<W> {
     pub fn bytes(&mut self, value: &[u8], segment: Option<usize>) -> Result<(), W::Error>
         ensures { WritesValue W.Write Bytes segment value.now (writer_of self.old) result (writer_of self.new) }
     {
-        let limit = segment.unwrap_or(value.len()).max(1);
+        let limit = limit(segment, value.len(), 1);
         if value.len() <= limit {
             return self.string(Header::Bytes(Some(value.len())), value);
         }
@@ -45,7 +53,7 @@ impl<W: Write> Encoder<W> {
         ensures fewest { OnOk result (0 < length value.now
             → WritesFewest W.Write (value_limit Text segment value.now) value.now (writer_of self.old) (writer_of self.new)) }
     {
-        let limit = segment.unwrap_or(value.len()).max(4);
+        let limit = limit(segment, value.len(), 4);
         if value.len() <= limit {
             return self.string(Header::Text(Some(value.len())), value.as_bytes());
         }

@@ -6,13 +6,13 @@ use Rattle.ciborium_ll_encoder.proofs.enc.Encoder.bytes.Goals as goal
 pub returns-then-value-limit : goal.returns-then-value-limit
 returns-then-value-limit g c =
     let value = c.args.value.now in
-    let limit = limit_is Bytes c.args.segment value _ _ c.unwrap_or.ensures c.max-limit.ensures in
+    let limit = limit_is Bytes c.args.segment value _ c.limit-limit.ensures in
     WritesValue-in_one g.W.Write c.string.result Bytes c.args.segment value _ _ _ limit c.if-value-limit.true c.string.ensures
 
 pub returns-in_err-push : goal.returns-in_err-push
 returns-in_err-push g c =
     let value = c.args.value.now in
-    let limit = limit_is Bytes c.args.segment value _ _ c.unwrap_or.ensures c.max-limit.ensures in
+    let limit = limit_is Bytes c.args.segment value _ c.limit-limit.ensures in
     WritesValue-unopened g.W.Write c.from_residual.result c.from_residual.ensures.0 Bytes c.args.segment value _ _ _ tt (omega arith)
     limit
     c.if-value-limit.false c.in_err-push.ensures.title
@@ -20,7 +20,7 @@ returns-in_err-push g c =
 pub returns-in_err-byte_pieces : goal.returns-in_err-byte_pieces
 returns-in_err-byte_pieces g c =
     let value = c.args.value.now in
-    let limit = limit_is Bytes c.args.segment value _ _ c.unwrap_or.ensures c.max-limit.ensures in
+    let limit = limit_is Bytes c.args.segment value _ c.limit-limit.ensures in
     WritesValue-cut g.W.Write c.from_residual-in_err-byte_pieces.result c.from_residual-in_err-byte_pieces.ensures.0 Bytes c.args.segment
     value _ _ _ _ _
     limit c.if-value-limit.false c.in_ok-push.ensures.title c.in_err-byte_pieces.ensures
@@ -28,7 +28,7 @@ returns-in_err-byte_pieces g c =
 pub returns : goal.returns
 returns g c =
     let value = c.args.value.now in
-    let limit = limit_is Bytes c.args.segment value _ _ c.unwrap_or.ensures c.max-limit.ensures in
+    let limit = limit_is Bytes c.args.segment value _ c.limit-limit.ensures in
     WritesValue-closed g.W.Write c.push-2.result Bytes c.args.segment value _ _ _ _ _ _ limit c.if-value-limit.false
     c.in_ok-push.ensures.title
     c.in_ok-byte_pieces.ensures c.push-2.ensures.title

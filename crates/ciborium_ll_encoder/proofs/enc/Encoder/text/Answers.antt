@@ -9,7 +9,7 @@ use Rattle.ciborium_ll_encoder.proofs.enc.Encoder.text.Goals as goal
 pub returns-then-value-limit-clause-value : goal.returns-then-value-limit-clause-value
 returns-then-value-limit-clause-value g c =
     let value = c.args.value.now in
-    let limit = limit_is Text c.args.segment value _ _ c.unwrap_or.ensures c.max-limit.ensures in
+    let limit = limit_is Text c.args.segment value _ c.limit-limit.ensures in
     let title = shortest_title (kind_header Text (Some (length value))) in
     let wrote = subst (λ (z : List ℕ). WritesBytes g.W.Write c.args.self.now.writer c.string.result (title ++ z) c.string.new.self.writer)
     c.as_bytes.ensures.value c.string.ensures in
@@ -22,7 +22,7 @@ returns-then-value-limit-clause-fewest g c =
 pub returns-in_err-push-clause-value : goal.returns-in_err-push-clause-value
 returns-in_err-push-clause-value g c =
     let value = c.args.value.now in
-    let limit = limit_is Text c.args.segment value _ _ c.unwrap_or.ensures c.max-limit.ensures in
+    let limit = limit_is Text c.args.segment value _ c.limit-limit.ensures in
     WritesValue-unopened g.W.Write c.from_residual.result c.from_residual.ensures.0 Text c.args.segment value _ _ _
     (from_std value c.utf8.value, tt)
     (omega arith) limit c.if-value-limit.false c.in_err-push.ensures.title
@@ -30,7 +30,7 @@ returns-in_err-push-clause-value g c =
 pub returns-in_err-text_pieces-clause-value : goal.returns-in_err-text_pieces-clause-value
 returns-in_err-text_pieces-clause-value g c =
     let value = c.args.value.now in
-    let limit = limit_is Text c.args.segment value _ _ c.unwrap_or.ensures c.max-limit.ensures in
+    let limit = limit_is Text c.args.segment value _ c.limit-limit.ensures in
     WritesValue-cut g.W.Write c.from_residual-in_err-text_pieces.result c.from_residual-in_err-text_pieces.ensures.0 Text c.args.segment
     value _ _ _ _ _
     limit c.if-value-limit.false c.in_ok-push.ensures.title c.in_err-text_pieces.ensures
@@ -38,7 +38,7 @@ returns-in_err-text_pieces-clause-value g c =
 pub returns-clause-value : goal.returns-clause-value
 returns-clause-value g c =
     let value = c.args.value.now in
-    let limit = limit_is Text c.args.segment value _ _ c.unwrap_or.ensures c.max-limit.ensures in
+    let limit = limit_is Text c.args.segment value _ c.limit-limit.ensures in
     WritesValue-closed g.W.Write c.push-2.result Text c.args.segment value _ _ _ _ _ _ limit c.if-value-limit.false
     c.in_ok-push.ensures.title
     c.in_ok-text_pieces.ensures c.push-2.ensures.title
