@@ -2,4 +2,6 @@
 #![tactic(auto)]
 
 pub mod devices;
+pub mod plain;
 pub mod samples;
+pub mod streams;

@@ -1,6 +1,7 @@
 //! Bytes of CBOR.
 
 use ciborium_ll::{Float, Header};
+use std::alloc::{AllocError, Global};
 
 /// Titles of one header each, the shortest of that header, as hexadecimal digits.
 pub const VECTORS: [(&str, Header); 54] = [
@@ -204,3 +205,22 @@ pub const COPIES: [(usize, &str); 24] = [
     (1, "7f62c3a964f09f9880ff"),
     (1, "7f626162ff"),
 ];
+
+/// The digits of all of these, each with how many elements a copy of it is asked for: those that it has, or those of its
+/// row. The error says that there is no memory.
+pub fn all(alloc: Global) -> Result<Vec<(usize, &'static str)>, AllocError> {
+    let mut all = vec![in alloc; (26, TWENTY_FIVE), (27, TWENTY_FIVE_AND_BREAK)]?;
+    for (hex, _) in VECTORS {
+        all.push((1, hex))?;
+    }
+    for (hex, headers) in LISTS {
+        all.push((headers.len(), hex))?;
+    }
+    for (hex, _, _) in LONGER_TITLES {
+        all.push((1, hex))?;
+    }
+    for row in COPIES {
+        all.push(row)?;
+    }
+    Ok(all)
+}

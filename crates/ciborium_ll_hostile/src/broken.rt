@@ -1,6 +1,6 @@
 use crate::copies::{Kind, agrees};
-use crate::titles::{reads_titles, samples};
-use ciborium_ll_fixtures::samples::COPIES;
+use crate::titles::reads_titles;
+use ciborium_ll_fixtures::samples;
 use std::alloc::Global;
 use std::process::Abort;
 use std::test::Fail;
@@ -24,10 +24,8 @@ fn reads_each_front(rt: &impl Abort, alloc: Global, count: usize, hex: &str) -> 
 
 #[test]
 fn each_sample_is_cut_at_each_place(rt: HostRuntime) -> Result<(), Fail> {
-    for hex in samples(rt.alloc())? {
+    for (count, hex) in samples::all(rt.alloc())? {
         reads_each_front(&rt, rt.alloc(), 1, hex)?;
-    }
-    for (count, hex) in COPIES {
         reads_each_front(&rt, rt.alloc(), count, hex)?;
     }
     Ok(())

@@ -1,8 +1,8 @@
-use crate::plain::{self, Fault};
 use ciborium_ll::laws::copy_headers;
 use ciborium_ll::recode::recode;
 use ciborium_ll::{Decoder, Encoder, Error, RecodeError};
 use ciborium_ll_fixtures::devices::{DeviceFault, Failing, FailingReader, FailingWriter};
+use ciborium_ll_fixtures::plain::{self, Fault};
 use ciborium_ll_fixtures::samples::{
     COPIES, LISTS, LONGER_TITLES, TWENTY_FIVE, TWENTY_FIVE_AND_BREAK, VECTORS,
 };

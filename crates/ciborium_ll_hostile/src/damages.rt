@@ -1,8 +1,8 @@
-use crate::plain::{self, Fault};
 use ciborium_ll::io::{SliceReader, SliceWriter};
 use ciborium_ll::laws::{End, drain_text};
 use ciborium_ll::recode::recode;
 use ciborium_ll::{Decoder, Encoder, Error, Header, RecodeError};
+use ciborium_ll_fixtures::plain::{self, Fault};
 use std::process::Abort;
 use std::test::Fail;
 

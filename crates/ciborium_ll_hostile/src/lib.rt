@@ -10,11 +10,13 @@ mod damages;
 #[cfg(test)]
 mod limits;
 #[cfg(test)]
-mod plain;
+mod segments;
 #[cfg(test)]
 mod streams;
 #[cfg(test)]
 mod strings;
+#[cfg(test)]
+mod tape;
 #[cfg(test)]
 mod titles;
 #[cfg(test)]

@@ -1,77 +1,13 @@
-use crate::plain::{self, Fault};
 use ciborium_ll::io::{ReadFault, StdReader, StdWriter, WriteFault};
 use ciborium_ll::recode::recode;
 use ciborium_ll::{Decoder, Encoder, Error, RecodeError};
+use ciborium_ll_fixtures::plain::{self, Fault};
 use ciborium_ll_fixtures::samples::COPIES;
+use ciborium_ll_fixtures::streams::{PartReader, PartWriter};
 use std::alloc::Global;
 use std::io;
 use std::process::Abort;
 use std::test::Fail;
-
-// A reader that gives at most so many bytes a call, and is interrupted at the call of this number, from 1 on.
-#[derive(Drop)]
-struct PartReader<'a> {
-    left: &'a [u8],
-    most: usize,
-    calls: usize,
-    interrupted: usize,
-}
-
-impl io::Read for PartReader<'_> {
-    fn read(&mut self, buf: &mut [u8]) -> io::Result<usize> {
-        self.calls = self.calls.saturating_add(1);
-        if self.calls == self.interrupted {
-            return Err(io::Error::from(io::ErrorKind::Interrupted));
-        }
-        let count = self.most.min(buf.len()).min(self.left.len());
-        let (front, rest) = self.left.split_at(count);
-        buf[..count].copy_from_slice(front);
-        self.left = rest;
-        Ok(count)
-    }
-}
-
-// A writer that takes at most so many bytes a call. At the call of this number, from 1 on, it takes none, or is
-// interrupted.
-#[derive(Drop)]
-struct PartWriter {
-    taken: Vec<u8>,
-    most: usize,
-    calls: usize,
-    failing: usize,
-    is_interrupted: bool,
-}
-
-impl PartWriter {
-    fn new(alloc: Global, most: usize, failing: usize, is_interrupted: bool) -> PartWriter {
-        PartWriter {
-            taken: Vec::new(alloc),
-            most,
-            calls: 0,
-            failing,
-            is_interrupted,
-        }
-    }
-}
-
-impl io::Write for PartWriter {
-    fn write(&mut self, buf: &[u8]) -> io::Result<usize> {
-        self.calls = self.calls.saturating_add(1);
-        if self.calls == self.failing && self.is_interrupted {
-            return Err(io::Error::from(io::ErrorKind::Interrupted));
-        }
-        if self.calls == self.failing {
-            return Ok(0);
-        }
-        let count = self.most.min(buf.len());
-        self.taken.extend_from_slice(&buf[..count])?;
-        Ok(count)
-    }
-
-    fn flush(&mut self) -> io::Result<()> {
-        Ok(())
-    }
-}
 
 // Copies through a reader that gives few bytes a call and is interrupted once. What was written is just what the bytes
 // in front of that call give. It tells whether the interrupted call came.
@@ -83,14 +19,10 @@ fn stops_reading(
     call: usize,
 ) -> Result<bool, Fail> {
     let (count, bytes) = row;
-    let source = PartReader {
-        left: bytes,
-        most,
-        calls: 0,
-        interrupted: call,
-    };
+    let interrupted = io::ErrorKind::Interrupted;
+    let source = PartReader::new(bytes, most).failing_at(call, interrupted);
     let mut decoder = Decoder::from(StdReader::new(source));
-    let mut encoder = Encoder::from(StdWriter::new(PartWriter::new(alloc, most, 0, false)));
+    let mut encoder = Encoder::from(StdWriter::new(PartWriter::new(alloc, most)));
     let outcome = recode(&mut decoder, &mut encoder, count, &mut [0; 64]);
     let offset = decoder.offset();
     let has_failed = decoder.into_inner().into_inner().calls >= call;
@@ -105,7 +37,7 @@ fn stops_reading(
     assert_eq!(rt; offset, want.offset);
     let is_right = match outcome {
         Err(RecodeError::Read(Error::Io(ReadFault::Failed(error)))) => {
-            has_failed && error.kind() == io::ErrorKind::Interrupted
+            has_failed && error.kind() == interrupted
         }
         _ if has_failed => false,
         Ok(()) => want.fault.is_none(),
@@ -125,12 +57,12 @@ fn stops_writing(
     rt: &impl Abort,
     alloc: Global,
     row: (usize, &[u8]),
-    is_interrupted: bool,
+    kind: Option<io::ErrorKind>,
     call: usize,
 ) -> Result<bool, Fail> {
     let (count, bytes) = row;
     let mut decoder = Decoder::from(StdReader::new(bytes));
-    let sink = PartWriter::new(alloc, 1, call, is_interrupted);
+    let sink = PartWriter::new(alloc, 1).failing_at(call, kind);
     let mut encoder = Encoder::from(StdWriter::new(sink));
     let outcome = recode(&mut decoder, &mut encoder, count, &mut [0; 64]);
     let sink = encoder.into_inner().into_inner();
@@ -141,10 +73,8 @@ fn stops_writing(
     assert!(rt; want.output.as_slice().starts_with(sink.taken.as_slice()));
     assert_eq!(rt; sink.taken.len().saturating_add(1), call);
     let is_right = match outcome {
-        Err(RecodeError::Write(WriteFault::Zero)) => !is_interrupted,
-        Err(RecodeError::Write(WriteFault::Failed(error))) => {
-            is_interrupted && error.kind() == io::ErrorKind::Interrupted
-        }
+        Err(RecodeError::Write(WriteFault::Zero)) => kind.is_none(),
+        Err(RecodeError::Write(WriteFault::Failed(error))) => kind == Some(error.kind()),
         _ => false,
     };
     assert!(rt; is_right, "at {call} of {bytes:?}");
@@ -175,10 +105,10 @@ fn each_write_of_a_stream_fails(rt: HostRuntime) -> Result<(), Fail> {
     for (count, hex) in COPIES {
         let bytes = hex::decode(rt.alloc(), hex)?;
         let row = (count, bytes.as_slice());
-        for is_interrupted in [false, true] {
+        for kind in [None, Some(io::ErrorKind::Interrupted)] {
             let mut last = 0usize;
             for call in 1..64usize {
-                if !stops_writing(&rt, rt.alloc(), row, is_interrupted, call)? {
+                if !stops_writing(&rt, rt.alloc(), row, kind, call)? {
                     break;
                 }
                 last = call;

@@ -1,33 +1,10 @@
-use crate::plain::{self, Fault};
 use ciborium_ll::io::{SliceReader, Write};
 use ciborium_ll::{Decoder, Encoder, Error, Header};
 use ciborium_ll_fixtures::devices::{DeviceFault, Failing, FailingReader, FailingWriter};
-use ciborium_ll_fixtures::samples::{
-    COPIES, LISTS, LONGER_TITLES, TWENTY_FIVE, TWENTY_FIVE_AND_BREAK, VECTORS,
-};
-use std::alloc::Global;
+use ciborium_ll_fixtures::plain::{self, Fault};
+use ciborium_ll_fixtures::samples;
 use std::process::Abort;
 use std::test::Fail;
-
-// The hexadecimal digits of all samples.
-pub fn samples(alloc: Global) -> Result<Vec<&'static str>, Fail> {
-    let mut samples = Vec::new(alloc);
-    for (hex, _) in VECTORS {
-        samples.push(hex)?;
-    }
-    for (hex, _) in LISTS {
-        samples.push(hex)?;
-    }
-    for (hex, _, _) in LONGER_TITLES {
-        samples.push(hex)?;
-    }
-    for (_, hex) in COPIES {
-        samples.push(hex)?;
-    }
-    samples.push(TWENTY_FIVE)?;
-    samples.push(TWENTY_FIVE_AND_BREAK)?;
-    Ok(samples)
-}
 
 // Reads bytes as titles by a reader that fails at one call, and compares each answer with a plain reading from the
 // offset at which that call begins. It tells whether the call that fails has come.
@@ -67,7 +44,7 @@ pub fn reads_titles(rt: &impl Abort, bytes: &[u8], failing: usize) -> bool {
 // The call of each number fails in turn, until none does. Nothing but that one answer is another one.
 #[test]
 fn each_read_fails_under_pull(rt: HostRuntime) -> Result<(), Fail> {
-    for hex in samples(rt.alloc())? {
+    for (_, hex) in samples::all(rt.alloc())? {
         let bytes = hex::decode(rt.alloc(), hex)?;
         let last = (1..=64usize).find(|call| !reads_titles(&rt, bytes.as_slice(), *call));
         assert!(rt; last.is_some(), "at {hex}");

@@ -1,45 +1,12 @@
-use crate::streams::SlowWriter;
 use ciborium_ll::io::{
     BufferedReader, BufferedWriter, FaultKept, Read, ReadFault, Write, WriteFault,
 };
 use ciborium_ll::recode::recode;
 use ciborium_ll::{Decoder, Encoder};
+use ciborium_ll_fixtures::streams::{PartReader, PartWriter};
 use std::alloc::Global;
 use std::io;
 use std::test::Fail;
-
-// A reader that gives as many bytes as fit, counts its calls, and is interrupted at one call.
-#[derive(Drop)]
-struct Source<'a> {
-    left: &'a [u8],
-    calls: usize,
-    interrupted: Option<usize>,
-}
-
-impl<'a> Source<'a> {
-    fn new(left: &'a [u8]) -> Source<'a> {
-        Source {
-            left,
-            calls: 0,
-            interrupted: None,
-        }
-    }
-}
-
-impl io::Read for Source<'_> {
-    fn read(&mut self, buf: &mut [u8]) -> io::Result<usize> {
-        let call = self.calls;
-        self.calls = call.saturating_add(1);
-        if self.interrupted == Some(call) {
-            return Err(io::Error::from(io::ErrorKind::Interrupted));
-        }
-        let count = buf.len().min(self.left.len());
-        let (front, rest) = self.left.split_at(count);
-        buf[..count].copy_from_slice(front);
-        self.left = rest;
-        Ok(count)
-    }
-}
 
 // How many bytes are lent, what each read gives, how many calls that is, and what is then ahead and left.
 #[test]
@@ -56,7 +23,7 @@ fn reads_ahead(rt: HostRuntime) -> Result<(), Fail> {
     ];
     for (room, parts, calls, ahead, left) in rows {
         let mut lent = vec![in rt.alloc(); 0u8; room]?;
-        let source = Source::new(&[1, 2, 3, 4, 5, 6]);
+        let source = PartReader::new(&[1, 2, 3, 4, 5, 6], usize::MAX);
         let mut reader = BufferedReader::new(source, lent.as_mut_slice());
         for part in parts {
             let mut data = vec![in rt.alloc(); 0u8; part.len()]?;
@@ -76,8 +43,8 @@ fn reads_ahead(rt: HostRuntime) -> Result<(), Fail> {
 #[test]
 fn a_fault_of_a_reader_is_kept(rt: HostRuntime) -> Result<(), Fail> {
     for room in [0, 3, 8] {
-        let mut source = Source::new(&[1, 2, 3, 4]);
-        source.interrupted = Some(0);
+        let source = PartReader::new(&[1, 2, 3, 4], usize::MAX);
+        let source = source.failing_at(1, io::ErrorKind::Interrupted);
         let mut lent = vec![in rt.alloc(); 0u8; room]?;
         let mut reader = BufferedReader::new(source, lent.as_mut_slice());
         let mut two = [0; 2];
@@ -115,7 +82,7 @@ fn keeps_back(rt: HostRuntime) -> Result<(), Fail> {
     ];
     for (room, parts, written, kept) in rows {
         let mut lent = vec![in rt.alloc(); 0u8; room]?;
-        let sink = SlowWriter::new(rt.alloc(), 100);
+        let sink = PartWriter::new(rt.alloc(), 1);
         let mut writer = BufferedWriter::new(sink, lent.as_mut_slice());
         for part in parts {
             writer.write_all(*part)?;
@@ -133,7 +100,7 @@ fn keeps_back(rt: HostRuntime) -> Result<(), Fail> {
 #[test]
 fn a_flush_passes_on_what_was_kept_back(rt: HostRuntime) -> Result<(), Fail> {
     let mut lent = [0; 4];
-    let mut writer = BufferedWriter::new(SlowWriter::new(rt.alloc(), 100), &mut lent);
+    let mut writer = BufferedWriter::new(PartWriter::new(rt.alloc(), 1), &mut lent);
     writer.write_all(&[1, 2, 3])?;
     writer.flush()?;
     assert!(rt; writer.buffer().is_empty());
@@ -149,8 +116,8 @@ fn a_flush_passes_on_what_was_kept_back(rt: HostRuntime) -> Result<(), Fail> {
 #[test]
 fn nothing_that_was_kept_back_is_lost(rt: HostRuntime) -> Result<(), Fail> {
     let mut lent = [0; 4];
-    let mut sink = SlowWriter::new(rt.alloc(), 3);
-    sink.interrupted = Some(1);
+    let sink = PartWriter::new(rt.alloc(), 1).within(3);
+    let sink = sink.failing_at(2, Some(io::ErrorKind::Interrupted));
     let mut writer = BufferedWriter::new(sink, &mut lent);
     writer.write_all(&[1, 2, 3, 4])?;
     assert!(rt; matches!(writer.write_all(&[5]), Err(FaultKept)));
@@ -176,8 +143,7 @@ fn nothing_that_was_kept_back_is_lost(rt: HostRuntime) -> Result<(), Fail> {
 #[test]
 fn a_flush_within_that_fails(rt: HostRuntime) -> Result<(), Fail> {
     let mut lent = [0; 4];
-    let mut sink = SlowWriter::new(rt.alloc(), 100);
-    sink.flush_fails = true;
+    let sink = PartWriter::new(rt.alloc(), 1).failing_to_flush();
     let mut writer = BufferedWriter::new(sink, &mut lent);
     writer.write_all(&[1, 2])?;
     assert!(rt; matches!(writer.flush(), Err(FaultKept)));
@@ -212,7 +178,7 @@ fn copies_through_any_room(rt: HostRuntime) -> Result<(), Fail> {
     for (ahead, back) in [(0, 0), (1, 64), (7, 1), (8, 9), (64, 64)] {
         let mut lent_ahead = vec![in rt.alloc(); 0u8; ahead]?;
         let mut lent_back = vec![in rt.alloc(); 0u8; back]?;
-        let source = Source::new(bytes.as_slice());
+        let source = PartReader::new(bytes.as_slice(), usize::MAX);
         let sink = Vec::new(rt.alloc());
         let mut decoder = Decoder::from(BufferedReader::new(source, lent_ahead.as_mut_slice()));
         let mut encoder = Encoder::from(BufferedWriter::new(sink, lent_back.as_mut_slice()));

@@ -1,86 +1,9 @@
 use crate::calls::{pulls, pushes, reads, writes};
 use ciborium_ll::io::{ReadFault, StdReader, StdWriter, Write, WriteFault};
 use ciborium_ll::{Decoder, Encoder, Header};
-use std::alloc::Global;
+use ciborium_ll_fixtures::streams::{PartReader, PartWriter};
 use std::io;
 use std::test::Fail;
-
-// A reader that gives one byte a call, counts its calls, and is interrupted at one call.
-#[derive(Drop)]
-struct SlowReader<'a> {
-    left: &'a [u8],
-    calls: usize,
-    interrupted: Option<usize>,
-}
-
-impl io::Read for SlowReader<'_> {
-    fn read(&mut self, buf: &mut [u8]) -> io::Result<usize> {
-        let call = self.calls;
-        self.calls = call.saturating_add(1);
-        if self.interrupted == Some(call) {
-            return Err(io::Error::from(io::ErrorKind::Interrupted));
-        }
-        let Some((first, rest)) = self.left.split_first() else {
-            return Ok(0);
-        };
-        if buf.is_empty() {
-            return Ok(0);
-        }
-        buf[0] = *first;
-        self.left = rest;
-        Ok(1)
-    }
-}
-
-// A writer that takes one byte a call while it has room, counts its calls, and is interrupted at one call.
-#[derive(Drop)]
-pub(crate) struct SlowWriter {
-    pub(crate) taken: Vec<u8>,
-    pub(crate) room: usize,
-    pub(crate) calls: usize,
-    pub(crate) interrupted: Option<usize>,
-    pub(crate) flushes: usize,
-    pub(crate) flush_fails: bool,
-}
-
-impl SlowWriter {
-    pub(crate) fn new(alloc: Global, room: usize) -> SlowWriter {
-        SlowWriter {
-            taken: Vec::new(alloc),
-            room,
-            calls: 0,
-            interrupted: None,
-            flushes: 0,
-            flush_fails: false,
-        }
-    }
-}
-
-impl io::Write for SlowWriter {
-    fn write(&mut self, buf: &[u8]) -> io::Result<usize> {
-        let call = self.calls;
-        self.calls = call.saturating_add(1);
-        if self.interrupted == Some(call) {
-            return Err(io::Error::from(io::ErrorKind::Interrupted));
-        }
-        let Some(first) = buf.first() else {
-            return Ok(0);
-        };
-        if self.taken.len() >= self.room {
-            return Ok(0);
-        }
-        self.taken.push(*first)?;
-        Ok(1)
-    }
-
-    fn flush(&mut self) -> io::Result<()> {
-        self.flushes = self.flushes.saturating_add(1);
-        if self.flush_fails {
-            return Err(io::Error::from(io::ErrorKind::Other));
-        }
-        Ok(())
-    }
-}
 
 // A reader or writer that fails at each call, with an error of this kind.
 #[derive(Drop)]
@@ -127,11 +50,8 @@ fn a_reader_in_memory(rt: HostRuntime) -> Result<(), Fail> {
 
 #[test]
 fn one_byte_a_read(rt: HostRuntime) -> Result<(), Fail> {
-    let inner = SlowReader {
-        left: &[1, 2, 3, 4],
-        calls: 0,
-        interrupted: Some(3),
-    };
+    let inner = PartReader::new(&[1, 2, 3, 4], 1);
+    let inner = inner.failing_at(4, io::ErrorKind::Interrupted);
     let mut reader = StdReader::new(inner);
     let mut two = [0; 2];
     reads(&mut reader, &mut two)?;
@@ -205,8 +125,8 @@ fn a_writer_in_memory(rt: HostRuntime) -> Result<(), Fail> {
 
 #[test]
 fn one_byte_a_write(rt: HostRuntime) -> Result<(), Fail> {
-    let mut inner = SlowWriter::new(rt.alloc(), 4);
-    inner.interrupted = Some(3);
+    let inner = PartWriter::new(rt.alloc(), 1).within(4);
+    let inner = inner.failing_at(4, Some(io::ErrorKind::Interrupted));
     let mut writer = StdWriter::new(inner);
     writer.write_all(&[1, 2])?;
     writer.write_all(&[])?;
@@ -225,13 +145,12 @@ fn one_byte_a_write(rt: HostRuntime) -> Result<(), Fail> {
 
 #[test]
 fn a_flush_is_passed_on(rt: HostRuntime) -> Result<(), Fail> {
-    let mut writer = StdWriter::new(SlowWriter::new(rt.alloc(), 4));
+    let mut writer = StdWriter::new(PartWriter::new(rt.alloc(), 1));
     flushes(&mut writer)?;
-    let mut inner = writer.into_inner();
+    let inner = writer.into_inner();
     assert_eq!(rt; (inner.calls, inner.flushes), (0, 1));
 
-    inner.flush_fails = true;
-    let mut writer = StdWriter::new(inner);
+    let mut writer = StdWriter::new(inner.failing_to_flush());
     match flushes(&mut writer) {
         Err(WriteFault::Failed(error)) => assert!(rt; error.kind() == io::ErrorKind::Other),
         _ => panic!(rt; "not failed"),

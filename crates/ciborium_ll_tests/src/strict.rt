@@ -1,8 +1,8 @@
 use crate::calls::pulls;
-use crate::vectors::VECTORS;
 use ciborium_ll::io::{Read, SliceReader, SliceWriter};
 use ciborium_ll::recode::{recode, strict_len};
 use ciborium_ll::{Decoder, Encoder, Error, Header, RecodeError};
+use ciborium_ll_fixtures::samples::VECTORS;
 use std::alloc::Global;
 use std::process::Abort;
 use std::test::Fail;

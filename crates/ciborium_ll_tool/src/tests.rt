@@ -1,4 +1,7 @@
 mod copies;
+mod cuts;
+mod every;
+mod streams;
 
 use crate::{
     Chosen, Fault, OutOfMemory, ToolError, VecWriter, bytes_of, chosen, fault_of_raw, fault_of_run,
@@ -6,6 +9,7 @@ use crate::{
 };
 use ciborium_ll::io::{ReadFault, Write, WriteFault};
 use ciborium_ll::{Error, RecodeError};
+use ciborium_ll_fixtures::streams::{PartReader, PartWriter};
 use std::alloc::{AllocError, Global};
 use std::io;
 use std::process::Abort;
@@ -376,99 +380,14 @@ fn a_line_longer_than_a_read(rt: HostRuntime) -> Result<(), Fail> {
     Ok(())
 }
 
-// A reader that gives one byte a call, and fails at one call.
-#[derive(Drop)]
-struct SlowReader<'a> {
-    left: &'a [u8],
-    calls_before: Option<usize>,
-    kind: io::ErrorKind,
-}
-
-impl io::Read for SlowReader<'_> {
-    fn read(&mut self, buf: &mut [u8]) -> io::Result<usize> {
-        match self.calls_before {
-            Some(0) => {
-                self.calls_before = None;
-                return Err(io::Error::from(self.kind));
-            }
-            Some(calls) => self.calls_before = Some(calls - 1),
-            None => {}
-        }
-        let Some((first, rest)) = self.left.split_first() else {
-            return Ok(0);
-        };
-        if buf.is_empty() {
-            return Ok(0);
-        }
-        buf[0] = *first;
-        self.left = rest;
-        Ok(1)
-    }
-}
-
-// A writer that takes one byte a call, and fails at one call, or takes nothing there.
-#[derive(Drop)]
-struct SlowWriter {
-    taken: Vec<u8>,
-    calls_before: Option<usize>,
-    kind: Option<io::ErrorKind>,
-    flushes: usize,
-    flush_fails: bool,
-}
-
-impl SlowWriter {
-    fn new(alloc: Global) -> SlowWriter {
-        SlowWriter {
-            taken: Vec::new(alloc),
-            calls_before: None,
-            kind: None,
-            flushes: 0,
-            flush_fails: false,
-        }
-    }
-}
-
-impl io::Write for SlowWriter {
-    fn write(&mut self, buf: &[u8]) -> io::Result<usize> {
-        match self.calls_before {
-            Some(0) => {
-                self.calls_before = None;
-                return match self.kind {
-                    Some(kind) => Err(io::Error::from(kind)),
-                    None => Ok(0),
-                };
-            }
-            Some(calls) => self.calls_before = Some(calls - 1),
-            None => {}
-        }
-        let Some(first) = buf.first() else {
-            return Ok(0);
-        };
-        self.taken.push(*first)?;
-        Ok(1)
-    }
-
-    fn flush(&mut self) -> io::Result<()> {
-        self.flushes = self.flushes.saturating_add(1);
-        if self.flush_fails {
-            return Err(io::Error::from(io::ErrorKind::Other));
-        }
-        Ok(())
-    }
-}
-
 const INPUT: &[u8] = b"heads 00\nheads 0101\n";
 
 const OUTPUT: &str = "0 positive 0\nend 1\n0 positive 1\n1 positive 1\nend 2\n";
 
 #[test]
 fn one_byte_a_call(rt: HostRuntime) -> Result<(), Fail> {
-    let reader = SlowReader {
-        left: INPUT,
-        calls_before: None,
-        kind: io::ErrorKind::Other,
-    };
-    let mut writer = SlowWriter::new(rt.alloc());
+    let reader = PartReader::new(INPUT, 1);
+    let mut writer = PartWriter::new(rt.alloc(), 1);
     run(rt.alloc(), reader, &mut writer)?;
     assert_eq!(rt; writer.taken.as_slice(), OUTPUT.as_bytes());
     assert_eq!(rt; writer.flushes, 1);
@@ -478,19 +397,15 @@ fn one_byte_a_call(rt: HostRuntime) -> Result<(), Fail> {
 #[test]
 fn a_read_that_fails(rt: HostRuntime) -> Result<(), Fail> {
     for kind in [io::ErrorKind::Other, io::ErrorKind::Interrupted] {
-        for (calls, written) in [(0, 0), (8, 0), (9, 19), (15, 19), (20, 51)] {
-            let reader = SlowReader {
-                left: INPUT,
-                calls_before: Some(calls),
-                kind,
-            };
-            let mut writer = SlowWriter::new(rt.alloc());
+        for (call, written) in [(1, 0), (9, 0), (10, 19), (16, 19), (21, 51)] {
+            let reader = PartReader::new(INPUT, 1).failing_at(call, kind);
+            let mut writer = PartWriter::new(rt.alloc(), 1);
             match run(rt.alloc(), reader, &mut writer) {
                 Err(ToolError::Read(error)) => assert!(rt; error.kind() == kind),
-                _ => assert!(rt; false, "at {calls}"),
+                _ => assert!(rt; false, "at {call}"),
             }
             assert!(rt; OUTPUT.as_bytes().starts_with(writer.taken.as_slice()));
-            assert_eq!(rt; writer.taken.len(), written, "at {calls}");
+            assert_eq!(rt; writer.taken.len(), written, "at {call}");
             assert_eq!(rt; writer.flushes, 0);
         }
     }
@@ -505,18 +420,16 @@ fn a_write_that_fails(rt: HostRuntime) -> Result<(), Fail> {
         None,
     ];
     for kind in kinds {
-        for calls in [0, 7, 30, 50] {
-            let mut writer = SlowWriter::new(rt.alloc());
-            writer.calls_before = Some(calls);
-            writer.kind = kind;
+        for call in [1, 8, 31, 51usize] {
+            let mut writer = PartWriter::new(rt.alloc(), 1).failing_at(call, kind);
             match run(rt.alloc(), INPUT, &mut writer) {
                 Err(ToolError::Write(error)) => {
                     assert!(rt; error.kind() == kind.unwrap_or(io::ErrorKind::WriteZero));
                 }
-                _ => assert!(rt; false, "at {calls}"),
+                _ => assert!(rt; false, "at {call}"),
             }
             assert!(rt; OUTPUT.as_bytes().starts_with(writer.taken.as_slice()));
-            assert_eq!(rt; writer.taken.len(), calls);
+            assert_eq!(rt; writer.taken.len(), call.saturating_sub(1));
         }
     }
     Ok(())
@@ -524,8 +437,7 @@ fn a_write_that_fails(rt: HostRuntime) -> Result<(), Fail> {
 
 #[test]
 fn a_flush_that_fails(rt: HostRuntime) -> Result<(), Fail> {
-    let mut writer = SlowWriter::new(rt.alloc());
-    writer.flush_fails = true;
+    let mut writer = PartWriter::new(rt.alloc(), 1).failing_to_flush();
     let outcome = run(rt.alloc(), INPUT, &mut writer);
     assert!(rt; matches!(outcome, Err(ToolError::Write(_))));
     assert_eq!(rt; writer.taken.as_slice(), OUTPUT.as_bytes());

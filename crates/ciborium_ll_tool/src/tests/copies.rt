@@ -1,26 +1,12 @@
 // Copies of raw bytes.
 
-use super::{SlowReader, SlowWriter};
 use crate::{Fault, fault_of_raw, raw, raw_buffered};
 use ciborium_ll::io::{ReadFault, WriteFault};
 use ciborium_ll::{Error, RecodeError};
+use ciborium_ll_fixtures::streams::{PartReader, PartWriter};
 use std::alloc::Global;
 use std::io;
 use std::test::Fail;
-
-// A writer that takes no byte.
-#[derive(Drop)]
-struct Stuck;
-
-impl io::Write for Stuck {
-    fn write(&mut self, _data: &[u8]) -> io::Result<usize> {
-        Ok(0)
-    }
-
-    fn flush(&mut self) -> io::Result<()> {
-        Ok(())
-    }
-}
 
 #[test]
 fn raw_copies(rt: HostRuntime) -> Result<(), Fail> {
@@ -29,19 +15,14 @@ fn raw_copies(rt: HostRuntime) -> Result<(), Fail> {
     assert_eq!(rt; written.as_slice(), [0x41, 1].as_slice());
     assert_eq!(rt; left, [0].as_slice());
 
-    let slow = SlowReader {
-        left: &[0x58, 1, 1],
-        calls_before: None,
-        kind: io::ErrorKind::Other,
-    };
-    let (slow, written, outcome) = raw(slow, SlowWriter::new(rt.alloc()), 1);
+    let slow = PartReader::new(&[0x58, 1, 1], 1);
+    let (slow, written, outcome) = raw(slow, PartWriter::new(rt.alloc(), 1), 1);
     assert!(rt; outcome.is_ok());
     assert!(rt; slow.left.is_empty());
     assert_eq!(rt; written.taken.as_slice(), [0x41, 1].as_slice());
     assert_eq!(rt; written.flushes, 1);
 
-    let mut writer = SlowWriter::new(rt.alloc());
-    writer.flush_fails = true;
+    let writer = PartWriter::new(rt.alloc(), 1).failing_to_flush();
     let (_, written, outcome) = raw([0].as_slice(), writer, 1);
     assert!(rt; matches!(outcome, Err(RecodeError::Write(WriteFault::Failed(_)))));
     assert_eq!(rt; written.taken.as_slice(), [0].as_slice());
@@ -59,14 +40,14 @@ fn raw_copies(rt: HostRuntime) -> Result<(), Fail> {
     let fault = outcome.map_err(|error| fault_of_raw(&error));
     assert!(rt; matches!(fault, Err(Fault::Read)));
 
-    let (_, _, outcome) = raw([0].as_slice(), Stuck, 1);
+    let (_, _, outcome) = raw([0].as_slice(), PartWriter::new(rt.alloc(), 0), 1);
     let fault = outcome.map_err(|error| fault_of_raw(&error));
     assert!(rt; matches!(fault, Err(Fault::Write)));
     Ok(())
 }
 
 // A string and titles that are longer than a window, in their shortest spelling.
-fn long_elements(alloc: Global) -> Result<Vec<u8>, Fail> {
+pub fn long_elements(alloc: Global) -> Result<Vec<u8>, Fail> {
     let mut bytes = Vec::new(alloc);
     bytes.extend_from_slice(&[0x59, 0x4e, 0x20])?;
     for index in 0..20_000_u16 {
@@ -86,19 +67,14 @@ fn raw_copies_through_windows(rt: HostRuntime) -> Result<(), Fail> {
     assert!(rt; copy.copied.is_ok() && copy.flushed.is_ok());
     assert!(rt; copy.writer.as_slice() == bytes.as_slice());
 
-    let slow = SlowReader {
-        left: bytes.as_slice(),
-        calls_before: None,
-        kind: io::ErrorKind::Other,
-    };
-    let copy = raw_buffered(slow, SlowWriter::new(rt.alloc()), 5_001);
+    let slow = PartReader::new(bytes.as_slice(), 1);
+    let copy = raw_buffered(slow, PartWriter::new(rt.alloc(), 1), 5_001);
     assert!(rt; copy.copied.is_ok() && copy.flushed.is_ok());
     assert!(rt; copy.writer.taken.as_slice() == bytes.as_slice());
     assert_eq!(rt; copy.writer.flushes, 1);
 
-    let mut writer = SlowWriter::new(rt.alloc());
-    writer.calls_before = Some(100);
-    writer.kind = Some(io::ErrorKind::TimedOut);
+    let writer = PartWriter::new(rt.alloc(), 1);
+    let writer = writer.failing_at(101, Some(io::ErrorKind::TimedOut));
     let copy = raw_buffered(bytes.as_slice(), writer, 5_001);
     assert!(rt; matches!(kind_of_write(copy.copied), Some(io::ErrorKind::TimedOut)));
     assert!(rt; copy.flushed.is_ok());
@@ -130,8 +106,10 @@ fn copies_flush_once(rt: HostRuntime) -> Result<(), Fail> {
     for (count, bytes, want, word, word_unflushed) in rows {
         for flush_fails in [false, true] {
             let word = if flush_fails { word_unflushed } else { word };
-            let mut writer = SlowWriter::new(rt.alloc());
-            writer.flush_fails = flush_fails;
+            let mut writer = PartWriter::new(rt.alloc(), 1);
+            if flush_fails {
+                writer = writer.failing_to_flush();
+            }
             let (_, written, outcome) = raw(bytes, writer, count);
             assert_eq!(rt;
                 word_of_copy(rt.alloc(), outcome)?.as_str(),
@@ -154,8 +132,10 @@ fn buffered_copies_flush_once(rt: HostRuntime) -> Result<(), Fail> {
     ];
     for (count, bytes, want, word) in rows {
         for flush_fails in [false, true] {
-            let mut writer = SlowWriter::new(rt.alloc());
-            writer.flush_fails = flush_fails;
+            let mut writer = PartWriter::new(rt.alloc(), 1);
+            if flush_fails {
+                writer = writer.failing_to_flush();
+            }
             let copy = raw_buffered(bytes, writer, count);
             assert_eq!(rt;
                 word_of_copy(rt.alloc(), copy.copied)?.as_str(),
@@ -192,32 +172,27 @@ fn kind_of_write(outcome: Result<(), RecodeError<ReadFault, WriteFault>>) -> Opt
     }
 }
 
-fn failing_reader(calls: usize) -> SlowReader<'static> {
-    SlowReader {
-        left: &[0x42, 1, 2],
-        calls_before: Some(calls),
-        kind: io::ErrorKind::TimedOut,
-    }
+fn failing_reader(call: usize) -> PartReader<'static> {
+    PartReader::new(&[0x42, 1, 2], 1).failing_at(call, io::ErrorKind::TimedOut)
+}
+
+fn failing_writer(alloc: Global, call: usize) -> PartWriter {
+    PartWriter::new(alloc, 1).failing_at(call, Some(io::ErrorKind::TimedOut))
 }
 
 #[test]
 fn raw_hands_faults_on(rt: HostRuntime) -> Result<(), Fail> {
-    for calls in 0..3_usize {
-        let (_, _, outcome) = raw(failing_reader(calls), Vec::new(rt.alloc()), 1);
+    for call in 1..=3_usize {
+        let (_, _, outcome) = raw(failing_reader(call), Vec::new(rt.alloc()), 1);
         assert!(rt; matches!(kind_of_read(outcome), Some(io::ErrorKind::TimedOut)));
-        let copy = raw_buffered(failing_reader(calls), Vec::new(rt.alloc()), 1);
+        let copy = raw_buffered(failing_reader(call), Vec::new(rt.alloc()), 1);
         assert!(rt; matches!(kind_of_read(copy.copied), Some(io::ErrorKind::TimedOut)));
 
-        let mut writer = SlowWriter::new(rt.alloc());
-        writer.calls_before = Some(calls);
-        writer.kind = Some(io::ErrorKind::TimedOut);
-        writer.flush_fails = true;
+        let writer = failing_writer(rt.alloc(), call).failing_to_flush();
         let (_, _, outcome) = raw([0x42, 1, 2].as_slice(), writer, 1);
         assert!(rt; matches!(kind_of_write(outcome), Some(io::ErrorKind::TimedOut)));
 
-        let mut writer = SlowWriter::new(rt.alloc());
-        writer.calls_before = Some(calls);
-        writer.kind = Some(io::ErrorKind::TimedOut);
+        let writer = failing_writer(rt.alloc(), call);
         let copy = raw_buffered([0x42, 1, 2].as_slice(), writer, 1);
         assert!(rt; copy.copied.is_ok());
         let flushed = copy.flushed.map_err(RecodeError::Write);
@@ -232,7 +207,7 @@ fn raw_hands_faults_on(rt: HostRuntime) -> Result<(), Fail> {
             Err(RecodeError::Read(Error::Io(ReadFault::End)))
         )
     );
-    let copy = raw_buffered([0].as_slice(), Stuck, 1);
+    let copy = raw_buffered([0].as_slice(), PartWriter::new(rt.alloc(), 0), 1);
     assert!(rt; copy.copied.is_ok());
     assert!(rt; matches!(copy.flushed, Err(WriteFault::Zero)));
     Ok(())

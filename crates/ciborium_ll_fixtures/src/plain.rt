@@ -1,44 +1,55 @@
-// What bytes say, read plainly: by tables of titles and of text, with no call of the library.
+//! What bytes say, read plainly: by tables of titles and of text, with no call of the library.
 
 use ciborium_ll::{Float, Header};
 use std::alloc::Global;
 use std::test::Fail;
 
-// Why bytes could not be read on. A body of text that is cut may be damaged before its end.
+/// Why bytes could not be read on.
 #[derive(Clone, Copy, PartialEq, Eq)]
 pub enum Fault {
+    /// What begins at this offset may not stand there, or is none of CBOR.
     Syntax(usize),
+    /// The bytes end too early.
     Short,
+    /// The bytes end within a body of text, which is damaged before its end.
     ShortAndDamaged,
 }
 
-// A title: where it begins, its first byte in two parts, and its number.
+/// A title in its parts.
 #[derive(Clone, Copy)]
 pub struct Title {
+    /// Where it begins.
     pub place: usize,
+    /// The upper three bits of its first byte.
     pub major: u8,
+    /// The lower five bits of its first byte.
     pub minor: u8,
+    /// What its minor or its affix says.
     pub number: u64,
 }
 
 impl Title {
-    fn is_open(&self) -> bool {
+    /// Whether it is of the indefinite form, or a break.
+    pub fn is_open(&self) -> bool {
         self.minor == 31
     }
 
-    fn is_break(&self) -> bool {
+    /// Whether it ends what an open began.
+    pub fn is_break(&self) -> bool {
         self.major == 7 && self.minor == 31
     }
 
-    fn is_string(&self) -> bool {
+    /// Whether it begins a string.
+    pub fn is_string(&self) -> bool {
         self.major == 2 || self.major == 3
     }
 
-    // How many reads it takes that move a byte: of the first byte, and of an affix.
+    /// How many reads it takes that move a byte: of the first byte, and of an affix.
     pub fn reads(&self) -> usize {
         if affix_len(self.minor) > 0 { 2 } else { 1 }
     }
 
+    /// The header that it means.
     pub fn header(&self) -> Header {
         let length = if self.is_open() {
             None
@@ -62,8 +73,8 @@ impl Title {
     }
 }
 
-// How many bytes of affix are behind a first byte.
-fn affix_len(minor: u8) -> usize {
+/// How many bytes of affix are behind a first byte of this minor.
+pub fn affix_len(minor: u8) -> usize {
     match minor {
         24 => 1,
         25 => 2,
@@ -73,7 +84,7 @@ fn affix_len(minor: u8) -> usize {
     }
 }
 
-// Reads a title, and moves the offset behind what was consumed.
+/// Reads a title, and moves the offset behind what was consumed.
 pub fn next_title(bytes: &[u8], offset: &mut usize) -> Result<Title, Fault> {
     let place = *offset;
     let Some(first) = bytes.get(place) else {
@@ -106,7 +117,7 @@ pub fn next_title(bytes: &[u8], offset: &mut usize) -> Result<Title, Fault> {
     })
 }
 
-// Puts the shortest title of the same header behind bytes. A float has one title alone.
+/// Puts the shortest title of the same header behind bytes. A float has one title alone.
 fn put_title(output: &mut Vec<u8>, title: Title) -> Result<(), Fail> {
     let is_float = title.major == 7 && (25..=27).contains(&title.minor);
     let minor = match title.number {
@@ -124,8 +135,8 @@ fn put_title(output: &mut Vec<u8>, title: Title) -> Result<(), Fail> {
     Ok(())
 }
 
-// How long the shortest title of a length is.
-fn length_title_len(length: u64) -> usize {
+/// How long the shortest title of a length is.
+pub fn length_title_len(length: u64) -> usize {
     match length {
         0..=23 => 1,
         24..=0xff => 2,
@@ -135,15 +146,18 @@ fn length_title_len(length: u64) -> usize {
     }
 }
 
-// What a copy through a buffer of 64 bytes gives: what it writes, how far it reads, and why it stops.
+/// What a copy through a buffer of 64 bytes gives.
 #[derive(Drop)]
 pub struct Copied {
+    /// What it writes.
     pub output: Vec<u8>,
+    /// How far it reads.
     pub offset: usize,
+    /// Why it stops before its end, if it does.
     pub fault: Option<Fault>,
 }
 
-// Copies a body, which is one read of at most 64 bytes. A damaged end of at most three bytes is found late.
+/// Copies a body, which is one read of at most 64 bytes. A damaged end of at most three bytes is found late.
 fn body(copied: &mut Copied, bytes: &[u8], title: Title, place: usize) -> Result<(), Fail> {
     put_title(&mut copied.output, title)?;
     let start = copied.offset;
@@ -178,7 +192,7 @@ fn body(copied: &mut Copied, bytes: &[u8], title: Title, place: usize) -> Result
     Ok(())
 }
 
-// Copies the segments of a string behind its open, and its break.
+/// Copies the segments of a string behind its open, and its break.
 fn segments(copied: &mut Copied, bytes: &[u8], major: u8) -> Result<(), Fail> {
     let mut depth = 1usize;
     for _ in 0..=bytes.len() {
@@ -202,7 +216,7 @@ fn segments(copied: &mut Copied, bytes: &[u8], major: u8) -> Result<(), Fail> {
     Ok(())
 }
 
-// Copies an element.
+/// Copies an element.
 fn element(copied: &mut Copied, bytes: &[u8]) -> Result<(), Fail> {
     match next_title(bytes, &mut copied.offset) {
         Ok(first) if first.is_string() && first.is_open() => {
@@ -221,7 +235,7 @@ fn element(copied: &mut Copied, bytes: &[u8]) -> Result<(), Fail> {
     }
 }
 
-// Copies elements. With `are_headers` each title is one, and what stands behind it is none of it.
+/// Copies elements. With `are_headers` each title is one, and what stands behind it is none of it.
 pub fn copy(alloc: Global, are_headers: bool, count: usize, bytes: &[u8]) -> Result<Copied, Fail> {
     let mut copied = Copied {
         output: Vec::new(alloc),
