@@ -1,5 +1,6 @@
 -- What is left of a body, read chunk by chunk.
-use Rattle.std.proofs.Common.{◌≡◌, ℕ, ◌+◌, ◌≤◌, true, List, [], ◌++◌, length, Err, refl, sym, ap, subst, ◌∙◌, inl, inr, arith, append_assoc, append-nil, length-append}
+use Rattle.std.proofs.Common.{◌≡◌, ℕ, ◌+◌, ◌≤◌, true, List, [], ◌++◌, length, Option, Some, None, Result, Ok, Err, IsOk, refl, sym, ap, subst, ◌∙◌, inl, inr, arith, append_assoc, append-nil, length-append}
+use Rattle.std.specs.Borrow.{Bor}
 use Rattle.ciborium_ll_io.specs.declared.io.Read.{Ghosts as Reader}
 use Rattle.ciborium_ll_decoder.specs.declared.dec.Decoder.{Decoder}
 use Rattle.ciborium_ll_decoder.specs.declared.dec.Error.{Error}
@@ -59,6 +60,13 @@ module _ {R E P : Type 0} {parser : Parser P} (source : Reader R E) where
           damage = gives.still_sound ∙ sym gives.reads.sound ∙ so_far.damage;
           still = λ damaged. absurd (let never = gives.still_sound in cc);
         }
+
+    -- the same of whatever a pull gave, if it didn't fail and gave no `None`
+    pub rest_pulled : (room : ℕ) (result : Result (Option (Bor (List ℕ))) (Error E)) (new : Segment R P parser) → PullsChunk source room segment result new
+        → IsOk result → (result ≡ Ok None → ⊥) → (IsSteady source segment.reader.now → IsSteady source new.reader.now) → RestSoFar first new
+    rest_pulled room (Ok (Some chunk)) new pulled ok some steady = rest_chunk room chunk.now new pulled steady
+    rest_pulled room (Ok None) new pulled ok some steady = absurd (some refl)
+    rest_pulled room (Err error) new pulled ok some steady = cc
 
     part : BeginsRest source parser.kind (kept_bytes first.kept) first.unread first.reader.now segment.reader.now
     part = record {

@@ -6,12 +6,7 @@ use std::test::Fail;
 use std::{error, fmt};
 
 // What an error says, which `?` of a caller may pass on as an error of std.
-fn says<E: error::Error>(
-    rt: &impl Abort,
-    alloc: Global,
-    error: E,
-    want: &str,
-) -> Result<(), Fail> {
+fn says<E: error::Error>(rt: &impl Abort, alloc: Global, error: E, want: &str) -> Result<(), Fail> {
     let text = format!(in alloc; "{error}")?;
     assert_eq!(rt; text.as_str(), want);
     Ok(())

@@ -1,6 +1,6 @@
 use Rattle.std.proofs.Common.{rules, refl, subst, ℕ, Err, arith, ◌∙◌}
 use Rattle.ciborium_ll_decoder.specs.Chunks.{PullsChunk}
-use Rattle.ciborium_ll_decoder.proofs.FinishLaws.{rest_start, rest_chunk, rest_error}
+use Rattle.ciborium_ll_decoder.proofs.FinishLaws.{rest_start, rest_pulled, rest_error}
 use Rattle.ciborium_ll_decoder.proofs.seg.Segment.drain.Goals as goal
 
 pub chunks-init : goal.chunks-init
@@ -15,11 +15,10 @@ chunks-init g c = record {
 pub chunks-preserved : goal.chunks-preserved
 chunks-preserved g c =
     let before = c.chunks.invariant in
-    let pulled = c.in-Ok-Some.ensures in
-    let gives = rw c.in-Ok-Some.field-0-is at pulled.chunk in
+    let pulled = c.chunk.ensures in
     record {
       same = search rules;
-      so_far = rest_chunk g.R.Read _ _ before.so_far _ _ c.chunk.new.segment gives pulled.steady;
+      so_far = rest_pulled g.R.Read _ _ before.so_far _ c.chunk.result c.chunk.new.segment pulled.chunk (search rules) (λ none. cc) pulled.steady;
       rises = omega (arith, before.rises, pulled.rises);
       steady = λ s. pulled.steady (before.steady s);
       refusals = pulled.refusals ∙ before.refusals;
