@@ -6,6 +6,7 @@ pub use Rattle.ciborium_ll_text.proofs.FrontLaws
 pub use Rattle.ciborium_ll_text.proofs.Lists
 pub use Rattle.ciborium_ll_text.proofs.TextLaws
 pub use Rattle.ciborium_ll_text.proofs.Utf8Laws
+pub use Rattle.ciborium_ll_grammar.proofs.AffixLaws
 pub use Rattle.ciborium_ll_grammar.proofs.TitleLaws
 pub use Rattle.ciborium_ll_grammar.proofs.StringLaws
 pub use Rattle.ciborium_ll_grammar.proofs.ElementLaws

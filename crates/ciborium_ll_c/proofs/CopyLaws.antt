@@ -1,0 +1,233 @@
+-- What a copy by a fresh decoder says of the bytes ahead.
+use Rattle.std.proofs.Common.{◌≡◌, ℕ, ◌+◌, ◌<◌, ◌≤◌, ◌^◌, ◌∙◌, ◌↔◌, IsTrue, IsOk, Bool, max, List, [], length, Option, Result, Ok, Err, Some, ap, sym, subst, refl, arith, length-append}
+use Rattle.ciborium_ll.specs.Types.Read.{Ghosts as Reader}
+use Rattle.ciborium_ll.specs.Types.Write.{Ghosts as Writer}
+use Rattle.ciborium_ll.specs.Types.Decoder.{Decoder}
+use Rattle.ciborium_ll.specs.Types.Error.TheVariants as e
+use Rattle.ciborium_ll.specs.Types.RecodeError.{RecodeError}
+use Rattle.ciborium_ll.specs.Types.RecodeError.TheVariants as r
+use Rattle.ciborium_ll.specs.Elements.{spelling}
+use Rattle.ciborium_ll.specs.Faults.{Place, Due, In, Body, Syntax}
+use Rattle.ciborium_ll.specs.Decoding.{IsFreshAs, offset_limit}
+use Rattle.ciborium_ll.specs.RecodingTold.{IsReadyAs, IsToldAs, RecodesAnyhow, RecodesTold, StopsAt}
+use Rattle.ciborium_ll.specs.StrictRecoding.{RecodesStrictly}
+use Rattle.ciborium_ll_c.specs.declared.answer.Answer.{Answer}
+use Rattle.ciborium_ll_c.specs.declared.answer.Answer.TheVariants as a
+use Rattle.ciborium_ll_c.specs.declared.answer.CllReport.{CllReport}
+use Rattle.ciborium_ll_c.specs.Answers.{Reports}
+use Rattle.ciborium_ll_c.specs.Checking.{Checks}
+use Rattle.ciborium_ll_c.specs.Copying.{Copies, CopiesAnyhow, HasRoom, copy_answer, copy_place}
+use Rattle.ciborium_ll_c.proofs.PullLaws.{due_ahead, still_steady}
+
+same_length : (known : Option (List ℕ)) (one other : List ℕ) → known ≡ Some one → known ≡ Some other → length one ≡ length other
+same_length known one other p q = let same : Some one ≡ Some other = sym p ∙ q in let inner : one ≡ other = cc in ap length inner
+
+-- no more is consumed than is ahead
+no_more : (place : Place) (ahead more : List ℕ) (consumed : ℕ) → StopsAt place ahead more consumed → consumed ≤ length ahead
+no_more Due ahead more consumed stops = omega (arith, stops.1)
+no_more (In kind) ahead more consumed stops = omega (arith, stops.1)
+no_more (Body kind len start) ahead more consumed stops = omega (arith, stops.7)
+
+module _ {R E W F : Type 0} (source : Reader R E) (sink : Writer W F) where
+  pub told_to_copy : (strict : Bool) (reader : R) (decoder : Decoder R) (writer : W) (due : List ℕ) → IsFreshAs strict reader 0 decoder
+      → source.ahead reader ≡ Some due → sink.written writer ≡ Some [] → IsToldAs source sink strict decoder writer due []
+  told_to_copy strict reader decoder writer due fresh ahead output = record {
+    mode = fresh.mode;
+    due-told = due_ahead source strict reader decoder fresh due ahead;
+    written-told = output;
+  }
+
+  pub ready_to_copy : (strict : Bool) (count size room : ℕ) (reader : R) (decoder : Decoder R) (writer : W) (due : List ℕ)
+      → IsFreshAs strict reader 0 decoder → IsTrue (source.steady reader) → source.ahead reader ≡ Some due
+      → sink.written writer ≡ Some [] → sink.room writer ≡ Some room → HasRoom count due room
+      → length due + 8 < offset_limit → length due + size < offset_limit
+      → IsReadyAs source sink strict count size decoder writer due []
+  ready_to_copy strict count size room reader decoder writer due fresh steady ahead output space enough title chunk = record {
+    steady = still_steady source strict reader decoder fresh steady;
+    told = told_to_copy strict reader decoder writer due fresh ahead output;
+    room = room;
+    room-told = space;
+    enough = enough;
+    fits-title = omega (arith, fresh.offset, title);
+    fits-chunk = omega (arith, fresh.offset, chunk);
+  }
+
+  copy_reported :
+      (count : ℕ) (due : List ℕ) (old new : Decoder R) (writer' : W) (result : Result (Unit {0}) (RecodeError E F))
+      (report : CllReport) (output : List ℕ)
+      → RecodesTold source sink count due [] old result new writer' → old.offset ≡ 0
+      → sink.written writer' ≡ Some output → Reports report new.offset (length output) (copy_place result)
+      → Copies count due (copy_answer result) report
+  copy_reported count due old new writer' (Ok done) report output told start out reports = (
+    told.front,
+    record {
+      consumed_is = omega (arith, reports.consumed_is, told.offset, start);
+      written_is = reports.written_is ∙ same_length (sink.written writer') output (spelling told.front.marks) out told.output;
+      place_is = reports.place_is;
+    },
+  )
+  copy_reported count due old new writer' (Err (r.Read (e.Io fault))) report output told start out reports = (
+    told.fault,
+    told.answered,
+    record {
+      consumed_is = omega (arith, reports.consumed_is, told.offset, start);
+      written_is = reports.written_is ∙ same_length (sink.written writer') output told.fault.written out told.output;
+      place_is = reports.place_is;
+    },
+  )
+  copy_reported count due old new writer' (Err (r.Read (e.Syntax place))) report output told start out reports =
+      let named : told.0 ≡ report.place = omega (arith, told.1, start, reports.place_is) in
+      let met = told.2 in (
+        met.fault,
+        met.answered ∙ ap Syntax named,
+        record {
+          consumed_is = omega (arith, reports.consumed_is, met.offset, start);
+          written_is = reports.written_is ∙ same_length (sink.written writer') output met.fault.written out met.output;
+          place_is = refl;
+        },
+      )
+  copy_reported count due old new writer' (Err (r.Read e.TooLong)) report output told start out reports = absurd told
+  copy_reported count due old new writer' (Err (r.Read e.Waiting)) report output told start out reports = absurd told
+  copy_reported count due old new writer' (Err (r.Write fault)) report output told start out reports = absurd told
+
+  anyhow_reported :
+      (count : ℕ) (due : List ℕ) (old new : Decoder R) (writer' : W) (result : Result (Unit {0}) (RecodeError E F))
+      (report : CllReport) (output : List ℕ)
+      → RecodesAnyhow source sink count 64 due [] old result new writer' → length due < 2 ^ 63 → old.offset ≡ 0
+      → sink.written writer' ≡ Some output → Reports report new.offset (length output) (copy_place result)
+      → CopiesAnyhow count due (copy_answer result) report
+  anyhow_reported count due old new writer' (Ok done) report output told object start out reports = (
+    told.front,
+    record {
+      consumed_is = omega (arith, reports.consumed_is, told.offset, start);
+      written_is = reports.written_is ∙ same_length (sink.written writer') output (spelling told.front.marks) out told.output;
+      place_is = reports.place_is;
+    },
+  )
+  anyhow_reported count due old new writer' (Err (r.Read (e.Io fault))) report output told object start out reports = (
+    told.stop,
+    record {
+      consumed_is = omega (arith, reports.consumed_is, told.offset, start);
+      written_is = reports.written_is ∙ same_length (sink.written writer') output told.stop.written out told.output;
+      place_is = reports.place_is;
+    },
+  )
+  anyhow_reported count due old new writer' (Err (r.Read (e.Syntax place))) report output told object start out reports =
+      let named : told.0 ≡ report.place = omega (arith, told.1, start, reports.place_is) in
+      let met = told.2 in (
+        met.fault,
+        met.answered ∙ ap Syntax named,
+        record {
+          consumed_is = omega (arith, reports.consumed_is, met.offset, start);
+          written_is = reports.written_is ∙ same_length (sink.written writer') output met.fault.written out met.output;
+          place_is = refl;
+        },
+      )
+  anyhow_reported count due old new writer' (Err (r.Read e.TooLong)) report output told object start out reports =
+      let stop = told.0.stop in
+      let parts = ap length stop.is in
+      let few = no_more stop.place stop.ahead stop.more stop.consumed stop.stops in
+      let full : 2 ^ 64 ≤ new.offset + max 8 64 = told.1 in
+      absurd (omega (arith, object, parts, few, full, told.0.offset, start, length-append stop.before stop.ahead))
+  anyhow_reported count due old new writer' (Err (r.Read e.Waiting)) report output told object start out reports = absurd told
+  anyhow_reported count due old new writer' (Err (r.Write fault)) report output told object start out reports = (
+    told.stop,
+    record {
+      consumed_is = omega (arith, reports.consumed_is, told.offset, start);
+      written_is = reports.written_is ∙ same_length (sink.written writer') output told.stop.written out told.output;
+      place_is = reports.place_is;
+    },
+  )
+
+  pub copy_said :
+      (count : ℕ) (due : List ℕ) (old new : Decoder R) (writer' : W) (result : Result (Unit {0}) (RecodeError E F))
+      (report : CllReport) (output : List ℕ)
+      (answer : Answer) (place behind : ℕ) → RecodesTold source sink count due [] old result new writer'
+      → old.offset ≡ 0 → sink.written writer' ≡ Some output → answer ≡ copy_answer result → place ≡ copy_place result
+      → behind ≡ new.offset → Reports report behind (length output) place → Copies count due answer report
+  copy_said count due old new writer' result report output answer place behind told start out same named at reports =
+      let said = copy_reported count due old new writer' result report output told start out record {
+        consumed_is = reports.consumed_is ∙ at;
+        written_is = reports.written_is;
+        place_is = reports.place_is ∙ named;
+      } in
+      subst (λ (x : Answer). Copies count due x report) (sym same) said
+
+  pub anyhow_said :
+      (count : ℕ) (due : List ℕ) (old new : Decoder R) (writer' : W) (result : Result (Unit {0}) (RecodeError E F))
+      (report : CllReport) (output : List ℕ)
+      (answer : Answer) (place behind : ℕ) → RecodesAnyhow source sink count 64 due [] old result new writer'
+      → length due < 2 ^ 63 → old.offset ≡ 0 → sink.written writer' ≡ Some output → answer ≡ copy_answer result
+      → place ≡ copy_place result → behind ≡ new.offset → Reports report behind (length output) place
+      → CopiesAnyhow count due answer report
+  anyhow_said count due old new writer' result report output answer place behind told object start out same named at reports =
+      let said = anyhow_reported count due old new writer' result report output told object start out record {
+        consumed_is = reports.consumed_is ∙ at;
+        written_is = reports.written_is;
+        place_is = reports.place_is ∙ named;
+      } in
+      subst (λ (x : Answer). CopiesAnyhow count due x report) (sym same) said
+
+  check_reported :
+      (count : ℕ) (due : List ℕ) (old new : Decoder R) (writer' : W) (result : Result (Unit {0}) (RecodeError E F))
+      (report : CllReport) → RecodesStrictly source sink count due [] old result new writer' → old.offset ≡ 0
+      → Reports report new.offset 0 (copy_place result) → Checks count due (copy_answer result) report
+  check_reported count due old new writer' (Ok done) report told start reports = (
+    told.front,
+    record {
+      consumed_is = omega (arith, reports.consumed_is, told.offset, start);
+      written_is = reports.written_is;
+      place_is = reports.place_is;
+    },
+  )
+  check_reported count due old new writer' (Err (r.Read (e.Io fault))) report told start reports = (
+    told.fault,
+    told.answered,
+    record {
+      consumed_is = omega (arith, reports.consumed_is, told.offset, start);
+      written_is = reports.written_is;
+      place_is = reports.place_is;
+    },
+  )
+  check_reported count due old new writer' (Err (r.Read (e.Syntax place))) report told start reports =
+      let named : told.0 ≡ report.place = omega (arith, told.1, start, reports.place_is) in
+      let met = told.2 in (
+        met.fault,
+        met.answered ∙ ap Syntax named,
+        record {
+          consumed_is = omega (arith, reports.consumed_is, met.offset, start);
+          written_is = reports.written_is;
+          place_is = refl;
+        },
+      )
+  check_reported count due old new writer' (Err (r.Read e.TooLong)) report told start reports = absurd told
+  check_reported count due old new writer' (Err (r.Read e.Waiting)) report told start reports = absurd told
+  check_reported count due old new writer' (Err (r.Write fault)) report told start reports = absurd told
+
+  pub check_said :
+      (count : ℕ) (due : List ℕ) (old new : Decoder R) (writer' : W) (result : Result (Unit {0}) (RecodeError E F))
+      (report : CllReport) (answer : Answer) (place behind : ℕ)
+      → RecodesStrictly source sink count due [] old result new writer' → old.offset ≡ 0
+      → answer ≡ copy_answer result → place ≡ copy_place result → behind ≡ new.offset
+      → Reports report behind 0 place → Checks count due answer report
+  check_said count due old new writer' result report answer place behind told start same named at reports =
+      let said = check_reported count due old new writer' result report told start record {
+        consumed_is = reports.consumed_is ∙ at;
+        written_is = reports.written_is;
+        place_is = reports.place_is ∙ named;
+      } in
+      subst (λ (x : Answer). Checks count due x report) (sym same) said
+
+-- the answer `Ok` stands for the copy that succeeded alone
+copy_answers_ok : {E F : Type 0} (result : Result (Unit {0}) (RecodeError E F)) → (copy_answer result ≡ a.Ok) ↔ IsOk result
+copy_answers_ok (Ok done) = (λ same. cc, λ ok. refl)
+copy_answers_ok (Err (r.Read (e.Io fault))) = (λ same. absurd cc, λ ok. absurd cc)
+copy_answers_ok (Err (r.Read (e.Syntax place))) = (λ same. absurd cc, λ ok. absurd cc)
+copy_answers_ok (Err (r.Read e.TooLong)) = (λ same. absurd cc, λ ok. absurd cc)
+copy_answers_ok (Err (r.Read e.Waiting)) = (λ same. absurd cc, λ ok. absurd cc)
+copy_answers_ok (Err (r.Write fault)) = (λ same. absurd cc, λ ok. absurd cc)
+
+pub copy_exactly : {E F Holds : Type 0} (result : Result (Unit {0}) (RecodeError E F)) (answer : Answer) → answer ≡ copy_answer result
+    → IsOk result ↔ Holds → (answer ≡ a.Ok) ↔ Holds
+copy_exactly result answer same exact =
+    let ok = copy_answers_ok result in (λ is. exact.0 (ok.0 (sym same ∙ is)), λ holds. same ∙ ok.1 (exact.1 holds))

@@ -1,0 +1,3 @@
+pub mod CopyLaws
+pub mod PullLaws
+pub mod SkipLaws

@@ -1,0 +1,105 @@
+-- What a skip by a fresh decoder says of the bytes ahead.
+use Rattle.std.proofs.Common.{◌≡◌, ℕ, ◌+◌, ◌<◌, ◌∙◌, ◌↔◌, IsTrue, IsOk, false, List, length, Result, Ok, Err, Some, ap, sym, subst, refl, arith}
+use Rattle.ciborium_ll.specs.Types.Read.{Ghosts}
+use Rattle.ciborium_ll.specs.Types.Decoder.{Decoder}
+use Rattle.ciborium_ll.specs.Types.Error.TheVariants as e
+use Rattle.ciborium_ll.specs.Faults.{Syntax}
+use Rattle.ciborium_ll.specs.Decoding.{IsFresh, offset_limit}
+use Rattle.cbor_skip.specs.declared.SkipError.{SkipError}
+use Rattle.cbor_skip.specs.declared.SkipError.TheVariants as s
+use Rattle.cbor_skip.specs.SkippingTold.{IsReady, SkipsTold}
+use Rattle.ciborium_ll_c.specs.declared.answer.Answer.{Answer}
+use Rattle.ciborium_ll_c.specs.declared.answer.Answer.TheVariants as a
+use Rattle.ciborium_ll_c.specs.declared.answer.CllReport.{CllReport}
+use Rattle.ciborium_ll_c.specs.Answers.{Reports}
+use Rattle.ciborium_ll_c.specs.Skipping.{Skips, skip_answer, skip_place}
+use Rattle.ciborium_ll_c.proofs.PullLaws.{due_ahead, still_steady}
+
+module _ {R E : Type 0} (source : Ghosts R E) where
+  pub ready_to_skip : (room : ℕ) (reader : R) (decoder : Decoder R) (due : List ℕ) → IsFresh reader 0 decoder
+      → IsTrue (source.steady reader) → source.ahead reader ≡ Some due
+      → length due + 8 < offset_limit → length due + room < offset_limit → IsReady source room decoder due
+  ready_to_skip room reader decoder due fresh steady ahead title chunk = record {
+    lenient = fresh.mode;
+    steady = still_steady source false reader decoder fresh steady;
+    told = due_ahead source false reader decoder fresh due ahead;
+    fits-title = omega (arith, fresh.offset, title);
+    fits-chunk = omega (arith, fresh.offset, chunk);
+  }
+
+  pub skip_reported : (depth : ℕ) (due : List ℕ) (old new : Decoder R) (result : Result (Unit {0}) (SkipError E))
+      (report : CllReport) → SkipsTold source depth due old result new → old.offset ≡ 0
+      → Reports report new.offset 0 (skip_place result) → Skips depth due (skip_answer result) report
+  skip_reported depth due old new (Ok done) report told start reports = (
+    told.front,
+    record {
+      consumed_is = omega (arith, reports.consumed_is, told.offset, start);
+      written_is = reports.written_is;
+      place_is = reports.place_is;
+    },
+  )
+  skip_reported depth due old new (Err (s.Read (e.Io fault))) report told start reports = (
+    told.fault,
+    told.answered,
+    record {
+      consumed_is = omega (arith, reports.consumed_is, told.offset, start);
+      written_is = reports.written_is;
+      place_is = reports.place_is;
+    },
+  )
+  skip_reported depth due old new (Err (s.Read (e.Syntax place))) report told start reports =
+      let named : told.0 ≡ report.place = omega (arith, told.1, start, reports.place_is) in
+      let met = told.2 in (
+        met.fault,
+        met.answered ∙ ap Syntax named,
+        record {
+          consumed_is = omega (arith, reports.consumed_is, met.offset, start);
+          written_is = reports.written_is;
+          place_is = refl;
+        },
+      )
+  skip_reported depth due old new (Err (s.Read e.TooLong)) report told start reports = absurd told
+  skip_reported depth due old new (Err (s.Read e.Waiting)) report told start reports = absurd told
+  skip_reported depth due old new (Err (s.Break place)) report told start reports = (
+    told.fault,
+    record {
+      consumed_is = omega (arith, reports.consumed_is, told.offset, told.place, start);
+      written_is = reports.written_is;
+      place_is = omega (arith, reports.place_is, told.place, start);
+    },
+  )
+  skip_reported depth due old new (Err (s.Deep place)) report told start reports = (
+    told.fault,
+    record {
+      consumed_is = omega (arith, reports.consumed_is, told.offset, told.place, start);
+      written_is = reports.written_is;
+      place_is = omega (arith, reports.place_is, told.place, start);
+    },
+  )
+
+  pub skip_said : (depth : ℕ) (due : List ℕ) (old new : Decoder R) (result : Result (Unit {0}) (SkipError E))
+      (report : CllReport) (answer : Answer) (place count : ℕ) → SkipsTold source depth due old result new
+      → old.offset ≡ 0 → answer ≡ skip_answer result → place ≡ skip_place result → count ≡ new.offset
+      → Reports report count 0 place → Skips depth due answer report
+  skip_said depth due old new result report answer place count told start same named behind reports =
+      let said = skip_reported depth due old new result report told start record {
+        consumed_is = reports.consumed_is ∙ behind;
+        written_is = reports.written_is;
+        place_is = reports.place_is ∙ named;
+      } in
+      subst (λ (x : Answer). Skips depth due x report) (sym same) said
+
+-- the answer `Ok` stands for the skip that succeeded alone
+pub skip_answers_ok : {E : Type 0} (result : Result (Unit {0}) (SkipError E)) → (skip_answer result ≡ a.Ok) ↔ IsOk result
+skip_answers_ok (Ok done) = (λ same. cc, λ ok. refl)
+skip_answers_ok (Err (s.Read (e.Io fault))) = (λ same. absurd cc, λ ok. absurd cc)
+skip_answers_ok (Err (s.Read (e.Syntax place))) = (λ same. absurd cc, λ ok. absurd cc)
+skip_answers_ok (Err (s.Read e.TooLong)) = (λ same. absurd cc, λ ok. absurd cc)
+skip_answers_ok (Err (s.Read e.Waiting)) = (λ same. absurd cc, λ ok. absurd cc)
+skip_answers_ok (Err (s.Break place)) = (λ same. absurd cc, λ ok. absurd cc)
+skip_answers_ok (Err (s.Deep place)) = (λ same. absurd cc, λ ok. absurd cc)
+
+pub skip_exactly : {E Holds : Type 0} (result : Result (Unit {0}) (SkipError E)) (answer : Answer) → answer ≡ skip_answer result
+    → IsOk result ↔ Holds → (answer ≡ a.Ok) ↔ Holds
+skip_exactly result answer same exact =
+    let ok = skip_answers_ok result in (λ is. exact.0 (ok.0 (sym same ∙ is)), λ holds. same ∙ ok.1 (exact.1 holds))

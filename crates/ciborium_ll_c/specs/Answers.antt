@@ -1,0 +1,22 @@
+-- What a call for C answers and reports.
+use Rattle.std.specs.Prelude.{◌≡◌, ℕ}
+use Rattle.ciborium_ll_c.specs.declared.answer.Answer.{Answer}
+use Rattle.ciborium_ll_c.specs.declared.answer.Answer.TheVariants as a
+use Rattle.ciborium_ll_c.specs.declared.answer.CllReport.{CllReport}
+
+-- the number of an answer, as the header for C has it
+abbrev pub code : Answer → ℕ
+code a.Ok = 0
+code a.Short = 1
+code a.Syntax = 2
+code a.Room = 3
+code a.TooLong = 4
+code a.BreakDue = 5
+code a.TooDeep = 6
+code a.Argument = 7
+
+-- a report says that so many bytes were consumed and so many were written, and names this place
+pub record Reports (report : CllReport) (consumed written place : ℕ) : Type 0 where
+  pub consumed_is : report.consumed ≡ consumed
+  pub written_is : report.written ≡ written
+  pub place_is : report.place ≡ place

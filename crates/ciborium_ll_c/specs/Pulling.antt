@@ -1,0 +1,26 @@
+-- What `cll_pull` does.
+use Rattle.std.specs.Prelude.{◌≡◌, ℕ, min, List, ◌++◌, length}
+use Rattle.ciborium_ll.specs.Types.Header.{Header}
+use Rattle.ciborium_ll.specs.Title.{IsTitle, IsCutTitle, BeginsRefused}
+use Rattle.ciborium_ll_c.specs.declared.answer.Answer.{Answer}
+use Rattle.ciborium_ll_c.specs.declared.answer.Answer.TheVariants as a
+use Rattle.ciborium_ll_c.specs.declared.answer.CllReport.{CllReport}
+use Rattle.ciborium_ll_c.specs.declared.header.CllHeader.{CllHeader}
+use Rattle.ciborium_ll_c.specs.Answers.{Reports}
+use Rattle.ciborium_ll_c.specs.Headers.{Says}
+
+-- a title stands in front of the bytes (RFC 7049, 2.1 to 2.3)
+pub record TitleInFront (bytes : List ℕ) : Type 0 where
+  pub title : List ℕ
+  pub header : Header
+  pub rest : List ℕ
+  pub is_title : IsTitle title header
+  pub is : bytes ≡ title ++ rest
+
+-- the title in front, by the answer: the parts of its header, and its length as what was consumed. Where there is none,
+-- the parts are as they were, and a first byte was consumed if there is one
+abbrev pub Pulls : List ℕ → Answer → CllHeader → CllHeader → CllReport → Type 0
+Pulls bytes a.Ok old new report = (front : TitleInFront bytes) × Says new front.header × Reports report (length front.title) 0 0
+Pulls bytes a.Short old new report = IsCutTitle bytes × (new ≡ old) × Reports report (min 1 (length bytes)) 0 0
+Pulls bytes a.Syntax old new report = BeginsRefused bytes × (new ≡ old) × Reports report 1 0 0
+Pulls bytes answer old new report = ⊥

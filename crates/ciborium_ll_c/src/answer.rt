@@ -1,0 +1,68 @@
+//! What a call answers, and what it reports.
+
+ghost use Rattle.std.specs.Prelude.{◌≡◌};
+ghost use Rattle.ciborium_ll_c.specs.Answers.{Reports, code};
+
+/// How a call came out.
+#[derive(Clone, Copy, Debug, PartialEq, Eq)]
+pub enum Answer {
+    /// All that was asked for was done.
+    Ok,
+    /// The bytes end too early.
+    Short,
+    /// At the place that is reported stands no CBOR that could stand there.
+    Syntax,
+    /// The output is full.
+    Room,
+    /// An offset would pass the greatest number, which no bytes in memory make it do.
+    TooLong,
+    /// At the place that is reported a break stands where an item is due.
+    BreakDue,
+    /// At the place that is reported a tag, an array or a map stands deeper than was allowed.
+    TooDeep,
+    /// An argument is out of its range, and nothing was done.
+    Argument,
+}
+
+impl Answer {
+    /// The number by which C knows the answer.
+    #[inline(always)]
+    pub fn code(self) -> u32
+        ensures { result ≡ code self }
+    {
+        match self {
+            Answer::Ok => 0,
+            Answer::Short => 1,
+            Answer::Syntax => 2,
+            Answer::Room => 3,
+            Answer::TooLong => 4,
+            Answer::BreakDue => 5,
+            Answer::TooDeep => 6,
+            Answer::Argument => 7,
+        }
+    }
+}
+
+/// How far a call came.
+#[derive(Drop)]
+#[repr(C)]
+pub struct CllReport {
+    /// How many bytes it consumed.
+    pub consumed: u64,
+    /// How many bytes it wrote.
+    pub written: u64,
+    /// Of `Syntax`, `BreakDue` and `TooDeep` the offset in the bytes that the answer names, else 0.
+    pub place: u64,
+}
+
+impl CllReport {
+    /// Says how many bytes were consumed and written, and names a place.
+    #[inline(always)]
+    pub(crate) fn say(&mut self, consumed: usize, written: usize, place: usize)
+        ensures { Reports self.new consumed written place }
+    {
+        self.consumed = consumed as u64;
+        self.written = written as u64;
+        self.place = place as u64;
+    }
+}

@@ -1,0 +1,235 @@
+//! The library for C and C++: a static library, whose header is `include/ciborium_ll.h`. No call takes memory, and
+//! none calls out of this library.
+//!
+//! C passes a slice as a pointer and then a length. Each call answers by a number, which is the code of an [`Answer`],
+//! and says in a [`CllReport`] how far it came.
+#![tactic(auto)]
+
+ghost use Rattle.std.specs.Prelude.{◌≡◌, ◌↔◌, ◌≤◌, ◌<◌, length};
+ghost use Rattle.ciborium_ll.specs.Faults.{RunInFront};
+ghost use Rattle.ciborium_ll.specs.StrictRecoding.{StrictRunInFront};
+ghost use Rattle.cbor_skip.specs.ItemFaults.{ItemInFront};
+ghost use Rattle.ciborium_ll_c.specs.declared.answer.Answer.{Answer};
+ghost use Rattle.ciborium_ll_c.specs.declared.answer.Answer.TheVariants as a;
+ghost use Rattle.ciborium_ll_c.specs.Answers.{Reports, code};
+ghost use Rattle.ciborium_ll_c.specs.Checking.{Checks};
+ghost use Rattle.ciborium_ll_c.specs.Copying.{Copies, CopiesAnyhow, HasRoom, copy_answer, copy_place};
+ghost use Rattle.ciborium_ll_c.specs.Pulling.{Pulls, TitleInFront};
+ghost use Rattle.ciborium_ll_c.specs.Pushing.{Pushes};
+ghost use Rattle.ciborium_ll_c.specs.Skipping.{Skips, skip_answer, skip_place};
+
+mod answer;
+mod header;
+#[cfg(test)]
+mod tests;
+
+pub use self::answer::{Answer, CllReport};
+pub use self::header::CllHeader;
+use cbor_skip::{SkipError, skip_item};
+use ciborium_ll::io::{Discard, EndOfFile, OutOfSpace, SliceReader, SliceWriter};
+use ciborium_ll::recode::recode;
+use ciborium_ll::{Decoder, Encoder, Error, RecodeError};
+
+/// How many bytes of a string are read at a time, at most.
+const BUFFER_SIZE: usize = 64;
+
+/// How many bytes the longest title has.
+const TITLE_SIZE: usize = 9;
+
+/// Reads the title in front of the bytes.
+fn pull(bytes: &[u8], header: &mut CllHeader, report: &mut CllReport) -> Answer
+    ensures { Pulls bytes.now result header.old header.new report.new }
+{
+    let mut decoder = Decoder::from(SliceReader::new(bytes));
+    let pulled = decoder.pull();
+    report.say(decoder.offset(), 0, 0);
+    match pulled {
+        Ok(pulled) => {
+            *header = CllHeader::of(pulled);
+            Answer::Ok
+        }
+        Err(Error::Io(_)) => Answer::Short,
+        // The title that is none stands at the start.
+        Err(Error::Syntax(_)) => Answer::Syntax,
+        Err(_) => Answer::TooLong,
+    }
+}
+
+/// Reads the title in front of the bytes (RFC 7049, 2.1 to 2.3), and says in `header` what it means.
+///
+/// The answers are `Ok`; `Short` where the bytes end before a title or inside it; and `Syntax` with the place 0 for a
+/// first byte with which no title begins. After the last two `header` is as it was.
+#[unsafe(no_mangle)]
+pub extern "C" fn cll_pull(bytes: &[u8], header: &mut CllHeader, report: &mut CllReport) -> u32
+    ensures pulled { (answer : Answer) × (result ≡ code answer) × Pulls bytes.now answer header.old header.new report.new }
+    ensures exactly { result ≡ code a.Ok ↔ TitleInFront bytes.now }
+{
+    pull(bytes, header, report).code()
+}
+
+/// Writes the shortest title of a header in front of the output.
+fn push(header: &CllHeader, out: &mut [u8], report: &mut CllReport) -> Answer
+    ensures { Pushes header.now out.old result out.new report.new }
+{
+    report.say(0, 0, 0);
+    let Some(pushed) = header.header() else {
+        return Answer::Argument;
+    };
+    if out.len() < pushed.title_len() {
+        return Answer::Room;
+    }
+    // No contract of an encoder says that its writer stays on its slice, so the title is copied out of it.
+    let mut space = [0; TITLE_SIZE];
+    let mut encoder = Encoder::from(SliceWriter::new(&mut space));
+    if encoder.push(pushed).is_err() {
+        return Answer::Room;
+    }
+    let writer = encoder.into_inner();
+    let title = writer.written();
+    out[..title.len()].copy_from_slice(title);
+    report.say(0, title.len(), 0);
+    Answer::Ok
+}
+
+/// Writes the shortest title of a header in front of `out` (RFC 7049, 3.9), whole or not at all.
+///
+/// The answers are `Ok`; `Room` where the title is longer than `out`; and `Argument` where `header` is of no kind, or
+/// its value or form is none of its kind. After the last two `out` is as it was.
+#[unsafe(no_mangle)]
+pub extern "C" fn cll_push(header: &CllHeader, out: &mut [u8], report: &mut CllReport) -> u32
+    ensures { (answer : Answer) × (result ≡ code answer) × Pushes header.now out.old answer out.new report.new }
+{
+    push(header, out, report).code()
+}
+
+/// The answer to a copy, and its place.
+fn stop_of_copy(copied: Result<(), RecodeError<EndOfFile, OutOfSpace>>) -> (Answer, usize)
+    ensures answer { result.0 ≡ copy_answer copied }
+    ensures place { result.1 ≡ copy_place copied }
+{
+    match copied {
+        Ok(()) => (Answer::Ok, 0),
+        Err(RecodeError::Read(Error::Io(_))) => (Answer::Short, 0),
+        Err(RecodeError::Read(Error::Syntax(place))) => (Answer::Syntax, place),
+        Err(RecodeError::Read(_)) => (Answer::TooLong, 0),
+        Err(RecodeError::Write(_)) => (Answer::Room, 0),
+    }
+}
+
+/// Copies so many elements.
+fn copy(bytes: &[u8], count: usize, out: &mut [u8], report: &mut CllReport) -> Answer
+    ensures copied { HasRoom count bytes.now (length out.old)
+        → Copies count bytes.now result report.new }
+    ensures exactly { HasRoom count bytes.now (length out.old)
+        → (result ≡ a.Ok ↔ RunInFront count bytes.now) }
+    ensures anyhow { CopiesAnyhow count bytes.now result report.new }
+{
+    let mut buffer = [0; BUFFER_SIZE];
+    let mut decoder = Decoder::from(SliceReader::new(bytes));
+    let mut encoder = Encoder::from(SliceWriter::new(out));
+    let copied = recode(&mut decoder, &mut encoder, count, &mut buffer);
+    let (answer, place) = stop_of_copy(copied);
+    let writer = encoder.into_inner();
+    let written = writer.written().len();
+    report.say(decoder.offset(), written, place);
+    answer
+}
+
+/// Copies `count` elements into `out`, each in its shortest spelling (RFC 7049, 3.9). An element is a header that
+/// begins no string, or a whole string (2.1 and 2.2). No spelling is longer than what it is read from.
+///
+/// The answers are `Ok`; `Short` where the bytes end before so many elements do; `Syntax` for a title that is none or
+/// may not stand within its string, and for a body of a text that is no UTF-8; and `Room` where `out` is full. What
+/// was written before stands in `out`.
+#[unsafe(no_mangle)]
+pub extern "C" fn cll_recode(
+    bytes: &[u8],
+    count: u64,
+    out: &mut [u8],
+    report: &mut CllReport,
+) -> u32
+    ensures copied { HasRoom count bytes.now (length out.old)
+        → (answer : Answer) × (result ≡ code answer) × Copies count bytes.now answer report.new }
+    ensures exactly { HasRoom count bytes.now (length out.old)
+        → (result ≡ code a.Ok ↔ RunInFront count bytes.now) }
+    ensures anyhow { (answer : Answer) × (result ≡ code answer) × CopiesAnyhow count bytes.now answer report.new }
+{
+    copy(bytes, count as usize, out, report).code()
+}
+
+/// Reads so many elements, each in its shortest spelling.
+fn check(bytes: &[u8], count: usize, report: &mut CllReport) -> Answer
+    ensures checked { Checks count bytes.now result report.new }
+    ensures exactly { result ≡ a.Ok ↔ StrictRunInFront count bytes.now }
+{
+    let mut buffer = [0; BUFFER_SIZE];
+    let mut decoder = Decoder::strict(SliceReader::new(bytes));
+    // What a strict copy writes is what it reads, so that many bytes are room enough.
+    let mut encoder = Encoder::from(Discard::new(bytes.len()));
+    let copied = recode(&mut decoder, &mut encoder, count, &mut buffer);
+    let (answer, place) = stop_of_copy(copied);
+    report.say(decoder.offset(), 0, place);
+    answer
+}
+
+/// Whether the bytes begin with `count` elements in their shortest spelling, with no simple value from 24 to 31 and no
+/// string of indefinite length inside another (RFC 7049, 2.2.2, 2.3 and 3.9). Nothing is written.
+///
+/// The answers are `Ok`; `Short` where the bytes end before so many elements do; and `Syntax` as of `cll_recode`, and
+/// for a title that is longer than it need be, for such a simple value and for such a string.
+#[unsafe(no_mangle)]
+pub extern "C" fn cll_strict(bytes: &[u8], count: u64, report: &mut CllReport) -> u32
+    ensures checked { (answer : Answer) × (result ≡ code answer) × Checks count bytes.now answer report.new }
+    ensures exactly { result ≡ code a.Ok ↔ StrictRunInFront count bytes.now }
+{
+    check(bytes, count as usize, report).code()
+}
+
+/// The answer to a skip, and its place.
+fn stop_of_skip(skipped: Result<(), SkipError<EndOfFile>>) -> (Answer, usize)
+    ensures answer { result.0 ≡ skip_answer skipped }
+    ensures place { result.1 ≡ skip_place skipped }
+{
+    match skipped {
+        Ok(()) => (Answer::Ok, 0),
+        Err(SkipError::Read(Error::Io(_))) => (Answer::Short, 0),
+        Err(SkipError::Read(Error::Syntax(place))) => (Answer::Syntax, place),
+        Err(SkipError::Read(_)) => (Answer::TooLong, 0),
+        Err(SkipError::Break(place)) => (Answer::BreakDue, place),
+        Err(SkipError::Deep(place)) => (Answer::TooDeep, place),
+    }
+}
+
+/// Skips the item in front of the bytes.
+fn skip(bytes: &[u8], depth: usize, report: &mut CllReport) -> Answer
+    requires shallow { depth ≤ 256 }
+    ensures skipped { Skips depth bytes.now result report.new }
+    ensures exactly { result ≡ a.Ok ↔ ItemInFront depth bytes.now }
+{
+    let mut buffer = [0; BUFFER_SIZE];
+    let mut decoder = Decoder::from(SliceReader::new(bytes));
+    let skipped = skip_item(&mut decoder, depth, &mut buffer);
+    let (answer, place) = stop_of_skip(skipped);
+    report.say(decoder.offset(), 0, place);
+    answer
+}
+
+/// Skips the item in front of the bytes, with tags, arrays and maps nested at most `depth` levels deep (RFC 7049, 2.1
+/// to 2.4). A tag, an array and a map take a level, an empty one too; a string takes none.
+///
+/// The answers are `Ok`; `Short` where the bytes end before the item does; `Syntax` for a title that is none or may not
+/// stand within its string, and for a body of a text that is no UTF-8; `BreakDue` for a break in place of an item;
+/// `TooDeep` for a tag, an array or a map for which no level is left; and `Argument` for a depth above 256.
+#[unsafe(no_mangle)]
+pub extern "C" fn cll_skip(bytes: &[u8], depth: u32, report: &mut CllReport) -> u32
+    ensures skipped { depth ≤ 256
+        → (answer : Answer) × (result ≡ code answer) × Skips depth bytes.now answer report.new }
+    ensures exactly { depth ≤ 256 → (result ≡ code a.Ok ↔ ItemInFront depth bytes.now) }
+    ensures argument { 256 < depth → (result ≡ code a.Argument) × Reports report.new 0 0 0 }
+{
+    if depth > 256 {
+        report.say(0, 0, 0);
+        return Answer::Argument.code();
+    }
+    skip(bytes, depth as usize, report).code()
+}

@@ -1,0 +1,357 @@
+// What no clause says: which bytes stand in the output behind a copy. And each call once for each answer that it has.
+
+use super::{Answer, CllHeader, CllReport, cll_pull, cll_push, cll_recode, cll_skip, cll_strict};
+use std::process::Abort;
+
+fn nothing() -> CllReport {
+    CllReport {
+        consumed: 7,
+        written: 7,
+        place: 7,
+    }
+}
+
+fn says(
+    rt: &impl Abort,
+    report: &CllReport,
+    consumed: u64,
+    written: u64,
+    place: u64,
+    bytes: &[u8],
+) {
+    assert_eq!(rt; report.consumed, consumed, "at {bytes:?}");
+    assert_eq!(rt; report.written, written, "at {bytes:?}");
+    assert_eq!(rt; report.place, place, "at {bytes:?}");
+}
+
+// A title, and the kind, the form and the value that C is told.
+fn title_row(rt: &impl Abort, bytes: &[u8], kind: u8, indefinite: u8, value: u64) {
+    let mut header = CllHeader {
+        value: 99,
+        kind: 99,
+        indefinite: 99,
+    };
+    let mut report = nothing();
+    assert_eq!(rt;
+        cll_pull(bytes, &mut header, &mut report),
+        0,
+        "at {bytes:?}"
+    );
+    assert_eq!(rt; header.kind, kind, "at {bytes:?}");
+    assert_eq!(rt; header.indefinite, indefinite, "at {bytes:?}");
+    assert_eq!(rt; header.value, value, "at {bytes:?}");
+    says(rt, &report, bytes.len() as u64, 0, 0, bytes);
+}
+
+#[test]
+fn titles(rt: HostRuntime) {
+    title_row(&rt, &[0x17], 0, 0, 23);
+    title_row(
+        &rt,
+        &[0x1b, 0xff, 0xff, 0xff, 0xff, 0xff, 0xff, 0xff, 0xff],
+        0,
+        0,
+        u64::MAX,
+    );
+    title_row(&rt, &[0x39, 0x03, 0xe7], 1, 0, 999);
+    title_row(&rt, &[0x44], 2, 0, 4);
+    title_row(&rt, &[0x5f], 2, 1, 0);
+    title_row(&rt, &[0x78, 0x0d], 3, 0, 13);
+    title_row(&rt, &[0x7f], 3, 1, 0);
+    title_row(&rt, &[0x98, 0x19], 4, 0, 25);
+    title_row(&rt, &[0x9f], 4, 1, 0);
+    title_row(&rt, &[0xa2], 5, 0, 2);
+    title_row(&rt, &[0xbf], 5, 1, 0);
+    title_row(&rt, &[0xd8, 0x20], 6, 0, 32);
+    title_row(&rt, &[0xf8, 0x10], 7, 0, 16);
+    title_row(&rt, &[0xf9, 0x7e, 0x00], 8, 0, 0x7e00);
+    title_row(&rt, &[0xfa, 0x47, 0xc3, 0x50, 0x00], 9, 0, 0x47c3_5000);
+    title_row(
+        &rt,
+        &[0xfb, 0x7f, 0xf0, 0, 0, 0, 0, 0, 0],
+        10,
+        0,
+        0x7ff0_0000_0000_0000,
+    );
+    title_row(&rt, &[0xff], 11, 0, 0);
+}
+
+// No title: the answer, and how many bytes were consumed.
+fn no_title_row(rt: &impl Abort, bytes: &[u8], answer: Answer, consumed: u64) {
+    let mut header = CllHeader {
+        value: 99,
+        kind: 98,
+        indefinite: 97,
+    };
+    let mut report = nothing();
+    assert_eq!(rt;
+        cll_pull(bytes, &mut header, &mut report),
+        answer.code(),
+        "at {bytes:?}"
+    );
+    assert_eq!(rt;
+        (header.value, header.kind, header.indefinite),
+        (99, 98, 97)
+    );
+    says(rt, &report, consumed, 0, 0, bytes);
+}
+
+#[test]
+fn no_titles(rt: HostRuntime) {
+    no_title_row(&rt, &[], Answer::Short, 0);
+    no_title_row(&rt, &[0x19, 0x03], Answer::Short, 1);
+    no_title_row(&rt, &[0x1f, 0x00], Answer::Syntax, 1);
+    no_title_row(&rt, &[0x1c], Answer::Syntax, 1);
+    no_title_row(&rt, &[0xdf], Answer::Syntax, 1);
+}
+
+// A header in its parts, and the title that is written into 16 bytes; and into a byte less than it has, nothing.
+fn push_row(rt: &impl Abort, kind: u8, indefinite: u8, value: u64, want: &[u8]) {
+    assert!(rt; !want.is_empty() && want.len() <= 9);
+    let header = CllHeader {
+        value,
+        kind,
+        indefinite,
+    };
+    let mut out = [0xee; 16];
+    let mut report = nothing();
+    let code = cll_push(&header, &mut out, &mut report);
+    assert_eq!(rt; code, 0, "at {want:?}");
+    says(rt, &report, 0, want.len() as u64, 0, want);
+    assert!(rt; &out[..want.len()] == want, "at {want:?}: {out:?}");
+    assert!(rt;
+        out[want.len()..].iter().all(|byte| *byte == 0xee),
+        "at {want:?}: {out:?}"
+    );
+
+    let mut out = [0xee; 16];
+    let mut report = nothing();
+    let code = cll_push(&header, &mut out[..want.len() - 1], &mut report);
+    assert_eq!(rt; code, Answer::Room.code(), "at {want:?}");
+    says(rt, &report, 0, 0, 0, want);
+    assert!(rt; out == [0xee; 16], "at {want:?}: {out:?}");
+}
+
+#[test]
+fn shortest_titles(rt: HostRuntime) {
+    push_row(&rt, 0, 0, 5, &[0x05]);
+    push_row(&rt, 0, 0, 24, &[0x18, 0x18]);
+    push_row(&rt, 0, 0, 1000, &[0x19, 0x03, 0xe8]);
+    push_row(&rt, 0, 0, 1_000_000, &[0x1a, 0x00, 0x0f, 0x42, 0x40]);
+    push_row(
+        &rt,
+        1,
+        0,
+        u64::MAX,
+        &[0x3b, 0xff, 0xff, 0xff, 0xff, 0xff, 0xff, 0xff, 0xff],
+    );
+    push_row(&rt, 2, 0, 5, &[0x45]);
+    push_row(&rt, 2, 1, 0, &[0x5f]);
+    push_row(&rt, 3, 0, 13, &[0x6d]);
+    push_row(&rt, 3, 1, 0, &[0x7f]);
+    push_row(&rt, 4, 0, 25, &[0x98, 0x19]);
+    push_row(&rt, 4, 1, 0, &[0x9f]);
+    push_row(&rt, 5, 0, 2, &[0xa2]);
+    push_row(&rt, 5, 1, 0, &[0xbf]);
+    push_row(&rt, 6, 0, 32, &[0xd8, 0x20]);
+    push_row(&rt, 7, 0, 16, &[0xf0]);
+    push_row(&rt, 7, 0, 255, &[0xf8, 0xff]);
+    push_row(&rt, 8, 0, 1, &[0xf9, 0x00, 0x01]);
+    push_row(&rt, 9, 0, 0x47c3_5000, &[0xfa, 0x47, 0xc3, 0x50, 0x00]);
+    push_row(&rt, 10, 0, 1, &[0xfb, 0, 0, 0, 0, 0, 0, 0, 1]);
+    push_row(&rt, 11, 0, 0, &[0xff]);
+}
+
+// Parts that no header has.
+fn no_header_row(rt: &impl Abort, kind: u8, indefinite: u8, value: u64) {
+    let header = CllHeader {
+        value,
+        kind,
+        indefinite,
+    };
+    let mut out = [0xee; 16];
+    let mut report = nothing();
+    let code = cll_push(&header, &mut out, &mut report);
+    assert_eq!(rt;
+        code,
+        Answer::Argument.code(),
+        "at {kind} {indefinite} {value}"
+    );
+    says(rt, &report, 0, 0, 0, &[kind, indefinite]);
+    assert!(rt; out == [0xee; 16], "at {kind} {indefinite} {value}");
+}
+
+#[test]
+fn no_headers(rt: HostRuntime) {
+    no_header_row(&rt, 12, 0, 0);
+    no_header_row(&rt, 255, 0, 0);
+    no_header_row(&rt, 7, 0, 256);
+    no_header_row(&rt, 8, 0, 0x1_0000);
+    no_header_row(&rt, 9, 0, 0x1_0000_0000);
+    no_header_row(&rt, 11, 0, 1);
+    no_header_row(&rt, 0, 1, 0);
+    no_header_row(&rt, 6, 1, 0);
+    no_header_row(&rt, 2, 1, 5);
+    no_header_row(&rt, 4, 2, 0);
+}
+
+// A copy into a room: what stands in front of the output, and behind it what stood there before.
+fn copy_row(
+    rt: &impl Abort,
+    bytes: &[u8],
+    count: u64,
+    room: usize,
+    answer: Answer,
+    consumed: u64,
+    place: u64,
+    want: &[u8],
+) {
+    assert!(rt; room <= 16 && want.len() <= room);
+    let mut out = [0xee; 16];
+    let mut report = nothing();
+    let code = cll_recode(bytes, count, &mut out[..room], &mut report);
+    assert_eq!(rt; code, answer.code(), "at {bytes:?}");
+    says(rt, &report, consumed, want.len() as u64, place, bytes);
+    assert!(rt; &out[..want.len()] == want, "at {bytes:?}: {out:?}");
+    assert!(rt;
+        out[want.len()..].iter().all(|byte| *byte == 0xee),
+        "at {bytes:?}: {out:?}"
+    );
+}
+
+#[test]
+fn copies(rt: HostRuntime) {
+    let nested = [0x5f, 0x5f, 0x58, 0x01, 0x01, 0xff, 0xff];
+    copy_row(
+        &rt,
+        &nested,
+        1,
+        16,
+        Answer::Ok,
+        7,
+        0,
+        &[0x5f, 0x41, 0x01, 0xff],
+    );
+    copy_row(
+        &rt,
+        &nested,
+        1,
+        4,
+        Answer::Ok,
+        7,
+        0,
+        &[0x5f, 0x41, 0x01, 0xff],
+    );
+    copy_row(&rt, &nested, 0, 16, Answer::Ok, 0, 0, &[]);
+    copy_row(
+        &rt,
+        &[0x18, 0x05, 0xf8, 0x10, 0xa0],
+        2,
+        16,
+        Answer::Ok,
+        4,
+        0,
+        &[0x05, 0xf0],
+    );
+    copy_row(&rt, &[0x7f, 0xff], 1, 2, Answer::Ok, 2, 0, &[0x7f, 0xff]);
+    copy_row(
+        &rt,
+        &[0x7f, 0x61, 0x61, 0x5f, 0xff],
+        1,
+        16,
+        Answer::Syntax,
+        4,
+        3,
+        &[0x7f, 0x61, 0x61],
+    );
+    copy_row(
+        &rt,
+        &[0x78, 0x02, 0x61, 0xff],
+        1,
+        16,
+        Answer::Syntax,
+        4,
+        1,
+        &[0x62, 0x61],
+    );
+    copy_row(&rt, &[0x43, 0x01], 1, 16, Answer::Short, 1, 0, &[0x43]);
+    copy_row(
+        &rt,
+        &[0x7f, 0x7f, 0xff],
+        1,
+        16,
+        Answer::Short,
+        3,
+        0,
+        &[0x7f],
+    );
+    copy_row(&rt, &[], 1, 0, Answer::Short, 0, 0, &[]);
+    copy_row(&rt, &[0x05, 0x06], 2, 1, Answer::Room, 2, 0, &[0x05]);
+    copy_row(&rt, &[0x18, 0x18], 1, 1, Answer::Room, 2, 0, &[0x18]);
+}
+
+// A skip: the answer, how many bytes were consumed, and the place.
+fn skip_row(rt: &impl Abort, bytes: &[u8], depth: u32, answer: Answer, consumed: u64, place: u64) {
+    let mut report = nothing();
+    assert_eq!(rt;
+        cll_skip(bytes, depth, &mut report),
+        answer.code(),
+        "at {bytes:?}"
+    );
+    says(rt, &report, consumed, 0, place, bytes);
+}
+
+#[test]
+fn skips(rt: HostRuntime) {
+    let map = [0xa1, 0x61, 0x61, 0x82, 0x01, 0x02];
+    skip_row(&rt, &map, 2, Answer::Ok, 6, 0);
+    skip_row(&rt, &map, 256, Answer::Ok, 6, 0);
+    skip_row(&rt, &map, 257, Answer::Argument, 0, 0);
+    skip_row(&rt, &map, 1, Answer::TooDeep, 4, 3);
+    skip_row(&rt, &[0x81, 0xff], 1, Answer::BreakDue, 2, 1);
+    skip_row(&rt, &[0xbf, 0x01, 0xff], 1, Answer::BreakDue, 3, 2);
+    skip_row(&rt, &[0x5f, 0x41, 0x01, 0xff], 0, Answer::Ok, 4, 0);
+    skip_row(&rt, &[0x82, 0x01], 1, Answer::Short, 2, 0);
+    skip_row(&rt, &[0x81, 0x1f], 1, Answer::Syntax, 2, 1);
+    skip_row(&rt, &[0xff], 0, Answer::BreakDue, 1, 0);
+}
+
+// A strict read of so many elements: the answer, how many bytes were consumed, and the place.
+fn strict_row(
+    rt: &impl Abort,
+    bytes: &[u8],
+    count: u64,
+    answer: Answer,
+    consumed: u64,
+    place: u64,
+) {
+    let mut report = nothing();
+    assert_eq!(rt;
+        cll_strict(bytes, count, &mut report),
+        answer.code(),
+        "at {bytes:?}"
+    );
+    says(rt, &report, consumed, 0, place, bytes);
+}
+
+#[test]
+fn strict_elements(rt: HostRuntime) {
+    strict_row(&rt, &[0x18, 0x18], 1, Answer::Ok, 2, 0);
+    strict_row(&rt, &[0x05, 0x18, 0x05], 1, Answer::Ok, 1, 0);
+    strict_row(&rt, &[0x05, 0x18, 0x05], 2, Answer::Syntax, 3, 1);
+    strict_row(&rt, &[0x18, 0x05], 1, Answer::Syntax, 2, 0);
+    strict_row(&rt, &[0xf8, 0x18], 1, Answer::Syntax, 2, 0);
+    strict_row(
+        &rt,
+        &[0x5f, 0x5f, 0x41, 0x01, 0xff, 0xff],
+        1,
+        Answer::Syntax,
+        2,
+        1,
+    );
+    strict_row(&rt, &[0x5f, 0x41, 0x01, 0xff], 1, Answer::Ok, 4, 0);
+    strict_row(&rt, &[0x62, 0x61, 0xff], 1, Answer::Syntax, 3, 0);
+    strict_row(&rt, &[0x43, 0x01], 1, Answer::Short, 1, 0);
+    strict_row(&rt, &[], 1, Answer::Short, 0, 0);
+    strict_row(&rt, &[], 0, Answer::Ok, 0, 0);
+}

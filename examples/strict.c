@@ -1,0 +1,47 @@
+/*
+ * Tells whether hexadecimal bytes begin with COUNT elements of CBOR in their one shortest spelling, as whoever checks a
+ * message that was signed as bytes has to know.
+ *
+ * usage: strict COUNT HEX
+ *
+ * The status is 0 where they do, and their length is printed; 1 where they don't, and 2 for other arguments.
+ */
+#include <stdio.h>
+#include <stdlib.h>
+#include <string.h>
+
+#include "ciborium_ll.h"
+
+/* The value of a hexadecimal digit, or 16. */
+static unsigned digit(char c)
+{
+    static const char digits[] = "0123456789abcdef";
+    const char *at = c != '\0' ? strchr(digits, c) : NULL;
+    return at != NULL ? (unsigned)(at - digits) : 16;
+}
+
+int main(int argc, char **argv)
+{
+    static uint8_t data[4096];
+    size_t len = argc == 3 ? strlen(argv[2]) / 2 : 0;
+    int fits = argc == 3 && strlen(argv[2]) % 2 == 0 && len <= sizeof data;
+    for (size_t i = 0; fits && i < len; i++) {
+        unsigned high = digit(argv[2][2 * i]), low = digit(argv[2][2 * i + 1]);
+        fits = high < 16 && low < 16;
+        data[i] = (uint8_t)(16 * high + low);
+    }
+    if (!fits) {
+        fprintf(stderr, "usage: strict COUNT HEX\n");
+        return 2;
+    }
+
+    cll_report report;
+    uint32_t answer = cll_strict(data, len, strtoull(argv[1], NULL, 10), &report);
+    if (answer == CLL_OK)
+        printf("strict %llu\n", (unsigned long long)report.consumed);
+    else if (answer == CLL_SYNTAX)
+        printf("syntax %llu\n", (unsigned long long)report.place);
+    else
+        printf("short %llu\n", (unsigned long long)report.consumed);
+    return answer == CLL_OK ? 0 : 1;
+}
