@@ -4,26 +4,14 @@
 //! so many elements from standard input to standard output.
 #![tactic(auto)]
 
-mod answer;
-mod copy;
-mod fault;
-mod input;
-mod memory;
-mod raw;
-mod service;
-mod skip;
-mod string;
 #[cfg(test)]
 mod tests;
-mod value;
 
-pub use crate::fault::{Fault, fault_of_raw, fault_of_run};
-pub use crate::memory::{OutOfMemory, VecWriter};
-pub use crate::raw::{BufferedCopy, raw, raw_buffered};
-pub use crate::service::{ToolError, run};
-pub use ciborium_ll_requests::arguments::chosen;
-pub use ciborium_ll_requests::choice::Chosen;
-pub use ciborium_ll_requests::word::{bytes_of, word_of};
+use ciborium_ll_requests::arguments::chosen;
+use ciborium_ll_requests::choice::Chosen;
+use ciborium_ll_service::fault::{Fault, fault_of_raw, fault_of_run};
+use ciborium_ll_service::raw::raw_buffered;
+use ciborium_ll_service::service::run;
 use std::process::ExitCode;
 use std::{env, io};
 

@@ -3,13 +3,15 @@ mod cuts;
 mod every;
 mod streams;
 
-use crate::{
-    Chosen, Fault, OutOfMemory, ToolError, VecWriter, bytes_of, chosen, fault_of_raw, fault_of_run,
-    run, word_of,
-};
 use ciborium_ll::io::{ReadFault, Write, WriteFault};
 use ciborium_ll::{Error, RecodeError};
 use ciborium_ll_fixtures::streams::{PartReader, PartWriter};
+use ciborium_ll_requests::arguments::chosen;
+use ciborium_ll_requests::choice::Chosen;
+use ciborium_ll_requests::word::{bytes_of, word_of};
+use ciborium_ll_service::fault::{Fault, fault_of_raw, fault_of_run};
+use ciborium_ll_service::memory::{OutOfMemory, VecWriter};
+use ciborium_ll_service::service::{ToolError, run};
 use std::alloc::{AllocError, Global};
 use std::io;
 use std::process::Abort;

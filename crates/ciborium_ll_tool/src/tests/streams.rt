@@ -1,12 +1,12 @@
 // Copies of raw bytes between streams that move few bytes a call, or fail at one, beside a plain reading.
 
 use super::copies::long_elements;
-use crate::{raw, raw_buffered};
 use ciborium_ll::io::{ReadFault, WriteFault};
 use ciborium_ll::{Error, RecodeError};
 use ciborium_ll_fixtures::plain::{self, Fault};
 use ciborium_ll_fixtures::samples::COPIES;
 use ciborium_ll_fixtures::streams::{PartReader, PartWriter};
+use ciborium_ll_service::raw::{raw, raw_buffered};
 use std::alloc::Global;
 use std::io;
 use std::process::Abort;

@@ -2,7 +2,7 @@
 
 ghost use Rattle.std.specs.Prelude.{IfOk};
 ghost use Rattle.ciborium_ll.specs.Strings.{Bytes as byte_strings, Text as text_strings};
-ghost use Rattle.ciborium_ll_tool.specs.Value.{IsSpelled};
+ghost use Rattle.ciborium_ll_service.specs.Value.{IsSpelled};
 
 use crate::memory::{OutOfMemory, VecWriter};
 use crate::service::ToolError;

@@ -1,7 +1,7 @@
 //! What the program says when it fails.
 
 ghost use Rattle.std.specs.Prelude.{◌≡◌};
-ghost use Rattle.ciborium_ll_tool.specs.Fault.{fault_of, fault_of_copy};
+ghost use Rattle.ciborium_ll_service.specs.Fault.{fault_of, fault_of_copy};
 
 use crate::memory::OutOfMemory;
 use crate::service::ToolError;
@@ -26,7 +26,7 @@ pub enum Fault {
 
 impl fmt::Display for Fault {
     ghost use Rattle.std.specs.Prelude.{Some};
-    ghost use Rattle.ciborium_ll_tool.specs.Fault.{fault_text};
+    ghost use Rattle.ciborium_ll_service.specs.Fault.{fault_text};
 
     ghost output = { λ fault. Some (fault_text fault) };
 
@@ -44,7 +44,7 @@ impl fmt::Display for Fault {
 impl error::Error for Fault {}
 
 impl fmt::Display for ToolError {
-    ghost use Rattle.ciborium_ll_tool.specs.Fault.{tool_error_text};
+    ghost use Rattle.ciborium_ll_service.specs.Fault.{tool_error_text};
 
     ghost output = { tool_error_text };
 

@@ -1,9 +1,9 @@
 -- What the program says of an error.
 use Rattle.std.specs.Prelude.{◌≡◌, ℕ, List, ◌++◌, Option, Some, None, codes, decimal}
-use Rattle.ciborium_ll_tool.specs.declared.fault.Fault.{Fault}
-use Rattle.ciborium_ll_tool.specs.declared.fault.Fault.TheVariants as f
-use Rattle.ciborium_ll_tool.specs.declared.service.ToolError.{ToolError}
-use Rattle.ciborium_ll_tool.specs.declared.service.ToolError.TheVariants as e
+use Rattle.ciborium_ll_service.specs.declared.fault.Fault.{Fault}
+use Rattle.ciborium_ll_service.specs.declared.fault.Fault.TheVariants as f
+use Rattle.ciborium_ll_service.specs.declared.service.ToolError.{ToolError}
+use Rattle.ciborium_ll_service.specs.declared.service.ToolError.TheVariants as e
 use Rattle.ciborium_ll.specs.Types.Error.TheVariants as d
 use Rattle.ciborium_ll.specs.Types.ReadFault.{ReadFault}
 use Rattle.ciborium_ll.specs.Types.WriteFault.{WriteFault}

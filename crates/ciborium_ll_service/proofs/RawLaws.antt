@@ -17,8 +17,8 @@ use Rattle.ciborium_ll.specs.Decoding.{Passes, view}
 use Rattle.ciborium_ll.specs.Recoding.{CopiesElements}
 use Rattle.ciborium_ll.specs.RecodingTold.{IsTold, RecodesAnyhow, StopsShort}
 use Rattle.ciborium_ll.proofs.BodyLaws.{view_none}
-use Rattle.ciborium_ll_tool.specs.Restoring.{Restores, RestoresCopy, RestoresFlush}
-use Rattle.ciborium_ll_tool.specs.Raw.{CopiesRaw, ReadsShort, TellsFlushed, WritesShort}
+use Rattle.ciborium_ll_service.specs.Restoring.{Restores, RestoresCopy, RestoresFlush}
+use Rattle.ciborium_ll_service.specs.Raw.{CopiesRaw, ReadsShort, TellsFlushed, WritesShort}
 
 -- known bytes that are kept are known still
 pub kept_known : (old new : Option (List ℕ)) (bytes : List ℕ) → Keeps old new → old ≡ Some bytes → new ≡ Some bytes

@@ -1,7 +1,7 @@
 //! Lines out of a reader.
 
 ghost use Rattle.std.specs.Prelude.{◌≡◌, [], false, IfOk, OnOk, vec_len};
-ghost use Rattle.ciborium_ll_tool.specs.Line.{IsOneLine};
+ghost use Rattle.ciborium_ll_service.specs.Line.{IsOneLine};
 
 use crate::service::ToolError;
 use std::alloc::{AllocError, Global};

@@ -20,7 +20,7 @@ pub enum ToolError {
 
 impl From<AllocError> for ToolError {
     ghost use Rattle.std.specs.Prelude.{◌≡◌};
-    ghost use Rattle.ciborium_ll_tool.specs.declared.service.ToolError.TheVariants.{Memory};
+    ghost use Rattle.ciborium_ll_service.specs.declared.service.ToolError.TheVariants.{Memory};
 
     ghost from_gives = { λ _ error. error ≡ Memory };
 
@@ -31,7 +31,7 @@ impl From<AllocError> for ToolError {
 
 impl From<fmt::Error> for ToolError {
     ghost use Rattle.std.specs.Prelude.{◌≡◌};
-    ghost use Rattle.ciborium_ll_tool.specs.declared.service.ToolError.TheVariants.{Memory};
+    ghost use Rattle.ciborium_ll_service.specs.declared.service.ToolError.TheVariants.{Memory};
 
     ghost from_gives = { λ _ error. error ≡ Memory };
 
@@ -43,7 +43,7 @@ impl From<fmt::Error> for ToolError {
 
 impl From<OutOfMemory> for ToolError {
     ghost use Rattle.std.specs.Prelude.{◌≡◌};
-    ghost use Rattle.ciborium_ll_tool.specs.declared.service.ToolError.TheVariants.{Memory};
+    ghost use Rattle.ciborium_ll_service.specs.declared.service.ToolError.TheVariants.{Memory};
 
     ghost from_gives = { λ _ error. error ≡ Memory };
 
@@ -53,7 +53,7 @@ impl From<OutOfMemory> for ToolError {
 }
 
 impl From<WriteFault> for ToolError {
-    ghost use Rattle.ciborium_ll_tool.specs.Fault.{IsWriteError};
+    ghost use Rattle.ciborium_ll_service.specs.Fault.{IsWriteError};
 
     ghost from_gives = { λ fault error. IsWriteError fault error };
 
