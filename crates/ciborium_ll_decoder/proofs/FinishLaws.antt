@@ -157,9 +157,18 @@ module _ {R E P : Type 0} {parser : Parser P} (source : Reader R E) where
         ]
 
     -- a pull that fails is the last one
-    pub rest_error : (room : ℕ) (error : Error E) (new : Segment R P parser) → 4 ≤ room → (IsSteady source segment.reader.now → IsSteady source new.reader.now)
+    rest_error : (room : ℕ) (error : Error E) (new : Segment R P parser) → 4 ≤ room → (IsSteady source segment.reader.now → IsSteady source new.reader.now)
         → PullsChunk source room segment (Err error) new → Finishes source room first (Err error) new.reader.now
     rest_error room (e.Io fault) new four steady fails = inl (record { undamaged = sym so_far.damage ∙ fails.sound; ends = rest_fails room new four fails })
     rest_error room (e.Syntax at) new four steady finds = rest_damaged room at new steady finds
     rest_error room e.TooLong new four steady passes = inl (record { undamaged = sym so_far.damage ∙ passes.sound; ends = rest_passes room new passes })
     rest_error room e.Waiting new four steady never = absurd never
+
+    -- the same of whatever a pull and the loop gave, if both are one error
+    pub rest_stopped : (room buffer : ℕ) (result : Result (Option (Bor (List ℕ))) (Error E)) (answer : Result Unit (Error E)) (error : Error E)
+        (new : Segment R P parser) → PullsChunk source room segment result new → result ≡ Err error → answer ≡ Err error → room ≡ buffer → 4 ≤ buffer
+        → (IsSteady source segment.reader.now → IsSteady source new.reader.now) → Finishes source buffer first answer new.reader.now
+    rest_stopped room buffer result answer error new pulled failed answered same four steady =
+        let fails = subst (λ (z : Result (Option (Bor (List ℕ))) (Error E)). PullsChunk source buffer segment z new) failed
+            (subst (λ (n : ℕ). PullsChunk source n segment result new) same pulled) in
+        subst (λ (z : Result Unit (Error E)). Finishes source buffer first z new.reader.now) (sym answered) (rest_error buffer error new four steady fails)

@@ -81,6 +81,7 @@ impl<'r, R: Read, P: Chunked> Segment<'r, R, P> {
     }
 
     /// Reads what is left of the body.
+    #[tactic(auto, using(crate::proofs::FinishLaws::rest_pulled))]
     fn drain(&mut self, buffer: &mut [u8]) -> Result<(), Error<R::Error>>
         requires room { 4 ≤ length buffer.old }
         ensures same_reference { self.new.reader.ghost_name ≡ self.old.reader.ghost_name }
