@@ -20,8 +20,6 @@ mod messages;
 #[cfg(test)]
 mod pieces;
 #[cfg(test)]
-mod readme;
-#[cfg(test)]
 mod short_texts;
 #[cfg(test)]
 mod streams;

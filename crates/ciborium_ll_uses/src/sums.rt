@@ -1,6 +1,6 @@
 //! The sum of an array of integers.
 
-ghost use Rattle.std.specs.Prelude.{◌+ℤ◌, FitsSigned, negsuc, None, Some};
+ghost use Rattle.std.specs.Prelude.{◌≡◌, ◌+ℤ◌, FitsSigned, negsuc, None, Some};
 ghost use Rattle.std.specs.Int.{w64};
 ghost use Rattle.std.specs.Option.{SomeIff};
 ghost use Rattle.ciborium_ll.specs.Decoding.{IsSteady};
@@ -22,6 +22,16 @@ pub enum SumError<E> {
     OutOfRange(usize),
 }
 
+impl<E> From<Error<E>> for SumError<E> {
+    ghost use Rattle.ciborium_ll_uses.specs.declared.sums.SumError.TheVariants.{Read as FailedRead};
+
+    ghost from_gives = { λ fault error. error ≡ FailedRead fault };
+
+    fn from(fault: Error<E>) -> SumError<E> {
+        SumError::Read(fault)
+    }
+}
+
 /// The sum of an array of integers (RFC 7049, 2.1), of a definite length or not (2.2.1).
 ///
 /// `NoArray` and `NoNumber` name the offset of the title that may not stand there, `OutOfRange` that of the integer
@@ -31,11 +41,7 @@ pub fn sum_numbers<R: Read>(decoder: &mut Decoder<R>) -> Result<i64, SumError<R:
     ensures { SumsArray R.Read decoder.old result decoder.new }
 {
     let place = decoder.offset();
-    let header = match decoder.pull() {
-        Ok(header) => header,
-        Err(error) => return Err(SumError::Read(error)),
-    };
-    match header {
+    match decoder.pull()? {
         Header::Array(Some(count)) => sum_counted(decoder, count),
         Header::Array(None) => sum_open(decoder),
         _ => Err(SumError::NoArray(place)),
@@ -49,10 +55,9 @@ fn sum_counted<R: Read>(decoder: &mut Decoder<R>, count: usize) -> Result<i64, S
     let mut total = 0;
     'numbers: for _read in 0..count {
         let place = decoder.offset();
-        match next_sum(decoder, total) {
-            Ok(Some(sum)) => total = sum,
-            Ok(None) => return Err(SumError::NoNumber(place)),
-            Err(error) => return Err(error),
+        match next_sum(decoder, total)? {
+            Some(sum) => total = sum,
+            None => return Err(SumError::NoNumber(place)),
         }
     }
     Ok(total)
@@ -65,10 +70,9 @@ fn sum_open<R: Read>(decoder: &mut Decoder<R>) -> Result<i64, SumError<R::Error>
     let mut total = 0;
     // It ends: each title takes a byte, and no offset is greater than `usize::MAX`.
     'numbers: loop {
-        match next_sum(decoder, total) {
-            Ok(Some(sum)) => total = sum,
-            Ok(None) => return Ok(total),
-            Err(error) => return Err(error),
+        match next_sum(decoder, total)? {
+            Some(sum) => total = sum,
+            None => return Ok(total),
         }
     }
 }
@@ -82,11 +86,7 @@ fn next_sum<R: Read>(
     ensures steady { IsSteady R.Read decoder.old → IsSteady R.Read decoder.new }
 {
     let place = decoder.offset();
-    let header = match decoder.pull() {
-        Ok(header) => header,
-        Err(error) => return Err(SumError::Read(error)),
-    };
-    let sum = match header {
+    let sum = match decoder.pull()? {
         Header::Positive(number) => total.checked_add_unsigned(number),
         Header::Negative(number) => less(total, number),
         Header::Break => return Ok(None),

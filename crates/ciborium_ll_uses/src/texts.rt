@@ -23,6 +23,16 @@ pub enum TextError<E> {
     Memory,
 }
 
+impl<E> From<Error<E>> for TextError<E> {
+    ghost use Rattle.ciborium_ll_uses.specs.declared.texts.TextError.TheVariants.{Read as FailedRead};
+
+    ghost from_gives = { λ fault error. error ≡ FailedRead fault };
+
+    fn from(fault: Error<E>) -> TextError<E> {
+        TextError::Read(fault)
+    }
+}
+
 /// Reads a whole text (RFC 7049, 2.1) of a definite length or not (2.2.2), of at most `limit` bytes in at most
 /// `limit + 1` segments.
 ///
@@ -38,11 +48,7 @@ pub fn read_string<R: Read>(
     ensures whole { IfOk result (λ text. ReadsText R.Read decoder.old (string_bytes text) decoder.new) }
 {
     let place = decoder.offset();
-    let header = match decoder.pull() {
-        Ok(header) => header,
-        Err(error) => return Err(TextError::Read(error)),
-    };
-    let Header::Text(len) = header else {
+    let Header::Text(len) = decoder.pull()? else {
         return Err(TextError::NoText(place));
     };
     let mut segments = decoder.text(len);
@@ -63,18 +69,14 @@ fn read_segments<R: Read>(
     let mut text = String::new(alloc);
     // Empty segments could come without an end.
     'segments: for _read in 0..=limit.saturating_add(1) {
-        let body = match segments.advance() {
-            Ok(Some(body)) => body,
-            Ok(None) => return Ok(text),
-            Err(error) => return Err(TextError::Read(error)),
+        let Some(body) = segments.advance()? else {
+            return Ok(text);
         };
         if body.length > limit - text.len() {
             return Err(TextError::TooLong);
         }
         let mut segment = segments.segment(body);
-        if let Err(error) = read_body(&mut segment, &mut text) {
-            return Err(error);
-        }
+        read_body(&mut segment, &mut text)?;
     }
     Err(TextError::TooLong)
 }
@@ -93,15 +95,11 @@ fn read_body<R: Read>(
 {
     let mut buffer = [0; 64];
     // It ends: each chunk takes bytes of the body that were not read yet.
-    'chunks: loop {
-        let chunk = match segment.pull(&mut buffer) {
-            Ok(Some(chunk)) => chunk,
-            Ok(None) => return Ok(()),
-            Err(error) => return Err(TextError::Read(error)),
-        };
+    'chunks: while let Some(chunk) = segment.pull(&mut buffer)? {
         match text.push_str(chunk) {
             Ok(()) => {}
             Err(_) => return Err(TextError::Memory),
         }
     }
+    Ok(())
 }

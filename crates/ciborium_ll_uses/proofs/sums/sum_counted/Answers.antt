@@ -1,4 +1,5 @@
-use Rattle.std.proofs.Common.{rules, refl, arith, add-one}
+use Rattle.std.proofs.Common.{rules, ◌≡◌, Err, refl, arith, add-one}
+use Rattle.std.proofs.lemmas.Result.{err_from_is_err_and}
 use mir.Syntax.{w64}
 use mir.Val.{SFits, to_z}
 use Rattle.std.proofs.lemmas.Int.{to_z-of_z}
@@ -10,9 +11,9 @@ pub numbers-init : goal.numbers-init
 numbers-init g c = reads_none g.R.Read c.args.decoder.now
 
 -- a break is no integer
-pub returns-in-Ok-None : goal.returns-in-Ok-None
-returns-in-Ok-None g c =
-    let pulled = rw (c.in-Ok-None.field-0-is, c.offset-place.ensures.same) at c.in-Ok-None.ensures.adds in
+pub returns-in-None : goal.returns-in-None
+returns-in-None g c =
+    let pulled = rw (c.in-None.is, c.offset-place.ensures.same) at c.in_ok-sum.ensures.adds in
     record {
       sums = record {
         count = c.numbers._read;
@@ -29,25 +30,30 @@ returns-in-Ok-None g c =
       };
     }
 
-pub returns-in-Err : goal.returns-in-Err
-returns-in-Err g c = record {
-  sums = record {
-    count = c.numbers._read;
-    total = to_z w64 c.numbers.total-bits;
-    between = c.numbers.decoder;
-    takes_more = omega (arith, c.numbers-test.true);
-    reads = c.numbers.invariant;
-    stops = rw c.offset-place.ensures.same at c.in-Err.ensures.adds;
-  };
-}
+pub returns-in_err-sum : goal.returns-in_err-sum
+returns-in_err-sum g c =
+    let failed = err_from_is_err_and c.from_residual.result c.from_residual.ensures.1 in
+    let is_error = failed.1 in
+    let is_same = failed.2 in
+    let same : c.from_residual.result ≡ Err c.in_err-sum.field-0.0 = cc in
+    rw same (record {
+      sums = record {
+        count = c.numbers._read;
+        total = to_z w64 c.numbers.total-bits;
+        between = c.numbers.decoder;
+        takes_more = omega (arith, c.numbers-test.true);
+        reads = c.numbers.invariant;
+        stops = rw c.offset-place.ensures.same at c.in_err-sum.ensures.adds;
+      };
+    })
 
 pub numbers-preserved : goal.numbers-preserved
 numbers-preserved g c =
-    let adds = rw (c.in-Ok-Some.field-0-is, c.offset-place.ensures.same) at c.in-Ok-Some.ensures.adds in
-    let fits : SFits w64 c.in-Ok-Some.sum = search rules in
+    let adds = rw (c.in-Some.is, c.offset-place.ensures.same) at c.in_ok-sum.ensures.adds in
+    let fits : SFits w64 c.in-Some.sum = search rules in
     simp (to_z-of_z, add-one)
     (reads_more g.R.Read c.args.decoder.now c.numbers.decoder c.next_sum.new.decoder c.numbers._read
-    (to_z w64 c.numbers.total-bits) c.in-Ok-Some.sum c.numbers.invariant adds (rw c.offset-place.ensures.same at c.in-Ok-Some.ensures.steady))
+    (to_z w64 c.numbers.total-bits) c.in-Some.sum c.numbers.invariant adds (rw c.offset-place.ensures.same at c.in_ok-sum.ensures.steady))
 
 pub returns : goal.returns
 returns g c = record {

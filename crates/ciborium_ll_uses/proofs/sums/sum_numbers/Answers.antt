@@ -5,12 +5,12 @@ use Rattle.ciborium_ll_uses.proofs.sums.sum_numbers.Goals as goal
 
 pub returns-in-Array-Some : goal.returns-in-Array-Some
 returns-in-Array-Some g c =
-    let array : c.in-Ok.header ≡ h.Array (Some c.in-Array-Some.count) = search rules in
-    let pulled = rw (c.offset-place.ensures.same, array) at c.in-Ok.ensures.header in
+    let array : c.in_ok-count.field-0 ≡ h.Array (Some c.in-Array-Some.count) = search rules in
+    let pulled = rw (c.offset-place.ensures.same, array) at c.in_ok-count.ensures.header in
     opens_array g.R.Read (Some c.in-Array-Some.count) _ _ _ c.sum_counted.result pulled c.sum_counted.ensures.sums
 
 pub returns-in-Array-None : goal.returns-in-Array-None
 returns-in-Array-None g c =
-    let array : c.in-Ok.header ≡ h.Array None = search rules in
-    let pulled = rw (c.offset-place.ensures.same, array) at c.in-Ok.ensures.header in
+    let array : c.in_ok-count.field-0 ≡ h.Array None = search rules in
+    let pulled = rw (c.offset-place.ensures.same, array) at c.in_ok-count.ensures.header in
     opens_array g.R.Read None _ _ _ c.sum_open.result pulled c.sum_open.ensures.sums

@@ -10,9 +10,9 @@ segments-init g c = record {
   within = omega (arith, c.new-text.ensures.len);
 }
 
-pub returns-in-Ok-None-clause-gathers : goal.returns-in-Ok-None-clause-gathers
-returns-in-Ok-None-clause-gathers g c =
-    let ends = rw c.in-Ok-None.field-0-is at c.in-Ok-None.ensures.advances in
+pub returns-in_default-clause-gathers : goal.returns-in_default-clause-gathers
+returns-in_default-clause-gathers g c =
+    let ends = rw c.in_default.is at c.in_ok-body.ensures.advances in
     record {
       last = c.segments.segments.progress;
       gathers = c.segments.invariant.so_far;
@@ -23,11 +23,11 @@ returns-in-Ok-None-clause-gathers g c =
 
 pub segments-preserved : goal.segments-preserved
 segments-preserved g c =
-    let advances = rw c.in-Ok-Some.field-0-is at c.in-Ok-Some.ensures.advances in
-    let body = c.in-Ok-Some.body in
+    let advances = rw c.in-Some.is at c.in_ok-body.ensures.advances in
+    let body = c.in-Some.body in
     let whole = c.segment-segment.ensures.whole in
-    let appends = rw c.segment-segment.ensures.lent at (c.in_default.ensures.appends body whole) in
-    let grows = c.in_default.ensures.grows body whole in
+    let appends = rw c.segment-segment.ensures.lent at (c.in_ok-read_body.ensures.appends body whole) in
+    let grows = c.in_ok-read_body.ensures.grows body whole in
     record {
       same = search rules;
       so_far = more body c.segments.segments.reader.now c.advance.new.self.reader.now c.read_body.new.segment.reader.now c.segments.invariant.so_far advances appends;
