@@ -94,6 +94,12 @@ fn skip_within<R: Read>(
 /// string; of a body that is no text the offset of its title, or, where a whole string's title is longer than its
 /// shortest one, of the byte from which the shortest would reach the body. `Io` says that the reader failed, `TooLong`
 /// that the offset can't take the next read.
+///
+/// ```rust
+/// let mut decoder = Decoder::from(SliceReader::new(bytes));
+/// skip_item(&mut decoder, DEPTH, &mut [0; 64]).ok()?;
+/// let len = decoder.offset();
+/// ```
 pub fn skip_item<R: Read>(
     decoder: &mut Decoder<R>,
     depth: usize,

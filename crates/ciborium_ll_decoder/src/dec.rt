@@ -129,7 +129,16 @@ impl<R: Read> Decoder<R> {
     /// can't take the next read. After the last two a first byte that was read stays consumed.
     ///
     /// A strict decoder answers `Syntax` also for a title that isn't the shortest of its header, and for a simple value
-    /// below 32 in two bytes. All of that title is then consumed.
+    /// below 32 in two bytes. All of that title is then consumed. See [`Decoder::push`] and [`Decoder::strict`].
+    ///
+    /// ```rust
+    /// let sum = match decoder.pull()? {
+    ///     Header::Positive(number) => total.checked_add_unsigned(number),
+    ///     Header::Negative(number) => less(total, number),
+    ///     Header::Break => return Ok(None),
+    ///     _ => return Err(SumError::NoNumber(place)),
+    /// };
+    /// ```
     #[inline(always)]
     #[tactic(auto, using(ciborium_ll_grammar::proofs::TitleLaws::shortest_no_longer))]
     pub fn pull(&mut self) -> Result<Header, Error<R::Error>>
@@ -218,7 +227,8 @@ impl<R: Read> Decoder<R> {
         (header, shortest(header))
     }
 
-    /// Gives a header back, to be pulled next. The offset falls by the length of its shortest title.
+    /// Gives a header back, to be given by the next [`Decoder::pull`]. The offset falls by the length of its shortest
+    /// title, [`Header::title_len`].
     pub fn push(&mut self, item: Header)
         requires none_waits { waiting_of self.old ≡ None }
         requires covered { title_len item ≤ offset_of self.old }

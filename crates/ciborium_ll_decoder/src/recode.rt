@@ -187,7 +187,14 @@ fn copy_element<R: Read, W: Write>(
 /// can't take the next read. `Write` carries the writer's error. The titles and chunks before the error are written.
 ///
 /// A strict decoder gives elements in their shortest spelling alone, with no string of indefinite length inside
-/// another, and they are written as they are.
+/// another, and they are written as they are. [`strict_len`] is such a copy that keeps nothing.
+///
+/// ```rust
+/// let mut buffer = [0; 64];
+/// let mut decoder = Decoder::from(reader);
+/// let mut encoder = Encoder::from(writer);
+/// let copied = recode(&mut decoder, &mut encoder, count, &mut buffer);
+/// ```
 pub fn recode<R: Read, W: Write>(
     decoder: &mut Decoder<R>,
     encoder: &mut Encoder<W>,

@@ -73,7 +73,7 @@ impl Parser for Text {
 }
 
 /// The body of the next segment: its length in bytes, and the offset of its title.
-#[derive(Clone, Copy)]
+#[derive(Clone, Copy, Debug, PartialEq, Eq)]
 pub struct Body {
     /// How many bytes the body has.
     pub length: usize,
@@ -153,7 +153,7 @@ impl<'r, R: Read, P: Parser> Segments<'r, R, P> {
         }
     }
 
-    /// The segment of a body that `advance` gave last. It lends the decoder on.
+    /// The segment of a body that [`Segments::advance`] gave last. It lends the decoder on.
     ///
     /// A body that was not given by the last `advance` makes a segment of so many bytes all the same.
     pub fn segment(&mut self, body: Body) -> Segment<'_, R, P>
@@ -173,9 +173,17 @@ impl<'r, R: Read, P: Parser> Segments<'r, R, P> {
         }
     }
 
-    /// The next segment of the string. The answers are those of `advance`.
+    /// The next segment of the string. The answers are those of [`Segments::advance`].
     ///
     /// A segment that is dropped early leaves the rest of its body in the reader, where the next call reads on.
+    ///
+    /// ```rust
+    /// let mut segments = decoder.text(len);
+    /// match segments.pull()? {
+    ///     Some(mut segment) => segment.pull(buffer),
+    ///     None => Ok(None),
+    /// }
+    /// ```
     pub fn pull(&mut self) -> Result<Option<Segment<'_, R, P>>, Error<R::Error>>
         ensures* lends { sem 𝓛 (pulls_segment R.row P.row R.Read self.entry result) }
         ensures pulls { PullsSegment R.Read P.kind self.old.progress self.old.reader.now result }

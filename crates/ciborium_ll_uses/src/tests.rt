@@ -4,8 +4,8 @@ use crate::{
     Entry, SumError, TextError, normalise, read_string, shortest_item_len, sum_numbers,
     write_strings,
 };
-use ciborium_ll::io::{EndOfFile, OutOfSpace, SliceReader, SliceWriter};
-use ciborium_ll::{Decoder, Encoder, Error, RecodeError};
+use ciborium_ll::io::{EndOfFile, OutOfSpace, Read, SliceReader, SliceWriter};
+use ciborium_ll::{Decoder, Encoder, Error, Header, RecodeError};
 use std::test::Fail;
 
 // What a sum is, with the offset behind it.
@@ -272,4 +272,36 @@ fn a_text_longer_than_the_buffer(rt: HostRuntime) -> Result<(), Fail> {
     assert_eq!(rt; text.as_bytes(), &bytes[2..]);
     assert_eq!(rt; decoder.offset(), 68);
     Ok(())
+}
+
+// The first chunk of a text.
+fn first_chunk<'a, R: Read>(
+    decoder: &mut Decoder<R>,
+    buffer: &'a mut [u8],
+) -> Result<Option<&'a str>, Error<R::Error>> {
+    let Header::Text(len) = decoder.pull()? else {
+        return Ok(None);
+    };
+    let mut segments = decoder.text(len);
+    match segments.pull()? {
+        Some(mut segment) => segment.pull(buffer),
+        None => Ok(None),
+    }
+}
+
+#[test]
+fn first_chunks(rt: HostRuntime) {
+    let rows: [(&[u8], Option<&str>); 5] = [
+        (b"\x65hello", Some("hell")),
+        (b"\x7f\x62ab\x60\xff", Some("ab")),
+        // the second character is cut, and waits
+        (b"\x65abc\xc3\xa9", Some("abc")),
+        (b"\x7f\xff", None),
+        (b"\x41a", None),
+    ];
+    for (bytes, want) in rows {
+        let mut decoder = Decoder::from(SliceReader::new(bytes));
+        let mut buffer = [0; 4];
+        assert!(rt; matches!(first_chunk(&mut decoder, &mut buffer), Ok(chunk) if chunk == want));
+    }
 }

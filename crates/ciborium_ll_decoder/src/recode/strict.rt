@@ -14,6 +14,13 @@ use ciborium_ll_io::io::{Discard, SliceReader};
 ///
 /// It is `None` where the bytes begin with no such elements. No two beginnings of some bytes are such, so the length is
 /// the only one. This is for whoever checks a message that was signed as bytes.
+///
+/// ```rust
+/// let Some(element) = strict_len(rest, 1) else {
+///     return None;
+/// };
+/// rest = &rest[element..];
+/// ```
 pub fn strict_len(bytes: &[u8], count: usize) -> Option<usize>
     ensures within { IfSome result (λ len. len ≤ length bytes.now) }
     ensures some { IfSome result (λ len. (marks : List Mark) × IsStrictRun count (take len bytes.now) marks) }

@@ -48,6 +48,11 @@ impl<W: Write> Encoder<W> {
     /// is as long as the limit allows with no character cut. No other segments within the limit are fewer.
     ///
     /// The only errors are the writer's. A beginning of the string was then written.
+    ///
+    /// ```rust
+    /// encoder.text(entry.key, None)?;
+    /// encoder.text(entry.value, None)
+    /// ```
     pub fn text(&mut self, value: &str, segment: Option<usize>) -> Result<(), W::Error>
         ensures value { WritesValue W.Write Text segment value.now (writer_of self.old) result (writer_of self.new) }
         ensures fewest { OnOk result (0 < length value.now
