@@ -229,6 +229,12 @@ impl<R: Read> Decoder<R> {
 
     /// Gives a header back, to be given by the next [`Decoder::pull`]. The offset falls by the length of its shortest
     /// title, [`Header::title_len`].
+    ///
+    /// ```rust
+    /// let header = decoder.pull()?;
+    /// decoder.push(header);
+    /// Ok(header)
+    /// ```
     pub fn push(&mut self, item: Header)
         requires none_waits { waiting_of self.old ≡ None }
         requires covered { title_len item ≤ offset_of self.old }

@@ -1,4 +1,8 @@
-//! Each function on bytes that were worked by hand, and beside failing readers and writers.
+//! Each function on bytes that were worked by hand, and beside failing readers and writers; and short callers that the
+//! documents show.
+
+ghost use Rattle.std.specs.Prelude.{◌≡◌, IfOk, Some};
+ghost use Rattle.ciborium_ll.specs.Decoding.{waiting_of};
 
 use crate::{
     Entry, SumError, TextError, normalise, read_string, shortest_item_len, sum_numbers,
@@ -272,6 +276,31 @@ fn a_text_longer_than_the_buffer(rt: HostRuntime) -> Result<(), Fail> {
     assert_eq!(rt; text.as_bytes(), &bytes[2..]);
     assert_eq!(rt; decoder.offset(), 68);
     Ok(())
+}
+
+// The next header, which stays the next one.
+fn peek<R: Read>(decoder: &mut Decoder<R>) -> Result<Header, Error<R::Error>>
+    ensures { IfOk result (λ header. waiting_of decoder.new ≡ Some header) }
+{
+    let header = decoder.pull()?;
+    decoder.push(header);
+    Ok(header)
+}
+
+#[test]
+fn a_header_ahead(rt: HostRuntime) {
+    let mut decoder = Decoder::from(SliceReader::new(&[0x18, 5, 0x80]));
+    // The title is longer than needed, and waits as the shortest one.
+    for _ in 0..2 {
+        assert!(rt; matches!(peek(&mut decoder), Ok(Header::Positive(5))));
+        assert_eq!(rt; decoder.offset(), 1);
+    }
+    assert!(rt; matches!(decoder.pull(), Ok(Header::Positive(5))));
+    assert_eq!(rt; decoder.offset(), 2);
+    assert!(rt; matches!(peek(&mut decoder), Ok(Header::Array(Some(0)))));
+    assert!(rt; matches!(decoder.pull(), Ok(Header::Array(Some(0)))));
+    assert!(rt; matches!(peek(&mut decoder), Err(Error::Io(EndOfFile))));
+    assert_eq!(rt; decoder.offset(), 3);
 }
 
 // The first chunk of a text.
