@@ -79,7 +79,7 @@ uint32_t cll_push(const cll_header *header, uint8_t *out, size_t room, cll_repor
  *
  * CLL_OK; CLL_SHORT where `data` ends before so many elements do; CLL_SYNTAX for a title that is none or may not stand
  * within its string, and for a body of a text that is not UTF-8 by itself; CLL_ROOM. What was written before an error
- * stands in `out`. What stands behind that in `out` is open.
+ * stands in `out`, and behind what was written `out` is as it was.
  */
 uint32_t cll_recode(const uint8_t *data, size_t len, uint64_t count, uint8_t *out, size_t room, cll_report *report);
 

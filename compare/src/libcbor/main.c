@@ -1,9 +1,10 @@
 /*
- * The first work of this repository's bench, done by the streaming decoder of libcbor.
+ * Works of this repository's bench, done by libcbor: titles by its streaming decoder, items by its trees.
  *
- * usage: libcbor pull SIZE COUNT ROUNDS
+ * usage: libcbor pull|recode|skip SIZE COUNT ROUNDS
  *
- * It reads standard input whole, pulls the titles in it so many times, and prints the sum that the bench prints.
+ * It reads standard input whole, pulls the titles in it so many times, or loads the items in it and writes them or
+ * drops them, and prints the sum that the bench and `calls` print.
  */
 #include <cbor.h>
 #include <inttypes.h>
@@ -41,6 +42,22 @@ static void add_titles(const unsigned char *bytes, size_t size, const struct cbo
     }
 }
 
+/* Loads each item, and writes it where there is an output: how many bytes that takes, else how many items there are. */
+static uint64_t items(const unsigned char *bytes, size_t size, unsigned char *out) {
+    uint64_t sum = 0;
+    size_t offset = 0;
+    while (offset < size) {
+        struct cbor_load_result result;
+        cbor_item_t *item = cbor_load(bytes + offset, size - offset, &result);
+        if (!item)
+            break;
+        sum += out ? cbor_serialize(item, out + sum, size - sum) : 1;
+        cbor_decref(&item);
+        offset += result.read;
+    }
+    return sum;
+}
+
 /* Reads standard input whole. */
 static unsigned char *input(size_t *size) {
     size_t room = 1 << 20;
@@ -58,8 +75,9 @@ static unsigned char *input(size_t *size) {
 }
 
 int main(int count, char **words) {
-    if (count != 5 || strcmp(words[1], "pull") != 0) {
-        fputs("usage: libcbor pull SIZE COUNT ROUNDS\n", stderr);
+    const char *work = count == 5 ? words[1] : "";
+    if (strcmp(work, "pull") != 0 && strcmp(work, "recode") != 0 && strcmp(work, "skip") != 0) {
+        fputs("usage: libcbor pull|recode|skip SIZE COUNT ROUNDS\n", stderr);
         return 2;
     }
     struct cbor_callbacks callbacks = cbor_empty_callbacks;
@@ -76,12 +94,18 @@ int main(int count, char **words) {
     callbacks.tag = one_64;
     size_t size;
     unsigned char *bytes = input(&size);
-    if (!bytes)
+    unsigned char *out = malloc(size + 1);
+    if (!bytes || !out)
         return 1;
     uint64_t sum = 0;
-    for (long round = strtol(words[4], NULL, 10); round > 0; round--)
-        add_titles(bytes, size, &callbacks, &sum);
+    for (long round = strtol(words[4], NULL, 10); round > 0; round--) {
+        if (*work == 'p')
+            add_titles(bytes, size, &callbacks, &sum);
+        else
+            sum += items(bytes, size, *work == 'r' ? out : NULL);
+    }
     printf("%" PRIu64 "\n", sum);
+    free(out);
     free(bytes);
     return 0;
 }

@@ -32,6 +32,8 @@ enum Beside {
     Crate,
     /// The same work by libcbor.
     Libcbor,
+    /// The same, where ours is done by the static library, from C too.
+    LibcborFromC,
     /// The least that a pull has to do: one branch for each title.
     Branches,
     /// The least that a copy has to do.
@@ -101,6 +103,11 @@ const ROWS: &[Row] = &[
     bodies("`Encoder::text`, limit 64", "text", 64, streams::plain_text),
     bodies("`Encoder::text`, limit 4,096", "text", 4096, streams::plain_text),
     titles("headers pulled", "pull", streams::assigned_titles).beside(Beside::Libcbor),
+    titles("`cll_pull` in a loop", "pull", streams::assigned_titles).beside(Beside::LibcborFromC),
+    titles("`cll_recode`", "recode", streams::mixed_items).beside(Beside::LibcborFromC),
+    titles("`cll_recode`", "recode", streams::nested_items).beside(Beside::LibcborFromC),
+    titles("`cll_skip`", "skip", streams::mixed_items).beside(Beside::LibcborFromC),
+    titles("`cll_skip`", "skip", streams::nested_items).beside(Beside::LibcborFromC),
     titles("headers pulled", "pull", streams::titles).beside(Beside::Branches),
     bodies("`recode` by 4,096 bytes", "recode", 4096, streams::byte_string)
         .beside(Beside::Memory),
@@ -131,14 +138,18 @@ fn measure_row(asked: &Asked, row: &Row) -> io::Result<()> {
     let input = Input::new(&stream.bytes)?;
     let (beside, program, work) = match row.beside {
         Beside::Crate => ("the Rust crate", &asked.original, row.work),
-        Beside::Libcbor => ("libcbor", &asked.libcbor, row.work),
+        Beside::Libcbor | Beside::LibcborFromC => ("libcbor", &asked.libcbor, row.work),
         Beside::Branches => ("one branch a title", &asked.original, "walk"),
         Beside::Memory => ("a copy of memory", &asked.original, "copy"),
         Beside::Flat => ("a bare loop of `pull`", &asked.bench, "flat"),
         Beside::Plain(work) => ("a decoder not strict", &asked.bench, work),
     };
+    let ours = match row.beside {
+        Beside::LibcborFromC => &asked.calls,
+        _ => &asked.bench,
+    };
     let runs = |rounds: usize| {
-        [(&asked.bench, row.work), (program, work)].map(|(program, work)| Run {
+        [(ours, row.work), (program, work)].map(|(program, work)| Run {
             program,
             arguments: arguments(work, row.size, &stream, rounds),
         })

@@ -13,13 +13,14 @@ use std::process::ExitCode;
 
 /// How the program is used.
 const USAGE: &str =
-    "OURS BENCH ORIGINAL LIBCBOR [--megabytes N] [--rounds N] [--copies] [--library]";
+    "OURS BENCH ORIGINAL CALLS LIBCBOR [--megabytes N] [--rounds N] [--copies] [--library]";
 
 /// What the arguments ask for.
 struct Asked {
     ours: String,
     bench: String,
     original: String,
+    calls: String,
     libcbor: String,
     megabytes: usize,
     rounds: usize,
@@ -33,6 +34,7 @@ fn asked(mut words: impl Iterator<Item = String>) -> Option<Asked> {
         ours: words.next()?,
         bench: words.next()?,
         original: words.next()?,
+        calls: words.next()?,
         libcbor: words.next()?,
         megabytes: 32,
         rounds: 7,

@@ -2,7 +2,7 @@
 #![tactic(auto)]
 
 ghost use Rattle.std.specs.Prelude.{◌≡◌, ◌≤◌, ◌↔◌, ℕ, List, length, IsOk, Some};
-ghost use Rattle.ciborium_ll.specs.Decoding.{IsSteady, offset_of, refusals_of, view};
+ghost use Rattle.ciborium_ll.specs.Decoding.{MovesOn, view};
 ghost use Rattle.cbor_skip.specs.Due.{IsNest};
 ghost use Rattle.cbor_skip.specs.ItemFaults.{ItemInFront};
 ghost use Rattle.cbor_skip.specs.Skipping.{SkipsItem, SkipsWithin};
@@ -39,9 +39,7 @@ fn skip_within<R: Read>(
     requires room { 4 ≤ length buffer.old }
     requires nest { IsNest header }
     ensures skipped { SkipsWithin R.Read header depth (length buffer.old) decoder.old result decoder.new }
-    ensures rises { offset_of decoder.old ≤ offset_of decoder.new }
-    ensures steady { IsSteady R.Read decoder.old → IsSteady R.Read decoder.new }
-    ensures refusals { refusals_of decoder.new ≡ refusals_of decoder.old }
+    ensures moves_on { MovesOn R.Read decoder.old decoder.new }
 {
     let mut remaining = Remaining::behind(header);
     'items: while !remaining.is_done() {
@@ -108,9 +106,7 @@ pub fn skip_item<R: Read>(
     requires shallow { depth ≤ 256 }
     requires room { 4 ≤ length buffer.old }
     ensures skipped { SkipsItem R.Read depth (length buffer.old) decoder.old result decoder.new }
-    ensures rises { offset_of decoder.old ≤ offset_of decoder.new }
-    ensures steady { IsSteady R.Read decoder.old → IsSteady R.Read decoder.new }
-    ensures refusals { refusals_of decoder.new ≡ refusals_of decoder.old }
+    ensures moves_on { MovesOn R.Read decoder.old decoder.new }
     ensures told { (due : List ℕ) → IsReady R.Read (length buffer.old) decoder.old due
         → SkipsTold R.Read depth due decoder.old result decoder.new }
     ensures exactly { (due : List ℕ) → IsReady R.Read (length buffer.old) decoder.old due

@@ -36,7 +36,7 @@ module _ {R E P W F : Type 0} {parser : Parser P} (source : Reader R E) (sink : 
     given = [];
     hands_out = record {
       read = [];
-      passed = Passes-none source segment.reader.now;
+      passed = Passes-none source segment.decoder.now;
       unread = omega arith;
       parts = append-nil (kept_bytes segment.kept);
       sound = writable_nil parser.kind;
@@ -88,10 +88,10 @@ module _ {R E P W F : Type 0} {parser : Parser P} (source : Reader R E) (sink : 
         ∙ ap (λ (z : List ℕ). some.given ++ z) (split_parts parser.kind (kept ++ gives.read) chunk (kept_bytes new.kept) gives.split)
         ∙ sym (append_assoc some.given chunk (kept_bytes new.kept))
 
-    hands_out_more : (IsSteady source between.reader.now → IsSteady source new.reader.now) → HandsOut source sink old (some.given ++ chunk) new
+    hands_out_more : (IsSteady source between.decoder.now → IsSteady source new.decoder.now) → HandsOut source sink old (some.given ++ chunk) new
     hands_out_more steady = record {
       read = some.hands_out.read ++ gives.read;
-      passed = Passes-read source old.reader.now between.reader.now new.reader.now some.hands_out.read gives.read some.hands_out.passed gives.reads.reads steady;
+      passed = Passes-read source old.decoder.now between.decoder.now new.decoder.now some.hands_out.read gives.read some.hands_out.passed gives.reads.reads steady;
       unread = omega (arith, some.hands_out.unread, gives.reads.unread, length-append some.hands_out.read gives.read);
       parts = chunk_parts;
       sound = writable_chunk parser.kind some.given _ chunk _ some.hands_out.sound gives.split;
@@ -142,7 +142,7 @@ module _ {R E P W F : Type 0} {parser : Parser P} (source : Reader R E) (sink : 
           | inr none ↦ absurd (omega (arith, none, gives.reads.some_unread))
         ]
 
-    pub drains_more : (writer' : W) → (IsSteady source between.reader.now → IsSteady source new.reader.now) → WritesAll sink now chunk writer'
+    pub drains_more : (writer' : W) → (IsSteady source between.decoder.now → IsSteady source new.decoder.now) → WritesAll sink now chunk writer'
         → DrainsSome source sink (sizes ++ size ∷ []) old writer new writer'
     unfolding hands_out_more
     drains_more writer' steady written = record {

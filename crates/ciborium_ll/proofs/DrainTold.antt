@@ -71,7 +71,7 @@ module _ {R E P W F : Type 0} {parser : Parser P} (source : Reader R E) (sink : 
   record Came (given : List ℕ) (new : Segment R P parser) (writer' : W) : Type 0 where
     more : List ℕ
     beyond : List ℕ
-    ahead : source.ahead new.reader.now.reader ≡ Some (more ++ beyond)
+    ahead : source.ahead new.decoder.now.reader ≡ Some (more ++ beyond)
     counted : length more ≡ new.unread
     parts : body ≡ given ++ (kept_bytes new.kept ++ more)
     left : rest source new ≡ Some (kept_bytes new.kept ++ more)
@@ -81,11 +81,11 @@ module _ {R E P W F : Type 0} {parser : Parser P} (source : Reader R E) (sink : 
   came used new writer' some =
       let kept = kept_bytes old.kept in
       let read = some.hands_out.read in
-      let told = body_told kept old.unread (source.ahead old.reader.now.reader) body ready.body-told in
+      let told = body_told kept old.unread (source.ahead old.decoder.now.reader) body ready.body-told in
       let due = told.0 in
       let passed = some.hands_out.passed.consumed in
-      let before = view_none old.reader.now.waiting (source.ahead old.reader.now.reader) old.none_waits in
-      let after = view_none new.reader.now.waiting (source.ahead new.reader.now.reader) new.none_waits in
+      let before = view_none old.decoder.now.waiting (source.ahead old.decoder.now.reader) old.none_waits in
+      let after = view_none new.decoder.now.waiting (source.ahead new.decoder.now.reader) new.none_waits in
       let behind = consumes_told _ _ due read (before ∙ told.1) passed in
       let others = behind.0 in
       let known = sym after ∙ behind.1 in
@@ -160,7 +160,7 @@ module _ {R E P W F : Type 0} {parser : Parser P} (source : Reader R E) (sink : 
   -- ---- the body is no text
 
   -- bytes that were read on are the front of what was left
-  read_on : (given read : List ℕ) (between new : Segment R P parser) (writer' : W) (c : Came given between writer') → ReadsAll source between.reader.now read new.reader.now
+  read_on : (given read : List ℕ) (between new : Segment R P parser) (writer' : W) (c : Came given between writer') → ReadsAll source between.decoder.now read new.decoder.now
       → length read ≤ between.unread → (others : List ℕ) × (c.more ≡ read ++ others)
   read_on given read between new writer' c reads within =
       let told = consumes_told _ _ (c.more ++ c.beyond) read c.ahead reads.bytes in

@@ -27,7 +27,7 @@ use Rattle.ciborium_ll_decoder.proofs.SegmentLaws.{StringSoFar, AdvancesAmong, I
 
 -- a writer that tells nothing
 abbrev silent : Writer (Unit {0}) (Unit {0})
-silent = record { written = λ w. None; room = λ w. None; failures = λ w. 0; flushed = λ old new. Unit {0} }
+silent = record { written = λ w. None; room = λ w. None; failures = λ w. 0; flushed = λ old new. Unit {0}; target = λ w. None }
 
 nothing : (bytes : List ℕ) → WritesAll silent tt bytes tt
 nothing bytes = record { appended = tt; room = tt; failures = refl }

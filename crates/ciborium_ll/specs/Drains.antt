@@ -54,7 +54,7 @@ module _ {R E P W F : Type 0} {parser : Parser P} (source : Reader R E) (sink : 
   -- of the body these bytes were handed out, and read before that, by calls that all succeeded
   pub record HandsOut (old : Segment R P parser) (given : List ℕ) (new : Segment R P parser) : Type 0 where
     pub read : List ℕ
-    pub passed : Passes source old.reader.now read new.reader.now
+    pub passed : Passes source old.decoder.now read new.decoder.now
     pub unread : new.unread + length read ≡ old.unread
     pub parts : kept_bytes old.kept ++ read ≡ given ++ kept_bytes new.kept
     pub sound : IsWritable parser.kind given
@@ -126,10 +126,10 @@ module _ {R E P W F : Type 0} {parser : Parser P} (source : Reader R E) (sink : 
   -- the body is told and whole, no fault of it was found, the offset takes it, and the writer has room for it
   pub record IsDrainable (segment : Segment R P parser) (writer : W) (body written : List ℕ) : Type 0 where
     pub sound : segment.damaged ≡ false
-    pub steady : IsSteady source segment.reader.now
+    pub steady : IsSteady source segment.decoder.now
     pub body-told : rest source segment ≡ Some body
     pub whole : length body ≡ left_of segment
-    pub fits : segment.reader.now.offset + segment.unread < offset_limit
+    pub fits : segment.decoder.now.offset + segment.unread < offset_limit
     pub written-told : sink.written writer ≡ Some written
     pub room : ℕ
     pub room-told : sink.room writer ≡ Some room

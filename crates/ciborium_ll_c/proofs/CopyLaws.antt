@@ -1,7 +1,8 @@
 -- What a copy by a fresh decoder says of the bytes ahead.
-use Rattle.std.proofs.Common.{◌≡◌, ℕ, ◌+◌, ◌<◌, ◌≤◌, ◌^◌, ◌∙◌, ◌↔◌, IsTrue, IsOk, Bool, max, List, [], length, Option, Result, Ok, Err, Some, ap, sym, subst, refl, arith, length-append}
+use Rattle.std.proofs.Common.{◌≡◌, ℕ, ◌+◌, ◌<◌, ◌≤◌, ◌^◌, ◌∙◌, ◌↔◌, IsTrue, IsOk, Bool, max, List, [], ◌++◌, drop, length, Option, Result, Ok, Err, Some, ap, sym, subst, refl, arith, length-append}
 use Rattle.ciborium_ll.specs.Types.Read.{Ghosts as Reader}
 use Rattle.ciborium_ll.specs.Types.Write.{Ghosts as Writer}
+use Rattle.ciborium_ll.specs.Types.SliceWriter.{SliceWriter}
 use Rattle.ciborium_ll.specs.Types.Decoder.{Decoder}
 use Rattle.ciborium_ll.specs.Types.Error.TheVariants as e
 use Rattle.ciborium_ll.specs.Types.RecodeError.{RecodeError}
@@ -10,23 +11,45 @@ use Rattle.ciborium_ll.specs.Elements.{spelling}
 use Rattle.ciborium_ll.specs.Faults.{Place, Due, In, Body, Syntax}
 use Rattle.ciborium_ll.specs.Decoding.{IsFreshAs, offset_limit}
 use Rattle.ciborium_ll.specs.RecodingTold.{IsReadyAs, IsToldAs, RecodesAnyhow, RecodesTold, StopsAt}
+use Rattle.ciborium_ll.specs.Slices.{before_of, target_of}
 use Rattle.ciborium_ll.specs.StrictRecoding.{RecodesStrictly}
+use Rattle.ciborium_ll.specs.Transfer.{Target}
 use Rattle.ciborium_ll_c.specs.declared.answer.Answer.{Answer}
 use Rattle.ciborium_ll_c.specs.declared.answer.Answer.TheVariants as a
 use Rattle.ciborium_ll_c.specs.declared.answer.CllReport.{CllReport}
 use Rattle.ciborium_ll_c.specs.Answers.{Reports}
 use Rattle.ciborium_ll_c.specs.Checking.{Checks}
-use Rattle.ciborium_ll_c.specs.Copying.{Copies, CopiesAnyhow, HasRoom, copy_answer, copy_place}
+use Rattle.ciborium_ll_c.specs.Copying.{Copies, CopiesAnyhow, HasRoom, StandInFront, copy_answer, copy_place}
 use Rattle.ciborium_ll_c.proofs.PullLaws.{due_ahead, still_steady}
 
+same_bytes : (known : Option (List ℕ)) (one other : List ℕ) → known ≡ Some one → known ≡ Some other → one ≡ other
+same_bytes known one other p q = let same : Some one ≡ Some other = sym p ∙ q in cc
+
 same_length : (known : Option (List ℕ)) (one other : List ℕ) → known ≡ Some one → known ≡ Some other → length one ≡ length other
-same_length known one other p q = let same : Some one ≡ Some other = sym p ∙ q in let inner : one ≡ other = cc in ap length inner
+same_length known one other p q = ap length (same_bytes known one other p q)
+
+-- what a writer tells of what it wrote stands in the output where that does
+stands_too : (known : Option (List ℕ)) (one other before after : List ℕ) → known ≡ Some one → known ≡ Some other
+    → StandInFront one before after → StandInFront other before after
+stands_too known one other before after p q stands =
+    subst (λ (bytes : List ℕ). StandInFront bytes before after) (same_bytes known one other p q) stands
 
 -- no more is consumed than is ahead
 no_more : (place : Place) (ahead more : List ℕ) (consumed : ℕ) → StopsAt place ahead more consumed → consumed ≤ length ahead
 no_more Due ahead more consumed stops = omega (arith, stops.1)
 no_more (In kind) ahead more consumed stops = omega (arith, stops.1)
 no_more (Body kind len start) ahead more consumed stops = omega (arith, stops.7)
+
+-- a writer whose target is told has just that one
+pub same_target : {one other : Target} → Some one ≡ Some other → one ≡ other
+same_target same = cc
+
+-- a writer that stayed on its slice left what it wrote in front of what stood there
+pub stands_behind : (behind first : SliceWriter) (written out after : List ℕ) → target_of behind ≡ target_of first
+    → before_of first ≡ out → behind.buffer.now ≡ written ++ drop (length written) (before_of behind)
+    → after ≡ behind.buffer.now → StandInFront written out after
+stands_behind behind first written out after kept begun slice ended =
+    ended ∙ slice ∙ ap (λ l. written ++ drop (length written) l) (ap (λ t. t.before) kept ∙ begun)
 
 module _ {R E W F : Type 0} (source : Reader R E) (sink : Writer W F) where
   pub told_to_copy : (strict : Bool) (reader : R) (decoder : Decoder R) (writer : W) (due : List ℕ) → IsFreshAs strict reader 0 decoder
@@ -54,84 +77,91 @@ module _ {R E W F : Type 0} (source : Reader R E) (sink : Writer W F) where
 
   copy_reported :
       (count : ℕ) (due : List ℕ) (old new : Decoder R) (writer' : W) (result : Result (Unit {0}) (RecodeError E F))
-      (report : CllReport) (output : List ℕ)
+      (report : CllReport) (output before after : List ℕ)
       → RecodesTold source sink count due [] old result new writer' → old.offset ≡ 0
       → sink.written writer' ≡ Some output → Reports report new.offset (length output) (copy_place result)
-      → Copies count due (copy_answer result) report
-  copy_reported count due old new writer' (Ok done) report output told start out reports = (
+      → StandInFront output before after → Copies count due before (copy_answer result) after report
+  copy_reported count due old new writer' (Ok done) report output before after told start out reports stands = (
     told.front,
+    stands_too (sink.written writer') output (spelling told.front.marks) before after out told.output stands,
     record {
       consumed_is = omega (arith, reports.consumed_is, told.offset, start);
       written_is = reports.written_is ∙ same_length (sink.written writer') output (spelling told.front.marks) out told.output;
       place_is = reports.place_is;
     },
   )
-  copy_reported count due old new writer' (Err (r.Read (e.Io fault))) report output told start out reports = (
+  copy_reported count due old new writer' (Err (r.Read (e.Io fault))) report output before after told start out reports stands = (
     told.fault,
     told.answered,
+    stands_too (sink.written writer') output told.fault.written before after out told.output stands,
     record {
       consumed_is = omega (arith, reports.consumed_is, told.offset, start);
       written_is = reports.written_is ∙ same_length (sink.written writer') output told.fault.written out told.output;
       place_is = reports.place_is;
     },
   )
-  copy_reported count due old new writer' (Err (r.Read (e.Syntax place))) report output told start out reports =
+  copy_reported count due old new writer' (Err (r.Read (e.Syntax place))) report output before after told start out reports stands =
       let named : told.0 ≡ report.place = omega (arith, told.1, start, reports.place_is) in
       let met = told.2 in (
         met.fault,
         met.answered ∙ ap Syntax named,
+        stands_too (sink.written writer') output met.fault.written before after out met.output stands,
         record {
           consumed_is = omega (arith, reports.consumed_is, met.offset, start);
           written_is = reports.written_is ∙ same_length (sink.written writer') output met.fault.written out met.output;
           place_is = refl;
         },
       )
-  copy_reported count due old new writer' (Err (r.Read e.TooLong)) report output told start out reports = absurd told
-  copy_reported count due old new writer' (Err (r.Read e.Waiting)) report output told start out reports = absurd told
-  copy_reported count due old new writer' (Err (r.Write fault)) report output told start out reports = absurd told
+  copy_reported count due old new writer' (Err (r.Read e.TooLong)) report output before after told start out reports stands = absurd told
+  copy_reported count due old new writer' (Err (r.Read e.Waiting)) report output before after told start out reports stands = absurd told
+  copy_reported count due old new writer' (Err (r.Write fault)) report output before after told start out reports stands = absurd told
 
   anyhow_reported :
       (count : ℕ) (due : List ℕ) (old new : Decoder R) (writer' : W) (result : Result (Unit {0}) (RecodeError E F))
-      (report : CllReport) (output : List ℕ)
+      (report : CllReport) (output before after : List ℕ)
       → RecodesAnyhow source sink count 64 due [] old result new writer' → length due < 2 ^ 63 → old.offset ≡ 0
       → sink.written writer' ≡ Some output → Reports report new.offset (length output) (copy_place result)
-      → CopiesAnyhow count due (copy_answer result) report
-  anyhow_reported count due old new writer' (Ok done) report output told object start out reports = (
+      → StandInFront output before after → CopiesAnyhow count due before (copy_answer result) after report
+  anyhow_reported count due old new writer' (Ok done) report output before after told object start out reports stands = (
     told.front,
+    stands_too (sink.written writer') output (spelling told.front.marks) before after out told.output stands,
     record {
       consumed_is = omega (arith, reports.consumed_is, told.offset, start);
       written_is = reports.written_is ∙ same_length (sink.written writer') output (spelling told.front.marks) out told.output;
       place_is = reports.place_is;
     },
   )
-  anyhow_reported count due old new writer' (Err (r.Read (e.Io fault))) report output told object start out reports = (
+  anyhow_reported count due old new writer' (Err (r.Read (e.Io fault))) report output before after told object start out reports stands = (
     told.stop,
+    stands_too (sink.written writer') output told.stop.written before after out told.output stands,
     record {
       consumed_is = omega (arith, reports.consumed_is, told.offset, start);
       written_is = reports.written_is ∙ same_length (sink.written writer') output told.stop.written out told.output;
       place_is = reports.place_is;
     },
   )
-  anyhow_reported count due old new writer' (Err (r.Read (e.Syntax place))) report output told object start out reports =
+  anyhow_reported count due old new writer' (Err (r.Read (e.Syntax place))) report output before after told object start out reports stands =
       let named : told.0 ≡ report.place = omega (arith, told.1, start, reports.place_is) in
       let met = told.2 in (
         met.fault,
         met.answered ∙ ap Syntax named,
+        stands_too (sink.written writer') output met.fault.written before after out met.output stands,
         record {
           consumed_is = omega (arith, reports.consumed_is, met.offset, start);
           written_is = reports.written_is ∙ same_length (sink.written writer') output met.fault.written out met.output;
           place_is = refl;
         },
       )
-  anyhow_reported count due old new writer' (Err (r.Read e.TooLong)) report output told object start out reports =
+  anyhow_reported count due old new writer' (Err (r.Read e.TooLong)) report output before after told object start out reports stands =
       let stop = told.0.stop in
       let parts = ap length stop.is in
       let few = no_more stop.place stop.ahead stop.more stop.consumed stop.stops in
       let full : 2 ^ 64 ≤ new.offset + max 8 64 = told.1 in
       absurd (omega (arith, object, parts, few, full, told.0.offset, start, length-append stop.before stop.ahead))
-  anyhow_reported count due old new writer' (Err (r.Read e.Waiting)) report output told object start out reports = absurd told
-  anyhow_reported count due old new writer' (Err (r.Write fault)) report output told object start out reports = (
+  anyhow_reported count due old new writer' (Err (r.Read e.Waiting)) report output before after told object start out reports stands = absurd told
+  anyhow_reported count due old new writer' (Err (r.Write fault)) report output before after told object start out reports stands = (
     told.stop,
+    stands_too (sink.written writer') output told.stop.written before after out told.output stands,
     record {
       consumed_is = omega (arith, reports.consumed_is, told.offset, start);
       written_is = reports.written_is ∙ same_length (sink.written writer') output told.stop.written out told.output;
@@ -141,32 +171,33 @@ module _ {R E W F : Type 0} (source : Reader R E) (sink : Writer W F) where
 
   pub copy_said :
       (count : ℕ) (due : List ℕ) (old new : Decoder R) (writer' : W) (result : Result (Unit {0}) (RecodeError E F))
-      (report : CllReport) (output : List ℕ)
+      (report : CllReport) (output before after : List ℕ)
       (answer : Answer) (place behind : ℕ) → RecodesTold source sink count due [] old result new writer'
       → old.offset ≡ 0 → sink.written writer' ≡ Some output → answer ≡ copy_answer result → place ≡ copy_place result
-      → behind ≡ new.offset → Reports report behind (length output) place → Copies count due answer report
-  copy_said count due old new writer' result report output answer place behind told start out same named at reports =
-      let said = copy_reported count due old new writer' result report output told start out record {
+      → behind ≡ new.offset → Reports report behind (length output) place
+      → StandInFront output before after → Copies count due before answer after report
+  copy_said count due old new writer' result report output before after answer place behind told start out same named at reports stands =
+      let said = copy_reported count due old new writer' result report output before after told start out record {
         consumed_is = reports.consumed_is ∙ at;
         written_is = reports.written_is;
         place_is = reports.place_is ∙ named;
-      } in
-      subst (λ (x : Answer). Copies count due x report) (sym same) said
+      } stands in
+      subst (λ (x : Answer). Copies count due before x after report) (sym same) said
 
   pub anyhow_said :
       (count : ℕ) (due : List ℕ) (old new : Decoder R) (writer' : W) (result : Result (Unit {0}) (RecodeError E F))
-      (report : CllReport) (output : List ℕ)
+      (report : CllReport) (output before after : List ℕ)
       (answer : Answer) (place behind : ℕ) → RecodesAnyhow source sink count 64 due [] old result new writer'
       → length due < 2 ^ 63 → old.offset ≡ 0 → sink.written writer' ≡ Some output → answer ≡ copy_answer result
       → place ≡ copy_place result → behind ≡ new.offset → Reports report behind (length output) place
-      → CopiesAnyhow count due answer report
-  anyhow_said count due old new writer' result report output answer place behind told object start out same named at reports =
-      let said = anyhow_reported count due old new writer' result report output told object start out record {
+      → StandInFront output before after → CopiesAnyhow count due before answer after report
+  anyhow_said count due old new writer' result report output before after answer place behind told object start out same named at reports stands =
+      let said = anyhow_reported count due old new writer' result report output before after told object start out record {
         consumed_is = reports.consumed_is ∙ at;
         written_is = reports.written_is;
         place_is = reports.place_is ∙ named;
-      } in
-      subst (λ (x : Answer). CopiesAnyhow count due x report) (sym same) said
+      } stands in
+      subst (λ (x : Answer). CopiesAnyhow count due before x after report) (sym same) said
 
   check_reported :
       (count : ℕ) (due : List ℕ) (old new : Decoder R) (writer' : W) (result : Result (Unit {0}) (RecodeError E F))

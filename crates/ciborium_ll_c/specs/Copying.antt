@@ -1,5 +1,5 @@
 -- What `cll_recode` does.
-use Rattle.std.specs.Prelude.{◌≡◌, ℕ, ◌+◌, ◌≤◌, ◌⊎◌, List, length, Result, Ok, Err}
+use Rattle.std.specs.Prelude.{◌≡◌, ℕ, ◌+◌, ◌≤◌, ◌⊎◌, List, ◌++◌, drop, length, Result, Ok, Err}
 use Rattle.ciborium_ll.specs.Types.Error.TheVariants as e
 use Rattle.ciborium_ll.specs.Types.RecodeError.{RecodeError}
 use Rattle.ciborium_ll.specs.Types.RecodeError.TheVariants as r
@@ -16,37 +16,42 @@ abbrev pub HasRoom : ℕ → List ℕ → ℕ → Type 0
 HasRoom count bytes room =
     ((front : RunInFront count bytes) × (length (spelling front.marks) ≤ room)) ⊎ (length bytes ≤ room)
 
--- so many elements stood in front: all of them were consumed, and the length of their shortest spelling is reported
-abbrev pub CopiesFront : ℕ → List ℕ → CllReport → Type 0
-CopiesFront count bytes report =
-    (front : RunInFront count bytes) × Reports report (length front.elements) (length (spelling front.marks)) 0
+-- the bytes stand in front of the output, and behind them it is as it was
+abbrev pub StandInFront : List ℕ → List ℕ → List ℕ → Type 0
+StandInFront bytes old new = new ≡ bytes ++ drop (length bytes) old
 
--- the first fault stopped the copy at this place of the bytes
-abbrev pub MeetsSyntax : ℕ → List ℕ → CllReport → Type 0
-MeetsSyntax count bytes report =
-    (fault : HasFault count bytes) × (fault.answer ≡ Syntax report.place)
+-- so many elements stood in front: all of them were consumed, and their shortest spelling stands in the output
+abbrev pub CopiesFront : ℕ → List ℕ → List ℕ → List ℕ → CllReport → Type 0
+CopiesFront count bytes old new report =
+    (front : RunInFront count bytes) × StandInFront (spelling front.marks) old new
+    × Reports report (length front.elements) (length (spelling front.marks)) 0
+
+-- the first fault stopped the copy at this place of the bytes, and what was written before stands in the output
+abbrev pub MeetsSyntax : ℕ → List ℕ → List ℕ → List ℕ → CllReport → Type 0
+MeetsSyntax count bytes old new report =
+    (fault : HasFault count bytes) × (fault.answer ≡ Syntax report.place) × StandInFront fault.written old new
     × Reports report (length fault.before + fault.consumed) (length fault.written) report.place
 
 -- a copy where there is room, by the answer: the first fault stops it where so many elements do not stand in front
-abbrev pub Copies : ℕ → List ℕ → Answer → CllReport → Type 0
-Copies count bytes a.Ok report = CopiesFront count bytes report
-Copies count bytes a.Short report =
-    (fault : HasFault count bytes) × (fault.answer ≡ Short)
+abbrev pub Copies : ℕ → List ℕ → List ℕ → Answer → List ℕ → CllReport → Type 0
+Copies count bytes old a.Ok new report = CopiesFront count bytes old new report
+Copies count bytes old a.Short new report =
+    (fault : HasFault count bytes) × (fault.answer ≡ Short) × StandInFront fault.written old new
     × Reports report (length fault.before + fault.consumed) (length fault.written) 0
-Copies count bytes a.Syntax report = MeetsSyntax count bytes report
-Copies count bytes answer report = ⊥
+Copies count bytes old a.Syntax new report = MeetsSyntax count bytes old new report
+Copies count bytes old answer new report = ⊥
 
 -- the same where the room may be too small
-abbrev pub CopiesAnyhow : ℕ → List ℕ → Answer → CllReport → Type 0
-CopiesAnyhow count bytes a.Ok report = CopiesFront count bytes report
-CopiesAnyhow count bytes a.Short report =
-    (stop : StopInReading count bytes)
+abbrev pub CopiesAnyhow : ℕ → List ℕ → List ℕ → Answer → List ℕ → CllReport → Type 0
+CopiesAnyhow count bytes old a.Ok new report = CopiesFront count bytes old new report
+CopiesAnyhow count bytes old a.Short new report =
+    (stop : StopInReading count bytes) × StandInFront stop.written old new
     × Reports report (length stop.before + stop.consumed) (length stop.written) 0
-CopiesAnyhow count bytes a.Syntax report = MeetsSyntax count bytes report
-CopiesAnyhow count bytes a.Room report =
-    (stop : StopInWriting count bytes)
+CopiesAnyhow count bytes old a.Syntax new report = MeetsSyntax count bytes old new report
+CopiesAnyhow count bytes old a.Room new report =
+    (stop : StopInWriting count bytes) × StandInFront stop.written old new
     × Reports report (length stop.before + length stop.read) (length stop.written) 0
-CopiesAnyhow count bytes answer report = ⊥
+CopiesAnyhow count bytes old answer new report = ⊥
 
 module _ {E F : Type 0} where
   -- the answer that stands for what `recode` gave

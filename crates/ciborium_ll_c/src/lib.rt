@@ -5,8 +5,10 @@
 //! and says in a [`CllReport`] how far it came.
 #![tactic(auto)]
 
-ghost use Rattle.std.specs.Prelude.{◌≡◌, ◌↔◌, ◌≤◌, ◌<◌, length};
+ghost use Rattle.std.specs.Prelude.{◌≡◌, ◌↔◌, ◌≤◌, ◌<◌, ℕ, List, IsOk, length};
 ghost use Rattle.ciborium_ll.specs.Faults.{RunInFront};
+ghost use Rattle.ciborium_ll.specs.RecodingTold.{IsReady, IsTold, RecodesAnyhow, RecodesTold};
+ghost use Rattle.ciborium_ll.specs.Slices.{target_of};
 ghost use Rattle.ciborium_ll.specs.StrictRecoding.{StrictRunInFront};
 ghost use Rattle.cbor_skip.specs.ItemFaults.{ItemInFront};
 ghost use Rattle.ciborium_ll_c.specs.declared.answer.Answer.{Answer};
@@ -26,9 +28,10 @@ mod tests;
 pub use self::answer::{Answer, CllReport};
 pub use self::header::CllHeader;
 use cbor_skip::{SkipError, skip_item};
-use ciborium_ll::io::{Discard, EndOfFile, OutOfSpace, SliceReader, SliceWriter};
+use ciborium_ll::io::{Discard, EndOfFile, OutOfSpace, Read, SliceReader, SliceWriter, Write};
 use ciborium_ll::recode::recode;
 use ciborium_ll::{Decoder, Encoder, Error, RecodeError};
+use std::mem;
 
 /// How many bytes of a string are read at a time, at most.
 const BUFFER_SIZE: usize = 64;
@@ -60,6 +63,7 @@ fn pull(bytes: &[u8], header: &mut CllHeader, report: &mut CllReport) -> Answer
 /// The answers are `Ok`; `Short` where the bytes end before a title or inside it; and `Syntax` with the place 0 for a
 /// first byte with which no title begins. After the last two `header` is as it was.
 #[unsafe(no_mangle)]
+#[tactic(auto, using(crate::proofs::PullLaws::pulled_exactly))]
 pub extern "C" fn cll_pull(bytes: &[u8], header: &mut CllHeader, report: &mut CllReport) -> u32
     ensures pulled { (answer : Answer) × (result ≡ code answer) × Pulls bytes.now answer header.old header.new report.new }
     ensures exactly { result ≡ code a.Ok ↔ TitleInFront bytes.now }
@@ -78,7 +82,7 @@ fn push(header: &CllHeader, out: &mut [u8], report: &mut CllReport) -> Answer
     if out.len() < pushed.title_len() {
         return Answer::Room;
     }
-    // No contract of an encoder says that its writer stays on its slice, so the title is copied out of it.
+    // A loan that an encoder holds is followed to no end (`copy_onto`), so the title is copied out of space of its own.
     let mut space = [0; TITLE_SIZE];
     let mut encoder = Encoder::from(SliceWriter::new(&mut space));
     if encoder.push(pushed).is_err() {
@@ -116,20 +120,47 @@ fn stop_of_copy(copied: Result<(), RecodeError<EndOfFile, OutOfSpace>>) -> (Answ
     }
 }
 
+/// Copies so many elements to the slice of a writer, which stays on it.
+fn copy_onto<'a, R: Read>(
+    decoder: &mut Decoder<R>,
+    writer: &mut SliceWriter<'a>,
+    count: usize,
+    buffer: &mut [u8],
+) -> Result<(), RecodeError<R::Error, OutOfSpace>>
+    requires room { 4 ≤ length buffer.old }
+    ensures told { (due written : List ℕ)
+        → IsReady R.Read ⟦<SliceWriter<'a> as Write>⟧ count (length buffer.old) decoder.old writer.old due written
+        → RecodesTold R.Read ⟦<SliceWriter<'a> as Write>⟧ count due written decoder.old result decoder.new writer.new }
+    ensures exactly { (due written : List ℕ)
+        → IsReady R.Read ⟦<SliceWriter<'a> as Write>⟧ count (length buffer.old) decoder.old writer.old due written
+        → (IsOk result ↔ RunInFront count due) }
+    ensures anyhow { (due written : List ℕ)
+        → IsTold R.Read ⟦<SliceWriter<'a> as Write>⟧ decoder.old writer.old due written
+        → RecodesAnyhow R.Read ⟦<SliceWriter<'a> as Write>⟧ count (length buffer.old) due written
+        decoder.old result decoder.new writer.new }
+    ensures target { target_of writer.new ≡ target_of writer.old }
+{
+    // A loan inside a writer is followed to its end, and one inside an encoder over it is not. So the encoder has the
+    // writer for this call alone, and what it writes to then is put back.
+    let mut encoder = Encoder::from(mem::replace(writer, SliceWriter::new(&mut [])));
+    let copied = recode(decoder, &mut encoder, count, buffer);
+    *writer = encoder.into_inner();
+    copied
+}
+
 /// Copies so many elements.
 fn copy(bytes: &[u8], count: usize, out: &mut [u8], report: &mut CllReport) -> Answer
     ensures copied { HasRoom count bytes.now (length out.old)
-        → Copies count bytes.now result report.new }
+        → Copies count bytes.now out.old result out.new report.new }
     ensures exactly { HasRoom count bytes.now (length out.old)
         → (result ≡ a.Ok ↔ RunInFront count bytes.now) }
-    ensures anyhow { CopiesAnyhow count bytes.now result report.new }
+    ensures anyhow { CopiesAnyhow count bytes.now out.old result out.new report.new }
 {
     let mut buffer = [0; BUFFER_SIZE];
     let mut decoder = Decoder::from(SliceReader::new(bytes));
-    let mut encoder = Encoder::from(SliceWriter::new(out));
-    let copied = recode(&mut decoder, &mut encoder, count, &mut buffer);
+    let mut writer = SliceWriter::new(out);
+    let copied = copy_onto(&mut decoder, &mut writer, count, &mut buffer);
     let (answer, place) = stop_of_copy(copied);
-    let writer = encoder.into_inner();
     let written = writer.written().len();
     report.say(decoder.offset(), written, place);
     answer
@@ -142,6 +173,7 @@ fn copy(bytes: &[u8], count: usize, out: &mut [u8], report: &mut CllReport) -> A
 /// may not stand within its string, and for a body of a text that is no UTF-8; and `Room` where `out` is full. What
 /// was written before stands in `out`.
 #[unsafe(no_mangle)]
+#[tactic(auto, using(crate::proofs::PullLaws::code_exactly))]
 pub extern "C" fn cll_recode(
     bytes: &[u8],
     count: u64,
@@ -149,10 +181,10 @@ pub extern "C" fn cll_recode(
     report: &mut CllReport,
 ) -> u32
     ensures copied { HasRoom count bytes.now (length out.old)
-        → (answer : Answer) × (result ≡ code answer) × Copies count bytes.now answer report.new }
+        → (answer : Answer) × (result ≡ code answer) × Copies count bytes.now out.old answer out.new report.new }
     ensures exactly { HasRoom count bytes.now (length out.old)
         → (result ≡ code a.Ok ↔ RunInFront count bytes.now) }
-    ensures anyhow { (answer : Answer) × (result ≡ code answer) × CopiesAnyhow count bytes.now answer report.new }
+    ensures anyhow { (answer : Answer) × (result ≡ code answer) × CopiesAnyhow count bytes.now out.old answer out.new report.new }
 {
     copy(bytes, count as usize, out, report).code()
 }
@@ -178,6 +210,7 @@ fn check(bytes: &[u8], count: usize, report: &mut CllReport) -> Answer
 /// The answers are `Ok`; `Short` where the bytes end before so many elements do; and `Syntax` as of `cll_recode`, and
 /// for a title that is longer than it need be, for such a simple value and for such a string.
 #[unsafe(no_mangle)]
+#[tactic(auto, using(crate::proofs::PullLaws::code_exactly))]
 pub extern "C" fn cll_strict(bytes: &[u8], count: u64, report: &mut CllReport) -> u32
     ensures checked { (answer : Answer) × (result ≡ code answer) × Checks count bytes.now answer report.new }
     ensures exactly { result ≡ code a.Ok ↔ StrictRunInFront count bytes.now }

@@ -1,4 +1,4 @@
-// What no clause says: which bytes stand in the output behind a copy. And each call once for each answer that it has.
+// Each call once for each answer that it has, by bytes and numbers from outside.
 
 use super::{Answer, CllHeader, CllReport, cll_pull, cll_push, cll_recode, cll_skip, cll_strict};
 use std::process::Abort;

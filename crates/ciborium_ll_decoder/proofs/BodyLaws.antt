@@ -104,19 +104,19 @@ module _ {R E P W F : Type 0} {parser : Parser P} (source : Reader R E) (sink : 
     pub parts : read ≡ front ++ kept_bytes segment.kept
     pub sound : IsWritable parser.kind front
     pub counted : segment.unread + length read ≡ len
-    pub passed : Passes source old read segment.reader.now
+    pub passed : Passes source old read segment.decoder.now
     pub written : WritesAll sink writer front writer'
     pub at : segment.place ≡ place
     pub undamaged : segment.damaged ≡ false
 
-  pub so_far_start : (body : Body) (segment : Segment R P parser) (writer : W) → IsWhole body segment → BodySoFar body.length body.place segment.reader.now writer segment writer
+  pub so_far_start : (body : Body) (segment : Segment R P parser) (writer : W) → IsWhole body segment → BodySoFar body.length body.place segment.decoder.now writer segment writer
   so_far_start body segment writer whole = record {
     read = [];
     front = [];
     parts = sym whole.kept;
     sound = writable_nil parser.kind;
     counted = omega (arith, whole.unread);
-    passed = Passes-none source segment.reader.now;
+    passed = Passes-none source segment.decoder.now;
     written = record { appended = Appends-nil (sink.written writer); room = Shrinks-zero (sink.room writer); failures = refl };
     at = whole.place;
     undamaged = whole.sound;
@@ -133,22 +133,22 @@ module _ {R E P W F : Type 0} {parser : Parser P} (source : Reader R E) (sink : 
         ∙ sym (append_assoc so_far.front chunk (kept_bytes new.kept))
 
     pub so_far_chunk : (room : ℕ) (chunk : List ℕ) (new : Segment R P parser) (writer' : W) (gives : GivesChunk source room segment chunk new)
-        → (IsSteady source segment.reader.now → IsSteady source new.reader.now) → WritesAll sink now chunk writer' → BodySoFar len place old writer new writer'
+        → (IsSteady source segment.decoder.now → IsSteady source new.decoder.now) → WritesAll sink now chunk writer' → BodySoFar len place old writer new writer'
     so_far_chunk room chunk new writer' gives steady written = record {
       read = so_far.read ++ gives.read;
       front = so_far.front ++ chunk;
       parts = chunk_parts room chunk new gives;
       sound = writable_chunk parser.kind so_far.front _ chunk _ so_far.sound gives.split;
       counted = omega (arith, so_far.counted, gives.reads.unread, length-append so_far.read gives.read);
-      passed = Passes-read source old segment.reader.now new.reader.now so_far.read gives.read so_far.passed gives.reads.reads steady;
+      passed = Passes-read source old segment.decoder.now new.decoder.now so_far.read gives.read so_far.passed gives.reads.reads steady;
       written = WritesBytes-then sink {T = Unit {0}} writer now writer' (Ok (tt {0})) so_far.front chunk so_far.written written;
       at = gives.reads.place ∙ so_far.at;
       undamaged = gives.still_sound;
     }
 
     pub so_far_unwritten : (room : ℕ) (chunk : List ℕ) (new : Segment R P parser) (writer' : W) (gives : GivesChunk source room segment chunk new)
-        → (IsSteady source segment.reader.now → IsSteady source new.reader.now) → WritesFront sink now chunk writer'
-        → BodyUnwritten source sink parser.kind len old writer new.reader.now writer'
+        → (IsSteady source segment.decoder.now → IsSteady source new.decoder.now) → WritesFront sink now chunk writer'
+        → BodyUnwritten source sink parser.kind len old writer new.decoder.now writer'
     so_far_unwritten room chunk new writer' gives steady stopped =
         let parts = chunk_parts room chunk new gives ∙ append_assoc so_far.front chunk (kept_bytes new.kept) in
         let counted = ap length parts in
@@ -157,7 +157,7 @@ module _ {R E P W F : Type 0} {parser : Parser P} (source : Reader R E) (sink : 
           chunk = chunk;
           kept = kept_bytes new.kept;
           writer-between = now;
-          passed = subst (λ (z : List ℕ). Passes source old z new.reader.now) parts (Passes-read source old segment.reader.now new.reader.now so_far.read gives.read so_far.passed gives.reads.reads steady);
+          passed = subst (λ (z : List ℕ). Passes source old z new.decoder.now) parts (Passes-read source old segment.decoder.now new.decoder.now so_far.read gives.read so_far.passed gives.reads.reads steady);
           within = omega (
             arith,
             counted,
@@ -172,7 +172,7 @@ module _ {R E P W F : Type 0} {parser : Parser P} (source : Reader R E) (sink : 
           stopped = stopped;
         }
 
-    part : CopiesPart source sink parser.kind len old writer segment.reader.now now
+    part : CopiesPart source sink parser.kind len old writer segment.decoder.now now
     part = record {
       read = so_far.read;
       front = so_far.front;
@@ -185,10 +185,10 @@ module _ {R E P W F : Type 0} {parser : Parser P} (source : Reader R E) (sink : 
       written = so_far.written;
     }
 
-    so_far_fails : (room : ℕ) (new : Segment R P parser) → 4 ≤ room → ChunkFails source room segment new → BodyFails source sink parser.kind len old writer new.reader.now now
+    so_far_fails : (room : ℕ) (new : Segment R P parser) → 4 ≤ room → ChunkFails source room segment new → BodyFails source sink parser.kind len old writer new.decoder.now now
     unfolding part
     so_far_fails room new four fails = record {
-      between = segment.reader.now;
+      between = segment.decoder.now;
       part = part;
       count = read_count room segment;
       some = omega (arith, four, fails.some_unread, three_kept segment.kept);
@@ -196,10 +196,10 @@ module _ {R E P W F : Type 0} {parser : Parser P} (source : Reader R E) (sink : 
       fails = fails.fails;
     }
 
-    so_far_passes : (room : ℕ) (new : Segment R P parser) → ChunkPasses source room segment new → BodyPasses source sink parser.kind len room old writer new.reader.now now
+    so_far_passes : (room : ℕ) (new : Segment R P parser) → ChunkPasses source room segment new → BodyPasses source sink parser.kind len room old writer new.decoder.now now
     unfolding part
     so_far_passes room new passes = record {
-      between = segment.reader.now;
+      between = segment.decoder.now;
       part = part;
       count = read_count room segment;
       held = omega arith;
@@ -209,7 +209,7 @@ module _ {R E P W F : Type 0} {parser : Parser P} (source : Reader R E) (sink : 
     }
 
     damaged_end : (new : Segment R P parser) → (kind : Kind) → parser.kind ≡ kind → EndsInCharacter source segment new → IsWritable kind so_far.front
-        → BodyDamaged source sink kind len old writer new.reader.now now
+        → BodyDamaged source sink kind len old writer new.decoder.now now
     damaged_end new Bytes is ends sound = absurd (let none = ap length (segment.text_alone is) in let some = ends.some_kept in omega (arith, none, some))
     damaged_end new Text is ends sound = record {
       textual = refl;
@@ -224,9 +224,9 @@ module _ {R E P W F : Type 0} {parser : Parser P} (source : Reader R E) (sink : 
       written = so_far.written;
     }
 
-    damaged_middle : (room : ℕ) (new : Segment R P parser) → (IsSteady source segment.reader.now → IsSteady source new.reader.now) → (kind : Kind) → parser.kind ≡ kind
+    damaged_middle : (room : ℕ) (new : Segment R P parser) → (IsSteady source segment.decoder.now → IsSteady source new.decoder.now) → (kind : Kind) → parser.kind ≡ kind
         → (keeps : KeepsTooMuch source room segment new) → IsWritable kind so_far.front → IsSplit kind (kept_bytes segment.kept ++ keeps.read) keeps.front keeps.left
-        → BodyDamaged source sink kind len old writer new.reader.now now
+        → BodyDamaged source sink kind len old writer new.decoder.now now
     damaged_middle room new steady Bytes is keeps sound split = absurd (let none = ap length split.1 in let much = keeps.too_much in omega (arith, none, much))
     damaged_middle room new steady Text is keeps sound split =
         let kept = kept_bytes segment.kept in
@@ -240,12 +240,12 @@ module _ {R E P W F : Type 0} {parser : Parser P} (source : Reader R E) (sink : 
           sound = sound;
           within = omega (arith, so_far.counted, keeps.reads.unread, length-append so_far.read keeps.read);
           no_text = inr (too_much_is_no_text (so_far.read ++ keeps.read) so_far.front kept keeps.read keeps.front keeps.left parts sound split keeps.too_much);
-          passed = Passes-read source old segment.reader.now new.reader.now so_far.read keeps.read so_far.passed keeps.reads.reads steady;
+          passed = Passes-read source old segment.decoder.now new.decoder.now so_far.read keeps.read so_far.passed keeps.reads.reads steady;
           written = so_far.written;
         }
 
-    so_far_damaged : (room at : ℕ) (new : Segment R P parser) → (IsSteady source segment.reader.now → IsSteady source new.reader.now) → FindsDamage source room segment at new
-        → (at ≡ place) × BodyDamaged source sink parser.kind len old writer new.reader.now now
+    so_far_damaged : (room at : ℕ) (new : Segment R P parser) → (IsSteady source segment.decoder.now → IsSteady source new.decoder.now) → FindsDamage source room segment at new
+        → (at ≡ place) × BodyDamaged source sink parser.kind len old writer new.decoder.now now
     so_far_damaged room at new steady finds = (
       finds.place ∙ so_far.at,
       elim finds.cause [
@@ -258,8 +258,8 @@ module _ {R E P W F : Type 0} {parser : Parser P} (source : Reader R E) (sink : 
     )
 
     -- a pull that fails ends the copy
-    pub so_far_error : (room : ℕ) (error : Error E) (new : Segment R P parser) → 4 ≤ room → (IsSteady source segment.reader.now → IsSteady source new.reader.now)
-        → PullsChunk source room segment (Err error) new → CopiesBody source sink parser.kind len room place old writer (Err (r.Read error)) new.reader.now now
+    pub so_far_error : (room : ℕ) (error : Error E) (new : Segment R P parser) → 4 ≤ room → (IsSteady source segment.decoder.now → IsSteady source new.decoder.now)
+        → PullsChunk source room segment (Err error) new → CopiesBody source sink parser.kind len room place old writer (Err (r.Read error)) new.decoder.now now
     so_far_error room (e.Io fault) new four steady fails = so_far_fails room new four fails
     so_far_error room (e.Syntax at) new four steady finds = so_far_damaged room at new steady finds
     so_far_error room e.TooLong new four steady passes = so_far_passes room new passes

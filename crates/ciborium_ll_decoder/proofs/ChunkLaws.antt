@@ -13,7 +13,7 @@ use Rattle.ciborium_ll_decoder.specs.Decoding.{ReadsAll}
 module _ {R E P : Type 0} {parser : Parser P} (source : Ghosts R E) where
   -- a pull that can't go beyond the kept bytes reads nothing
   pub ReadsOn-none : (room : ℕ) (segment new : Segment R P parser) → 0 < segment.unread → segment.damaged ≡ false → min room (left_of segment) ≤ length (kept_bytes segment.kept)
-      → IsSame segment new → ReadsAll source segment.reader.now [] new.reader.now → ReadsOn source room segment [] new
+      → IsSame segment new → ReadsAll source segment.decoder.now [] new.decoder.now → ReadsOn source room segment [] new
   ReadsOn-none room segment new some sound short same reads = record {
     some_unread = some;
     sound = sound;

@@ -9,7 +9,7 @@ use Rattle.ciborium_ll_decoder.specs.declared.dec.Error.{Error}
 use Rattle.ciborium_ll_decoder.specs.declared.dec.Error.TheVariants as e
 use Rattle.ciborium_ll_text.proofs.Lists.{length_zero}
 use Rattle.ciborium_ll_grammar.specs.Title.{shortest_title, title_len}
-use Rattle.ciborium_ll_decoder.specs.Decoding.{Begins, behind_waiting, view, IsSteady, Passes, PullsTitle, PullsHeader, RefusesTitle, TakesBack, PullsAgain}
+use Rattle.ciborium_ll_decoder.specs.Decoding.{Begins, behind_waiting, view, IsSteady, MovesOn, Passes, PullsTitle, PullsHeader, RefusesTitle, TakesBack, PullsAgain}
 
 -- bytes put in front are the next ones
 pub Consumes-prepended : (known : Option (List ℕ)) (front : List ℕ) → Consumes (prepend_known front known) known front
@@ -92,6 +92,18 @@ waited_then old between new bytes more (Some h) e (inl same) nil second =
     ]
 
 module _ {R E : Type 0} (source : Ghosts R E) where
+  -- with no call nothing changed
+  pub MovesOn-none : (decoder : Decoder R) → MovesOn source decoder decoder
+  MovesOn-none decoder = record { steady = λ s. s; refusals = refl; rises = omega arith }
+
+  -- one call behind others
+  pub MovesOn-then : (old between new : Decoder R) → MovesOn source old between → MovesOn source between new → MovesOn source old new
+  MovesOn-then old between new first second = record {
+    steady = λ s. second.steady (first.steady s);
+    refusals = second.refusals ∙ first.refusals;
+    rises = omega (arith, first.rises, second.rises);
+  }
+
   -- no bytes
   pub Passes-none : (decoder : Decoder R) → Passes source decoder [] decoder
   Passes-none decoder = record {

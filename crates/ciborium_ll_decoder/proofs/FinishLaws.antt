@@ -23,10 +23,10 @@ module _ {R E P : Type 0} {parser : Parser P} (source : Reader R E) where
     pub parts : kept_bytes first.kept ++ read ≡ front ++ kept_bytes segment.kept
     pub sound : IsWritable parser.kind front
     pub counted : segment.unread + length read ≡ first.unread
-    pub passed : Passes source first.reader.now read segment.reader.now
+    pub passed : Passes source first.decoder.now read segment.decoder.now
     pub at : segment.place ≡ first.place
     pub damage : segment.damaged ≡ first.damaged
-    pub still : segment.damaged ≡ true → segment.reader.now ≡ first.reader.now
+    pub still : segment.damaged ≡ true → segment.decoder.now ≡ first.decoder.now
 
   pub rest_start : (segment : Segment R P parser) → RestSoFar segment segment
   rest_start segment = record {
@@ -35,7 +35,7 @@ module _ {R E P : Type 0} {parser : Parser P} (source : Reader R E) where
     parts = append-nil (kept_bytes segment.kept);
     sound = writable_nil parser.kind;
     counted = omega arith;
-    passed = Passes-none source segment.reader.now;
+    passed = Passes-none source segment.decoder.now;
     at = refl;
     damage = refl;
     still = λ damaged. refl;
@@ -43,7 +43,7 @@ module _ {R E P : Type 0} {parser : Parser P} (source : Reader R E) where
 
   module _ (first segment : Segment R P parser) (so_far : RestSoFar first segment) where
     pub rest_chunk : (room : ℕ) (chunk : List ℕ) (new : Segment R P parser) (gives : GivesChunk source room segment chunk new)
-        → (IsSteady source segment.reader.now → IsSteady source new.reader.now) → RestSoFar first new
+        → (IsSteady source segment.decoder.now → IsSteady source new.decoder.now) → RestSoFar first new
     rest_chunk room chunk new gives steady =
         let more = gives.read in
         record {
@@ -55,7 +55,7 @@ module _ {R E P : Type 0} {parser : Parser P} (source : Reader R E) where
               ∙ sym (append_assoc so_far.front chunk (kept_bytes new.kept));
           sound = writable_chunk parser.kind so_far.front _ chunk _ so_far.sound gives.split;
           counted = omega (arith, so_far.counted, gives.reads.unread, length-append so_far.read more);
-          passed = Passes-read source first.reader.now segment.reader.now new.reader.now so_far.read more so_far.passed gives.reads.reads steady;
+          passed = Passes-read source first.decoder.now segment.decoder.now new.decoder.now so_far.read more so_far.passed gives.reads.reads steady;
           at = gives.reads.place ∙ so_far.at;
           damage = gives.still_sound ∙ sym gives.reads.sound ∙ so_far.damage;
           still = λ damaged. absurd (let never = gives.still_sound in cc);
@@ -63,12 +63,12 @@ module _ {R E P : Type 0} {parser : Parser P} (source : Reader R E) where
 
     -- the same of whatever a pull gave, if it didn't fail and gave no `None`
     pub rest_pulled : (room : ℕ) (result : Result (Option (Bor (List ℕ))) (Error E)) (new : Segment R P parser) → PullsChunk source room segment result new
-        → IsOk result → (result ≡ Ok None → ⊥) → (IsSteady source segment.reader.now → IsSteady source new.reader.now) → RestSoFar first new
+        → IsOk result → (result ≡ Ok None → ⊥) → (IsSteady source segment.decoder.now → IsSteady source new.decoder.now) → RestSoFar first new
     rest_pulled room (Ok (Some chunk)) new pulled ok some steady = rest_chunk room chunk.now new pulled steady
     rest_pulled room (Ok None) new pulled ok some steady = absurd (some refl)
     rest_pulled room (Err error) new pulled ok some steady = cc
 
-    part : BeginsRest source parser.kind (kept_bytes first.kept) first.unread first.reader.now segment.reader.now
+    part : BeginsRest source parser.kind (kept_bytes first.kept) first.unread first.decoder.now segment.decoder.now
     part = record {
       read = so_far.read;
       front = so_far.front;
@@ -81,10 +81,10 @@ module _ {R E P : Type 0} {parser : Parser P} (source : Reader R E) where
     }
 
     rest_fails : (room : ℕ) (new : Segment R P parser) → 4 ≤ room → ChunkFails source room segment new
-        → RestFails source parser.kind (kept_bytes first.kept) first.unread first.reader.now new.reader.now
+        → RestFails source parser.kind (kept_bytes first.kept) first.unread first.decoder.now new.decoder.now
     unfolding part
     rest_fails room new four fails = record {
-      between = segment.reader.now;
+      between = segment.decoder.now;
       part = part;
       count = read_count room segment;
       some = omega (arith, four, fails.some_unread, three_kept segment.kept);
@@ -93,10 +93,10 @@ module _ {R E P : Type 0} {parser : Parser P} (source : Reader R E) where
     }
 
     rest_passes : (room : ℕ) (new : Segment R P parser) → ChunkPasses source room segment new
-        → RestPasses source parser.kind (kept_bytes first.kept) first.unread room first.reader.now new.reader.now
+        → RestPasses source parser.kind (kept_bytes first.kept) first.unread room first.decoder.now new.decoder.now
     unfolding part
     rest_passes room new passes = record {
-      between = segment.reader.now;
+      between = segment.decoder.now;
       part = part;
       count = read_count room segment;
       held = omega arith;
@@ -106,7 +106,7 @@ module _ {R E P : Type 0} {parser : Parser P} (source : Reader R E) where
     }
 
     damaged_end : (new : Segment R P parser) → (kind : Kind) → parser.kind ≡ kind → EndsInCharacter source segment new → IsWritable kind so_far.front
-        → RestDamaged source kind (kept_bytes first.kept) first.unread first.reader.now new.reader.now
+        → RestDamaged source kind (kept_bytes first.kept) first.unread first.decoder.now new.decoder.now
     damaged_end new Bytes is ends sound = absurd (let none = ap length (segment.text_alone is) in let some = ends.some_kept in omega (arith, none, some))
     damaged_end new Text is ends sound = record {
       textual = refl;
@@ -116,12 +116,12 @@ module _ {R E P : Type 0} {parser : Parser P} (source : Reader R E) where
         omega (arith, so_far.counted, ends.none_unread),
         stuck_is_no_text (kept_bytes first.kept ++ so_far.read) so_far.front (kept_bytes segment.kept) so_far.parts sound segment.stuck ends.some_kept,
       );
-      passed = subst (λ (d : Decoder R). Passes source first.reader.now so_far.read d) (sym ends.decoder) so_far.passed;
+      passed = subst (λ (d : Decoder R). Passes source first.decoder.now so_far.read d) (sym ends.decoder) so_far.passed;
     }
 
-    damaged_middle : (room : ℕ) (new : Segment R P parser) → (IsSteady source segment.reader.now → IsSteady source new.reader.now) → (kind : Kind) → parser.kind ≡ kind
+    damaged_middle : (room : ℕ) (new : Segment R P parser) → (IsSteady source segment.decoder.now → IsSteady source new.decoder.now) → (kind : Kind) → parser.kind ≡ kind
         → (keeps : KeepsTooMuch source room segment new) → IsWritable kind so_far.front → IsSplit kind (kept_bytes segment.kept ++ keeps.read) keeps.front keeps.left
-        → RestDamaged source kind (kept_bytes first.kept) first.unread first.reader.now new.reader.now
+        → RestDamaged source kind (kept_bytes first.kept) first.unread first.decoder.now new.decoder.now
     damaged_middle room new steady Bytes is keeps sound split = absurd (let none = ap length split.1 in let much = keeps.too_much in omega (arith, none, much))
     damaged_middle room new steady Text is keeps sound split =
         let kept = kept_bytes first.kept in
@@ -131,11 +131,11 @@ module _ {R E P : Type 0} {parser : Parser P} (source : Reader R E) where
           read = so_far.read ++ keeps.read;
           within = omega (arith, so_far.counted, keeps.reads.unread, length-append so_far.read keeps.read);
           no_text = inr (too_much_is_no_text (kept ++ (so_far.read ++ keeps.read)) so_far.front (kept_bytes segment.kept) keeps.read keeps.front keeps.left parts sound split keeps.too_much);
-          passed = Passes-read source first.reader.now segment.reader.now new.reader.now so_far.read keeps.read so_far.passed keeps.reads.reads steady;
+          passed = Passes-read source first.decoder.now segment.decoder.now new.decoder.now so_far.read keeps.read so_far.passed keeps.reads.reads steady;
         }
 
-    rest_damaged : (room at : ℕ) (new : Segment R P parser) → (IsSteady source segment.reader.now → IsSteady source new.reader.now) → FindsDamage source room segment at new
-        → Finishes source room first (Err (e.Syntax at)) new.reader.now
+    rest_damaged : (room at : ℕ) (new : Segment R P parser) → (IsSteady source segment.decoder.now → IsSteady source new.decoder.now) → FindsDamage source room segment at new
+        → Finishes source room first (Err (e.Syntax at)) new.decoder.now
     rest_damaged room at new steady finds =
         let placed = finds.place ∙ so_far.at in
         elim finds.cause [
@@ -157,8 +157,8 @@ module _ {R E P : Type 0} {parser : Parser P} (source : Reader R E) where
         ]
 
     -- a pull that fails is the last one
-    rest_error : (room : ℕ) (error : Error E) (new : Segment R P parser) → 4 ≤ room → (IsSteady source segment.reader.now → IsSteady source new.reader.now)
-        → PullsChunk source room segment (Err error) new → Finishes source room first (Err error) new.reader.now
+    rest_error : (room : ℕ) (error : Error E) (new : Segment R P parser) → 4 ≤ room → (IsSteady source segment.decoder.now → IsSteady source new.decoder.now)
+        → PullsChunk source room segment (Err error) new → Finishes source room first (Err error) new.decoder.now
     rest_error room (e.Io fault) new four steady fails = inl (record { undamaged = sym so_far.damage ∙ fails.sound; ends = rest_fails room new four fails })
     rest_error room (e.Syntax at) new four steady finds = rest_damaged room at new steady finds
     rest_error room e.TooLong new four steady passes = inl (record { undamaged = sym so_far.damage ∙ passes.sound; ends = rest_passes room new passes })
@@ -167,8 +167,8 @@ module _ {R E P : Type 0} {parser : Parser P} (source : Reader R E) where
     -- the same of whatever a pull and the loop gave, if both are one error
     pub rest_stopped : (room buffer : ℕ) (result : Result (Option (Bor (List ℕ))) (Error E)) (answer : Result Unit (Error E)) (error : Error E)
         (new : Segment R P parser) → PullsChunk source room segment result new → result ≡ Err error → answer ≡ Err error → room ≡ buffer → 4 ≤ buffer
-        → (IsSteady source segment.reader.now → IsSteady source new.reader.now) → Finishes source buffer first answer new.reader.now
+        → (IsSteady source segment.decoder.now → IsSteady source new.decoder.now) → Finishes source buffer first answer new.decoder.now
     rest_stopped room buffer result answer error new pulled failed answered same four steady =
         let fails = subst (λ (z : Result (Option (Bor (List ℕ))) (Error E)). PullsChunk source buffer segment z new) failed
             (subst (λ (n : ℕ). PullsChunk source n segment result new) same pulled) in
-        subst (λ (z : Result Unit (Error E)). Finishes source buffer first z new.reader.now) (sym answered) (rest_error buffer error new four steady fails)
+        subst (λ (z : Result Unit (Error E)). Finishes source buffer first z new.decoder.now) (sym answered) (rest_error buffer error new four steady fails)

@@ -374,12 +374,17 @@ module _ {R E W F : Type 0} (source : Reader R E) (sink : Writer W F) (k : Kind)
         steady = λ s. steady (all.steady s);
       }
 
-  pub so_far_fresh : (opened now : Decoder R) (writer : W) (progress : Progress) → opened.waiting ≡ None → progress ≡ p.Open 0 → TakesBack source opened (kind_header k None) now
+  -- behind its open a string has one open that isn't closed, and nothing of it was written
+  pub so_far_opened : (opened now : Decoder R) (writer : W) (progress : Progress) → opened.waiting ≡ None → progress ≡ p.Open 1 → now ≡ opened
       → StringSoFar opened writer progress now writer
-  so_far_fresh opened now writer progress settled fresh back = record {
+  so_far_opened opened now writer progress settled begun same = record {
     none_waits = settled;
-    far = inl (record { fresh = fresh; back = back; nothing = refl });
-    steady = λ s. subst (λ (reader : R). IsTrue (source.steady reader)) (sym back.reader) s;
+    far = inr (record {
+      opens = 1;
+      counts = begun;
+      among = subst (λ (d : Decoder R). IsAmong 1 opened writer d writer) (sym same) (among_first opened writer writer refl);
+    });
+    steady = λ s. subst (λ (d : Decoder R). IsSteady source d) (sym same) s;
   }
 
   -- a segment takes a byte

@@ -1,6 +1,6 @@
 -- What the calls on a segment do, which gives its body chunk by chunk.
 use Rattle.std.specs.Prelude.{◌≡◌, ℕ, ◌+◌, ◌-◌, ◌<◌, ◌≤◌, ◌⊎◌, min, true, false, List, [], ◌++◌, length, take, Option, Some, None, Result, Ok, Err}
-use Rattle.std.specs.Borrow.{Bor}
+use Rattle.std.specs.Borrow.{Bor, GName}
 use Rattle.std.specs.Io.KnownBytes.{prepend_known}
 use Rattle.std.specs.Option.{option_map}
 use Rattle.ciborium_ll_io.specs.declared.io.Read.{Ghosts}
@@ -13,7 +13,7 @@ use Rattle.ciborium_ll_decoder.specs.declared.seg.Progress.{Progress}
 use Rattle.ciborium_ll_decoder.specs.declared.seg.Segment.{Segment}
 use Rattle.ciborium_ll_grammar.specs.Strings.{Kind, Bytes, Text}
 use Rattle.ciborium_ll_text.specs.Text.{IsFront}
-use Rattle.ciborium_ll_decoder.specs.Decoding.{offset_limit, IsSteady, ReadsAll, ReadFails, IsUntouched, offset_of, refusals_of}
+use Rattle.ciborium_ll_decoder.specs.Decoding.{offset_limit, MovesOn, ReadsAll, ReadFails, IsUntouched, offset_of}
 use Rattle.ciborium_ll_decoder.specs.Kept.{kept_bytes}
 use Rattle.ciborium_ll_decoder.specs.Segments.{AdvancesTo, opens_of}
 
@@ -25,6 +25,13 @@ IsSplit Text bytes front rest = IsFront bytes front rest
 -- ---- what a segment is to its callers
 
 module _ {R P : Type 0} {parser : Parser P} where
+  -- the decoder that the segment holds, and its reference
+  abbrev pub segment_decoder : Segment R P parser → Decoder R
+  segment_decoder s = s.decoder.now
+
+  abbrev pub segment_reference : Segment R P parser → GName
+  segment_reference s = s.decoder.ghost_name
+
   -- how many bytes of the body were not handed out
   abbrev pub left_of : Segment R P parser → ℕ
   left_of s = s.unread + length (kept_bytes s.kept)
@@ -65,7 +72,7 @@ module _ {R E : Type 0} (source : Ghosts R E) where
 module _ {R E P : Type 0} {parser : Parser P} (source : Ghosts R E) where
   -- the kept bytes, and as much of the body as is told
   abbrev pub rest : Segment R P parser → Option (List ℕ)
-  rest s = prepend_known (kept_bytes s.kept) (option_map (take s.unread) (source.ahead s.reader.now.reader))
+  rest s = prepend_known (kept_bytes s.kept) (option_map (take s.unread) (source.ahead s.decoder.now.reader))
 
   -- the body has ended
   pub record SegmentEnds (old new : Segment R P parser) : Type 0 where
@@ -73,14 +80,14 @@ module _ {R E P : Type 0} {parser : Parser P} (source : Ghosts R E) where
     pub none_kept : kept_bytes old.kept ≡ []
     pub sound : old.damaged ≡ false
     pub same : IsSame old new
-    pub decoder : new.reader.now ≡ old.reader.now
+    pub decoder : new.decoder.now ≡ old.decoder.now
 
   -- a read of the count of bytes
   pub record ReadsOn (room : ℕ) (old : Segment R P parser) (read : List ℕ) (new : Segment R P parser) : Type 0 where
     pub some_unread : 0 < old.unread
     pub sound : old.damaged ≡ false
     pub count : length read ≡ read_count room old
-    pub reads : ReadsAll source old.reader.now read new.reader.now
+    pub reads : ReadsAll source old.decoder.now read new.decoder.now
     pub unread : new.unread + length read ≡ old.unread
     pub place : new.place ≡ old.place
 
@@ -97,7 +104,7 @@ module _ {R E P : Type 0} {parser : Parser P} (source : Ghosts R E) where
     pub some_kept : 0 < length (kept_bytes old.kept)
     pub sound : old.damaged ≡ false
     pub unread : new.unread ≡ old.unread
-    pub decoder : new.reader.now ≡ old.reader.now
+    pub decoder : new.decoder.now ≡ old.decoder.now
 
   -- more than three bytes would have to be kept
   pub record KeepsTooMuch (room : ℕ) (old new : Segment R P parser) : Type 0 where
@@ -112,7 +119,7 @@ module _ {R E P : Type 0} {parser : Parser P} (source : Ghosts R E) where
   pub record StaysDamaged (old new : Segment R P parser) : Type 0 where
     pub damaged-before : old.damaged ≡ true
     pub same : IsSame old new
-    pub decoder : new.reader.now ≡ old.reader.now
+    pub decoder : new.decoder.now ≡ old.decoder.now
 
   -- the body is no text; the place is the segment's, and nothing is kept
   pub record FindsDamage (room : ℕ) (old : Segment R P parser) (at : ℕ) (new : Segment R P parser) : Type 0 where
@@ -126,15 +133,15 @@ module _ {R E P : Type 0} {parser : Parser P} (source : Ghosts R E) where
   pub record ChunkFails (room : ℕ) (old new : Segment R P parser) : Type 0 where
     pub some_unread : 0 < old.unread
     pub sound : old.damaged ≡ false
-    pub fails : ReadFails source old.reader.now (read_count room old) new.reader.now
+    pub fails : ReadFails source old.decoder.now (read_count room old) new.decoder.now
     pub same : IsSame old new
 
   -- the offset can't take the read
   pub record ChunkPasses (room : ℕ) (old new : Segment R P parser) : Type 0 where
     pub some_unread : 0 < old.unread
     pub sound : old.damaged ≡ false
-    pub full : offset_limit ≤ old.reader.now.offset + read_count room old
-    pub untouched : IsUntouched old.reader.now new.reader.now
+    pub full : offset_limit ≤ old.decoder.now.offset + read_count room old
+    pub untouched : IsUntouched old.decoder.now new.decoder.now
     pub same : IsSame old new
 
   -- a pull into so much room
@@ -147,21 +154,18 @@ module _ {R E P : Type 0} {parser : Parser P} (source : Ghosts R E) where
   PullsChunk room old (Err e.Waiting) new = ⊥
 
 module _ {R E : Type 0} (source : Ghosts R E) (kind : Kind) where
-  -- `advance` gave this answer and left this decoder: the offset rose, by one at least for each further open, a steady
-  -- reader stayed steady, and no refusal was counted
+  -- `advance` gave this answer and left this decoder, whose offset rose by one at least for each further open
   pub record GoesOnTo (progress : Progress) (old : Decoder R) (result : Result (Option Body) (Error E)) (new : Decoder R) : Type 0 where
     pub after : Progress
     pub advanced : AdvancesTo source kind progress old result after new
-    pub rises : offset_of old ≤ offset_of new
     pub opens : opens_of after + offset_of old ≤ opens_of progress + offset_of new
-    pub steady : IsSteady source old → IsSteady source new
-    pub refusals : refusals_of new ≡ refusals_of old
+    pub moves_on : MovesOn source old new
 
 module _ {R E P : Type 0} {parser : Parser P} (source : Ghosts R E) (kind : Kind) where
   -- a segment is whole, and holds the decoder as `advance` left it
   pub record LendsWhole (progress : Progress) (old : Decoder R) (segment : Segment R P parser) : Type 0 where
     pub body : Body
-    pub goes_on : GoesOnTo source kind progress old (Ok (Some body)) segment.reader.now
+    pub goes_on : GoesOnTo source kind progress old (Ok (Some body)) segment.decoder.now
     pub whole : IsWhole body segment
 
   -- `pull` answers as `advance` does, with a whole segment for a body

@@ -107,6 +107,13 @@ module _ {R E : Type 0} (source : Ghosts R E) where
   abbrev pub IsSteady : Decoder R → Type 0
   IsSteady d = IsTrue (source.steady d.reader)
 
+  -- what a call keeps that reads: a steady reader stays steady, the decoder refused nothing by itself, and its offset
+  -- never falls
+  pub record MovesOn (old new : Decoder R) : Type 0 where
+    pub steady : IsSteady old → IsSteady new
+    pub refusals : refusals_of new ≡ refusals_of old
+    pub rises : offset_of old ≤ offset_of new
+
   -- ---- pull
 
   -- `pull` gave a header: the view began with a title of it, which is gone

@@ -12,28 +12,26 @@ use Rattle.ciborium_ll_decoder.specs.declared.seg.Segment.{Segment}
 use Rattle.ciborium_ll_decoder.specs.declared.seg.Parser.{Ghosts as Parser}
 use Rattle.ciborium_ll_decoder.specs.contracts.dec.Decoder as decoder
 use Rattle.ciborium_ll_decoder.specs.contracts.seg.Segments as segments
-use Rattle.ciborium_ll_decoder.specs.Decoding.{IsSteady, offset_of, refusals_of}
+use Rattle.ciborium_ll_decoder.specs.Decoding.{MovesOn, offset_of}
 use Rattle.ciborium_ll_grammar.specs.Strings.{Kind}
 use Rattle.ciborium_ll_decoder.specs.Segments.{AdvancesTo, opens_of}
 
 -- the string with this decoder behind its reference
 abbrev pub with_decoder : {R P : Type 0} → Segments R P → Decoder R → Segments R P
-with_decoder s d = record s { reader = record s.reader { now = d } }
+with_decoder s d = record s { decoder = record s.decoder { now = d } }
 
 module _ {R E P : Type 0} (source : Ghosts R E) (kind : Kind) where
   -- all that `advance` promises of the string: its answer is this result, and it leads from the old string to the new
   pub record IsAdvanced (old : Segments R P) (result : Result (Option Body) (Error E)) (new : Segments R P) : Type 0 where
-    pub same_reference : new.reader.ghost_name ≡ old.reader.ghost_name
-    pub advances : AdvancesTo source kind old.progress old.reader.now result new.progress new.reader.now
-    pub rises : offset_of old.reader.now ≤ offset_of new.reader.now
-    pub opens : opens_of new.progress + offset_of old.reader.now ≤ opens_of old.progress + offset_of new.reader.now
-    pub steady : IsSteady source old.reader.now → IsSteady source new.reader.now
-    pub refusals : refusals_of new.reader.now ≡ refusals_of old.reader.now
+    pub same_reference : new.decoder.ghost_name ≡ old.decoder.ghost_name
+    pub advances : AdvancesTo source kind old.progress old.decoder.now result new.progress new.decoder.now
+    pub opens : opens_of new.progress + offset_of old.decoder.now ≤ opens_of old.progress + offset_of new.decoder.now
+    pub moves_on : MovesOn source old.decoder.now new.decoder.now
 
 module _ {R P E : Type 0} {parser : Parser P} where
   -- the reference to the decoder in a segment that the result may have
   abbrev pub lent_reference : Result (Option (Segment R P parser)) (Error E) → maybe.Option GName
-  lent_reference (Ok (Some segment)) = maybe.some segment.reader.ghost_name
+  lent_reference (Ok (Some segment)) = maybe.some segment.decoder.ghost_name
   lent_reference (Ok None) = maybe.none
   lent_reference (Err error) = maybe.none
 
@@ -45,7 +43,7 @@ module _ {R P E : Type 0} {parser : Parser P} where
 
   -- a segment that the result may have holds the decoder that this string holds
   abbrev pub HoldsDecoder : Result (Option (Segment R P parser)) (Error E) → Segments R P → Type 0
-  HoldsDecoder (Ok (Some segment)) s = segment.reader.now ≡ s.reader.now
+  HoldsDecoder (Ok (Some segment)) s = segment.decoder.now ≡ s.decoder.now
   HoldsDecoder (Ok None) s = Unit {0}
   HoldsDecoder (Err error) s = Unit {0}
 
@@ -53,7 +51,7 @@ module _ (R P : RattleType) {parser : Parser P.Denot} where
   -- once the segment is gone, the string holds the decoder that the segment left
   abbrev pub lends_segment : MutBor (Segments R.Denot P.Denot) → Segment R.Denot P.Denot parser → Fml
   lends_segment s segment =
-      follows (segments.the_row (record { mir = named 1; lft = [] }) R P) (decoder.the_row R) s.ghost_name segment.reader.ghost_name
+      follows (segments.the_row (record { mir = named 1; lft = [] }) R P) (decoder.the_row R) s.ghost_name segment.decoder.ghost_name
       (with_decoder s.now)
 
   -- once the segment in the result is gone, the string is as `advance` left it, whose decoder the segment had, with the

@@ -1,5 +1,6 @@
 -- What the calls on strings do, which lend a decoder piece by piece.
 use Rattle.std.specs.Prelude.{◌≡◌, ℕ, ◌≤◌, IsTrue, suc, ◌+◌, ◌-◌, ◌<◌, ◌^◌, ◌⊎◌, true, List, [], ◌++◌, length, Option, Some, None, Result, Ok, Err}
+use Rattle.std.specs.Borrow.{GName}
 use Rattle.ciborium_ll_io.specs.declared.io.Read.{Ghosts}
 use Rattle.ciborium_ll_grammar.specs.declared.hdr.Header.{Header}
 use Rattle.ciborium_ll_grammar.specs.declared.hdr.Header.TheVariants as h
@@ -8,10 +9,29 @@ use Rattle.ciborium_ll_decoder.specs.declared.dec.Error.{Error}
 use Rattle.ciborium_ll_decoder.specs.declared.dec.Error.TheVariants as e
 use Rattle.ciborium_ll_decoder.specs.declared.seg.Body.{Body}
 use Rattle.ciborium_ll_decoder.specs.declared.seg.Progress.{Progress}
+use Rattle.ciborium_ll_decoder.specs.declared.seg.Segments.{Segments}
 use Rattle.ciborium_ll_decoder.specs.declared.seg.Progress.TheVariants as p
 use Rattle.ciborium_ll_grammar.specs.Title.{IsTitle}
 use Rattle.ciborium_ll_grammar.specs.Strings.{Kind, kind_header, IsMisplaced}
 use Rattle.ciborium_ll_decoder.specs.Decoding.{Passes, PullsHeader, PullsTitle}
+
+-- ---- what a string is to its callers
+
+module _ {R P : Type 0} where
+  -- the decoder that the string holds, and its reference
+  abbrev pub string_decoder : Segments R P → Decoder R
+  string_decoder s = s.decoder.now
+
+  abbrev pub string_reference : Segments R P → GName
+  string_reference s = s.decoder.ghost_name
+
+  -- how far its titles were read
+  abbrev pub progress_of : Segments R P → Progress
+  progress_of s = s.progress
+
+  -- none of its titles was read
+  abbrev pub IsAtBeginning : Segments R P → Type 0
+  IsAtBeginning s = s.progress ≡ p.Open 0
 
 -- ---- opens and breaks in a row
 

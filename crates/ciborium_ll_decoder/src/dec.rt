@@ -56,11 +56,11 @@ impl<R: Read> From<R> for Decoder<R> {
 }
 
 impl<R: Read> Decoder<R> {
-    ghost use Rattle.std.specs.Prelude.{◌<◌, ◌^◌, ◌%◌, IsTrue, true, ◌↔◌, None, Some, Err, IfOk, MatchResult, IsErrOf};
+    ghost use Rattle.std.specs.Prelude.{replicate, ◌<◌, ◌^◌, ◌%◌, IsTrue, true, ◌↔◌, None, Some, Err, IfOk, MatchResult, IsErrOf};
     ghost use Rattle.ciborium_ll_grammar.specs.Title.{title_len, IsTitle};
     ghost use Rattle.ciborium_ll_grammar.specs.Parts.{IsParts, title_bytes};
     ghost use Rattle.ciborium_ll_grammar.specs.TitleRows.{IsAffix};
-    ghost use Rattle.ciborium_ll_decoder.specs.Decoding.{IsFresh, IsFreshAs, IsSteady, IsWaiting, PullsHeader, PullsTitle, ReadsBytes, ReadsMinor, TakesBack, offset_of, reader_of, refusals_of, strict_of, waiting_of};
+    ghost use Rattle.ciborium_ll_decoder.specs.Decoding.{IsFresh, IsFreshAs, IsWaiting, MovesOn, PullsHeader, PullsTitle, ReadsAll, ReadsBytes, ReadsMinor, TakesBack, offset_of, reader_of, refusals_of, strict_of, waiting_of};
 
     /// A decoder that counts from this offset, in bytes.
     pub fn with_offset(reader: R, offset: usize) -> Decoder<R>
@@ -78,9 +78,9 @@ impl<R: Read> Decoder<R> {
     /// A strict decoder at the offset 0. It takes each header by its shortest title alone (RFC 7049, 3.9), no simple
     /// value from 24 to 31 (2.3), and no string of indefinite length within another one (2.2.2).
     ///
-    /// Its `pull` answers `Syntax` for any other title, and its strings do so for an open behind one that isn't closed:
-    /// with the offset of that title's start, and all of the title is consumed. A header that was pushed back is given
-    /// as it was pushed.
+    /// Its [`Decoder::pull`] answers `Syntax` for any other title, and its strings for an open behind one that isn't
+    /// closed: with the offset of that title's start, and all of the title is consumed. A header that was pushed back
+    /// is given as it was pushed.
     pub fn strict(reader: R) -> Decoder<R>
         ensures { IsFreshAs true reader 0 result }
     {
@@ -146,8 +146,7 @@ impl<R: Read> Decoder<R> {
         ensures covered { IfOk result (λ header. title_len header ≤ offset_of self.new) }
         ensures mode { strict_of self.new ≡ strict_of self.old }
         ensures full { waiting_of self.old ≡ None → offset_of self.old ≡ usize.MAX → IsErrOf result Error.TooLong }
-        ensures steady { IsSteady R.Read self.old → IsSteady R.Read self.new }
-        ensures refusals { refusals_of self.new ≡ refusals_of self.old }
+        ensures moves_on { MovesOn R.Read self.old self.new }
     {
         // No call here takes `&mut self`: so in a loop over a slice the decoder's fields stay in registers.
         if let Some(header) = self.waiting {
@@ -171,8 +170,7 @@ impl<R: Read> Decoder<R> {
         ensures title { IfOk result (λ pulled. IsTitle (title_bytes pulled.1) pulled.0) }
         ensures mode { strict_of self.new ≡ strict_of self.old }
         ensures full { waiting_of self.old ≡ None → offset_of self.old ≡ usize.MAX → IsErrOf result Error.TooLong }
-        ensures steady { IsSteady R.Read self.old → IsSteady R.Read self.new }
-        ensures refusals { refusals_of self.new ≡ refusals_of self.old }
+        ensures moves_on { MovesOn R.Read self.old self.new }
     {
         if let Some(header) = self.waiting {
             return Ok(self.pull_waiting(header));
@@ -190,8 +188,7 @@ impl<R: Read> Decoder<R> {
         ensures title { IfOk result (λ pulled. IsTitle (title_bytes pulled.1) pulled.0) }
         ensures mode { strict_of self.new ≡ strict_of self.old }
         ensures full { offset_of self.old ≡ usize.MAX → IsErrOf result Error.TooLong }
-        ensures steady { IsSteady R.Read self.old → IsSteady R.Read self.new }
-        ensures refusals { refusals_of self.new ≡ refusals_of self.old }
+        ensures moves_on { MovesOn R.Read self.old self.new }
     {
         let start = self.offset;
         let mut first = [0; 1];
@@ -219,8 +216,7 @@ impl<R: Read> Decoder<R> {
         ensures parts { IsParts result.1 }
         ensures title { IsTitle (title_bytes result.1) result.0 }
         ensures mode { strict_of self.new ≡ strict_of self.old }
-        ensures steady { IsSteady R.Read self.old → IsSteady R.Read self.new }
-        ensures refusals { refusals_of self.new ≡ refusals_of self.old }
+        ensures moves_on { MovesOn R.Read self.old self.new }
     {
         self.waiting = None;
         self.offset += header.title_len();
@@ -253,34 +249,17 @@ impl<R: Read> Decoder<R> {
         requires none_waits { waiting_of self.old ≡ None }
         ensures minor { ReadsMinor R.Read first self.old result self.new }
         ensures mode { strict_of self.new ≡ strict_of self.old }
-        ensures steady { IsSteady R.Read self.old → IsSteady R.Read self.new }
-        ensures refusals { refusals_of self.new ≡ refusals_of self.old }
+        ensures moves_on { MovesOn R.Read self.old self.new }
     {
         let minor = match affix {
             Affix::Within => {
                 self.read(&mut [])?;
                 return Ok(Some(Minor::Small(u64::from(first % 32))));
             }
-            Affix::One => {
-                let mut bytes = [0; 1];
-                self.read(&mut bytes)?;
-                Minor::One(u64::from(one(bytes)))
-            }
-            Affix::Two => {
-                let mut bytes = [0; 2];
-                self.read(&mut bytes)?;
-                Minor::Two(u64::from(two(bytes)))
-            }
-            Affix::Four => {
-                let mut bytes = [0; 4];
-                self.read(&mut bytes)?;
-                Minor::Four(u64::from(four(bytes)))
-            }
-            Affix::Eight => {
-                let mut bytes = [0; 8];
-                self.read(&mut bytes)?;
-                Minor::Eight(eight(bytes))
-            }
+            Affix::One => Minor::One(u64::from(one(self.affix::<1>()?))),
+            Affix::Two => Minor::Two(u64::from(two(self.affix::<2>()?))),
+            Affix::Four => Minor::Four(u64::from(four(self.affix::<4>()?))),
+            Affix::Eight => Minor::Eight(eight(self.affix::<8>()?)),
             Affix::Open => {
                 self.read(&mut [])?;
                 return Ok(Some(Minor::Open));
@@ -293,14 +272,27 @@ impl<R: Read> Decoder<R> {
         Ok(Some(minor))
     }
 
+    /// Reads an affix of so many bytes. Each affix has an array of its own here, which is cleared only where it is read.
+    #[inline(always)]
+    fn affix<const N: usize>(&mut self) -> Result<[u8; N], Error<R::Error>>
+        requires { waiting_of self.old ≡ None }
+        ensures bytes { MatchResult result (λ bytes. ReadsAll R.Read self.old bytes self.new)
+            (λ error. ReadsBytes R.Read self.old (Err error) (replicate N 0) self.new) }
+        ensures mode { strict_of self.new ≡ strict_of self.old }
+        ensures moves_on { MovesOn R.Read self.old self.new }
+    {
+        let mut bytes = [0; N];
+        self.read(&mut bytes)?;
+        Ok(bytes)
+    }
+
     /// Reads bytes while no header waits.
     #[inline(always)]
     pub(crate) fn read(&mut self, data: &mut [u8]) -> Result<(), Error<R::Error>>
         requires { waiting_of self.old ≡ None }
         ensures bytes { ReadsBytes R.Read self.old result «data».new self.new }
         ensures mode { strict_of self.new ≡ strict_of self.old }
-        ensures steady { IsSteady R.Read self.old → IsSteady R.Read self.new }
-        ensures refusals { refusals_of self.new ≡ refusals_of self.old }
+        ensures moves_on { MovesOn R.Read self.old self.new }
     {
         if data.len() > usize::MAX - self.offset {
             return Err(Error::TooLong);

@@ -3,9 +3,9 @@
 ghost use Rattle.std.specs.Prelude.{◌≡◌, ◌≤◌, ◌↔◌, ℕ, true, List, length, IsOk, None, Some};
 ghost use Rattle.ciborium_ll_grammar.specs.Title.{title_len};
 ghost use Rattle.ciborium_ll_grammar.specs.Strings.{kind_header};
-ghost use Rattle.ciborium_ll_decoder.specs.Decoding.{IsSteady, offset_of, refusals_of, waiting_of};
+ghost use Rattle.ciborium_ll_decoder.specs.Decoding.{MovesOn, offset_of, waiting_of};
 ghost use Rattle.ciborium_ll_encoder.specs.Encoding.{writer_of};
-ghost use Rattle.ciborium_ll_decoder.specs.Chunks.{IsWhole};
+ghost use Rattle.ciborium_ll_decoder.specs.Chunks.{IsWhole, segment_decoder, segment_reference};
 ghost use Rattle.ciborium_ll_grammar.specs.Faults.{RunInFront};
 ghost use Rattle.ciborium_ll_decoder.specs.RecodingTold.{IsReady, IsReadyAs, IsTold, IsToldAs, RecodesAnyhow, RecodesTold};
 ghost use Rattle.ciborium_ll_decoder.specs.StrictRecoding.{RecodesStrictly, RecodesStrictlyAnyhow, StrictRunInFront};
@@ -15,7 +15,7 @@ mod strict;
 
 pub use self::strict::strict_len;
 use crate::dec::{Decoder, Error};
-use crate::seg::{Body, Bytes, Chunked, Segment, Text};
+use crate::seg::{Body, Bytes, Chunked, Segment, Segments, Text};
 use ciborium_ll_encoder::enc::{Encoder, push_title};
 use ciborium_ll_grammar::hdr::Header;
 use ciborium_ll_io::io::{Read, Write};
@@ -39,11 +39,11 @@ fn copy_body<R: Read, W: Write, P: Chunked>(
 ) -> Result<(), RecodeError<R::Error, W::Error>>
     requires room { 4 ≤ length buffer.old }
     requires whole { IsWhole body segment.old }
-    ensures same_reference { segment.new.reader.ghost_name ≡ segment.old.reader.ghost_name }
+    ensures same_reference { segment_reference segment.new ≡ segment_reference segment.old }
     ensures copied { CopiesBody R.Read W.Write P.kind body.length (length buffer.old) body.place
-        segment.old.reader.now (writer_of encoder.old) result segment.new.reader.now (writer_of encoder.new) }
-    ensures steady { IsSteady R.Read segment.old.reader.now → IsSteady R.Read segment.new.reader.now }
-    ensures refusals { refusals_of segment.new.reader.now ≡ refusals_of segment.old.reader.now }
+        (segment_decoder segment.old) (writer_of encoder.old) result (segment_decoder segment.new) (writer_of encoder.new) }
+    ensures moves_on { MovesOn R.Read (segment_decoder segment.old) (segment_decoder segment.new) }
+    ensures target { W.target (writer_of encoder.new) ≡ W.target (writer_of encoder.old) }
 {
     'chunks: loop {
         let chunk = match P::chunk(segment, buffer) {
@@ -63,7 +63,8 @@ fn write_header<E, W: Write>(
     encoder: &mut Encoder<W>,
     header: Header,
 ) -> Result<(), RecodeError<E, W::Error>>
-    ensures { WritesHeader W.Write (writer_of encoder.old) result header (writer_of encoder.new) }
+    ensures header { WritesHeader W.Write (writer_of encoder.old) result header (writer_of encoder.new) }
+    ensures target { W.target (writer_of encoder.new) ≡ W.target (writer_of encoder.old) }
 {
     match encoder.push(header) {
         Ok(()) => Ok(()),
@@ -84,8 +85,8 @@ fn copy_definite<R: Read, W: Write, P: Chunked>(
     requires covered { title_len (kind_header P.kind (Some len)) ≤ offset_of decoder.old }
     ensures copied { CopiesBehind R.Read W.Write (kind_header P.kind (Some len)) (length buffer.old)
         decoder.old (writer_of encoder.old) result decoder.new (writer_of encoder.new) }
-    ensures steady { IsSteady R.Read decoder.old → IsSteady R.Read decoder.new }
-    ensures refusals { refusals_of decoder.new ≡ refusals_of decoder.old }
+    ensures moves_on { MovesOn R.Read decoder.old decoder.new }
+    ensures target { W.target (writer_of encoder.new) ≡ W.target (writer_of encoder.old) }
 {
     write_header::<R::Error, W>(encoder, P::header(Some(len)))?;
     // What `advance` would answer for the header pushed back, which counts as its shortest title.
@@ -105,11 +106,10 @@ fn copy_indefinite<R: Read, W: Write, P: Chunked>(
 ) -> Result<(), RecodeError<R::Error, W::Error>>
     requires room { 4 ≤ length buffer.old }
     requires none_waits { waiting_of decoder.old ≡ None }
-    requires covered { title_len (kind_header P.kind None) ≤ offset_of decoder.old }
     ensures copied { CopiesBehind R.Read W.Write (kind_header P.kind None) (length buffer.old)
         decoder.old (writer_of encoder.old) result decoder.new (writer_of encoder.new) }
-    ensures steady { IsSteady R.Read decoder.old → IsSteady R.Read decoder.new }
-    ensures refusals { refusals_of decoder.new ≡ refusals_of decoder.old }
+    ensures moves_on { MovesOn R.Read decoder.old decoder.new }
+    ensures target { W.target (writer_of encoder.new) ≡ W.target (writer_of encoder.old) }
 {
     write_header::<R::Error, W>(encoder, P::header(None))?;
     copy_segments::<R, W, P>(decoder, encoder, buffer)?;
@@ -124,13 +124,12 @@ fn copy_segments<R: Read, W: Write, P: Chunked>(
 ) -> Result<(), RecodeError<R::Error, W::Error>>
     requires room { 4 ≤ length buffer.old }
     requires none_waits { waiting_of decoder.old ≡ None }
-    requires covered { title_len (kind_header P.kind None) ≤ offset_of decoder.old }
     ensures copied { CopiesSegments R.Read W.Write P.kind (length buffer.old)
         decoder.old (writer_of encoder.old) result decoder.new (writer_of encoder.new) }
-    ensures steady { IsSteady R.Read decoder.old → IsSteady R.Read decoder.new }
-    ensures refusals { refusals_of decoder.new ≡ refusals_of decoder.old }
+    ensures moves_on { MovesOn R.Read decoder.old decoder.new }
+    ensures target { W.target (writer_of encoder.new) ≡ W.target (writer_of encoder.old) }
 {
-    let mut segments = decoder.string::<P>(None);
+    let mut segments = Segments::<R, P>::opened(decoder);
     'segments: loop {
         let body = match segments.advance() {
             Ok(Some(body)) => body,
@@ -138,7 +137,7 @@ fn copy_segments<R: Read, W: Write, P: Chunked>(
             Err(error) => return Err(RecodeError::Read(error)),
         };
         write_header::<R::Error, W>(encoder, P::header(Some(body.length)))?;
-        let mut segment = Segment::<R, P>::new(&mut *segments.reader, body);
+        let mut segment = Segment::<R, P>::new(&mut *segments.decoder, body);
         copy_body(&mut segment, encoder, body, buffer)?;
     }
 }
@@ -152,8 +151,8 @@ fn copy_element<R: Read, W: Write>(
     requires room { 4 ≤ length buffer.old }
     ensures copied { CopiesElement R.Read W.Write (length buffer.old)
         decoder.old (writer_of encoder.old) result decoder.new (writer_of encoder.new) }
-    ensures steady { IsSteady R.Read decoder.old → IsSteady R.Read decoder.new }
-    ensures refusals { refusals_of decoder.new ≡ refusals_of decoder.old }
+    ensures moves_on { MovesOn R.Read decoder.old decoder.new }
+    ensures target { W.target (writer_of encoder.new) ≡ W.target (writer_of encoder.old) }
 {
     let (header, title) = match decoder.pull_title() {
         Ok(pulled) => pulled,
@@ -204,8 +203,8 @@ pub fn recode<R: Read, W: Write>(
     requires room { 4 ≤ length buffer.old }
     ensures copied { CopiesElements R.Read W.Write count (length buffer.old)
         decoder.old (writer_of encoder.old) result decoder.new (writer_of encoder.new) }
-    ensures steady { IsSteady R.Read decoder.old → IsSteady R.Read decoder.new }
-    ensures refusals { refusals_of decoder.new ≡ refusals_of decoder.old }
+    ensures moves_on { MovesOn R.Read decoder.old decoder.new }
+    ensures target { W.target (writer_of encoder.new) ≡ W.target (writer_of encoder.old) }
     ensures told { (due written : List ℕ)
         → IsReady R.Read W.Write count (length buffer.old) decoder.old (writer_of encoder.old) due written
         → RecodesTold R.Read W.Write count due written decoder.old result decoder.new (writer_of encoder.new) }

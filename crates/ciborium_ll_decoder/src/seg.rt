@@ -97,7 +97,7 @@ pub(crate) enum Progress {
 /// The segments of a string: its one body, or the bodies between an open and its break, to any depth.
 #[derive(Drop)]
 pub struct Segments<'r, R, P: Parser> {
-    pub(crate) reader: &'r mut Decoder<R>,
+    pub(crate) decoder: &'r mut Decoder<R>,
     progress: Progress,
     parser: PhantomData<P>,
 }
@@ -105,21 +105,34 @@ pub struct Segments<'r, R, P: Parser> {
 impl<'r, R: Read, P: Parser> Segments<'r, R, P> {
     ghost use Rattle.std.specs.Prelude.{OnOk};
     ghost use Rattle.ciborium_ll_decoder.specs.declared.seg.Progress.TheVariants.{Open};
-    ghost use Rattle.ciborium_ll_decoder.specs.Decoding.{IsSteady, offset_of, refusals_of, waiting_of};
+    ghost use Rattle.ciborium_ll_decoder.specs.Decoding.{MovesOn, offset_of, waiting_of};
     ghost use Rattle.std.specs.Borrow.{sem};
-    ghost use Rattle.ciborium_ll_decoder.specs.Segments.{AdvancesTo, GivesAgain, StepsOver, opens_of};
-    ghost use Rattle.ciborium_ll_decoder.specs.Chunks.{IsWhole, PullsSegment};
+    ghost use Rattle.ciborium_ll_decoder.specs.Segments.{AdvancesTo, GivesAgain, IsAtBeginning, StepsOver, opens_of, progress_of, string_decoder, string_reference};
+    ghost use Rattle.ciborium_ll_decoder.specs.Chunks.{IsWhole, PullsSegment, segment_decoder};
     ghost use Rattle.ciborium_ll_decoder.specs.Lend.{lends_segment, pulls_segment};
 
     /// The segments of the string whose header waits.
-    pub(crate) fn new(reader: &'r mut Decoder<R>) -> Segments<'r, R, P>
-        ensures same_reference { result.reader.ghost_name ≡ reader.entry.ghost_name }
-        ensures lent { result.reader.now ≡ reader.old }
-        ensures fresh { result.progress ≡ Open 0 }
+    pub(crate) fn new(decoder: &'r mut Decoder<R>) -> Segments<'r, R, P>
+        ensures same_reference { string_reference result ≡ decoder.entry.ghost_name }
+        ensures lent { string_decoder result ≡ decoder.old }
+        ensures fresh { IsAtBeginning result }
     {
         Segments {
-            reader,
+            decoder,
             progress: Progress::Open(0),
+            parser: PhantomData,
+        }
+    }
+
+    /// The segments of a string of indefinite length whose open was pulled.
+    pub(crate) fn opened(decoder: &'r mut Decoder<R>) -> Segments<'r, R, P>
+        ensures same_reference { string_reference result ≡ decoder.entry.ghost_name }
+        ensures lent { string_decoder result ≡ decoder.old }
+        ensures opened { progress_of result ≡ Open 1 }
+    {
+        Segments {
+            decoder,
+            progress: Progress::Open(1),
             parser: PhantomData,
         }
     }
@@ -132,14 +145,12 @@ impl<'r, R: Read, P: Parser> Segments<'r, R, P> {
     /// can't be counted, which stays. An answer that stays reads nothing.
     #[inline(always)]
     pub fn advance(&mut self) -> Result<Option<Body>, Error<R::Error>>
-        ensures same_reference { self.new.reader.ghost_name ≡ self.old.reader.ghost_name }
-        ensures advances { AdvancesTo R.Read P.kind self.old.progress self.old.reader.now result
-            self.new.progress self.new.reader.now }
-        ensures rises { offset_of self.old.reader.now ≤ offset_of self.new.reader.now }
-        ensures opens { opens_of self.new.progress + offset_of self.old.reader.now
-            ≤ opens_of self.old.progress + offset_of self.new.reader.now }
-        ensures steady { IsSteady R.Read self.old.reader.now → IsSteady R.Read self.new.reader.now }
-        ensures refusals { refusals_of self.new.reader.now ≡ refusals_of self.old.reader.now }
+        ensures same_reference { string_reference self.new ≡ string_reference self.old }
+        ensures advances { AdvancesTo R.Read P.kind (progress_of self.old) (string_decoder self.old) result
+            (progress_of self.new) (string_decoder self.new) }
+        ensures opens { opens_of (progress_of self.new) + offset_of (string_decoder self.old)
+            ≤ opens_of (progress_of self.old) + offset_of (string_decoder self.new) }
+        ensures moves_on { MovesOn R.Read (string_decoder self.old) (string_decoder self.new) }
     {
         'titles: while let Progress::Open(opens) = self.progress {
             if let Some(body) = self.step(opens)? {
@@ -155,15 +166,15 @@ impl<'r, R: Read, P: Parser> Segments<'r, R, P> {
 
     /// The segment of a body that [`Segments::advance`] gave last. It lends the decoder on.
     ///
-    /// A body that was not given by the last `advance` makes a segment of so many bytes all the same.
+    /// A body that was not given by the last [`Segments::advance`] makes a segment of so many bytes all the same.
     pub fn segment(&mut self, body: Body) -> Segment<'_, R, P>
-        requires { waiting_of self.old.reader.now ≡ None }
+        requires { waiting_of (string_decoder self.old) ≡ None }
         ensures* lends { sem 𝓛 (lends_segment R.row P.row self.entry result) }
-        ensures lent { result.reader.now ≡ self.old.reader.now }
+        ensures lent { segment_decoder result ≡ string_decoder self.old }
         ensures whole { IsWhole body result }
     {
         Segment {
-            reader: self.reader,
+            decoder: self.decoder,
             unread: body.length,
             place: body.place,
             kept: Kept::Nothing,
@@ -186,8 +197,8 @@ impl<'r, R: Read, P: Parser> Segments<'r, R, P> {
     /// ```
     pub fn pull(&mut self) -> Result<Option<Segment<'_, R, P>>, Error<R::Error>>
         ensures* lends { sem 𝓛 (pulls_segment R.row P.row R.Read self.entry result) }
-        ensures pulls { PullsSegment R.Read P.kind self.old.progress self.old.reader.now result }
-        ensures stays { GivesAgain self.old.progress result }
+        ensures pulls { PullsSegment R.Read P.kind (progress_of self.old) (string_decoder self.old) result }
+        ensures stays { GivesAgain (progress_of self.old) result }
     {
         match self.advance() {
             Ok(Some(body)) => Ok(Some(self.segment(body))),
@@ -199,18 +210,16 @@ impl<'r, R: Read, P: Parser> Segments<'r, R, P> {
     /// Pulls one title, with so many opens that aren't closed.
     #[inline(always)]
     fn step(&mut self, opens: usize) -> Result<Option<Body>, Error<R::Error>>
-        requires { self.old.progress ≡ Open opens }
-        ensures same_reference { self.new.reader.ghost_name ≡ self.old.reader.ghost_name }
-        ensures steps { StepsOver R.Read P.kind opens self.old.reader.now result self.new.progress self.new.reader.now }
-        ensures rises { offset_of self.old.reader.now ≤ offset_of self.new.reader.now }
-        ensures goes_on { OnOk result (offset_of self.old.reader.now < offset_of self.new.reader.now) }
-        ensures opens { opens_of self.new.progress + offset_of self.old.reader.now
-            ≤ opens + offset_of self.new.reader.now }
-        ensures steady { IsSteady R.Read self.old.reader.now → IsSteady R.Read self.new.reader.now }
-        ensures refusals { refusals_of self.new.reader.now ≡ refusals_of self.old.reader.now }
+        requires { progress_of self.old ≡ Open opens }
+        ensures same_reference { string_reference self.new ≡ string_reference self.old }
+        ensures steps { StepsOver R.Read P.kind opens (string_decoder self.old) result (progress_of self.new) (string_decoder self.new) }
+        ensures goes_on { OnOk result (offset_of (string_decoder self.old) < offset_of (string_decoder self.new)) }
+        ensures opens { opens_of (progress_of self.new) + offset_of (string_decoder self.old)
+            ≤ opens + offset_of (string_decoder self.new) }
+        ensures moves_on { MovesOn R.Read (string_decoder self.old) (string_decoder self.new) }
     {
-        let place = self.reader.offset();
-        let header = match self.reader.pull() {
+        let place = self.decoder.offset();
+        let header = match self.decoder.pull() {
             Ok(header) => header,
             Err(error) => {
                 if let Error::Syntax(refused) = &error {
@@ -230,7 +239,7 @@ impl<'r, R: Read, P: Parser> Segments<'r, R, P> {
                 self.progress = Progress::TooDeep;
                 Err(Error::TooLong)
             }
-            Some(None) if opens > 0 && self.reader.is_strict() => {
+            Some(None) if opens > 0 && self.decoder.is_strict() => {
                 self.progress = Progress::Damaged(place);
                 Err(Error::Syntax(place))
             }
@@ -319,7 +328,7 @@ impl Kept {
 /// character.
 #[derive(Drop)]
 pub struct Segment<'r, R, P: Parser> {
-    reader: &'r mut Decoder<R>,
+    decoder: &'r mut Decoder<R>,
     unread: usize,
     place: usize,
     kept: Kept,
@@ -327,25 +336,25 @@ pub struct Segment<'r, R, P: Parser> {
     damaged: bool,
     parser: PhantomData<P>,
     ghost counted: { unread + length (kept_bytes kept) < 2 ^ 64 },
-    ghost none_waits: { reader.now.waiting ≡ None },
+    ghost none_waits: { decoder.now.waiting ≡ None },
     ghost stuck: { IsStuck (kept_bytes kept) },
     ghost told: { state ≡ after Between (kept_bytes kept) },
     ghost text_alone: { P.kind ≡ byte_strings → kept_bytes kept ≡ [] },
 }
 
 impl<'r, R: Read, P: Parser> Segment<'r, R, P> {
-    ghost use Rattle.ciborium_ll_decoder.specs.Chunks.{IsWhole, left_of};
+    ghost use Rattle.ciborium_ll_decoder.specs.Chunks.{IsWhole, left_of, segment_decoder, segment_reference};
     ghost use Rattle.ciborium_ll_decoder.specs.Decoding.{waiting_of};
 
     /// The segment of a body that is next in the decoder's reader.
-    pub(crate) fn new(reader: &'r mut Decoder<R>, body: Body) -> Segment<'r, R, P>
-        requires { waiting_of reader.old ≡ None }
-        ensures same_reference { result.reader.ghost_name ≡ reader.entry.ghost_name }
-        ensures lent { result.reader.now ≡ reader.old }
+    pub(crate) fn new(decoder: &'r mut Decoder<R>, body: Body) -> Segment<'r, R, P>
+        requires { waiting_of decoder.old ≡ None }
+        ensures same_reference { segment_reference result ≡ decoder.entry.ghost_name }
+        ensures lent { segment_decoder result ≡ decoder.old }
         ensures whole { IsWhole body result }
     {
         Segment {
-            reader,
+            decoder,
             unread: body.length,
             place: body.place,
             kept: Kept::Nothing,
@@ -366,8 +375,8 @@ impl<'r, R: Read, P: Parser> Segment<'r, R, P> {
 
 impl<'r, R: Read> Segment<'r, R, Bytes> {
     ghost use Rattle.std.specs.Io.KnownBytes.{Consumes};
-    ghost use Rattle.ciborium_ll_decoder.specs.Decoding.{IsSteady, offset_of, refusals_of};
-    ghost use Rattle.ciborium_ll_decoder.specs.Chunks.{PullsChunk, left_of, rest};
+    ghost use Rattle.ciborium_ll_decoder.specs.Decoding.{MovesOn};
+    ghost use Rattle.ciborium_ll_decoder.specs.Chunks.{PullsChunk, left_of, rest, segment_decoder, segment_reference};
 
     /// Reads the next bytes of the body, as many as there are and the buffer holds.
     ///
@@ -375,13 +384,11 @@ impl<'r, R: Read> Segment<'r, R, Bytes> {
     /// `Io` where the reader failed, and `TooLong` where the offset would pass `usize::MAX`; both leave the segment as
     /// it was.
     pub fn pull<'a>(&mut self, buffer: &'a mut [u8]) -> Result<Option<&'a [u8]>, Error<R::Error>>
-        ensures same_reference { self.new.reader.ghost_name ≡ self.old.reader.ghost_name }
+        ensures same_reference { segment_reference self.new ≡ segment_reference self.old }
         ensures chunk { PullsChunk R.Read (length buffer.old) self.old result self.new }
         ensures left { IfOk result (λ chunk. IfSome chunk (λ c. length c.now + left_of self.new ≡ left_of self.old)) }
         ensures rest { IfOk result (λ chunk. IfSome chunk (λ c. Consumes (rest R.Read self.old) (rest R.Read self.new) c.now)) }
-        ensures rises { offset_of self.old.reader.now ≤ offset_of self.new.reader.now }
-        ensures steady { IsSteady R.Read self.old.reader.now → IsSteady R.Read self.new.reader.now }
-        ensures refusals { refusals_of self.new.reader.now ≡ refusals_of self.old.reader.now }
+        ensures moves_on { MovesOn R.Read (segment_decoder self.old) (segment_decoder self.new) }
     {
         if self.damaged {
             return Err(Error::Syntax(self.place));
@@ -391,7 +398,7 @@ impl<'r, R: Read> Segment<'r, R, Bytes> {
         }
         let size = buffer.len().min(self.unread);
         let chunk = &mut buffer[..size];
-        self.reader.read(chunk)?;
+        self.decoder.read(chunk)?;
         self.unread -= size;
         Ok(Some(chunk))
     }
@@ -399,8 +406,8 @@ impl<'r, R: Read> Segment<'r, R, Bytes> {
 
 impl<'r, R: Read> Segment<'r, R, Text> {
     ghost use Rattle.std.specs.Io.KnownBytes.{Consumes};
-    ghost use Rattle.ciborium_ll_decoder.specs.Decoding.{IsSteady, ReadsBytes, offset_of, refusals_of};
-    ghost use Rattle.ciborium_ll_decoder.specs.Chunks.{FillsBehind, IsSame, PullsChunk, left_of, rest};
+    ghost use Rattle.ciborium_ll_decoder.specs.Decoding.{MovesOn, ReadsBytes};
+    ghost use Rattle.ciborium_ll_decoder.specs.Chunks.{FillsBehind, IsSame, PullsChunk, left_of, rest, segment_decoder, segment_reference};
 
     /// Reads the next bytes of the body, as many as there are and the buffer holds, and hands out the longest front of
     /// them that is text. Up to three bytes behind it are kept, since they may begin a character.
@@ -410,13 +417,11 @@ impl<'r, R: Read> Segment<'r, R, Text> {
     /// `Io` where the reader failed, and `TooLong` where the offset would pass `usize::MAX`: both leave the segment as
     /// it was. A damaged end can give a chunk first, and its error on the next call.
     pub fn pull<'a>(&mut self, buffer: &'a mut [u8]) -> Result<Option<&'a str>, Error<R::Error>>
-        ensures same_reference { self.new.reader.ghost_name ≡ self.old.reader.ghost_name }
+        ensures same_reference { segment_reference self.new ≡ segment_reference self.old }
         ensures chunk { PullsChunk R.Read (length buffer.old) self.old result self.new }
         ensures left { IfOk result (λ chunk. IfSome chunk (λ c. length c.now + left_of self.new ≡ left_of self.old)) }
         ensures rest { IfOk result (λ chunk. IfSome chunk (λ c. Consumes (rest R.Read self.old) (rest R.Read self.new) c.now)) }
-        ensures rises { offset_of self.old.reader.now ≤ offset_of self.new.reader.now }
-        ensures steady { IsSteady R.Read self.old.reader.now → IsSteady R.Read self.new.reader.now }
-        ensures refusals { refusals_of self.new.reader.now ≡ refusals_of self.old.reader.now }
+        ensures moves_on { MovesOn R.Read (segment_decoder self.old) (segment_decoder self.new) }
     {
         if self.damaged {
             return Err(Error::Syntax(self.place));
@@ -449,35 +454,31 @@ impl<'r, R: Read> Segment<'r, R, Text> {
 
     /// Reads no bytes, where none fit behind the kept ones. It is a call of the reader all the same.
     fn read_nothing(&mut self) -> Result<(), Error<R::Error>>
-        ensures same_reference { self.new.reader.ghost_name ≡ self.old.reader.ghost_name }
+        ensures same_reference { segment_reference self.new ≡ segment_reference self.old }
         ensures same { IsSame self.old self.new }
-        ensures read { ReadsBytes R.Read self.old.reader.now result [] self.new.reader.now }
-        ensures rises { offset_of self.old.reader.now ≤ offset_of self.new.reader.now }
-        ensures steady { IsSteady R.Read self.old.reader.now → IsSteady R.Read self.new.reader.now }
-        ensures refusals { refusals_of self.new.reader.now ≡ refusals_of self.old.reader.now }
+        ensures read { ReadsBytes R.Read (segment_decoder self.old) result [] (segment_decoder self.new) }
+        ensures moves_on { MovesOn R.Read (segment_decoder self.old) (segment_decoder self.new) }
     {
-        self.reader.read(&mut [])
+        self.decoder.read(&mut [])
     }
 
     /// Reads behind the kept bytes, which it writes to the front.
     fn fill(&mut self, filled: &mut [u8]) -> Result<(), Error<R::Error>>
         requires { length (kept_bytes self.old.kept) ≤ length filled.old }
-        ensures same_reference { self.new.reader.ghost_name ≡ self.old.reader.ghost_name }
+        ensures same_reference { segment_reference self.new ≡ segment_reference self.old }
         ensures same { IsSame self.old self.new }
-        ensures filled { FillsBehind R.Read (kept_bytes self.old.kept) self.old.reader.now result filled.new self.new.reader.now }
-        ensures rises { offset_of self.old.reader.now ≤ offset_of self.new.reader.now }
-        ensures steady { IsSteady R.Read self.old.reader.now → IsSteady R.Read self.new.reader.now }
-        ensures refusals { refusals_of self.new.reader.now ≡ refusals_of self.old.reader.now }
+        ensures filled { FillsBehind R.Read (kept_bytes self.old.kept) (segment_decoder self.old) result filled.new (segment_decoder self.new) }
+        ensures moves_on { MovesOn R.Read (segment_decoder self.old) (segment_decoder self.new) }
     {
         let kept = self.kept.len();
         self.kept.put(filled);
-        self.reader.read(&mut filled[kept..])
+        self.decoder.read(&mut filled[kept..])
     }
 
     /// The body is no text: nothing is kept any more, and the error stays.
     fn damage(&mut self) -> Error<R::Error>
-        ensures same_reference { self.new.reader.ghost_name ≡ self.old.reader.ghost_name }
-        ensures same { self.new.reader.now ≡ self.old.reader.now }
+        ensures same_reference { segment_reference self.new ≡ segment_reference self.old }
+        ensures same { segment_decoder self.new ≡ segment_decoder self.old }
         ensures unread { self.new.unread ≡ self.old.unread }
         ensures place { self.new.place ≡ self.old.place }
         ensures kept { kept_bytes self.new.kept ≡ [] }

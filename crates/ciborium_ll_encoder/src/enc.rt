@@ -38,6 +38,8 @@ impl<W: Write> Write for Encoder<W> {
 
     ghost flushed = { λ old new. W.flushed old.writer new.writer };
 
+    ghost target = { λ encoder. W.target encoder.writer };
+
     /// Appends the bytes of a body. The error is the writer's.
     fn write_all(&mut self, data: &[u8]) -> Result<(), W::Error> {
         self.writer.write_all(data)
@@ -65,6 +67,7 @@ impl<W: Write> Encoder<W> {
         ensures title { WritesBytes W.Write (writer_of self.old) result (shortest_title header) (writer_of self.new) }
         ensures shortest { (other : List ℕ) → IsTitle other header
             → (other ≡ shortest_title header) ⊎ (length (shortest_title header) < length other) }
+        ensures target { W.target (writer_of self.new) ≡ W.target (writer_of self.old) }
     {
         push_title(self, shortest(header))
     }
@@ -73,7 +76,8 @@ impl<W: Write> Encoder<W> {
     #[inline(always)]
     fn affix(&mut self, minor: Minor) -> Result<(), W::Error>
         requires { IsMinor minor }
-        ensures { WritesBytes W.Write (writer_of self.old) result (minor_affix minor) (writer_of self.new) }
+        ensures affix { WritesBytes W.Write (writer_of self.old) result (minor_affix minor) (writer_of self.new) }
+        ensures target { W.target (writer_of self.new) ≡ W.target (writer_of self.old) }
     {
         match minor {
             Minor::Small(_) | Minor::Open => self.writer.write_all(&[]),
@@ -89,7 +93,8 @@ impl<W: Write> Encoder<W> {
 #[inline(always)]
 pub fn push_title<W: Write>(encoder: &mut Encoder<W>, title: Title) -> Result<(), W::Error>
     requires { IsParts title }
-    ensures { WritesBytes W.Write (writer_of encoder.old) result (title_bytes title) (writer_of encoder.new) }
+    ensures title { WritesBytes W.Write (writer_of encoder.old) result (title_bytes title) (writer_of encoder.new) }
+    ensures target { W.target (writer_of encoder.new) ≡ W.target (writer_of encoder.old) }
 {
     encoder.writer.write_all(&[title.first_byte()])?;
     encoder.affix(title.minor)

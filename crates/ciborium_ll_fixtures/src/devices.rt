@@ -173,6 +173,8 @@ impl<'a> Write for FailingWriter<'a> {
     ghost flushed = { λ old new. ⟦<SliceWriter<'a> as Write>⟧.written new.within
         ≡ ⟦<SliceWriter<'a> as Write>⟧.written old.within };
 
+    ghost target = { λ w. ⟦<SliceWriter<'a> as Write>⟧.target w.within };
+
     /// Appends the whole of `data`, or its first half where the call is planned to fail.
     ///
     /// The errors are `Planned` where it is, and `Short` where the slice has less room. Nothing is then written.
@@ -187,6 +189,7 @@ impl<'a> Write for FailingWriter<'a> {
         ensures err { OnErr result (self.new.failures.count ≡ self.old.failures.count + 1) }
 
         ensures full { OnErr result (IfSome None (λ room. room < length «data».now)) }
+        ensures target { ⟦<SliceWriter<'a> as Write>⟧.target self.new.within ≡ ⟦<SliceWriter<'a> as Write>⟧.target self.old.within }
 
         // The device's own.
         ensures half { IsErrOf result DeviceFault.Planned

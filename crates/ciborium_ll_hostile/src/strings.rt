@@ -20,6 +20,50 @@ fn an_affix_fails_in_a_string(rt: HostRuntime) {
     assert_eq!(rt; decoder.offset(), 3);
 }
 
+// A read that failed keeps the byte of the character that the one before it cut, and what was not read.
+#[test]
+fn a_segment_whose_reader_fails(rt: HostRuntime) {
+    let mut decoder = Decoder::from(FailingReader::new(&[0x62, 0xc3, 0xa9], Failing::Call(3)));
+    assert!(rt; matches!(decoder.pull(), Ok(Header::Text(Some(2)))));
+    let mut segments = decoder.text(Some(2));
+    let Ok(Some(mut segment)) = segments.pull() else {
+        panic!(rt; "no segment");
+    };
+    let mut buffer = [0; 4];
+    assert!(rt; matches!(segment.pull(&mut buffer[..1]), Ok(Some(""))));
+    assert_eq!(rt; segment.left(), 2);
+    assert!(rt;
+        matches!(
+            segment.pull(&mut buffer),
+            Err(Error::Io(DeviceFault::Planned))
+        )
+    );
+    assert_eq!(rt; segment.left(), 2);
+    assert!(rt; matches!(segment.pull(&mut buffer), Ok(Some("é"))));
+    assert_eq!(rt; segment.left(), 0);
+    assert!(rt; matches!(segment.pull(&mut buffer), Ok(None)));
+}
+
+// A segment that can't go on, since its buffer is empty or kept bytes fill it, calls the reader all the same.
+#[test]
+fn a_segment_that_waits_is_a_call(rt: HostRuntime) {
+    let bytes = [0x78, 2, 0xc3, 0xa9];
+    let mut decoder = Decoder::from(FailingReader::new(&bytes, Failing::Empty));
+    assert!(rt; matches!(decoder.pull(), Ok(Header::Text(Some(2)))));
+    let mut segments = decoder.text(Some(2));
+    let Ok(Some(mut segment)) = segments.pull() else {
+        panic!(rt; "no segment");
+    };
+    let mut one = [0; 1];
+    let mut four = [0; 4];
+    assert!(rt; matches!(segment.pull(&mut []), Err(Error::Io(DeviceFault::Planned))));
+    assert!(rt; matches!(segment.pull(&mut one), Ok(Some(""))));
+    assert!(rt; matches!(segment.pull(&mut one), Err(Error::Io(DeviceFault::Planned))));
+    assert_eq!(rt; segment.left(), 2);
+    assert!(rt; matches!(segment.pull(&mut four), Ok(Some("é"))));
+    assert!(rt; matches!(segment.pull(&mut []), Ok(None)));
+}
+
 // Strings of a definite length whose titles have no affix, and their bodies.
 const STRINGS: [(&str, &str); 6] = [
     ("40", ""),

@@ -1,7 +1,7 @@
 -- Lemmas on the part of a slice that is held, and on what is told of it.
 use Rattle.std.proofs.Common.{◌≡◌, ℕ, ◌+◌, ◌-◌, ◌≤◌, ◌<◌, List, [], ◌++◌, None, Some, Result, Ok, Err, OnErr, length, length-take-le, take, drop, slice_range, refl, sym, ap, ◌∙◌, arith, append_assoc, append-nil, drop-drop}
 use Rattle.std.proofs.lemmas.List.{drop-take, drop-append-le, take-take}
-use Rattle.std.proofs.lemmas.Slice.{take-put_mid}
+use Rattle.std.proofs.lemmas.Slice.{take-put_mid, drop-put_mid}
 use Rattle.std.proofs.Math.Seq.{take-append-add}
 use Rattle.std.specs.declared.option.Option.{Option}
 use Rattle.std.specs.Io.KnownBytes.{Appends, Consumes, Keeps, prepend_known, append_known}
@@ -36,6 +36,13 @@ part_grown xs ys start end ordered within =
     ∙ ap (drop start) (take-put_mid end (end + length ys - end) xs ys (end + length ys) refl within)
     ∙ drop-append-le start (take end xs) ys (omega (arith, length-take-le end xs within))
     ∙ ap (λ l. l ++ ys) (ap (λ k. drop start (take k xs)) (sym old) ∙ drop-take start (end - start) xs)
+
+-- what stands behind bytes that are put behind those so far is as it was at first
+pub behind_grown : (a n : ℕ) (xs ys first : List ℕ) → a ≤ length xs → length ys ≡ n → drop a xs ≡ drop a first
+    → drop (a + n) (put_mid a (a + n - a) xs ys) ≡ drop (a + n) first
+behind_grown a n xs ys first within all behind =
+    drop-put_mid a (a + n - a) xs ys (a + n) (omega arith) within (omega (arith, all))
+    ∙ sym (drop-drop n a xs) ∙ ap (drop n) behind ∙ drop-drop n a first
 
 -- the front of what is held is consumed
 pub prepend_known-taken : (known : Option (List ℕ)) (old new front : List ℕ) → old ≡ front ++ new → Consumes (prepend_known old known) (prepend_known new known) front

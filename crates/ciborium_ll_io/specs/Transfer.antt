@@ -1,6 +1,7 @@
 -- What a write does to the bytes and the room that a writer tells. A read consumes bytes by std's `Consumes`,
 -- and a write appends them by std's `Appends`.
 use Rattle.std.specs.Prelude.{◌≡◌, ℕ, ◌+◌, ◌<◌, ◌≤◌, List, length, take, ⊤, None, Some}
+use Rattle.std.specs.Borrow.{GName}
 use Rattle.std.specs.Io.KnownBytes.{Appends, Consumes}
 use Rattle.std.specs.declared.option.Option.{Option}
 
@@ -26,3 +27,8 @@ AppendsPart written written' bytes = (count : ℕ) × Appends written written' (
 -- a beginning of the bytes was consumed, and not all of them
 abbrev pub ConsumesPart : Option (List ℕ) → Option (List ℕ) → List ℕ → Type 0
 ConsumesPart ahead ahead' bytes = (count : ℕ) × Consumes ahead ahead' (take count bytes) × (count < length bytes)
+
+-- a slice that was lent to a writer: the name of the loan, and the bytes that stood in it then
+pub record Target : Type 0 where
+  pub loan : GName
+  pub before : List ℕ

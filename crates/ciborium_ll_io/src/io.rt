@@ -6,7 +6,7 @@
 ghost use Rattle.std.specs.Prelude.{◌≡◌, ℕ, ◌+◌, ◌<◌, List, Bool, length, IsTrue, IsSome, IfSome, OnOk, OnErr};
 ghost use Rattle.std.specs.declared.option.Option.{Option};
 ghost use Rattle.std.specs.Io.KnownBytes.{Appends, Consumes};
-ghost use Rattle.ciborium_ll_io.specs.Transfer.{Shrinks, AppendsFront};
+ghost use Rattle.ciborium_ll_io.specs.Transfer.{Shrinks, AppendsFront, Target};
 
 mod buffered;
 mod discard;
@@ -73,6 +73,9 @@ pub trait Write {
     /// What a flush that succeeds does to the writer, as it was before and as it is behind.
     ghost flushed: { Self → Self → Type 0 };
 
+    /// The lent slice that it writes into, where the writer tells it. No call changes it.
+    ghost target: { Self → Option Target };
+
     /// Appends the whole of `data`, or fails with a beginning of it appended. It does not fail where the room is
     /// told and covers `data`.
     fn write_all(&mut self, data: &[u8]) -> Result<(), Self::Error>
@@ -83,7 +86,9 @@ pub trait Write {
         ensures front { OnErr result (AppendsFront (written self.old) (written self.new)
             (room self.old) (room self.new) «data».now) }
         ensures full { OnErr result (IfSome (room self.old) (λ n. n < length «data».now)) }
-        ensures err { OnErr result (failures self.new ≡ failures self.old + 1) };
+        ensures err { OnErr result (failures self.new ≡ failures self.old + 1) }
+
+        ensures target { target self.new ≡ target self.old };
 
     /// Passes on what was kept back, if anything was. A writer that tells its room keeps nothing back.
     fn flush(&mut self) -> Result<(), Self::Error>
@@ -91,5 +96,6 @@ pub trait Write {
         ensures room { IsSome (room self.old) → room self.new ≡ room self.old }
         ensures flushed { OnOk result (flushed self.old self.new) }
         ensures ok { OnOk result (failures self.new ≡ failures self.old) }
-        ensures err { OnErr result (failures self.new ≡ failures self.old + 1) };
+        ensures err { OnErr result (failures self.new ≡ failures self.old + 1) }
+        ensures target { target self.new ≡ target self.old };
 }

@@ -50,6 +50,8 @@ impl Write for VecWriter {
 
     ghost flushed = { λ old new. new.bytes.items ≡ old.bytes.items };
 
+    ghost target = { λ _. None };
+
     /// Appends the whole of `data`.
     ///
     /// The error comes only where a growth was refused. Nothing was then written.

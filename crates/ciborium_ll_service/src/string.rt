@@ -1,6 +1,7 @@
 //! Strings that are read chunk by chunk.
 
 ghost use Rattle.std.specs.Prelude.{◌≡◌, ◌≤◌, None};
+ghost use Rattle.ciborium_ll.specs.Chunks.{segment_reference};
 ghost use Rattle.ciborium_ll.specs.Decoding.{offset_of, waiting_of};
 ghost use Rattle.ciborium_ll.specs.Title.{title_len};
 
@@ -146,7 +147,7 @@ fn byte_chunks<R: Read, T: Write>(
 ) -> Result<Option<Stop>, fmt::Error>
 where
     R::Error: Drop,
-    ensures { segment.new.reader.ghost_name ≡ segment.old.reader.ghost_name }
+    ensures { segment_reference segment.new ≡ segment_reference segment.old }
 {
     let left = segment.left();
     writeln!(sink, "segment {left}")?;
@@ -178,7 +179,7 @@ fn text_chunks<R: Read, T: Write>(
 ) -> Result<Option<Stop>, fmt::Error>
 where
     R::Error: Drop,
-    ensures { segment.new.reader.ghost_name ≡ segment.old.reader.ghost_name }
+    ensures { segment_reference segment.new ≡ segment_reference segment.old }
 {
     let left = segment.left();
     writeln!(sink, "segment {left}")?;

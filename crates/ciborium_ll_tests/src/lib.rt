@@ -14,8 +14,6 @@ mod elements;
 #[cfg(test)]
 mod exactly;
 #[cfg(test)]
-mod faults;
-#[cfg(test)]
 mod messages;
 #[cfg(test)]
 mod pieces;

@@ -1,5 +1,7 @@
 ghost use Rattle.std.specs.Prelude.{◌≡◌, ◌≤◌, None};
+ghost use Rattle.ciborium_ll.specs.Chunks.{segment_decoder};
 ghost use Rattle.ciborium_ll.specs.Decoding.{IsSteady, offset_of, refusals_of, waiting_of};
+ghost use Rattle.ciborium_ll.specs.Segments.{string_decoder, string_reference};
 ghost use Rattle.ciborium_ll.specs.Title.{title_len};
 
 use crate::calls::pulls;
@@ -152,8 +154,8 @@ fn next_segment<R: Read>(
     segments: &mut Segments<'_, R, Text>,
     buffer: &mut [u8; 4],
 ) -> Result<(), Error<R::Error>>
-    ensures same_reference { segments.new.reader.ghost_name ≡ segments.old.reader.ghost_name }
-    ensures refusals { refusals_of segments.new.reader.now ≡ refusals_of segments.old.reader.now }
+    ensures same_reference { string_reference segments.new ≡ string_reference segments.old }
+    ensures refusals { refusals_of (string_decoder segments.new) ≡ refusals_of (string_decoder segments.old) }
 {
     match segments.advance()? {
         Some(body) => segments.finish(body, buffer),
@@ -166,7 +168,7 @@ fn steady_segment<R: Read>(
     segment: Segment<'_, R, Bytes>,
     buffer: &mut [u8; 4],
 ) -> Result<(), Error<R::Error>>
-    requires { IsSteady R.Read segment.reader.now }
+    requires { IsSteady R.Read (segment_decoder segment) }
 {
     segment.finish(buffer)
 }
@@ -176,7 +178,7 @@ fn next_steady_segment<R: Read>(
     segments: &mut Segments<'_, R, Bytes>,
     buffer: &mut [u8; 4],
 ) -> Result<(), Error<R::Error>>
-    requires { IsSteady R.Read segments.old.reader.now }
+    requires { IsSteady R.Read (string_decoder segments.old) }
 {
     match segments.pull()? {
         Some(segment) => steady_segment(segment, buffer),

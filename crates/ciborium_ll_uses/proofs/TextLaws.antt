@@ -17,7 +17,7 @@ use Rattle.ciborium_ll_uses.specs.Texts.{AppendsBody, Gathers, none, GathersAll,
 
 -- a text as a writer that takes all
 abbrev pub onto_text : Writer (List ℕ) (Unit {0})
-onto_text = record { written = λ text. Some text; room = λ text. None; failures = λ text. 0; flushed = λ old new. Unit {0} }
+onto_text = record { written = λ text. Some text; room = λ text. None; failures = λ text. 0; flushed = λ old new. Unit {0}; target = λ text. None }
 
 pub pushes : (text chunk text' : List ℕ) → text' ≡ text ++ chunk → WritesAll onto_text text chunk text'
 pushes text chunk text' same = record { appended = same; room = tt; failures = refl }
@@ -26,7 +26,7 @@ module _ {R E P : Type 0} {parser : Parser P} (source : Reader R E) where
   -- a body was read to its end
   pub body_read : (len place : ℕ) (old : Decoder R) (text : List ℕ) (segment new : Segment R P parser) (text' : List ℕ)
       → parser.kind ≡ Text → BodySoFar source onto_text len place old text segment text' → SegmentEnds source segment new
-      → AppendsBody source len old text new.reader.now text'
+      → AppendsBody source len old text new.decoder.now text'
   body_read len place old text segment new text' kind so_far ends =
       let same : so_far.read ≡ so_far.front =
       so_far.parts ∙ ap (λ (z : List ℕ). so_far.front ++ z) ends.none_kept ∙ append-nil so_far.front in

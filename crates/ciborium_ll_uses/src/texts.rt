@@ -2,8 +2,9 @@
 
 ghost use Rattle.std.specs.Prelude.{◌≡◌, ◌≤◌, ◌+◌, IfOk, OnOk, string_bytes, string_len};
 ghost use Rattle.ciborium_ll.specs.Types.Body.{Body as AnyBody};
-ghost use Rattle.ciborium_ll.specs.Chunks.{IsWhole};
+ghost use Rattle.ciborium_ll.specs.Chunks.{IsWhole, segment_decoder, segment_reference};
 ghost use Rattle.ciborium_ll.specs.Decoding.{IsSteady};
+ghost use Rattle.ciborium_ll.specs.Segments.{progress_of, string_decoder, string_reference};
 ghost use Rattle.ciborium_ll_uses.specs.Texts.{AppendsBody, GathersAll, ReadsText};
 
 use ciborium_ll::io::Read;
@@ -61,10 +62,10 @@ fn read_segments<R: Read>(
     segments: &mut Segments<'_, R, Text>,
     limit: usize,
 ) -> Result<String, TextError<R::Error>>
-    ensures same_reference { segments.new.reader.ghost_name ≡ segments.old.reader.ghost_name }
+    ensures same_reference { string_reference segments.new ≡ string_reference segments.old }
     ensures limited { IfOk result (λ text. string_len text ≤ limit) }
-    ensures gathers { IfOk result (λ text. GathersAll R.Read segments.old.progress (string_bytes text)
-        segments.new.reader.now) }
+    ensures gathers { IfOk result (λ text. GathersAll R.Read (progress_of segments.old) (string_bytes text)
+        (string_decoder segments.new)) }
 {
     let mut text = String::new(alloc);
     // Empty segments could come without an end.
@@ -86,12 +87,12 @@ fn read_body<R: Read>(
     segment: &mut Segment<'_, R, Text>,
     text: &mut String,
 ) -> Result<(), TextError<R::Error>>
-    ensures same_reference { segment.new.reader.ghost_name ≡ segment.old.reader.ghost_name }
+    ensures same_reference { segment_reference segment.new ≡ segment_reference segment.old }
     ensures appends { (body : AnyBody) → IsWhole body segment.old → OnOk result (AppendsBody R.Read body.length
-        segment.old.reader.now (string_bytes text.old) segment.new.reader.now (string_bytes text.new)) }
+        (segment_decoder segment.old) (string_bytes text.old) (segment_decoder segment.new) (string_bytes text.new)) }
     ensures grows { (body : AnyBody) → IsWhole body segment.old
         → OnOk result (string_len text.new ≡ string_len text.old + body.length) }
-    ensures steady { IsSteady R.Read segment.old.reader.now → IsSteady R.Read segment.new.reader.now }
+    ensures steady { IsSteady R.Read (segment_decoder segment.old) → IsSteady R.Read (segment_decoder segment.new) }
 {
     let mut buffer = [0; 64];
     // It ends: each chunk takes bytes of the body that were not read yet.

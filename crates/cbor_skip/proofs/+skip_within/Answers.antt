@@ -3,7 +3,8 @@ use Rattle.std.proofs.lemmas.Result.{err_from_is_err_and}
 use Rattle.ciborium_ll.specs.Types.Header.{Header}
 use Rattle.ciborium_ll.specs.Items.{Completes, positive, negative, float, simple}
 use Rattle.ciborium_ll.specs.Strings.{Bytes, Text}
-use Rattle.ciborium_ll.specs.Decoding.{refusals_of}
+use Rattle.ciborium_ll.specs.Decoding.{MovesOn}
+use Rattle.ciborium_ll.proofs.DecodingLaws.{MovesOn-none, MovesOn-then}
 use Rattle.ciborium_ll.proofs.TitleLaws.{shortest_no_longer}
 use Rattle.ciborium_ll.proofs.NestLaws.{title_some}
 use Rattle.cbor_skip.specs.Due.{IsNest}
@@ -14,7 +15,7 @@ use Rattle.cbor_skip.proofs.+skip_within.Goals.{in-Positive, in-Bytes+in_default
 use Rattle.cbor_skip.proofs.+skip_within.Goals as goal
 
 pub items-init : goal.items-init
-items-init g t c = record { so_far = none_read g.R.Read c.behind-remaining.ensures; refusals = refl }
+items-init g t c = record { so_far = none_read g.R.Read c.behind-remaining.ensures; moves_on = MovesOn-none g.R.Read c.args.decoder.now }
 
 -- ---- the ends
 
@@ -27,7 +28,7 @@ pub returns-then-closes-clause-skipped : goal.returns-then-closes-clause-skipped
 returns-then-closes-clause-skipped g t c =
     let may : closes c.items.remaining ≡ true = search rules in
     let pulled = rw (c.offset-place.ensures.same, c.in-Break.is) at c.in-Ok.ensures.header in
-    let steady = rw c.offset-place.ensures.same at c.in-Ok.ensures.steady in
+    let steady = rw c.offset-place.ensures.same at c.in-Ok.ensures.moves_on.steady in
     closed g.R.Read c.items.invariant.so_far may pulled steady
 
 -- ---- the errors
@@ -52,7 +53,7 @@ returns-in-Err-skip_bytes-clause-skipped g t c =
       len = c.in-Bytes.len;
       titled = c.pull.new.self;
       pulled = rw (c.offset-place.ensures.same, c.in-Bytes.is) at c.in-Ok.ensures.header;
-      steady = rw c.offset-place.ensures.same at c.in-Ok.ensures.steady;
+      steady = rw c.offset-place.ensures.same at c.in-Ok.ensures.moves_on.steady;
       fails = c.in-Err-skip_bytes.ensures.skipped;
     })))
 
@@ -70,7 +71,7 @@ returns-in-Err-skip_text-clause-skipped g t c =
       len = c.in-Text.len;
       titled = c.pull.new.self;
       pulled = rw (c.offset-place.ensures.same, c.in-Text.is) at c.in-Ok.ensures.header;
-      steady = rw c.offset-place.ensures.same at c.in-Ok.ensures.steady;
+      steady = rw c.offset-place.ensures.same at c.in-Ok.ensures.moves_on.steady;
       fails = c.in-Err-skip_text.ensures.skipped;
     })))
 
@@ -105,7 +106,7 @@ returns-in_err-skip_within-in-Tag-clause-skipped g t c =
     let some : is_done c.items.remaining ≡ false = search rules in
     let level : suc (c.args.depth - 1) ≡ c.args.depth = omega (arith, c.if-depth-eq0.false) in
     let pulled = rw c.offset-place.ensures.same at c.in-Ok.ensures.header in
-    let steady = rw c.offset-place.ensures.same at c.in-Ok.ensures.steady in
+    let steady = rw c.offset-place.ensures.same at c.in-Ok.ensures.moves_on.steady in
     let error = c.in_err-skip_within-in-Tag in
     let from = err_from_is_err_and c.from_residual.result c.from_residual.ensures.1 in
     let is_error = from.1 in
@@ -121,9 +122,9 @@ items-smaller g t c =
     let pulled = rw c.offset-place.ensures.same at c.in-Ok.ensures.header in
     let risen : c.pull.new.self.offset ≤ c.match-next.decoder.offset = elim c.match-next.branch [
       | in-Positive w ↦ rw w.decoder-is (omega arith)
-      | in-Bytes+in_default w ↦ rw w.decoder-is w.skip_bytes.ensures.rises
-      | in-Text+in_default-skip_text w ↦ rw w.decoder-is w.skip_text.ensures.rises
-      | in-Tag+else-depth-eq0+in_ok-skip_within-in-Tag w ↦ rw w.decoder-is w.skip_within.ensures.rises
+      | in-Bytes+in_default w ↦ rw w.decoder-is w.skip_bytes.ensures.moves_on.rises
+      | in-Text+in_default-skip_text w ↦ rw w.decoder-is w.skip_text.ensures.moves_on.rises
+      | in-Tag+else-depth-eq0+in_ok-skip_within-in-Tag w ↦ rw w.decoder-is w.skip_within.ensures.moves_on.rises
     ] in
     let below = c.match-next.decoder.covered in
     omega (arith, title_some pulled.title _ pulled.is_title, pulled.offset, risen, below)
@@ -131,14 +132,13 @@ items-smaller g t c =
 pub items-preserved : goal.items-preserved
 items-preserved g t c =
     let pulled = rw c.offset-place.ensures.same at c.in-Ok.ensures.header in
-    let steady = rw c.offset-place.ensures.same at c.in-Ok.ensures.steady in
-    let first : refusals_of c.pull.new.self ≡ refusals_of c.items.decoder =
-    rw c.offset-place.ensures.same at c.in-Ok.ensures.refusals in
-    let still : refusals_of c.match-next.decoder ≡ refusals_of c.items.decoder = elim c.match-next.branch [
+    let steady = rw c.offset-place.ensures.same at c.in-Ok.ensures.moves_on.steady in
+    let first = rw c.offset-place.ensures.same at c.in-Ok.ensures.moves_on in
+    let still : MovesOn g.R.Read c.items.decoder c.match-next.decoder = elim c.match-next.branch [
       | in-Positive w ↦ rw w.decoder-is first
-      | in-Bytes+in_default w ↦ rw w.decoder-is (w.skip_bytes.ensures.refusals ∙ first)
-      | in-Text+in_default-skip_text w ↦ rw w.decoder-is (w.skip_text.ensures.refusals ∙ first)
-      | in-Tag+else-depth-eq0+in_ok-skip_within-in-Tag w ↦ rw w.decoder-is (w.skip_within.ensures.refusals ∙ first)
+      | in-Bytes+in_default w ↦ rw w.decoder-is (MovesOn-then g.R.Read _ _ _ first w.skip_bytes.ensures.moves_on)
+      | in-Text+in_default-skip_text w ↦ rw w.decoder-is (MovesOn-then g.R.Read _ _ _ first w.skip_text.ensures.moves_on)
+      | in-Tag+else-depth-eq0+in_ok-skip_within-in-Tag w ↦ rw w.decoder-is (MovesOn-then g.R.Read _ _ _ first w.skip_within.ensures.moves_on)
     ] in
     let item : ReadsItem g.R.Read c.args.depth c.items.decoder c.match-next.decoder = elim c.match-next.branch [
       | in-Positive w ↦ (
@@ -165,5 +165,5 @@ items-preserved g t c =
     ] in
     record {
       so_far = one_more g.R.Read c.items.invariant.so_far (c.after_item-remaining.ensures c.args.header) item;
-      refusals = still ∙ c.items.invariant.refusals;
+      moves_on = MovesOn-then g.R.Read _ _ _ c.items.invariant.moves_on still;
     }

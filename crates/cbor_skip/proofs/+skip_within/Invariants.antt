@@ -1,5 +1,5 @@
 use Rattle.std.proofs.Common.{◌≡◌, ◌-◌, ◌^◌}
-use Rattle.ciborium_ll.specs.Decoding.{refusals_of}
+use Rattle.ciborium_ll.specs.Decoding.{MovesOn}
 use Rattle.cbor_skip.proofs.ItemSteps.{SoFar}
 use Rattle.cbor_skip.proofs.+skip_within.Given as goal
 
@@ -9,7 +9,7 @@ decreases-skip_within g l = l.depth
 abbrev pub invariant-items : goal.invariant-items
 invariant-items g l = record {
   so_far : SoFar g.R.Read l.fn.header l.depth l.fn.decoder l.decoder l.remaining;
-  refusals : refusals_of l.decoder ≡ refusals_of l.fn.decoder;
+  moves_on : MovesOn g.R.Read l.fn.decoder l.decoder;
 }
 
 abbrev pub decreases-items : goal.decreases-items

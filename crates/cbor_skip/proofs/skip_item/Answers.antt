@@ -11,9 +11,7 @@ returns g c =
     let skipped = only_item g.R.Read 0 c.args.depth room old c.skip_within.result new c.skip_within.ensures.skipped in
     record {
       skipped = skipped;
-      rises = c.skip_within.ensures.rises;
-      steady = c.skip_within.ensures.steady;
-      refusals = c.skip_within.ensures.refusals;
+      moves_on = c.skip_within.ensures.moves_on;
       told = λ due ready. skip_told g.R.Read c.args.depth room old due ready new c.skip_within.result skipped;
       exactly = λ due ready. skip_exactly g.R.Read c.args.depth room old due ready new c.skip_within.result skipped;
       front = λ due told. ok_told g.R.Read c.args.depth room old due told new c.skip_within.result skipped;

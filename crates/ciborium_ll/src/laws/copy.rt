@@ -1,7 +1,7 @@
 //! Headers copied from a decoder to an encoder.
 
 ghost use Rattle.std.specs.Prelude.{◌≡◌, ℕ, List, ◌↔◌, IsOk};
-ghost use Rattle.ciborium_ll_decoder.specs.Decoding.{IsSteady, refusals_of};
+ghost use Rattle.ciborium_ll_decoder.specs.Decoding.{MovesOn};
 ghost use Rattle.ciborium_ll_encoder.specs.Encoding.{writer_of};
 ghost use Rattle.ciborium_ll_decoder.specs.Copying.{CopiesHeaders, CopiesTold, IsReady, TitlesInFront};
 
@@ -30,8 +30,7 @@ pub fn copy_headers<R: Read, W: Write>(
         → CopiesTold R.Read W.Write count due written decoder.old result decoder.new (writer_of encoder.new) }
     ensures exactly { (due written : List ℕ) → IsReady R.Read W.Write decoder.old (writer_of encoder.old) due written
         → (IsOk result ↔ TitlesInFront count due) }
-    ensures steady { IsSteady R.Read decoder.old → IsSteady R.Read decoder.new }
-    ensures refusals { refusals_of decoder.new ≡ refusals_of decoder.old }
+    ensures moves_on { MovesOn R.Read decoder.old decoder.new }
 {
     'headers: for _copied in 0..count {
         let header = match decoder.pull() {

@@ -1,7 +1,8 @@
 //! Bodies read through buffers of any sizes.
 
 ghost use Rattle.std.specs.Prelude.{◌≡◌, ◌≤◌, ◌<◌, ◌+◌, ◌↔◌, ℕ, List, All, IfOk, length};
-ghost use Rattle.ciborium_ll_decoder.specs.Decoding.{IsSteady, refusals_of};
+ghost use Rattle.ciborium_ll_decoder.specs.Chunks.{segment_decoder, segment_reference};
+ghost use Rattle.ciborium_ll_decoder.specs.Decoding.{MovesOn};
 ghost use Rattle.ciborium_ll_encoder.specs.Encoding.{writer_of};
 ghost use Rattle.ciborium_ll_grammar.specs.Strings.{Kind, Text as text_strings, most_kept};
 ghost use Rattle.ciborium_ll_text.specs.Text.{IsCharacters};
@@ -38,10 +39,9 @@ fn drain<R: Read, W: Write, P: Chunked>(
     sink: &mut Encoder<W>,
 ) -> Result<Drained, RecodeError<R::Error, W::Error>>
     requires fit { All (λ size. size ≤ length buffer.old) sizes.now }
-    ensures same_reference { segment.new.reader.ghost_name ≡ segment.old.reader.ghost_name }
+    ensures same_reference { segment_reference segment.new ≡ segment_reference segment.old }
     ensures drains { Drains R.Read W.Write sizes.now segment.old (writer_of sink.old) result segment.new (writer_of sink.new) }
-    ensures steady { IsSteady R.Read segment.old.reader.now → IsSteady R.Read segment.new.reader.now }
-    ensures refusals { refusals_of segment.new.reader.now ≡ refusals_of segment.old.reader.now }
+    ensures moves_on { MovesOn R.Read (segment_decoder segment.old) (segment_decoder segment.new) }
 {
     'sizes: for (index, size) in sizes.iter().enumerate() {
         let chunk = match P::chunk(segment, &mut buffer[..*size]) {
@@ -87,10 +87,9 @@ pub fn drain_bytes<R: Read, W: Write>(
     sink: &mut Encoder<W>,
 ) -> Result<Drained, RecodeError<R::Error, W::Error>>
     requires fit { All (λ size. size ≤ length buffer.old) sizes.now }
-    ensures same_reference { segment.new.reader.ghost_name ≡ segment.old.reader.ghost_name }
+    ensures same_reference { segment_reference segment.new ≡ segment_reference segment.old }
     ensures drains { Drains R.Read W.Write sizes.now segment.old (writer_of sink.old) result segment.new (writer_of sink.new) }
-    ensures steady { IsSteady R.Read segment.old.reader.now → IsSteady R.Read segment.new.reader.now }
-    ensures refusals { refusals_of segment.new.reader.now ≡ refusals_of segment.old.reader.now }
+    ensures moves_on { MovesOn R.Read (segment_decoder segment.old) (segment_decoder segment.new) }
     ensures told { (body written : List ℕ) → IsDrainable R.Read W.Write segment.old (writer_of sink.old) body written
         → DrainsTold R.Read W.Write sizes.now body written segment.old result segment.new (writer_of sink.new) }
     ensures exactly { (body written : List ℕ) → IsDrainable R.Read W.Write segment.old (writer_of sink.old) body written
@@ -117,10 +116,9 @@ pub fn drain_text<R: Read, W: Write>(
     sink: &mut Encoder<W>,
 ) -> Result<Drained, RecodeError<R::Error, W::Error>>
     requires fit { All (λ size. size ≤ length buffer.old) sizes.now }
-    ensures same_reference { segment.new.reader.ghost_name ≡ segment.old.reader.ghost_name }
+    ensures same_reference { segment_reference segment.new ≡ segment_reference segment.old }
     ensures drains { Drains R.Read W.Write sizes.now segment.old (writer_of sink.old) result segment.new (writer_of sink.new) }
-    ensures steady { IsSteady R.Read segment.old.reader.now → IsSteady R.Read segment.new.reader.now }
-    ensures refusals { refusals_of segment.new.reader.now ≡ refusals_of segment.old.reader.now }
+    ensures moves_on { MovesOn R.Read (segment_decoder segment.old) (segment_decoder segment.new) }
     ensures told { (body written : List ℕ) → IsDrainable R.Read W.Write segment.old (writer_of sink.old) body written
         → DrainsTold R.Read W.Write sizes.now body written segment.old result segment.new (writer_of sink.new) }
     ensures any_sizes { (body written : List ℕ) (count : ℕ) → IsDrainable R.Read W.Write segment.old (writer_of sink.old) body written

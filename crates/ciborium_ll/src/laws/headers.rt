@@ -1,7 +1,7 @@
 //! Laws of headers, and of a header that is given back.
 
 ghost use Rattle.std.specs.Prelude.{◌≡◌, ◌↔◌, IsTrue};
-ghost use Rattle.ciborium_ll_decoder.specs.Decoding.{IsSteady, PullsAgain, refusals_of};
+ghost use Rattle.ciborium_ll_decoder.specs.Decoding.{MovesOn, PullsAgain};
 
 use ciborium_ll_decoder::dec::{Decoder, Error};
 use ciborium_ll_grammar::hdr::{Float, Header};
@@ -41,8 +41,7 @@ pub fn copied_float(float: &Float) -> Float
 /// The errors are those of the first `pull`, and the second one never fails.
 pub fn pull_again<R: Read>(decoder: &mut Decoder<R>) -> Result<Header, Error<R::Error>>
     ensures again { PullsAgain R.Read decoder.old result decoder.new }
-    ensures steady { IsSteady R.Read decoder.old → IsSteady R.Read decoder.new }
-    ensures refusals { refusals_of decoder.new ≡ refusals_of decoder.old }
+    ensures moves_on { MovesOn R.Read decoder.old decoder.new }
 {
     let header = decoder.pull()?;
     decoder.push(header);

@@ -91,7 +91,7 @@ pub fn write_pieces<W: Write>(
     Ok(())
 }
 
-/// Copies elements that are in their shortest spelling, as those of `write_pieces` are.
+/// Copies elements that are in their shortest spelling, as those of [`write_pieces`] are.
 ///
 /// Where the reader is steady, the writer has room and the offset fits, they are copied unchanged, and just what
 /// follows them is left.

@@ -3,10 +3,10 @@
 ghost use Rattle.std.specs.Prelude.{◌≡◌, ◌≤◌, ℕ, Option, None, length};
 ghost use Rattle.ciborium_ll_decoder.specs.declared.dec.Decoder.{Decoder as AnyDecoder};
 ghost use Rattle.ciborium_ll_grammar.specs.declared.hdr.Header.TheVariants as Header;
-ghost use Rattle.ciborium_ll_decoder.specs.declared.seg.Progress.TheVariants.{Open};
 ghost use Rattle.ciborium_ll_grammar.specs.Title.{IsInRange, title_len};
 ghost use Rattle.ciborium_ll_grammar.specs.Strings.{Bytes as byte_strings, Text as text_strings, kind_header};
-ghost use Rattle.ciborium_ll_decoder.specs.Decoding.{IsSteady, TakesBack, offset_of, refusals_of, waiting_of};
+ghost use Rattle.ciborium_ll_decoder.specs.Decoding.{MovesOn, TakesBack, offset_of, waiting_of};
+ghost use Rattle.ciborium_ll_decoder.specs.Segments.{IsAtBeginning, string_decoder, string_reference};
 ghost use Rattle.ciborium_ll.specs.Skipping.{SkipsString};
 
 use ciborium_ll_decoder::dec::{Decoder, Error};
@@ -27,9 +27,7 @@ pub fn skip_bytes<R: Read>(
     requires none_waits { waiting_of decoder.old ≡ None }
     requires covered { title_len (Header.Bytes len) ≤ offset_of decoder.old }
     ensures skipped { SkipsString R.Read byte_strings len (length buffer.old) decoder.old result decoder.new }
-    ensures rises { offset_of decoder.old ≤ offset_of decoder.new }
-    ensures steady { IsSteady R.Read decoder.old → IsSteady R.Read decoder.new }
-    ensures refusals { refusals_of decoder.new ≡ refusals_of decoder.old }
+    ensures moves_on { MovesOn R.Read decoder.old decoder.new }
 {
     let mut segments = decoder.bytes(len);
     skip_segments::<R, Bytes>(&mut segments, buffer)
@@ -37,9 +35,9 @@ pub fn skip_bytes<R: Read>(
 
 /// Reads a text string to its end, behind its header with this length, which was just pulled.
 ///
-/// The answers are those of `skip_bytes`, and `Syntax` also where a body is no text by itself. It then names the offset
-/// of that body's title; where the body is the whole string, the byte from which the header's shortest title would
-/// reach the body.
+/// The answers are those of [`skip_bytes`], and `Syntax` also where a body is no text by itself. It then names the
+/// offset of that body's title; where the body is the whole string, the byte from which the header's shortest title
+/// would reach the body.
 pub fn skip_text<R: Read>(
     decoder: &mut Decoder<R>,
     len: Option<usize>,
@@ -49,9 +47,7 @@ pub fn skip_text<R: Read>(
     requires none_waits { waiting_of decoder.old ≡ None }
     requires covered { title_len (Header.Text len) ≤ offset_of decoder.old }
     ensures skipped { SkipsString R.Read text_strings len (length buffer.old) decoder.old result decoder.new }
-    ensures rises { offset_of decoder.old ≤ offset_of decoder.new }
-    ensures steady { IsSteady R.Read decoder.old → IsSteady R.Read decoder.new }
-    ensures refusals { refusals_of decoder.new ≡ refusals_of decoder.old }
+    ensures moves_on { MovesOn R.Read decoder.old decoder.new }
 {
     let mut segments = decoder.text(len);
     skip_segments::<R, Text>(&mut segments, buffer)
@@ -63,13 +59,12 @@ fn skip_segments<R: Read, P: Chunked>(
     buffer: &mut [u8],
 ) -> Result<(), Error<R::Error>>
     requires room { 4 ≤ length buffer.old }
-    requires fresh { segments.old.progress ≡ Open 0 }
-    ensures same_reference { segments.new.reader.ghost_name ≡ segments.old.reader.ghost_name }
+    requires fresh { IsAtBeginning segments.old }
+    ensures same_reference { string_reference segments.new ≡ string_reference segments.old }
     ensures skipped { (opened : AnyDecoder R) (len : Option ℕ) → IsInRange (kind_header P.kind len)
-        → waiting_of opened ≡ None → TakesBack R.Read opened (kind_header P.kind len) segments.old.reader.now
-        → SkipsString R.Read P.kind len (length buffer.old) opened result segments.new.reader.now }
-    ensures steady { IsSteady R.Read segments.old.reader.now → IsSteady R.Read segments.new.reader.now }
-    ensures refusals { refusals_of segments.new.reader.now ≡ refusals_of segments.old.reader.now }
+        → waiting_of opened ≡ None → TakesBack R.Read opened (kind_header P.kind len) (string_decoder segments.old)
+        → SkipsString R.Read P.kind len (length buffer.old) opened result (string_decoder segments.new) }
+    ensures moves_on { MovesOn R.Read (string_decoder segments.old) (string_decoder segments.new) }
 {
     'segments: while let Some(body) = segments.advance()? {
         segments.finish(body, buffer)?;

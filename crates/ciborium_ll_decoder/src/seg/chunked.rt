@@ -1,8 +1,9 @@
 //! Bodies in chunks and read to their end, for both kinds of string alike.
 
 ghost use Rattle.std.specs.Prelude.{◌≡◌, ◌≤◌, [], length, None};
-ghost use Rattle.ciborium_ll_decoder.specs.Decoding.{IsSteady, offset_of, refusals_of, waiting_of};
-ghost use Rattle.ciborium_ll_decoder.specs.Chunks.{PullsChunk};
+ghost use Rattle.ciborium_ll_decoder.specs.Decoding.{MovesOn, waiting_of};
+ghost use Rattle.ciborium_ll_decoder.specs.Segments.{progress_of, string_decoder, string_reference};
+ghost use Rattle.ciborium_ll_decoder.specs.Chunks.{PullsChunk, segment_decoder, segment_reference};
 ghost use Rattle.ciborium_ll_decoder.specs.Finishing.{EndsBody, Finishes};
 
 use crate::dec::Error;
@@ -16,11 +17,9 @@ pub trait Chunked: Parser {
         segment: &mut Segment<'_, R, Self>,
         buffer: &'a mut [u8],
     ) -> Result<Option<&'a [u8]>, Error<R::Error>>
-        ensures same_reference { segment.new.reader.ghost_name ≡ segment.old.reader.ghost_name }
+        ensures same_reference { segment_reference segment.new ≡ segment_reference segment.old }
         ensures chunk { PullsChunk R.Read (length buffer.old) segment.old result segment.new }
-        ensures rises { offset_of segment.old.reader.now ≤ offset_of segment.new.reader.now }
-        ensures steady { IsSteady R.Read segment.old.reader.now → IsSteady R.Read segment.new.reader.now }
-        ensures refusals { refusals_of segment.new.reader.now ≡ refusals_of segment.old.reader.now };
+        ensures moves_on { MovesOn R.Read (segment_decoder segment.old) (segment_decoder segment.new) };
 }
 
 impl Chunked for Bytes {
@@ -55,12 +54,10 @@ impl<'r, R: Read, P: Chunked> Segment<'r, R, P> {
     pub fn finish(self, buffer: &mut [u8]) -> Result<(), Error<R::Error>>
         requires room { 4 ≤ length buffer.old }
         ensures finishes { Finishes R.Read (length buffer.old) self.entry result self.exit.0.now }
-        ensures rises { offset_of self.entry.reader.now ≤ offset_of self.exit.0.now }
-        ensures steady { IsSteady R.Read self.entry.reader.now → IsSteady R.Read self.exit.0.now }
-        ensures refusals { refusals_of self.exit.0.now ≡ refusals_of self.entry.reader.now }
+        ensures moves_on { MovesOn R.Read (segment_decoder self.entry) self.exit.0.now }
     {
         let Segment {
-            reader,
+            decoder,
             unread,
             place,
             kept,
@@ -69,7 +66,7 @@ impl<'r, R: Read, P: Chunked> Segment<'r, R, P> {
             parser,
         } = self;
         let mut segment = Segment {
-            reader: &mut *reader,
+            decoder: &mut *decoder,
             unread,
             place,
             kept,
@@ -84,11 +81,9 @@ impl<'r, R: Read, P: Chunked> Segment<'r, R, P> {
     #[tactic(auto, using(crate::proofs::FinishLaws::rest_pulled))]
     fn drain(&mut self, buffer: &mut [u8]) -> Result<(), Error<R::Error>>
         requires room { 4 ≤ length buffer.old }
-        ensures same_reference { self.new.reader.ghost_name ≡ self.old.reader.ghost_name }
-        ensures finishes { Finishes R.Read (length buffer.old) self.old result self.new.reader.now }
-        ensures rises { offset_of self.old.reader.now ≤ offset_of self.new.reader.now }
-        ensures steady { IsSteady R.Read self.old.reader.now → IsSteady R.Read self.new.reader.now }
-        ensures refusals { refusals_of self.new.reader.now ≡ refusals_of self.old.reader.now }
+        ensures same_reference { segment_reference self.new ≡ segment_reference self.old }
+        ensures finishes { Finishes R.Read (length buffer.old) self.old result (segment_decoder self.new) }
+        ensures moves_on { MovesOn R.Read (segment_decoder self.old) (segment_decoder self.new) }
     {
         'chunks: loop {
             match P::chunk(self, buffer) {
@@ -101,22 +96,21 @@ impl<'r, R: Read, P: Chunked> Segment<'r, R, P> {
 }
 
 impl<'r, R: Read, P: Chunked> Segments<'r, R, P> {
-    /// Reads the body that `advance` gave last to its end, by pulls through `buffer`: what `segment` and `finish` do.
+    /// Reads the body that [`Segments::advance`] gave last to its end, by pulls through `buffer`, as
+    /// [`Segment::finish`] does.
     ///
     /// `Ok` says that the whole body was read, and that it is UTF-8 where it is of a text: the decoder is then behind
     /// it. The errors are `Syntax` with the body's place where it is no text; `Io` where the reader failed, and `TooLong`
     /// where the offset would pass `usize::MAX`. What was read before an error is consumed.
     pub fn finish(&mut self, body: Body, buffer: &mut [u8]) -> Result<(), Error<R::Error>>
         requires room { 4 ≤ length buffer.old }
-        requires none_waits { waiting_of self.old.reader.now ≡ None }
-        ensures same_reference { self.new.reader.ghost_name ≡ self.old.reader.ghost_name }
-        ensures progress { self.new.progress ≡ self.old.progress }
+        requires none_waits { waiting_of (string_decoder self.old) ≡ None }
+        ensures same_reference { string_reference self.new ≡ string_reference self.old }
+        ensures progress { progress_of self.new ≡ progress_of self.old }
         ensures finishes { EndsBody R.Read P.kind [] body.length (length buffer.old) body.place
-            self.old.reader.now result self.new.reader.now }
-        ensures rises { offset_of self.old.reader.now ≤ offset_of self.new.reader.now }
-        ensures steady { IsSteady R.Read self.old.reader.now → IsSteady R.Read self.new.reader.now }
-        ensures refusals { refusals_of self.new.reader.now ≡ refusals_of self.old.reader.now }
+            (string_decoder self.old) result (string_decoder self.new) }
+        ensures moves_on { MovesOn R.Read (string_decoder self.old) (string_decoder self.new) }
     {
-        Segment::<R, P>::new(&mut *self.reader, body).finish(buffer)
+        Segment::<R, P>::new(&mut *self.decoder, body).finish(buffer)
     }
 }

@@ -1,10 +1,10 @@
 //! The strings of a decoder: it lends itself to what reads one.
 
 ghost use Rattle.std.specs.Prelude.{◌≡◌, ◌≤◌, None};
-ghost use Rattle.ciborium_ll_decoder.specs.declared.seg.Progress.TheVariants.{Open};
 ghost use Rattle.ciborium_ll_grammar.specs.Title.{title_len};
 ghost use Rattle.ciborium_ll_grammar.specs.Strings.{kind_header};
 ghost use Rattle.ciborium_ll_decoder.specs.Decoding.{TakesBack, offset_of, refusals_of, waiting_of};
+ghost use Rattle.ciborium_ll_decoder.specs.Segments.{IsAtBeginning, string_decoder, string_reference};
 
 use crate::dec::Decoder;
 use crate::seg::{Bytes, Parser, Segments, Text};
@@ -19,10 +19,10 @@ impl<R: Read> Decoder<R> {
     pub fn bytes(&mut self, len: Option<usize>) -> Segments<'_, R, Bytes>
         requires none_waits { waiting_of self.old ≡ None }
         requires covered { title_len (Header.Bytes len) ≤ offset_of self.old }
-        ensures same_reference { result.reader.ghost_name ≡ self.entry.ghost_name }
-        ensures back { TakesBack R.Read self.old (Header.Bytes len) result.reader.now }
-        ensures fresh { result.progress ≡ Open 0 }
-        ensures refusals { refusals_of result.reader.now ≡ refusals_of self.old }
+        ensures same_reference { string_reference result ≡ self.entry.ghost_name }
+        ensures back { TakesBack R.Read self.old (Header.Bytes len) (string_decoder result) }
+        ensures fresh { IsAtBeginning result }
+        ensures refusals { refusals_of (string_decoder result) ≡ refusals_of self.old }
     {
         self.string(len)
     }
@@ -34,10 +34,10 @@ impl<R: Read> Decoder<R> {
     pub fn text(&mut self, len: Option<usize>) -> Segments<'_, R, Text>
         requires none_waits { waiting_of self.old ≡ None }
         requires covered { title_len (Header.Text len) ≤ offset_of self.old }
-        ensures same_reference { result.reader.ghost_name ≡ self.entry.ghost_name }
-        ensures back { TakesBack R.Read self.old (Header.Text len) result.reader.now }
-        ensures fresh { result.progress ≡ Open 0 }
-        ensures refusals { refusals_of result.reader.now ≡ refusals_of self.old }
+        ensures same_reference { string_reference result ≡ self.entry.ghost_name }
+        ensures back { TakesBack R.Read self.old (Header.Text len) (string_decoder result) }
+        ensures fresh { IsAtBeginning result }
+        ensures refusals { refusals_of (string_decoder result) ≡ refusals_of self.old }
     {
         self.string(len)
     }
@@ -46,10 +46,10 @@ impl<R: Read> Decoder<R> {
     pub(crate) fn string<P: Parser>(&mut self, len: Option<usize>) -> Segments<'_, R, P>
         requires none_waits { waiting_of self.old ≡ None }
         requires covered { title_len (kind_header P.kind len) ≤ offset_of self.old }
-        ensures same_reference { result.reader.ghost_name ≡ self.entry.ghost_name }
-        ensures back { TakesBack R.Read self.old (kind_header P.kind len) result.reader.now }
-        ensures fresh { result.progress ≡ Open 0 }
-        ensures refusals { refusals_of result.reader.now ≡ refusals_of self.old }
+        ensures same_reference { string_reference result ≡ self.entry.ghost_name }
+        ensures back { TakesBack R.Read self.old (kind_header P.kind len) (string_decoder result) }
+        ensures fresh { IsAtBeginning result }
+        ensures refusals { refusals_of (string_decoder result) ≡ refusals_of self.old }
     {
         self.push(P::header(len));
         Segments::new(self)

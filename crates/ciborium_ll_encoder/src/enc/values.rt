@@ -29,7 +29,8 @@ impl<W: Write> Encoder<W> {
     ///
     /// The only errors are the writer's. A beginning of the string was then written.
     pub fn bytes(&mut self, value: &[u8], segment: Option<usize>) -> Result<(), W::Error>
-        ensures { WritesValue W.Write Bytes segment value.now (writer_of self.old) result (writer_of self.new) }
+        ensures value { WritesValue W.Write Bytes segment value.now (writer_of self.old) result (writer_of self.new) }
+        ensures target { W.target (writer_of self.new) ≡ W.target (writer_of self.old) }
     {
         let limit = limit(segment, value.len(), 1);
         if value.len() <= limit {
@@ -57,6 +58,7 @@ impl<W: Write> Encoder<W> {
         ensures value { WritesValue W.Write Text segment value.now (writer_of self.old) result (writer_of self.new) }
         ensures fewest { OnOk result (0 < length value.now
             → WritesFewest W.Write (value_limit Text segment value.now) value.now (writer_of self.old) (writer_of self.new)) }
+        ensures target { W.target (writer_of self.new) ≡ W.target (writer_of self.old) }
     {
         let limit = limit(segment, value.len(), 4);
         if value.len() <= limit {
@@ -69,7 +71,8 @@ impl<W: Write> Encoder<W> {
 
     /// Writes a body behind its title.
     fn string(&mut self, title: Header, body: &[u8]) -> Result<(), W::Error>
-        ensures { WritesBytes W.Write (writer_of self.old) result (shortest_title title ++ body.now) (writer_of self.new) }
+        ensures bytes { WritesBytes W.Write (writer_of self.old) result (shortest_title title ++ body.now) (writer_of self.new) }
+        ensures target { W.target (writer_of self.new) ≡ W.target (writer_of self.old) }
     {
         self.push(title)?;
         self.writer.write_all(body)
@@ -79,7 +82,8 @@ impl<W: Write> Encoder<W> {
     fn byte_pieces(&mut self, value: &[u8], limit: usize) -> Result<(), W::Error>
         requires some { 0 < limit }
         requires longer { limit < length value.now }
-        ensures { WritesPieces W.Write Bytes limit value.now (writer_of self.old) result (writer_of self.new) }
+        ensures pieces { WritesPieces W.Write Bytes limit value.now (writer_of self.old) result (writer_of self.new) }
+        ensures target { W.target (writer_of self.new) ≡ W.target (writer_of self.old) }
     {
         let mut rest = value;
         'pieces: while rest.len() > limit {
@@ -94,7 +98,8 @@ impl<W: Write> Encoder<W> {
     fn text_pieces(&mut self, value: &str, limit: usize) -> Result<(), W::Error>
         requires four { 4 ≤ limit }
         requires longer { limit < length value.now }
-        ensures { WritesPieces W.Write Text limit value.now (writer_of self.old) result (writer_of self.new) }
+        ensures pieces { WritesPieces W.Write Text limit value.now (writer_of self.old) result (writer_of self.new) }
+        ensures target { W.target (writer_of self.new) ≡ W.target (writer_of self.old) }
     {
         let mut rest = value;
         'pieces: while rest.len() > limit {

@@ -347,6 +347,8 @@ impl<'a, T: io::Write> Write for BufferedWriter<'a, T> {
 
     ghost flushed = { λ old new. Keeps (written_of T.contents old) (written_of T.contents new) × (kept_back_of new ≡ []) };
 
+    ghost target = { λ _. None };
+
     /// Keeps the whole of `data` back, or writes what was kept back first and then `data`.
     ///
     /// After an error the fault is kept: `Zero` where a call moved no byte, and `Failed` where a call failed. A

@@ -1,6 +1,6 @@
 //! A writer that keeps no bytes.
 
-ghost use Rattle.std.specs.Prelude.{◌≡◌, [], Some};
+ghost use Rattle.std.specs.Prelude.{◌≡◌, [], None, Some};
 
 use super::Write;
 use super::failures::Failures;
@@ -54,6 +54,8 @@ impl Write for Discard {
     ghost failures = { λ w. failures_of w };
 
     ghost flushed = { λ old new. taken_of new ≡ taken_of old };
+
+    ghost target = { λ _. None };
 
     /// Takes the whole of `data`, or nothing where the room is smaller.
     fn write_all(&mut self, data: &[u8]) -> Result<(), OutOfSpace>

@@ -1,8 +1,9 @@
 //! A reader and a writer over slices.
 
-ghost use Rattle.std.specs.Prelude.{true, ◌≡◌, ◌≤◌, [], Some, length, refl};
+ghost use Rattle.std.specs.Prelude.{true, ◌≡◌, ◌≤◌, ◌++◌, [], Some, drop, length, refl};
 
 use super::failures::Failures;
+use super::taken::Taken;
 use super::{Read, Write};
 
 /// Fewer bytes are left than were asked for. Nothing was consumed.
@@ -53,9 +54,40 @@ impl<'a> Read for SliceReader<'a> {
             return Err(EndOfFile);
         }
         let (front, rest) = self.left.split_at(data.len());
-        data.copy_from_slice(front);
+        copy(data, front);
         self.left = rest;
         Ok(())
+    }
+}
+
+/// Copies all bytes. The lengths that a title and its affix have go by themselves: where such a length is known when the
+/// program is built, what is left is one move, with no look at whether the two slices overlap.
+#[inline(always)]
+fn copy(to: &mut [u8], from: &[u8])
+    requires len { length to.old ≡ length from.now }
+    ensures copied { to.new ≡ from.now }
+{
+    match to.len() {
+        0 => {}
+        1 => copy_array::<1>(to, from),
+        2 => copy_array::<2>(to, from),
+        4 => copy_array::<4>(to, from),
+        8 => copy_array::<8>(to, from),
+        _ => to.copy_from_slice(from),
+    }
+}
+
+/// Copies so many bytes.
+#[inline(always)]
+fn copy_array<const N: usize>(to: &mut [u8], from: &[u8])
+    requires to { length to.old ≡ N }
+    requires from { length from.now ≡ N }
+    ensures copied { to.new ≡ from.now }
+{
+    if let Some(target) = to.as_mut_array::<N>()
+        && let Some(source) = from.as_array::<N>()
+    {
+        *target = *source;
     }
 }
 
@@ -63,33 +95,43 @@ impl<'a> Read for SliceReader<'a> {
 #[derive(Debug, Drop)]
 pub struct OutOfSpace;
 
-/// Writes into a slice, from its front on. It tells what it wrote and its room.
+/// Writes into a slice, from its front on. It tells what it wrote, its room and its slice, which is behind what was
+/// written as it was when it was lent.
 #[derive(Drop)]
 pub struct SliceWriter<'a> {
     buffer: &'a mut [u8],
     filled: usize,
     failures: Failures,
+    before: Taken,
     ghost within: { filled ≤ length buffer.now },
+    ghost behind: { drop filled buffer.now ≡ drop filled before.bytes },
 }
 
 impl<'a> SliceWriter<'a> {
+    ghost use Rattle.ciborium_ll_io.specs.Slices.{before_of};
+
     /// A writer with the whole slice as its room.
     pub fn new(buffer: &'a mut [u8]) -> SliceWriter<'a>
         ensures written { ⟦<SliceWriter<'a> as Write>⟧.written result ≡ Some [] }
         ensures room { ⟦<SliceWriter<'a> as Write>⟧.room result ≡ Some (length buffer.old) }
         ensures failures { ⟦<SliceWriter<'a> as Write>⟧.failures result ≡ 0 }
         ensures same_reference { result.buffer.ghost_name ≡ buffer.entry.ghost_name }
+        ensures before { before_of result ≡ buffer.old }
     {
+        let mut before = Taken::new();
+        before.append(buffer);
         SliceWriter {
             buffer,
             filled: 0,
             failures: Failures::new(),
+            before,
         }
     }
 
-    /// The bytes written so far.
+    /// The bytes written so far. Behind them the slice is as it was when it was lent.
     pub fn written(&self) -> &[u8]
-        ensures { ⟦<SliceWriter<'a> as Write>⟧.written self.now ≡ Some result.now }
+        ensures written { ⟦<SliceWriter<'a> as Write>⟧.written self.now ≡ Some result.now }
+        ensures slice { self.now.buffer.now ≡ result.now ++ drop (length result.now) (before_of self.now) }
     {
         &self.buffer[..self.filled]
     }
@@ -106,7 +148,7 @@ impl<'a> Write for SliceWriter<'a> {
     ghost use Rattle.std.specs.Prelude.{◌≡◌, ◌+◌, ◌<◌, IsSome, IfSome, OnOk, OnErr, IsOk, length};
     ghost use Rattle.std.specs.Io.KnownBytes.{Appends};
     ghost use Rattle.ciborium_ll_io.specs.Transfer.{Shrinks, AppendsFront};
-    ghost use Rattle.ciborium_ll_io.specs.Slices.{written_of, room_of, failures_of};
+    ghost use Rattle.ciborium_ll_io.specs.Slices.{written_of, room_of, failures_of, target_of};
 
     type Error = OutOfSpace;
 
@@ -118,8 +160,11 @@ impl<'a> Write for SliceWriter<'a> {
 
     ghost flushed = { λ old new. written_of new ≡ written_of old };
 
+    ghost target = { λ w. Some (target_of w) };
+
     /// Appends the whole of `data`, or nothing where the room is smaller. The slice is then as it was, behind what was
     /// written too.
+    #[tactic(auto, using(crate::proofs::BufferLaws::behind_grown))]
     fn write_all(&mut self, data: &[u8]) -> Result<(), OutOfSpace>
         // The trait's.
         ensures bytes { OnOk result (Appends (written_of self.old) (written_of self.new) «data».now) }
@@ -129,6 +174,7 @@ impl<'a> Write for SliceWriter<'a> {
             (room_of self.new) «data».now) }
         ensures full { OnErr result (IfSome (room_of self.old) (λ n. n < length «data».now)) }
         ensures err { OnErr result (failures_of self.new ≡ failures_of self.old + 1) }
+        ensures target { Some (target_of self.new) ≡ Some (target_of self.old) }
 
         // The slice's own.
         ensures nothing { OnErr result (written_of self.new ≡ written_of self.old) }
@@ -153,6 +199,7 @@ impl<'a> Write for SliceWriter<'a> {
         ensures flushed { OnOk result (written_of self.new ≡ written_of self.old) }
         ensures ok { OnOk result (failures_of self.new ≡ failures_of self.old) }
         ensures err { OnErr result (failures_of self.new ≡ failures_of self.old + 1) }
+        ensures target { Some (target_of self.new) ≡ Some (target_of self.old) }
 
         // The slice's own.
         ensures done { IsOk result }

@@ -169,6 +169,8 @@ impl<T: io::Write> Write for StdWriter<T> {
 
     ghost flushed = { λ old new. Keeps (T.contents (sink_of old)) (T.contents (sink_of new)) };
 
+    ghost target = { λ _. None };
+
     /// Appends the whole of `data`, by as many single calls of `write` as that takes. An empty `data` takes none.
     ///
     /// The errors are `Zero` where a call moved no byte, and `Failed` where a call failed. The bytes that the calls

@@ -5,7 +5,7 @@ ghost use Rattle.std.specs.Borrow.{ftrue};
 
 use std::marker::{Model, PhantomData};
 
-/// The bytes that a writer took, in order. None of them is kept.
+/// A list of bytes, of which none is kept: those that a writer took, or those that stood in its slice.
 #[derive(Drop)]
 pub(super) struct Taken {
     marker: PhantomData<()>,

@@ -35,7 +35,7 @@ returns-in-Bytes-Some-clause-copied g c = λ count before old writer behind.
     let pulled = subst (λ (x : Header). PullsTitle g.R.Read c.args.decoder.now x c.pull_title.new.self) is c.in-Ok.ensures.header in
     c.copy_definite.ensures.copied count before old writer pulled.title pulled.is_title
     (title_taken g.R.Read g.W.Write count before old writer c.args.decoder.now c.args.encoder.now.writer c.pull_title.new.self (h.Bytes (Some arm.length)) behind pulled)
-    (behind_pulled g.R.Read g.W.Write count before old writer c.args.decoder.now c.args.encoder.now.writer c.pull_title.new.self (h.Bytes (Some arm.length)) behind pulled c.pull_title.ensures.steady)
+    (behind_pulled g.R.Read g.W.Write count before old writer c.args.decoder.now c.args.encoder.now.writer c.pull_title.new.self (h.Bytes (Some arm.length)) behind pulled c.pull_title.ensures.moves_on.steady)
 
 pub returns-in-Bytes-None-clause-copied : goal.returns-in-Bytes-None-clause-copied
 returns-in-Bytes-None-clause-copied g c = λ count before old writer behind.
@@ -45,7 +45,7 @@ returns-in-Bytes-None-clause-copied g c = λ count before old writer behind.
     let pulled = subst (λ (x : Header). PullsTitle g.R.Read c.args.decoder.now x c.pull_title.new.self) is c.in-Ok.ensures.header in
     c.copy_indefinite.ensures.copied count before old writer pulled.title pulled.is_title
     (title_taken g.R.Read g.W.Write count before old writer c.args.decoder.now c.args.encoder.now.writer c.pull_title.new.self (h.Bytes None) behind pulled)
-    (behind_pulled g.R.Read g.W.Write count before old writer c.args.decoder.now c.args.encoder.now.writer c.pull_title.new.self (h.Bytes None) behind pulled c.pull_title.ensures.steady)
+    (behind_pulled g.R.Read g.W.Write count before old writer c.args.decoder.now c.args.encoder.now.writer c.pull_title.new.self (h.Bytes None) behind pulled c.pull_title.ensures.moves_on.steady)
 
 pub returns-in-Text-Some-clause-copied : goal.returns-in-Text-Some-clause-copied
 returns-in-Text-Some-clause-copied g c = λ count before old writer behind.
@@ -55,7 +55,7 @@ returns-in-Text-Some-clause-copied g c = λ count before old writer behind.
     let pulled = subst (λ (x : Header). PullsTitle g.R.Read c.args.decoder.now x c.pull_title.new.self) is c.in-Ok.ensures.header in
     c.copy_definite-in-Text-Some.ensures.copied count before old writer pulled.title pulled.is_title
     (title_taken g.R.Read g.W.Write count before old writer c.args.decoder.now c.args.encoder.now.writer c.pull_title.new.self (h.Text (Some arm.length)) behind pulled)
-    (behind_pulled g.R.Read g.W.Write count before old writer c.args.decoder.now c.args.encoder.now.writer c.pull_title.new.self (h.Text (Some arm.length)) behind pulled c.pull_title.ensures.steady)
+    (behind_pulled g.R.Read g.W.Write count before old writer c.args.decoder.now c.args.encoder.now.writer c.pull_title.new.self (h.Text (Some arm.length)) behind pulled c.pull_title.ensures.moves_on.steady)
 
 pub returns-in-Text-None-clause-copied : goal.returns-in-Text-None-clause-copied
 returns-in-Text-None-clause-copied g c = λ count before old writer behind.
@@ -65,7 +65,7 @@ returns-in-Text-None-clause-copied g c = λ count before old writer behind.
     let pulled = subst (λ (x : Header). PullsTitle g.R.Read c.args.decoder.now x c.pull_title.new.self) is c.in-Ok.ensures.header in
     c.copy_indefinite-in-Text-None.ensures.copied count before old writer pulled.title pulled.is_title
     (title_taken g.R.Read g.W.Write count before old writer c.args.decoder.now c.args.encoder.now.writer c.pull_title.new.self (h.Text None) behind pulled)
-    (behind_pulled g.R.Read g.W.Write count before old writer c.args.decoder.now c.args.encoder.now.writer c.pull_title.new.self (h.Text None) behind pulled c.pull_title.ensures.steady)
+    (behind_pulled g.R.Read g.W.Write count before old writer c.args.decoder.now c.args.encoder.now.writer c.pull_title.new.self (h.Text None) behind pulled c.pull_title.ensures.moves_on.steady)
 
 pub returns-in-Ok-push_title : goal.returns-in-Ok-push_title
 returns-in-Ok-push_title g c =
@@ -73,12 +73,12 @@ returns-in-Ok-push_title g c =
       copied = λ count before old writer behind.
           let pulled = c.in-Ok.ensures.header in
           let plain : IsPlain c.in-Ok.pulled.0 = search rules in
-          let wrote = subst (λ (bytes : List ℕ). WritesAll g.W.Write c.args.encoder.now.writer bytes c.push_title.new.encoder.writer) c.shortest.ensures.bytes c.in-Ok-push_title.ensures in
+          let wrote = subst (λ (bytes : List ℕ). WritesAll g.W.Write c.args.encoder.now.writer bytes c.push_title.new.encoder.writer) c.shortest.ensures.bytes c.in-Ok-push_title.ensures.title in
           plain_goes_on g.R.Read g.W.Write count before old writer c.pull_title.new.self c.args.encoder.now.writer (length c.args.buffer.now) c.in-Ok.pulled.0 pulled.title (Ok c.in-Ok-push_title.field-0) c.push_title.new.encoder.writer
           plain pulled.is_title (title_taken g.R.Read g.W.Write count before old writer c.args.decoder.now c.args.encoder.now.writer c.pull_title.new.self c.in-Ok.pulled.0 behind pulled)
-          (behind_pulled g.R.Read g.W.Write count before old writer c.args.decoder.now c.args.encoder.now.writer c.pull_title.new.self c.in-Ok.pulled.0 behind pulled c.pull_title.ensures.steady) wrote;
-      steady = c.pull_title.ensures.steady;
-      refusals = c.pull_title.ensures.refusals;
+          (behind_pulled g.R.Read g.W.Write count before old writer c.args.decoder.now c.args.encoder.now.writer c.pull_title.new.self c.in-Ok.pulled.0 behind pulled c.pull_title.ensures.moves_on.steady) wrote;
+      moves_on = c.pull_title.ensures.moves_on;
+      target = c.push_title.ensures.target;
     }
 
 pub returns-in-Err-push_title : goal.returns-in-Err-push_title
@@ -87,10 +87,10 @@ returns-in-Err-push_title g c =
       copied = λ count before old writer behind.
           let pulled = c.in-Ok.ensures.header in
           let plain : IsPlain c.in-Ok.pulled.0 = search rules in
-          let wrote = subst (λ (bytes : List ℕ). WritesFront g.W.Write c.args.encoder.now.writer bytes c.push_title.new.encoder.writer) c.shortest.ensures.bytes c.in-Err-push_title.ensures in
+          let wrote = subst (λ (bytes : List ℕ). WritesFront g.W.Write c.args.encoder.now.writer bytes c.push_title.new.encoder.writer) c.shortest.ensures.bytes c.in-Err-push_title.ensures.title in
           plain_goes_on g.R.Read g.W.Write count before old writer c.pull_title.new.self c.args.encoder.now.writer (length c.args.buffer.now) c.in-Ok.pulled.0 pulled.title (Err (r.Write c.in-Err-push_title.fault)) c.push_title.new.encoder.writer
           plain pulled.is_title (title_taken g.R.Read g.W.Write count before old writer c.args.decoder.now c.args.encoder.now.writer c.pull_title.new.self c.in-Ok.pulled.0 behind pulled)
-          (behind_pulled g.R.Read g.W.Write count before old writer c.args.decoder.now c.args.encoder.now.writer c.pull_title.new.self c.in-Ok.pulled.0 behind pulled c.pull_title.ensures.steady) wrote;
-      steady = c.pull_title.ensures.steady;
-      refusals = c.pull_title.ensures.refusals;
+          (behind_pulled g.R.Read g.W.Write count before old writer c.args.decoder.now c.args.encoder.now.writer c.pull_title.new.self c.in-Ok.pulled.0 behind pulled c.pull_title.ensures.moves_on.steady) wrote;
+      moves_on = c.pull_title.ensures.moves_on;
+      target = c.push_title.ensures.target;
     }

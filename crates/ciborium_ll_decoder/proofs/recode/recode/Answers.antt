@@ -1,6 +1,7 @@
 use Rattle.std.proofs.Common.{refl, ◌≡◌, ◌∙◌, ℕ, Ok, Err, length, arith, subst}
 use Rattle.std.proofs.lemmas.Result.{err_from_is_err_and}
 use Rattle.ciborium_ll_decoder.specs.Recoding.{CopiesElements, CopiesRun}
+use Rattle.ciborium_ll_decoder.proofs.DecodingLaws.{MovesOn-none, MovesOn-then}
 use Rattle.ciborium_ll_decoder.proofs.CopyLaws.{run_none, run_behind, added_run}
 use Rattle.ciborium_ll_decoder.proofs.RecodingToldLaws.{recode_told, recode_exactly, recode_anyhow, recode_strictly, recode_strictly_exactly, recode_strictly_anyhow, copies_all}
 use Rattle.ciborium_ll_decoder.proofs.recode.recode.Goals as goal
@@ -8,8 +9,8 @@ use Rattle.ciborium_ll_decoder.proofs.recode.recode.Goals as goal
 pub elements-init : goal.elements-init
 elements-init g c = record {
   so_far = run_none g.R.Read g.W.Write c.args.decoder.now c.args.encoder.now.writer;
-  steady = λ s. s;
-  refusals = refl;
+  moves_on = MovesOn-none g.R.Read c.args.decoder.now;
+  target = refl;
 }
 
 pub elements-preserved : goal.elements-preserved
@@ -20,8 +21,8 @@ elements-preserved g c =
     let copied = rw c.in_ok-copy_element.was at c.copy_element.ensures.copied in
     record {
       so_far = added_run g.R.Read g.W.Write c.args.count c.elements._copied old writer _ _ (copied c.args.count c.elements._copied old writer behind);
-      steady = λ s. c.copy_element.ensures.steady (c.elements.invariant.steady s);
-      refusals = c.copy_element.ensures.refusals ∙ c.elements.invariant.refusals;
+      moves_on = MovesOn-then g.R.Read _ _ _ c.elements.invariant.moves_on c.copy_element.ensures.moves_on;
+      target = c.copy_element.ensures.target ∙ c.elements.invariant.target;
     }
 
 pub returns-in_err-copy_element : goal.returns-in_err-copy_element
@@ -38,8 +39,8 @@ returns-in_err-copy_element g c =
     let all : CopiesElements g.R.Read g.W.Write c.args.count (length c.args.buffer.now) old writer c.from_residual.result c.copy_element.new.decoder c.copy_element.new.encoder.writer = rw same stopped in
     record {
       copied = all;
-      steady = λ s. c.copy_element.ensures.steady (c.elements.invariant.steady s);
-      refusals = c.copy_element.ensures.refusals ∙ c.elements.invariant.refusals;
+      moves_on = MovesOn-then g.R.Read _ _ _ c.elements.invariant.moves_on c.copy_element.ensures.moves_on;
+      target = c.copy_element.ensures.target ∙ c.elements.invariant.target;
       told = λ due written ready. recode_told g.R.Read g.W.Write c.args.count (length c.args.buffer.now) old writer due written ready refl _ _ c.from_residual.result all;
       exactly = λ due written ready. recode_exactly g.R.Read g.W.Write c.args.count (length c.args.buffer.now) old writer due written ready refl _ _ c.from_residual.result all;
       anyhow = λ due written told. recode_anyhow g.R.Read g.W.Write c.args.count (length c.args.buffer.now) old writer due written told refl _ _ c.from_residual.result all;
@@ -57,8 +58,8 @@ returns g c =
     let all = copies_all g.R.Read g.W.Write c.args.count old c.elements.decoder writer c.elements.encoder.writer run in
     record {
       copied = all;
-      steady = c.elements.invariant.steady;
-      refusals = c.elements.invariant.refusals;
+      moves_on = c.elements.invariant.moves_on;
+      target = c.elements.invariant.target;
       told = λ due written ready. recode_told g.R.Read g.W.Write c.args.count (length c.args.buffer.now) old writer due written ready refl _ _ (Ok (tt {0})) all;
       exactly = λ due written ready. recode_exactly g.R.Read g.W.Write c.args.count (length c.args.buffer.now) old writer due written ready refl _ _ (Ok (tt {0})) all;
       anyhow = λ due written told. recode_anyhow g.R.Read g.W.Write c.args.count (length c.args.buffer.now) old writer due written told refl _ _ (Ok (tt {0})) all;

@@ -3,7 +3,7 @@ use Rattle.ciborium_ll.specs.Chunks.{left_of}
 use Rattle.ciborium_ll_service.proofs.string.text_chunks.Given as goal
 
 abbrev pub invariant-chunks : goal.invariant-chunks
-invariant-chunks g l = l.segment.reader.ghost_name ≡ l.initial.segment.reader.ghost_name
+invariant-chunks g l = l.segment.decoder.ghost_name ≡ l.initial.segment.decoder.ghost_name
 
 -- a chunk takes bytes, or is the first empty one in a row
 abbrev pub decreases-chunks : goal.decreases-chunks

@@ -16,7 +16,7 @@ returns-in_default-clause-gathers g c =
     record {
       last = c.segments.segments.progress;
       gathers = c.segments.invariant.so_far;
-      now = c.segments.segments.reader.now;
+      now = c.segments.segments.decoder.now;
       ended = c.advance.new.self.progress;
       ends = ends;
     }
@@ -30,6 +30,6 @@ segments-preserved g c =
     let grows = c.in_ok-read_body.ensures.grows body whole in
     record {
       same = search rules;
-      so_far = more body c.segments.segments.reader.now c.advance.new.self.reader.now c.read_body.new.segment.reader.now c.segments.invariant.so_far advances appends;
+      so_far = more body c.segments.segments.decoder.now c.advance.new.self.decoder.now c.read_body.new.segment.decoder.now c.segments.invariant.so_far advances appends;
       within = omega (arith, grows, c.if-body-limit.false, c.segments.invariant.within);
     }

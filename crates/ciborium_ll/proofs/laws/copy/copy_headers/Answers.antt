@@ -1,12 +1,13 @@
 use Rattle.std.proofs.Common.{[], ◌∷◌, ◌++◌, Ok, Err, refl, ◌∙◌, arith, length-append}
 use Rattle.ciborium_ll_decoder.specs.declared.recode.RecodeError.TheVariants as r
 use Rattle.ciborium_ll_decoder.specs.Copying.{CopiesAll, StopsReading, StopsWriting}
+use Rattle.ciborium_ll_decoder.proofs.DecodingLaws.{MovesOn-none, MovesOn-then}
 use Rattle.ciborium_ll_decoder.proofs.CopyingLaws.{Copies-none, Copies-push, AreTitles-shortest}
 use Rattle.ciborium_ll_decoder.proofs.CopyingTold.{told, exactly}
 use Rattle.ciborium_ll.proofs.laws.copy.copy_headers.Goals as goal
 
 pub headers-init : goal.headers-init
-headers-init g c = ([], refl, Copies-none g.R.Read g.W.Write c.args.decoder.now c.args.encoder.now.writer, refl)
+headers-init g c = ([], refl, Copies-none g.R.Read g.W.Write c.args.decoder.now c.args.encoder.now.writer, MovesOn-none g.R.Read c.args.decoder.now)
 
 pub headers-preserved : goal.headers-preserved
 headers-preserved g c =
@@ -14,8 +15,8 @@ headers-preserved g c =
     let pulled = c.in-Ok.ensures in (
       headers ++ c.in-Ok.header ∷ [],
       omega (arith, c.headers.invariant.1, length-append headers (c.in-Ok.header ∷ [])),
-      Copies-push g.R.Read g.W.Write headers c.in-Ok.header _ _ _ _ _ _ c.headers.invariant.2 pulled.header pulled.steady c.in_default.ensures.title,
-      pulled.refusals ∙ c.headers.invariant.3,
+      Copies-push g.R.Read g.W.Write headers c.in-Ok.header _ _ _ _ _ _ c.headers.invariant.2 pulled.header pulled.moves_on.steady c.in_default.ensures.title,
+      MovesOn-then g.R.Read _ _ _ c.headers.invariant.3 pulled.moves_on,
     )
 
 pub returns-in-Err : goal.returns-in-Err
@@ -32,8 +33,7 @@ returns-in-Err g c =
       copied = copied;
       told = λ due written ready. told g.R.Read g.W.Write c.args.count _ _ _ _ due written (Err (r.Read c.in-Err.error)) ready copied;
       exactly = λ due written ready. exactly g.R.Read g.W.Write c.args.count _ _ _ _ due written (Err (r.Read c.in-Err.error)) ready copied;
-      steady = λ steady. c.in-Err.ensures.steady (c.headers.invariant.2.passed.steady steady);
-      refusals = c.in-Err.ensures.refusals ∙ c.headers.invariant.3;
+      moves_on = MovesOn-then g.R.Read _ _ _ c.headers.invariant.3 c.in-Err.ensures.moves_on;
     }
 
 pub returns-in-Err-push : goal.returns-in-Err-push
@@ -53,8 +53,7 @@ returns-in-Err-push g c =
       copied = copied;
       told = λ due written ready. told g.R.Read g.W.Write c.args.count _ _ _ _ due written (Err (r.Write c.in-Err-push.fault)) ready copied;
       exactly = λ due written ready. exactly g.R.Read g.W.Write c.args.count _ _ _ _ due written (Err (r.Write c.in-Err-push.fault)) ready copied;
-      steady = λ steady. c.in-Ok.ensures.steady (c.headers.invariant.2.passed.steady steady);
-      refusals = c.in-Ok.ensures.refusals ∙ c.headers.invariant.3;
+      moves_on = MovesOn-then g.R.Read _ _ _ c.headers.invariant.3 c.in-Ok.ensures.moves_on;
     }
 
 pub returns : goal.returns
@@ -70,6 +69,5 @@ returns g c =
       copied = copied;
       told = λ due written ready. told g.R.Read g.W.Write c.args.count _ _ _ _ due written (Ok (tt {0})) ready copied;
       exactly = λ due written ready. exactly g.R.Read g.W.Write c.args.count _ _ _ _ due written (Ok (tt {0})) ready copied;
-      steady = λ steady. c.headers.invariant.2.passed.steady steady;
-      refusals = c.headers.invariant.3;
+      moves_on = c.headers.invariant.3;
     }

@@ -1,6 +1,7 @@
 use Rattle.std.proofs.Common.{rules, ◌≡◌, ℕ, length, take, get_or, refl, subst, sym, arith, Err, length-take-le}
 use Rattle.std.proofs.lemmas.List.{take_more, take_all}
 use Rattle.ciborium_ll_decoder.specs.Chunks.{GivesChunk, PullsChunk}
+use Rattle.ciborium_ll_decoder.proofs.DecodingLaws.{MovesOn-none, MovesOn-then}
 use Rattle.ciborium_ll.proofs.DrainLaws.{behind_at, drains_none, drains_more}
 use Rattle.ciborium_ll.proofs.laws.drains.drain.Goals as goal
 
@@ -8,8 +9,7 @@ pub sizes-init : goal.sizes-init
 sizes-init g c = record {
   same = search rules;
   some = drains_none g.R.Read g.W.Write c.args.segment.now c.args.sink.now.writer;
-  steady = λ s. s;
-  refusals = refl;
+  moves_on = MovesOn-none g.R.Read c.args.segment.now.decoder.now;
 }
 
 pub returns-in-Ok-None-clause-drains : goal.returns-in-Ok-None-clause-drains
@@ -69,13 +69,12 @@ sizes-preserved g c =
     let pulled = c.in-Ok-Some.ensures in
     let gives = subst (λ (n : ℕ). GivesChunk g.R.Read n c.sizes.segment c.in-Ok-Some.chunk.now c.chunk.new.segment) room (rw c.in-Ok-Some.field-0-is at pulled.chunk) in
     let wrote = c.in_default.ensures in
-    let more = drains_more g.R.Read g.W.Write (take c.sizes.index sizes) size _ _ c.sizes.segment _ c.sizes.invariant.some _ c.chunk.new.segment gives _ pulled.steady
+    let more = drains_more g.R.Read g.W.Write (take c.sizes.index sizes) size _ _ c.sizes.segment _ c.sizes.invariant.some _ c.chunk.new.segment gives _ pulled.moves_on.steady
     (record { appended = wrote.bytes; room = wrote.fills; failures = wrote.ok }) in
     record {
       same = search rules;
       some = rw (sym (take_more sizes c.sizes.index 0 c.sizes-test.true)) at more;
-      steady = λ s. pulled.steady (c.sizes.invariant.steady s);
-      refusals = search rules;
+      moves_on = MovesOn-then g.R.Read _ _ _ c.sizes.invariant.moves_on pulled.moves_on;
     }
 
 pub returns-clause-drains : goal.returns-clause-drains

@@ -12,7 +12,7 @@ returns-in-Header g c =
 pub returns-in-Bytes : goal.returns-in-Bytes
 returns-in-Bytes g c =
     subst (λ (piece : Piece). WritesPiece g.W.Write piece c.args.encoder.now.writer c.bytes.result c.bytes.new.self.writer) (sym c.in-Bytes.is)
-    (writes_bytes g.W.Write c.in-Bytes.value c.in-Bytes.segment _ _ c.bytes.result c.bytes.ensures)
+    (writes_bytes g.W.Write c.in-Bytes.value c.in-Bytes.segment _ _ c.bytes.result c.bytes.ensures.value)
 
 pub returns-in-Text : goal.returns-in-Text
 returns-in-Text g c =

@@ -1,5 +1,6 @@
 use Rattle.std.proofs.Common.{rules, sym, ◌∙◌, ◌≡◌, ◌<◌, ◌^◌, None, Err, length, arith}
 use Rattle.std.proofs.lemmas.Result.{err_from_is_err_and}
+use Rattle.ciborium_ll_decoder.proofs.DecodingLaws.{MovesOn-then}
 use Rattle.ciborium_ll.proofs.SkipLaws.{skips_end, skips_error, skips_body, skips_stop, found_rises}
 use Rattle.ciborium_ll.proofs.laws.whole.skip_segments.Goals as goal
 
@@ -11,17 +12,17 @@ returns-in_err-body-clause-skipped g c = λ opened len range settled back.
     let error = c.in_err-body.field-0.0 in
     let same : c.from_residual.result ≡ Err error = cc in
     let advances = rw c.in_err-body.was at c.advance.ensures.advances in
-    let less : c.advance.new.self.reader.now.offset < 2 ^ 64 = search rules in
-    rw same (skips_error g.R.Read g.P.Parser.kind len (length c.args.buffer.now) opened c.segments.segments.reader.now c.advance.new.self.reader.now c.segments.segments.progress c.advance.new.self.progress
-    error less (c.segments.invariant.so_far opened len range settled back) c.advance.ensures.steady advances)
+    let less : c.advance.new.self.decoder.now.offset < 2 ^ 64 = search rules in
+    rw same (skips_error g.R.Read g.P.Parser.kind len (length c.args.buffer.now) opened c.segments.segments.decoder.now c.advance.new.self.decoder.now c.segments.segments.progress c.advance.new.self.progress
+    error less (c.segments.invariant.so_far opened len range settled back) c.advance.ensures.moves_on.steady advances)
 
 pub segments-smaller : goal.segments-smaller
 segments-smaller g c =
     let some = c.in-Some.is in
     let advances = rw (c.in_ok-body.was, some) at c.advance.ensures.advances in
-    let rises = found_rises g.R.Read g.P.Parser.kind c.segments.segments.progress c.advance.new.self.progress c.segments.segments.reader.now c.advance.new.self.reader.now c.in-Some.body advances in
-    let more = c.finish.ensures.rises in
-    let risen : c.segments.segments.reader.now.offset < c.finish.new.self.reader.now.offset = omega (arith, rises, more) in
+    let rises = found_rises g.R.Read g.P.Parser.kind c.segments.segments.progress c.advance.new.self.progress c.segments.segments.decoder.now c.advance.new.self.decoder.now c.in-Some.body advances in
+    let more = c.finish.ensures.moves_on.rises in
+    let risen : c.segments.segments.decoder.now.offset < c.finish.new.self.decoder.now.offset = omega (arith, rises, more) in
     search rules
 
 pub segments-preserved : goal.segments-preserved
@@ -32,10 +33,9 @@ segments-preserved g c =
     record {
       same = search rules;
       so_far = λ opened len range settled back.
-          skips_body g.R.Read g.P.Parser.kind len (length c.segments.buffer) opened c.segments.segments.reader.now c.advance.new.self.reader.now c.finish.new.self.reader.now c.segments.segments.progress
-          c.finish.new.self.progress c.in-Some.body (c.segments.invariant.so_far opened len range settled back) c.advance.ensures.steady c.finish.ensures.steady (rw (sym c.finish.ensures.progress) at advances) reads;
-      steady = λ s. c.finish.ensures.steady (c.advance.ensures.steady (c.segments.invariant.steady s));
-      refusals = c.finish.ensures.refusals ∙ c.advance.ensures.refusals ∙ c.segments.invariant.refusals;
+          skips_body g.R.Read g.P.Parser.kind len (length c.segments.buffer) opened c.segments.segments.decoder.now c.advance.new.self.decoder.now c.finish.new.self.decoder.now c.segments.segments.progress
+          c.finish.new.self.progress c.in-Some.body (c.segments.invariant.so_far opened len range settled back) c.advance.ensures.moves_on.steady c.finish.ensures.moves_on.steady (rw (sym c.finish.ensures.progress) at advances) reads;
+      moves_on = MovesOn-then g.R.Read _ _ _ c.segments.invariant.moves_on (MovesOn-then g.R.Read _ _ _ c.advance.ensures.moves_on c.finish.ensures.moves_on);
     }
 
 pub returns-in_err-finish-clause-skipped : goal.returns-in_err-finish-clause-skipped
@@ -48,12 +48,12 @@ returns-in_err-finish-clause-skipped g c = λ opened len range settled back.
     let some = c.in-Some.is in
     let advances = rw (c.in_ok-body.was, some) at c.advance.ensures.advances in
     let stops = rw c.in_err-finish.was at c.finish.ensures.finishes in
-    rw (same, sym c.segments.auto.buffer) (skips_stop g.R.Read g.P.Parser.kind len (length c.segments.buffer) opened c.segments.segments.reader.now c.advance.new.self.reader.now c.finish.new.self.reader.now
-    c.segments.segments.progress c.advance.new.self.progress c.in-Some.body error (c.segments.invariant.so_far opened len range settled back) c.advance.ensures.steady advances stops)
+    rw (same, sym c.segments.auto.buffer) (skips_stop g.R.Read g.P.Parser.kind len (length c.segments.buffer) opened c.segments.segments.decoder.now c.advance.new.self.decoder.now c.finish.new.self.decoder.now
+    c.segments.segments.progress c.advance.new.self.progress c.in-Some.body error (c.segments.invariant.so_far opened len range settled back) c.advance.ensures.moves_on.steady advances stops)
 
 pub returns-clause-skipped : goal.returns-clause-skipped
 returns-clause-skipped g c = λ opened len range settled back.
     let none : c.in_ok-body.field-0 ≡ None = search rules in
     let advances = rw (c.in_ok-body.was, none) at c.advance.ensures.advances in
-    skips_end g.R.Read g.P.Parser.kind len (length c.args.buffer.now) opened c.segments.segments.reader.now c.advance.new.self.reader.now c.segments.segments.progress c.advance.new.self.progress
-    (c.segments.invariant.so_far opened len range settled back) c.advance.ensures.steady advances
+    skips_end g.R.Read g.P.Parser.kind len (length c.args.buffer.now) opened c.segments.segments.decoder.now c.advance.new.self.decoder.now c.segments.segments.progress c.advance.new.self.progress
+    (c.segments.invariant.so_far opened len range settled back) c.advance.ensures.moves_on.steady advances

@@ -2,19 +2,18 @@ use Rattle.std.proofs.Common.{◌≡◌, ◌-◌, ◌^◌, ℕ, Option, None}
 use Rattle.ciborium_ll_decoder.specs.declared.dec.Decoder.{Decoder}
 use Rattle.ciborium_ll_grammar.specs.Title.{IsInRange}
 use Rattle.ciborium_ll_grammar.specs.Strings.{kind_header}
-use Rattle.ciborium_ll_decoder.specs.Decoding.{IsSteady, TakesBack, refusals_of, waiting_of}
+use Rattle.ciborium_ll_decoder.specs.Decoding.{MovesOn, TakesBack, waiting_of}
 use Rattle.ciborium_ll.proofs.SkipLaws.{SkipsSoFar}
 use Rattle.ciborium_ll.proofs.laws.whole.skip_segments.Given as goal
 
 abbrev pub invariant-segments : goal.invariant-segments
 invariant-segments g l = record {
-  same : l.segments.reader.ghost_name ≡ l.initial.segments.reader.ghost_name;
+  same : l.segments.decoder.ghost_name ≡ l.initial.segments.decoder.ghost_name;
   so_far : (opened : Decoder g.row.R.Denot) (len : Option ℕ) → IsInRange (kind_header g.P.Parser.kind len) → waiting_of opened ≡ None
-      → TakesBack g.R.Read opened (kind_header g.P.Parser.kind len) l.initial.segments.reader.now
-      → SkipsSoFar g.R.Read g.P.Parser.kind len opened l.segments.progress l.segments.reader.now;
-  steady : IsSteady g.R.Read l.initial.segments.reader.now → IsSteady g.R.Read l.segments.reader.now;
-  refusals : refusals_of l.segments.reader.now ≡ refusals_of l.initial.segments.reader.now;
+      → TakesBack g.R.Read opened (kind_header g.P.Parser.kind len) l.initial.segments.decoder.now
+      → SkipsSoFar g.R.Read g.P.Parser.kind len opened l.segments.progress l.segments.decoder.now;
+  moves_on : MovesOn g.R.Read l.initial.segments.decoder.now l.segments.decoder.now;
 }
 
 abbrev pub decreases-segments : goal.decreases-segments
-decreases-segments g l = 2 ^ 64 - l.segments.reader.now.offset
+decreases-segments g l = 2 ^ 64 - l.segments.decoder.now.offset

@@ -1,16 +1,15 @@
 use Rattle.std.proofs.Common.{rules, arith, refl, ◌≡◌, Some, Ok, Err}
 use Rattle.std.proofs.lemmas.Result.{err_from_is_err_and}
+use Rattle.ciborium_ll_decoder.proofs.DecodingLaws.{MovesOn-none, MovesOn-then}
 use Rattle.ciborium_ll_decoder.proofs.AdvanceLaws.{Reached-start, Reached-step, Reached-ends}
 use Rattle.ciborium_ll_decoder.proofs.seg.Segments.advance.Goals as goal
 
 pub titles-init : goal.titles-init
 titles-init g c = record {
   same = refl;
-  reached = Reached-start g.R.Read g.P.Parser.kind c.args.self.now.progress c.args.self.now.reader.now;
-  rises = omega arith;
+  reached = Reached-start g.R.Read g.P.Parser.kind c.args.self.now.progress c.args.self.now.decoder.now;
   opens = omega arith;
-  steady = λ s. s;
-  refusals = refl;
+  moves_on = MovesOn-none g.R.Read c.args.self.now.decoder.now;
 }
 
 pub titles-preserved : goal.titles-preserved
@@ -20,11 +19,9 @@ titles-preserved g c =
     let reached = rw c.in-Open.is at kept.reached in
     record {
       same = search rules;
-      reached = Reached-step g.R.Read g.P.Parser.kind c.args.self.now.progress c.in-Open.opens _ _ _ _ reached step.steady (rw c.in_default-2.is at step.steps);
-      rises = omega (arith, kept.rises, step.rises);
+      reached = Reached-step g.R.Read g.P.Parser.kind c.args.self.now.progress c.in-Open.opens _ _ _ _ reached step.moves_on.steady (rw c.in_default-2.is at step.steps);
       opens = let counted = rw c.in-Open.is at kept.opens in omega (arith, counted, step.opens);
-      steady = λ s. step.steady (kept.steady s);
-      refusals = cc (step.refusals, kept.refusals);
+      moves_on = MovesOn-then g.R.Read _ _ _ kept.moves_on step.moves_on;
     }
 
 pub returns-in_err-body-clause-advances : goal.returns-in_err-body-clause-advances

@@ -63,7 +63,7 @@ use Rattle.std.specs.Prelude.{◌≤◌, ◌+◌, Some, None, Ok, Err}
 use Rattle.std.specs.contracts.option.Option as option
 use Rattle.std.specs.contracts.result.Result as result
 use Rattle.ciborium_ll_decoder.specs.Chunks.{GoesOnTo, IsWhole, PullsSegment}
-use Rattle.ciborium_ll_decoder.specs.Decoding.{IsSteady, offset_of, refusals_of, waiting_of}
+use Rattle.ciborium_ll_decoder.specs.Decoding.{MovesOn, offset_of, waiting_of}
 use Rattle.ciborium_ll_decoder.specs.Segments.{AdvancesTo, GivesAgain, opens_of}
 use Rattle.ciborium_ll_decoder.specs.Lend.{with_decoder, HoldsDecoder, IsAdvanced, advance_answer, lent_reference}
 use Rattle.ciborium_ll_io.specs.declared.io.Read as read
@@ -294,12 +294,12 @@ module _ (R P E : RattleType) (R-laws : Laws R) (P-laws : Laws P) (E-laws : Laws
         (ends : (Decoder R.Denot → State) × State) × ((d : Decoder R.Denot) → (new : State) × Advanced answer new × HoldsDecoder answer new × (ends.0 d ≡ with_decoder new d)) × Advanced answer ends.1
 
     abbrev Pulls : Pull'.Denot → Type 0
-    Pulls answer = PullsSegment reads kind.kind old.progress old.reader.now answer
+    Pulls answer = PullsSegment reads kind.kind old.progress old.decoder.now answer
 
     -- what `advance` promises of the string holds of its decoder
-    goes_on : (result : Advance'.Denot) (new : State) → IsAdvanced reads kind.kind old result new → GoesOnTo reads kind.kind old.progress old.reader.now result new.reader.now
+    goes_on : (result : Advance'.Denot) (new : State) → IsAdvanced reads kind.kind old result new → GoesOnTo reads kind.kind old.progress old.decoder.now result new.decoder.now
     goes_on result new is =
-        record { after = new.progress; advanced = is.advances; rises = is.rises; opens = is.opens; steady = is.steady; refusals = is.refusals }
+        record { after = new.progress; advanced = is.advances; opens = is.opens; moves_on = is.moves_on }
 
     -- the end of each arm: the answer goes out, the string follows the segment in it, and the clauses hold
     leaves : (value : Val) (answer : Pull'.Denot) (new : State) → Advanced answer new → HoldsDecoder answer new → Pulls answer
@@ -310,7 +310,7 @@ module _ (R P E : RattleType) (R-laws : Laws R) (P-laws : Laws P) (E-laws : Laws
         suffices ! _ (ends_at 𝓛 ended' stayed' spec bound value answer (tt, tt) (tt, tt)) $
         nothing ! $ nothing ! $ fjoin ! $ move ! (0 ∷ 2 ∷ []) $ join ! $ move ! (1 ∷ 0 ∷ []) $ join ! $ frame ! $
         fpack ! (Tied answer) (λ ends. follows_if StringIn DecoderIn name (lent_reference answer) ends.0.0 ends.0.1) ((with_decoder new, new), (λ d. (new, advanced, holds, refl)), advanced) $
-        use0 𝓛 (raw (fact 𝓤 (GivesAgain old.progress answer))) (fact_i 𝓤 _ (emp 𝓤) (given_again reads kind.kind old.progress old.reader.now answer pulls)) $
+        use0 𝓛 (raw (fact 𝓤 (GivesAgain old.progress answer))) (fact_i 𝓤 _ (emp 𝓤) (given_again reads kind.kind old.progress old.decoder.now answer pulls)) $
         use0 𝓛 (raw (fact 𝓤 (Pulls answer))) (fact_i 𝓤 _ (emp 𝓤) pulls) $ join ! $ move ! (1 ∷ 0 ∷ []) $ join ! $ done !
 
     walk : lifetimes.1.1.0 ⊑ R.lives → lifetimes.1.1.1.0 ⊑ P.lives → lifetimes.1.1.1.1.0 ⊑ E.lives → ent 𝓤 (on_entry 𝓛 ended'.signature lifetimes shares bound.0.3 bound.0.4) (WpFn 𝓤 H 𝓣.C 𝓣.Λ code' (vptr block at ∷ []) Post)
@@ -344,16 +344,14 @@ module _ (R P E : RattleType) (R-laws : Laws R) (P-laws : Laws P) (E-laws : Laws
         calls_at ! (framed 𝓤 H 𝓜 𝓣) Advances advances given_advance (and_then ! (get ! refl) (no_more !)) (λ value.
         use1 𝓛 (later (some (λ (answer : Advance'.Denot). ((‵ (flft call (left shares.0)) ⊛ ‵ (flft inner shares.1.0) ⊛ ‵ (flft lifetimes.1.1.0 shares.1.1.0) ⊛ ‵ (flft lifetimes.1.1.1.0 shares.1.1.1.0) ⊛ ‵ (flft lifetimes.1.1.1.1.0 shares.1.1.1.1.0) ⊛ ‵ ftrue) ⊛ ‵ (Advance'.own_val answer (value ∷ []))) ⊛
         some (λ (news : State × Unit {0}). ‵ (lasts (advance.ended R P E reads reads_dict kind kind_dict) given_advance.0.0 given_advance.0.3 news) ⊛
-        raw (fact 𝓤 (news.0.reader.ghost_name ≡ old.reader.ghost_name)) ⊛
-        raw (fact 𝓤 (AdvancesTo reads kind.kind old.progress old.reader.now answer news.0.progress news.0.reader.now)) ⊛
-        raw (fact 𝓤 (offset_of old.reader.now ≤ offset_of news.0.reader.now)) ⊛
-        raw (fact 𝓤 (opens_of news.0.progress + offset_of old.reader.now ≤ opens_of old.progress + offset_of news.0.reader.now)) ⊛
-        raw (fact 𝓤 (IsSteady reads old.reader.now → IsSteady reads news.0.reader.now)) ⊛
-        raw (fact 𝓤 (refusals_of news.0.reader.now ≡ refusals_of old.reader.now)))))) (id⊢ 𝓤 _) $
+        raw (fact 𝓤 (news.0.decoder.ghost_name ≡ old.decoder.ghost_name)) ⊛
+        raw (fact 𝓤 (AdvancesTo reads kind.kind old.progress old.decoder.now answer news.0.progress news.0.decoder.now)) ⊛
+        raw (fact 𝓤 (opens_of news.0.progress + offset_of old.decoder.now ≤ opens_of old.progress + offset_of news.0.decoder.now)) ⊛
+        raw (fact 𝓤 (MovesOn reads old.decoder.now news.0.decoder.now)))))) (id⊢ 𝓤 _) $
         await ! tt $ pick ! (λ answer. split ! $ split ! $ move ! (2 ∷ []) $ pick ! (λ news. split ! $ move ! (1 ∷ []) $
-        split ! $ heard ! _ (λ same_reference. split ! $ heard ! _ (λ advanced_to. split ! $ heard ! _ (λ rises. split ! $ heard ! _ (λ opens. split ! $ heard ! _ (λ steady. heard ! _ (λ refusals.
+        split ! $ heard ! _ (λ same_reference. split ! $ heard ! _ (λ advanced_to. split ! $ heard ! _ (λ opens. heard ! _ (λ moves_on.
         let new : State = news.0 in
-        let promised : IsAdvanced reads kind.kind old answer new = record { same_reference = same_reference; advances = advanced_to; rises = rises; opens = opens; steady = steady; refusals = refusals } in
+        let promised : IsAdvanced reads kind.kind old answer new = record { same_reference = same_reference; advances = advanced_to; opens = opens; moves_on = moves_on } in
         -- [the loan's last value; the tokens; the answer; the way back; the way to end]
 
         -- given back: the call's lifetime ends, and the reference is whole again, at the value that `advance` left
@@ -370,7 +368,7 @@ module _ (R P E : RattleType) (R-laws : Laws R) (P-laws : Laws P) (E-laws : Laws
         -- the arm of a body
         (λ b u is_body e is_value.
         let found : IsAdvanced reads kind.kind old (Ok (Some b)) new = subst (λ r. IsAdvanced reads kind.kind old r new) e promised in
-        let none_waits = none_waits_for_body reads kind.kind old.progress old.reader.now b new.progress new.reader.now found.advances in
+        let none_waits = none_waits_for_body reads kind.kind old.progress old.decoder.now b new.progress new.decoder.now found.advances in
         let good_body : Good R P E reads reads_dict kind kind_dict (layout body.the_row) u = (((body_laws.the_row_laws).lawful 𝓛).typed b (u ∷ []) is_body).0 in
         drop ! $ lands_as ! is_value refl (subst (Good R P E reads reads_dict kind kind_dict (layout Advance')) is_value good_answer) $
         first ! $ switches_on ! (get_tag ! (vrt ! refl (fld ! refl (stop !))) (whole !)) $ exec ! 𝓣.C 𝓣.Λ locals (arm_body 0 matching') (then_runs 𝓛 𝓣.C 𝓣.Λ locals leaving' (at_ret locals Post)) $
@@ -381,14 +379,14 @@ module _ (R P E : RattleType) (R-laws : Laws R) (P-laws : Laws P) (E-laws : Laws
         -- lent on: the reference itself, to `segment`, with the body
         let Lends = triple_of 𝓛 (lend.signature R P E reads reads_dict kind kind_dict) (lend.spec R P E reads reads_dict kind kind_dict 𝓛 𝓜.mem 𝓡.returns) in
         let given_segment : Lends.Ghost = ((lifetimes, shares, within, (reference name new, (b, tt)), (vptr block at ∷ [], (u ∷ [], tt))), tt) in
-        use0 𝓛 (raw (fact 𝓤 (waiting_of new.reader.now ≡ None))) (fact_i 𝓤 _ (emp 𝓤) none_waits) $
+        use0 𝓛 (raw (fact 𝓤 (waiting_of new.decoder.now ≡ None))) (fact_i 𝓤 _ (emp 𝓤) none_waits) $
         use0 𝓛 (raw (fact 𝓤 (lifetimes.1.1.1.1.0 ⊑ E.lives))) (fact_i 𝓤 _ (emp 𝓤) in-E) $ join ! $ use0 𝓛 (raw (fact 𝓤 (lifetimes.1.1.1.0 ⊑ P.lives))) (fact_i 𝓤 _ (emp 𝓤) in-P) $ join ! $ use0 𝓛 (raw (fact 𝓤 (lifetimes.1.1.0 ⊑ R.lives))) (fact_i 𝓤 _ (emp 𝓤) in-R) $ join ! $
         nothing ! $ owned ! body.the_row (Is body.the_row) (makes body.the_type body_laws.the_plain 𝓛) b (u ∷ []) is_body $ fjoin ! $
         move ! (3 ∷ 0 ∷ []) $ fjoin ! $ move ! (2 ∷ 0 ∷ []) $ join ! $ join ! $ use1 𝓛 (raw (Lends.pre given_segment)) (id⊢ 𝓤 (Lends.pre given_segment)) $
         calls_at ! (framed 𝓤 H 𝓜 𝓣) Lends lends given_segment (and_then ! (get ! refl) (and_then ! (get ! refl) (no_more !))) (λ part_value.
         use1 𝓛 (later (some (λ (part : Part.Denot). (raw (alive 𝓛 ended'.signature lifetimes shares) ⊛ ‵ (Part.own_val part (part_value ∷ []))) ⊛
         some (λ (ends : Unit {0} × (Unit {0} × Unit {0})). ‵ (lasts (lend.ended R P E reads reads_dict kind kind_dict) lifetimes given_segment.0.3 ends) ⊛
-        (‵ (follows StringIn DecoderIn name part.reader.ghost_name (with_decoder new)) ⊛ raw (fact 𝓤 (part.reader.now ≡ new.reader.now)) ⊛ raw (fact 𝓤 (IsWhole b part))))))) (id⊢ 𝓤 _) $
+        (‵ (follows StringIn DecoderIn name part.decoder.ghost_name (with_decoder new)) ⊛ raw (fact 𝓤 (part.decoder.now ≡ new.decoder.now)) ⊛ raw (fact 𝓤 (IsWhole b part))))))) (id⊢ 𝓤 _) $
         await ! tt $ pick ! (λ part. split ! $ split ! $ move ! (2 ∷ []) $ pick ! (λ ends. split ! $ drop ! $ split3 ! $ move ! (1 ∷ 2 ∷ []) $ heard ! _ (λ lent. heard ! _ (λ is_whole. move ! (2 ∷ []) $
         -- [the segment; what follows it; the tokens]
         -- given back: the segment, as `Ok(Some(segment))`
@@ -405,7 +403,7 @@ module _ (R P E : RattleType) (R-laws : Laws R) (P-laws : Laws P) (E-laws : Laws
         returns ! (look_at ! 0 refl) $ free_all ! refl $ move ! (2 ∷ 0 ∷ 1 ∷ []) $
         let stands : body_of part.unread part.place ≡ b = ap (λ (length : ℕ). body_of length part.place) is_whole.unread ∙ ap (λ (place : ℕ). body_of b.length place) is_whole.place in
         by ! (leaves out (Ok (Some part)) new (subst (λ (c : Body). IsAdvanced reads kind.kind old (Ok (Some c)) new) (sym stands) found) lent
-        (record { body = b; goes_on = subst (λ (d : Decoder R.Denot). GoesOnTo reads kind.kind old.progress old.reader.now (Ok (Some b)) d) (sym lent) (goes_on (Ok (Some b)) new found); whole = is_whole })))))))))))
+        (record { body = b; goes_on = subst (λ (d : Decoder R.Denot). GoesOnTo reads kind.kind old.progress old.decoder.now (Ok (Some b)) d) (sym lent) (goes_on (Ok (Some b)) new found); whole = is_whole })))))))))))
         -- the arm of the end: nothing is lent, and the string's last value is what `advance` left
         (λ e is_value.
         let out : Val = live 0 (vcons (live 0 vnil) vnil) in
@@ -423,7 +421,7 @@ module _ (R P E : RattleType) (R-laws : Laws R) (P-laws : Laws P) (E-laws : Laws
         sets_last ! (agg ! (and_then ! (lit ! tt) (and_then ! (get ! refl) (no_more !)))) refl (tt, (record { fits = lit< tt }, ((record { fits = lit< tt }, tt), tt))) $
         exec ! 𝓣.C 𝓣.Λ locals leaving' (at_ret locals Post) $
         sets ! (of_opd ! (get ! refl)) refl (tt, (record { fits = lit< tt }, ((record { fits = lit< tt }, tt), tt))) $
-        returns ! (look_at ! 0 refl) $ free_all ! refl $ by ! (leaves out (Ok None) new found tt (new.reader.now, goes_on (Ok None) new found)))
+        returns ! (look_at ! 0 refl) $ free_all ! refl $ by ! (leaves out (Ok None) new found tt (new.decoder.now, goes_on (Ok None) new found)))
         -- the arm of an error: it is handed on, nothing is lent, and the string's last value is what `advance` left
         (λ x u e is_value.
         let out : Val = live 1 (vcons u vnil) in
@@ -441,7 +439,7 @@ module _ (R P E : RattleType) (R-laws : Laws R) (P-laws : Laws P) (E-laws : Laws
         -- given back: `Err(error)`
         sets_last ! (agg ! (and_then ! (lit ! tt) (and_then ! (get ! refl) (no_more !)))) refl good_out $
         exec ! 𝓣.C 𝓣.Λ locals leaving' (at_ret locals Post) $ sets ! (of_opd ! (get ! refl)) refl good_out $
-        returns ! (look_at ! 0 refl) $ free_all ! refl $ by ! (leaves out (Err x) new found tt (new.reader.now, goes_on (Err x) new found)))))))))))))))))
+        returns ! (look_at ! 0 refl) $ free_all ! refl $ by ! (leaves out (Err x) new found tt (new.decoder.now, goes_on (Err x) new found)))))))))))))))
 
   -- the walk, taken to the contract
   meets : Meets 𝓛 ended'.signature (WpFn 𝓤 H 𝓣.C 𝓣.Λ code') (closing 𝓛 ended' spec)

@@ -12,7 +12,7 @@ returns-then-value-limit-clause-value g c =
     let limit = limit_is Text c.args.segment value _ c.limit-limit.ensures in
     let title = shortest_title (kind_header Text (Some (length value))) in
     let wrote = subst (λ (z : List ℕ). WritesBytes g.W.Write c.args.self.now.writer c.string.result (title ++ z) c.string.new.self.writer)
-    c.as_bytes.ensures.value c.string.ensures in
+    c.as_bytes.ensures.value c.string.ensures.bytes in
     WritesValue-in_one g.W.Write c.string.result Text c.args.segment value _ _ _ limit c.if-value-limit.true wrote
 
 pub returns-then-value-limit-clause-fewest : goal.returns-then-value-limit-clause-fewest
@@ -33,7 +33,7 @@ returns-in_err-text_pieces-clause-value g c =
     let limit = limit_is Text c.args.segment value _ c.limit-limit.ensures in
     WritesValue-cut g.W.Write c.from_residual-in_err-text_pieces.result c.from_residual-in_err-text_pieces.ensures.0 Text c.args.segment
     value _ _ _ _ _
-    limit c.if-value-limit.false c.in_ok-push.ensures.title c.in_err-text_pieces.ensures
+    limit c.if-value-limit.false c.in_ok-push.ensures.title c.in_err-text_pieces.ensures.pieces
 
 pub returns-clause-value : goal.returns-clause-value
 returns-clause-value g c =
@@ -41,7 +41,7 @@ returns-clause-value g c =
     let limit = limit_is Text c.args.segment value _ c.limit-limit.ensures in
     WritesValue-closed g.W.Write c.push-2.result Text c.args.segment value _ _ _ _ _ _ limit c.if-value-limit.false
     c.in_ok-push.ensures.title
-    c.in_ok-text_pieces.ensures c.push-2.ensures.title
+    c.in_ok-text_pieces.ensures.pieces c.push-2.ensures.title
 
 pub returns-clause-fewest : goal.returns-clause-fewest
 returns-clause-fewest g c =

@@ -1,0 +1,14 @@
+use Rattle.std.proofs.Common.{◌≡◌, ◌∙◌, sym}
+use Rattle.ciborium_ll_c.proofs.CopyLaws.{same_target}
+use Rattle.ciborium_ll_c.proofs.copy_onto.Goals as goal
+
+pub returns : goal.returns
+returns g c =
+    let begun : c.from-encoder.result.writer ≡ c.args.writer.now = c.from-encoder.ensures ∙ c.replace.ensures.value in
+    let ended = sym c.into_inner.ensures in
+    record {
+      told = rw ended at rw begun at c.recode-copied.ensures.told;
+      exactly = rw begun at c.recode-copied.ensures.exactly;
+      anyhow = rw ended at rw begun at c.recode-copied.ensures.anyhow;
+      target = same_target (rw ended at rw begun at c.recode-copied.ensures.target);
+    }
