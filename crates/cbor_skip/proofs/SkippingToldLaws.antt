@@ -29,7 +29,7 @@ use Rattle.cbor_skip.specs.declared.SkipError.TheVariants as s
 use Rattle.cbor_skip.specs.Due.{ItemDue, ReachesItem, at_item, at_string, at_body, at_piece}
 use Rattle.cbor_skip.specs.ItemFaults.{ItemInFront}
 use Rattle.cbor_skip.specs.Skipping.{SkipsItem, StopsItem, ReadsItem}
-use Rattle.cbor_skip.specs.SkippingTold.{IsReady, SkipsFront, MeetsFault, FindsBreak, FindsNest, SkipsTold}
+use Rattle.cbor_skip.specs.SkippingTold.{IsReadyToSkip, SkipsFront, MeetsItemFault, FindsBreak, FindsNest, SkipsTold}
 use Rattle.cbor_skip.proofs.DueLaws.{no_item_fault, no_early_break, no_deep_nest}
 
 -- the row of a text's body that is no text, as a whole or however it goes on
@@ -86,7 +86,7 @@ module _ {R E : Type 0} (source : Ghosts R E) (depth room : ℕ) (old : Decoder 
   ok_told told new (Ok done) reads ok = front_told told new reads
   ok_told told new (Err error) stops ok = absurd cc
 
-  module _ (ready : IsReady source room old due) where
+  module _ (ready : IsReadyToSkip source room old due) where
     came : (bytes : List ℕ) (at : Decoder R) → Passes source old bytes at → Came bytes at
     came bytes at passed = came_told ready.told bytes at passed
 
@@ -95,7 +95,7 @@ module _ {R E : Type 0} (source : Ghosts R E) (depth room : ℕ) (old : Decoder 
     no_title : (bytes : List ℕ) (place : Place) (at : Decoder R) (start : ℕ) (new : Decoder R)
         → ReachesItem depth bytes place
         → IsAtTitle place → Passes source old bytes at → PullsHeader source at (Err (e.Syntax start)) new
-        → (n : ℕ) × (start ≡ old.offset + n) × MeetsFault source depth due (Syntax n) old new
+        → (n : ℕ) × (start ≡ old.offset + n) × MeetsItemFault source depth due (Syntax n) old new
     no_title bytes place at start new reach title passed fails =
         let c = came bytes at passed in
         let refused = lenient_refuses source at start new (passed.mode ∙ ready.lenient) fails in
@@ -124,7 +124,7 @@ module _ {R E : Type 0} (source : Ghosts R E) (depth room : ℕ) (old : Decoder 
     cut_title : (bytes : List ℕ) (place : Place) (at : Decoder R) (fault : E) (new : Decoder R)
         → ReachesItem depth bytes place
         → IsAtTitle place → Passes source old bytes at → PullsHeader source at (Err (e.Io fault)) new
-        → MeetsFault source depth due Short old new
+        → MeetsItemFault source depth due Short old new
     cut_title bytes place at fault new reach title passed fails =
         let c = came bytes at passed in
         let cut = fails.steady (passed.steady ready.steady) in
@@ -174,7 +174,7 @@ module _ {R E : Type 0} (source : Ghosts R E) (depth room : ℕ) (old : Decoder 
     other_title : (bytes : List ℕ) (k : Kind) (at : Decoder R) (header : Header) (start : ℕ) (new : Decoder R)
         → ReachesItem depth bytes (In k) → Passes source old bytes at → PullsTitle source at header new
         → IsMisplaced k header → start ≡ at.offset
-        → (n : ℕ) × (start ≡ old.offset + n) × MeetsFault source depth due (Syntax n) old new
+        → (n : ℕ) × (start ≡ old.offset + n) × MeetsItemFault source depth due (Syntax n) old new
     other_title bytes k at header start new reach passed pulled misplaced place =
         let c = came bytes at passed in
         let title = pulled.title in
@@ -203,7 +203,7 @@ module _ {R E : Type 0} (source : Ghosts R E) (depth room : ℕ) (old : Decoder 
 
     cut_body : (bytes : List ℕ) (k : Kind) (len start : ℕ) (at new : Decoder R)
         → ReachesItem depth bytes (Body k len start)
-        → Passes source old bytes at → RestFails source k [] len at new → MeetsFault source depth due Short old new
+        → Passes source old bytes at → RestFails source k [] len at new → MeetsItemFault source depth due Short old new
     cut_body bytes k len start at new reach passed fails =
         let c = came bytes at passed in
         let part = fails.part in
@@ -266,7 +266,7 @@ module _ {R E : Type 0} (source : Ghosts R E) (depth room : ℕ) (old : Decoder 
     damaged_body : (bytes : List ℕ) (k : Kind) (len start : ℕ) (at new : Decoder R)
         → ReachesItem depth bytes (Body k len start)
         → Passes source old bytes at → RestDamaged source k [] len at new
-        → MeetsFault source depth due (Syntax start) old new
+        → MeetsItemFault source depth due (Syntax start) old new
     damaged_body bytes k len start at new reach passed fails =
         let c = came bytes at passed in
         let gone = consumes_told _ _ c.rest fails.read c.left fails.passed.consumed in

@@ -12,7 +12,7 @@ use Rattle.cbor_skip.specs.ItemFaults.{HasDeepNest, HasEarlyBreak, HasItemFault,
 module _ {R E : Type 0} (source : Ghosts R E) where
   -- the decoder isn't strict, the reader gives the bytes that it tells, and the offset takes every read, through a
   -- buffer of so much room
-  pub record IsReady (room : ℕ) (decoder : Decoder R) (due : List ℕ) : Type 0 where
+  pub record IsReadyToSkip (room : ℕ) (decoder : Decoder R) (due : List ℕ) : Type 0 where
     pub lenient : decoder.strict ≡ false
     pub steady : IsSteady source decoder
     pub told : view source decoder ≡ Some due
@@ -26,7 +26,7 @@ module _ {R E : Type 0} (source : Ghosts R E) where
     pub offset : new.offset ≡ old.offset + length front.item
 
   -- a fault was met: the answer and what is consumed are its own
-  pub record MeetsFault (depth : ℕ) (due : List ℕ) (answer : Answer) (old new : Decoder R) : Type 0 where
+  pub record MeetsItemFault (depth : ℕ) (due : List ℕ) (answer : Answer) (old new : Decoder R) : Type 0 where
     pub fault : HasItemFault depth due
     pub answered : fault.answer ≡ answer
     pub left : view source new ≡ Some (drop fault.consumed fault.ahead)
@@ -51,8 +51,8 @@ module _ {R E : Type 0} (source : Ghosts R E) where
   SkipsTold depth due old (Ok done) new = SkipsFront depth due old new
   SkipsTold depth due old (Err (s.Break at)) new = FindsBreak depth due old at new
   SkipsTold depth due old (Err (s.Deep at)) new = FindsNest depth due old at new
-  SkipsTold depth due old (Err (s.Read (e.Io fault))) new = MeetsFault depth due Short old new
+  SkipsTold depth due old (Err (s.Read (e.Io fault))) new = MeetsItemFault depth due Short old new
   SkipsTold depth due old (Err (s.Read (e.Syntax place))) new =
-      (start : ℕ) × (place ≡ old.offset + start) × MeetsFault depth due (Syntax start) old new
+      (start : ℕ) × (place ≡ old.offset + start) × MeetsItemFault depth due (Syntax start) old new
   SkipsTold depth due old (Err (s.Read e.TooLong)) new = ⊥
   SkipsTold depth due old (Err (s.Read e.Waiting)) new = ⊥

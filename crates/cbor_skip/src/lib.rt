@@ -6,7 +6,7 @@ ghost use Rattle.ciborium_ll.specs.Decoding.{MovesOn, view};
 ghost use Rattle.cbor_skip.specs.Due.{IsNest};
 ghost use Rattle.cbor_skip.specs.ItemFaults.{ItemInFront};
 ghost use Rattle.cbor_skip.specs.Skipping.{SkipsItem, SkipsWithin};
-ghost use Rattle.cbor_skip.specs.SkippingTold.{IsReady, SkipsFront, SkipsTold};
+ghost use Rattle.cbor_skip.specs.SkippingTold.{IsReadyToSkip, SkipsFront, SkipsTold};
 
 pub mod laws;
 mod messages;
@@ -107,9 +107,9 @@ pub fn skip_item<R: Read>(
     requires room { 4 ≤ length buffer.old }
     ensures skipped { SkipsItem R.Read depth (length buffer.old) decoder.old result decoder.new }
     ensures moves_on { MovesOn R.Read decoder.old decoder.new }
-    ensures told { (due : List ℕ) → IsReady R.Read (length buffer.old) decoder.old due
+    ensures told { (due : List ℕ) → IsReadyToSkip R.Read (length buffer.old) decoder.old due
         → SkipsTold R.Read depth due decoder.old result decoder.new }
-    ensures exactly { (due : List ℕ) → IsReady R.Read (length buffer.old) decoder.old due
+    ensures exactly { (due : List ℕ) → IsReadyToSkip R.Read (length buffer.old) decoder.old due
         → (IsOk result ↔ ItemInFront depth due) }
     ensures front { (due : List ℕ) → view R.Read decoder.old ≡ Some due → IsOk result
         → SkipsFront R.Read depth due decoder.old decoder.new }

@@ -18,8 +18,8 @@ use Rattle.ciborium_ll_text.specs.Text.{joined}
 use Rattle.ciborium_ll_grammar.specs.Elements.{IsSound, Mark, Plain, IsPlain, spelling, IsElement, plain, IsRun, done, next}
 use Rattle.ciborium_ll_grammar.specs.Values.{least_limit, value_limit, segments, IsWritten, in_one, in_pieces}
 use Rattle.ciborium_ll_encoder.specs.Encoding.{WritesAll, WritesFront, WritesBytes, WritesValue}
-use Rattle.ciborium_ll.specs.Pieces.{IsValue, IsPiece, ArePieces, AreSpelled, CopiesSame, IsSpelled, HasMarks, WritesPiece, WritesElements}
-use Rattle.ciborium_ll.specs.Pieces.ArePieces.{none as no_pieces, next as next_piece}
+use Rattle.ciborium_ll.specs.Pieces.{IsValue, IsPiece, HaveMarks, AreSpelled, CopiesSame, IsSpelled, HasMarks, WritesPiece, WritesElements}
+use Rattle.ciborium_ll.specs.Pieces.HaveMarks.{none as no_pieces, next as next_piece}
 use Rattle.ciborium_ll_grammar.proofs.TitleLaws.{IsTitle-shortest}
 use Rattle.ciborium_ll_decoder.proofs.CopyingLaws.{Shrinks-zero}
 use Rattle.ciborium_ll_grammar.proofs.ElementLaws.{spelling-append, one_run}
@@ -82,12 +82,12 @@ abbrev pub Leads : List Piece → List Piece → Type 0
 Leads all rest = AreSpelled rest → AreSpelled all
 
 pub spelled_none : AreSpelled []
-spelled_none = record { marks = []; are_pieces = no_pieces; run = done }
+spelled_none = record { marks = []; have_marks = no_pieces; run = done }
 
 spelled_more : (piece : Piece) (rest : List Piece) → IsSpelled piece → AreSpelled rest → AreSpelled (piece ∷ rest)
 spelled_more piece rest one others = record {
   marks = one.marks ++ others.marks;
-  are_pieces = next_piece one.marks one.is_piece others.are_pieces;
+  have_marks = next_piece one.marks one.is_piece others.have_marks;
   run = subst (λ (z : List ℕ). IsRun (suc (length rest)) z (one.marks ++ others.marks)) (sym (spelling-append one.marks others.marks))
       (next one.element others.run);
 }
@@ -121,20 +121,20 @@ module _ {W F : Type 0} (sink : Ghosts W F) where
   pub record Midway (all rest : List Piece) (old now : W) : Type 0 where
     pub spelled : AreSpelled all
     pub others : List Mark
-    pub left : ArePieces rest others
+    pub left : HaveMarks rest others
     pub goes_on : (result : Result (Unit {0}) F) (new : W) → WritesBytes sink now result (spelling others) new
         → WritesBytes sink old result (spelling spelled.marks) new
 
   pub midway_first : (all : List Piece) (writer : W) → AreSpelled all → Midway all all writer writer
-  midway_first all writer s = record { spelled = s; others = s.marks; left = s.are_pieces; goes_on = λ result new w. w }
+  midway_first all writer s = record { spelled = s; others = s.marks; left = s.have_marks; goes_on = λ result new w. w }
 
   -- the marks of the rest are those of its first piece and of the others
   pub record Parted (piece : Piece) (behind : List Piece) (others marks : List Mark) : Type 0 where
     pub more : List Mark
     pub whole : others ≡ marks ++ more
-    pub left : ArePieces behind more
+    pub left : HaveMarks behind more
 
-  parted : (piece : Piece) (behind : List Piece) (others marks : List Mark) → ArePieces (piece ∷ behind) others → IsPiece piece marks
+  parted : (piece : Piece) (behind : List Piece) (others marks : List Mark) → HaveMarks (piece ∷ behind) others → IsPiece piece marks
       → Parted piece behind others marks
   parted piece behind others marks (next_piece first {others = more} one left) is =
       record { more = more; whole = ap (λ (z : List Mark). z ++ more) (one_piece piece first marks one is); left = left }
@@ -142,7 +142,7 @@ module _ {W F : Type 0} (sink : Ghosts W F) where
   part : (all rest behind : List Piece) (piece : Piece) (old now : W) (marks : List Mark) → rest ≡ piece ∷ behind → (m : Midway all rest old now)
       → IsPiece piece marks → Parted piece behind m.others marks
   part all rest behind piece old now marks split m is =
-      parted piece behind m.others marks (subst (λ (z : List Piece). ArePieces z m.others) split m.left) is
+      parted piece behind m.others marks (subst (λ (z : List Piece). HaveMarks z m.others) split m.left) is
 
   spelled_apart : (others marks more : List Mark) → others ≡ marks ++ more → spelling others ≡ spelling marks ++ spelling more
   spelled_apart others marks more e = ap spelling e ∙ spelling-append marks more
@@ -174,7 +174,7 @@ module _ {W F : Type 0} (sink : Ghosts W F) where
             (WritesBytes-stopped sink now new result (spelling marks) (spelling q.more) e wrote));
       }
 
-  none_left : (rest : List Piece) (others : List Mark) → rest ≡ [] → ArePieces rest others → others ≡ []
+  none_left : (rest : List Piece) (others : List Mark) → rest ≡ [] → HaveMarks rest others → others ≡ []
   none_left rest others e no_pieces = refl
   none_left rest others e (next_piece marks one left) = absurd cc
 

@@ -31,15 +31,15 @@ IsPiece (p.Bytes value segment) marks = IsValue Bytes segment value.now marks
 IsPiece (p.Text value segment) marks = IsValue Text segment value.now marks
 
 -- the marks of the pieces, one by one
-pub data ArePieces : List Piece → List Mark → Type 0 where
-  none : ArePieces [] []
-  next : {piece : Piece} {rest : List Piece} (marks : List Mark) {others : List Mark} → IsPiece piece marks → ArePieces rest others
-      → ArePieces (piece ∷ rest) (marks ++ others)
+pub data HaveMarks : List Piece → List Mark → Type 0 where
+  none : HaveMarks [] []
+  next : {piece : Piece} {rest : List Piece} (marks : List Mark) {others : List Mark} → IsPiece piece marks → HaveMarks rest others
+      → HaveMarks (piece ∷ rest) (marks ++ others)
 
 -- marks of the pieces, whose spelling is an element for each piece
 pub record AreSpelled (pieces : List Piece) : Type 0 where
   pub marks : List Mark
-  pub are_pieces : ArePieces pieces marks
+  pub have_marks : HaveMarks pieces marks
   pub run : IsRun (length pieces) (spelling marks) marks
 
 -- marks of one piece, whose spelling is an element

@@ -119,7 +119,7 @@ module _ {R E W F : Type 0} (source : Reader R E) (sink : Writer W F) where
   anyhow_reported :
       (count : ℕ) (due : List ℕ) (old new : Decoder R) (writer' : W) (result : Result (Unit {0}) (RecodeError E F))
       (report : CllReport) (output before after : List ℕ)
-      → RecodesAnyhow source sink count 64 due [] old result new writer' → length due < 2 ^ 63 → old.offset ≡ 0
+      → RecodesAnyhow source sink count 1024 due [] old result new writer' → length due < 2 ^ 63 → old.offset ≡ 0
       → sink.written writer' ≡ Some output → Reports report new.offset (length output) (copy_place result)
       → StandInFront output before after → CopiesAnyhow count due before (copy_answer result) after report
   anyhow_reported count due old new writer' (Ok done) report output before after told object start out reports stands = (
@@ -156,7 +156,7 @@ module _ {R E W F : Type 0} (source : Reader R E) (sink : Writer W F) where
       let stop = told.0.stop in
       let parts = ap length stop.is in
       let few = no_more stop.place stop.ahead stop.more stop.consumed stop.stops in
-      let full : 2 ^ 64 ≤ new.offset + max 8 64 = told.1 in
+      let full : 2 ^ 64 ≤ new.offset + max 8 1024 = told.1 in
       absurd (omega (arith, object, parts, few, full, told.0.offset, start, length-append stop.before stop.ahead))
   anyhow_reported count due old new writer' (Err (r.Read e.Waiting)) report output before after told object start out reports stands = absurd told
   anyhow_reported count due old new writer' (Err (r.Write fault)) report output before after told object start out reports stands = (
@@ -187,7 +187,7 @@ module _ {R E W F : Type 0} (source : Reader R E) (sink : Writer W F) where
   pub anyhow_said :
       (count : ℕ) (due : List ℕ) (old new : Decoder R) (writer' : W) (result : Result (Unit {0}) (RecodeError E F))
       (report : CllReport) (output before after : List ℕ)
-      (answer : Answer) (place behind : ℕ) → RecodesAnyhow source sink count 64 due [] old result new writer'
+      (answer : Answer) (place behind : ℕ) → RecodesAnyhow source sink count 1024 due [] old result new writer'
       → length due < 2 ^ 63 → old.offset ≡ 0 → sink.written writer' ≡ Some output → answer ≡ copy_answer result
       → place ≡ copy_place result → behind ≡ new.offset → Reports report behind (length output) place
       → StandInFront output before after → CopiesAnyhow count due before answer after report

@@ -7,7 +7,7 @@ use Rattle.ciborium_ll.specs.Faults.{Syntax}
 use Rattle.ciborium_ll.specs.Decoding.{IsFresh, offset_limit}
 use Rattle.cbor_skip.specs.declared.SkipError.{SkipError}
 use Rattle.cbor_skip.specs.declared.SkipError.TheVariants as s
-use Rattle.cbor_skip.specs.SkippingTold.{IsReady, SkipsTold}
+use Rattle.cbor_skip.specs.SkippingTold.{IsReadyToSkip, SkipsTold}
 use Rattle.ciborium_ll_c.specs.declared.answer.Answer.{Answer}
 use Rattle.ciborium_ll_c.specs.declared.answer.Answer.TheVariants as a
 use Rattle.ciborium_ll_c.specs.declared.answer.CllReport.{CllReport}
@@ -18,7 +18,7 @@ use Rattle.ciborium_ll_c.proofs.PullLaws.{due_ahead, still_steady}
 module _ {R E : Type 0} (source : Ghosts R E) where
   pub ready_to_skip : (room : ℕ) (reader : R) (decoder : Decoder R) (due : List ℕ) → IsFresh reader 0 decoder
       → IsTrue (source.steady reader) → source.ahead reader ≡ Some due
-      → length due + 8 < offset_limit → length due + room < offset_limit → IsReady source room decoder due
+      → length due + 8 < offset_limit → length due + room < offset_limit → IsReadyToSkip source room decoder due
   ready_to_skip room reader decoder due fresh steady ahead title chunk = record {
     lenient = fresh.mode;
     steady = still_steady source false reader decoder fresh steady;

@@ -9,7 +9,8 @@ use ciborium_ll::{Float, Header};
 #[derive(Clone, Copy, Debug, PartialEq, Eq)]
 #[repr(C)]
 pub struct CllHeader {
-    /// The number; the length or the count; or the raw bits of a float. It is 0 for a break and for the indefinite forms.
+    /// The number; the length or the count; or the raw bits of a float. It is 0 for a break and for the indefinite
+    /// forms.
     pub value: u64,
     /// The kind, by its number.
     pub kind: u8,

@@ -34,7 +34,7 @@ use ciborium_ll::{Decoder, Encoder, Error, RecodeError};
 use std::mem;
 
 /// How many bytes of a string are read at a time, at most.
-const BUFFER_SIZE: usize = 64;
+const BUFFER_SIZE: usize = 1024;
 
 /// How many bytes the longest title has.
 const TITLE_SIZE: usize = 9;
@@ -48,7 +48,11 @@ fn pull(bytes: &[u8], header: &mut CllHeader, report: &mut CllReport) -> Answer
     report.say(decoder.offset(), 0, 0);
     match pulled {
         Ok(pulled) => {
-            *header = CllHeader::of(pulled);
+            // Field by field, since a struct is copied with the bytes between and behind its fields.
+            let parts = CllHeader::of(pulled);
+            header.value = parts.value;
+            header.kind = parts.kind;
+            header.indefinite = parts.indefinite;
             Answer::Ok
         }
         Err(Error::Io(_)) => Answer::Short,
@@ -65,7 +69,8 @@ fn pull(bytes: &[u8], header: &mut CllHeader, report: &mut CllReport) -> Answer
 #[unsafe(no_mangle)]
 #[tactic(auto, using(crate::proofs::PullLaws::pulled_exactly))]
 pub extern "C" fn cll_pull(bytes: &[u8], header: &mut CllHeader, report: &mut CllReport) -> u32
-    ensures pulled { (answer : Answer) × (result ≡ code answer) × Pulls bytes.now answer header.old header.new report.new }
+    ensures pulled { (answer : Answer) × (result ≡ code answer)
+        × Pulls bytes.now answer header.old header.new report.new }
     ensures exactly { result ≡ code a.Ok ↔ TitleInFront bytes.now }
 {
     pull(bytes, header, report).code()
@@ -171,7 +176,7 @@ fn copy(bytes: &[u8], count: usize, out: &mut [u8], report: &mut CllReport) -> A
 ///
 /// The answers are `Ok`; `Short` where the bytes end before so many elements do; `Syntax` for a title that is none or
 /// may not stand within its string, and for a body of a text that is no UTF-8; and `Room` where `out` is full. What
-/// was written before stands in `out`.
+/// was written before stands in `out`. Behind what was written `out` is as it was, whatever the answer.
 #[unsafe(no_mangle)]
 #[tactic(auto, using(crate::proofs::PullLaws::code_exactly))]
 pub extern "C" fn cll_recode(
@@ -184,7 +189,8 @@ pub extern "C" fn cll_recode(
         → (answer : Answer) × (result ≡ code answer) × Copies count bytes.now out.old answer out.new report.new }
     ensures exactly { HasRoom count bytes.now (length out.old)
         → (result ≡ code a.Ok ↔ RunInFront count bytes.now) }
-    ensures anyhow { (answer : Answer) × (result ≡ code answer) × CopiesAnyhow count bytes.now out.old answer out.new report.new }
+    ensures anyhow { (answer : Answer) × (result ≡ code answer)
+        × CopiesAnyhow count bytes.now out.old answer out.new report.new }
 {
     copy(bytes, count as usize, out, report).code()
 }

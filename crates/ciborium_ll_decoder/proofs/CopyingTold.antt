@@ -13,7 +13,7 @@ use Rattle.ciborium_ll_decoder.specs.declared.recode.RecodeError.TheVariants as 
 use Rattle.ciborium_ll_grammar.specs.Title.{IsTitle, shortest_title, BeginsRefused, IsCutTitle}
 use Rattle.ciborium_ll_io.specs.Transfer.{Shrinks}
 use Rattle.ciborium_ll_decoder.specs.Decoding.{view, next_read}
-use Rattle.ciborium_ll_decoder.specs.Copying.{AreTitles, none, next, shortest_titles, TitlesInFront, Copies, CopiesAll, StopsReading, StopsWriting, CopiesHeaders, IsReady, CopiesFront, CopiesCount, CopiesTold}
+use Rattle.ciborium_ll_decoder.specs.Copying.{AreTitles, none, next, shortest_titles, TitlesInFront, Copies, CopiesEach, StopsAtPull, StopsAtPush, CopiesHeaders, IsReadyForTitles, CopiesTitles, CopiesSoMany, CopiesTold}
 use Rattle.ciborium_ll_decoder.proofs.DecodingLaws.{lenient_refuses}
 use Rattle.ciborium_ll_grammar.proofs.TitleLaws.{one_title, shortest_no_longer, title_refused}
 use Rattle.ciborium_ll_grammar.proofs.AffixLaws.{title_not_cut}
@@ -87,8 +87,8 @@ pub refused_byte : (rest left : List ℕ) (byte : ℕ) → rest ≡ byte ∷ lef
 refused_byte rest left byte e = sym (ap (drop 1) e)
 
 module _ {R E W F : Type 0} (source : Reader R E) (sink : Writer W F) where
-  abbrev copies_front : (headers : List Header) (old between : Decoder R) (writer writer' : W) (due written : List ℕ) → IsReady source sink old writer due written
-      → Copies source sink headers old writer between writer' → (front : CopiesFront source sink headers due written writer') × (view source between ≡ Some front.rest)
+  abbrev copies_front : (headers : List Header) (old between : Decoder R) (writer writer' : W) (due written : List ℕ) → IsReadyForTitles source sink old writer due written
+      → Copies source sink headers old writer between writer' → (front : CopiesTitles source sink headers due written writer') × (view source between ≡ Some front.rest)
   copies_front headers old between writer writer' due written ready copied =
       let p = passed headers due copied.bytes (view source old) (view source between) ready.due-told copied.passed.consumed in (
         record {
@@ -101,14 +101,14 @@ module _ {R E W F : Type 0} (source : Reader R E) (sink : Writer W F) where
         p.left,
       )
 
-  told_all : (count : ℕ) (old new : Decoder R) (writer writer' : W) (due written : List ℕ) → IsReady source sink old writer due written
-      → CopiesAll source sink count old writer new writer' → CopiesCount source sink count due written old new writer'
+  told_all : (count : ℕ) (old new : Decoder R) (writer writer' : W) (due written : List ℕ) → IsReadyForTitles source sink old writer due written
+      → CopiesEach source sink count old writer new writer' → CopiesSoMany source sink count due written old new writer'
   told_all count old new writer writer' due written ready all =
       let f = copies_front all.headers old new writer writer' due written ready all.copied in
       record { headers = all.headers; all = all.all; copied = f.0; again = all.again; left = f.1; offset = all.copied.passed.offset }
 
-  told_stop : (count : ℕ) (old new : Decoder R) (writer writer' : W) (due written : List ℕ) (error : Error E) → IsReady source sink old writer due written
-      → StopsReading source sink count old writer error new writer' → CopiesTold source sink count due written old (Err (r.Read error)) new writer'
+  told_stop : (count : ℕ) (old new : Decoder R) (writer writer' : W) (due written : List ℕ) (error : Error E) → IsReadyForTitles source sink old writer due written
+      → StopsAtPull source sink count old writer error new writer' → CopiesTold source sink count due written old (Err (r.Read error)) new writer'
   told_stop count old new writer writer' due written (e.Io fault) ready stops =
       let f = copies_front stops.headers old stops.between writer writer' due written ready stops.copied in
       let cut = stops.stopped.steady (stops.copied.passed.steady ready.steady) in
@@ -147,8 +147,8 @@ module _ {R E W F : Type 0} (source : Reader R E) (sink : Writer W F) where
       absurd (omega (arith, behind, whole, fits, full, next_read_small read, stops.stopped.offset, stops.copied.passed.offset, length-append read gone.0, length-append f.0.front f.0.rest))
   told_stop count old new writer writer' due written e.Waiting ready stops = absurd stops.stopped
 
-  never_full : (count : ℕ) (old new : Decoder R) (writer writer' : W) (due written : List ℕ) → IsReady source sink old writer due written
-      → StopsWriting source sink count old writer new writer' → ⊥
+  never_full : (count : ℕ) (old new : Decoder R) (writer writer' : W) (due written : List ℕ) → IsReadyForTitles source sink old writer due written
+      → StopsAtPush source sink count old writer new writer' → ⊥
   never_full count old new writer writer' due written ready stops =
       let f = copies_front stops.headers old stops.between writer stops.writer-between due written ready stops.copied in
       let last = stops.last in
@@ -171,14 +171,14 @@ module _ {R E W F : Type 0} (source : Reader R E) (sink : Writer W F) where
         length-append f.0.front f.0.rest,
       )
 
-  pub told : (count : ℕ) (old new : Decoder R) (writer writer' : W) (due written : List ℕ) (result : Result (Unit {0}) (RecodeError E F)) → IsReady source sink old writer due written
+  pub told : (count : ℕ) (old new : Decoder R) (writer writer' : W) (due written : List ℕ) (result : Result (Unit {0}) (RecodeError E F)) → IsReadyForTitles source sink old writer due written
       → CopiesHeaders source sink count old writer result new writer' → CopiesTold source sink count due written old result new writer'
   told count old new writer writer' due written (Ok done) ready all = told_all count old new writer writer' due written ready all
   told count old new writer writer' due written (Err (r.Read error)) ready stops = told_stop count old new writer writer' due written error ready stops
   told count old new writer writer' due written (Err (r.Write fault)) ready stops = never_full count old new writer writer' due written ready stops
 
   -- a fault excludes as many titles in front
-  fault_or_titles : (count : ℕ) (due written : List ℕ) (writer' : W) (headers : List Header) (copied : CopiesFront source sink headers due written writer') → length headers < count
+  fault_or_titles : (count : ℕ) (due written : List ℕ) (writer' : W) (headers : List Header) (copied : CopiesTitles source sink headers due written writer') → length headers < count
       → BeginsRefused copied.rest ⊎ IsCutTitle copied.rest → TitlesInFront count due → ⊥
   fault_or_titles count due written writer' headers copied fewer fault front =
       let next = title_behind copied.front copied.rest front.front front.rest headers front.headers copied.titles front.titles (sym copied.parts ∙ front.parts) (omega (arith, fewer, front.all)) in
@@ -212,7 +212,7 @@ module _ {R E W F : Type 0} (source : Reader R E) (sink : Writer W F) where
   exactly_told count old new writer' due written (Err (r.Read e.Waiting)) told = absurd told
   exactly_told count old new writer' due written (Err (r.Write fault)) told = absurd told
 
-  pub exactly : (count : ℕ) (old new : Decoder R) (writer writer' : W) (due written : List ℕ) (result : Result (Unit {0}) (RecodeError E F)) → IsReady source sink old writer due written
+  pub exactly : (count : ℕ) (old new : Decoder R) (writer writer' : W) (due written : List ℕ) (result : Result (Unit {0}) (RecodeError E F)) → IsReadyForTitles source sink old writer due written
       → CopiesHeaders source sink count old writer result new writer' → IsOk result ↔ TitlesInFront count due
   exactly count old new writer writer' due written result ready copied =
       exactly_told count old new writer' due written result (told count old new writer writer' due written result ready copied)

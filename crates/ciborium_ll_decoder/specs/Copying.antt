@@ -41,14 +41,14 @@ module _ {R E W F : Type 0} (source : Reader R E) (sink : Writer W F) where
     pub written : WritesAll sink writer (shortest_titles headers) writer'
 
   -- all headers were copied; what was written are titles of just these headers again
-  pub record CopiesAll (count : ℕ) (old : Decoder R) (writer : W) (new : Decoder R) (writer' : W) : Type 0 where
+  pub record CopiesEach (count : ℕ) (old : Decoder R) (writer : W) (new : Decoder R) (writer' : W) : Type 0 where
     pub headers : List Header
     pub all : length headers ≡ count
     pub copied : Copies headers old writer new writer'
     pub again : AreTitles (shortest_titles headers) headers
 
   -- behind fewer headers, `pull` failed with this error
-  pub record StopsReading (count : ℕ) (old : Decoder R) (writer : W) (error : Error E) (new : Decoder R) (writer' : W) : Type 0 where
+  pub record StopsAtPull (count : ℕ) (old : Decoder R) (writer : W) (error : Error E) (new : Decoder R) (writer' : W) : Type 0 where
     pub headers : List Header
     pub fewer : length headers < count
     pub between : Decoder R
@@ -56,7 +56,7 @@ module _ {R E W F : Type 0} (source : Reader R E) (sink : Writer W F) where
     pub stopped : PullsHeader source between (Err error) new
 
   -- behind fewer headers, `push` of the next one failed
-  pub record StopsWriting (count : ℕ) (old : Decoder R) (writer : W) (new : Decoder R) (writer' : W) : Type 0 where
+  pub record StopsAtPush (count : ℕ) (old : Decoder R) (writer : W) (new : Decoder R) (writer' : W) : Type 0 where
     pub headers : List Header
     pub fewer : length headers < count
     pub between : Decoder R
@@ -68,14 +68,14 @@ module _ {R E W F : Type 0} (source : Reader R E) (sink : Writer W F) where
 
   -- the copy of so many headers, by its answer
   abbrev pub CopiesHeaders : ℕ → Decoder R → W → Result (Unit {0}) (RecodeError E F) → Decoder R → W → Type 0
-  CopiesHeaders count old writer (Ok done) new writer' = CopiesAll count old writer new writer'
-  CopiesHeaders count old writer (Err (r.Read error)) new writer' = StopsReading count old writer error new writer'
-  CopiesHeaders count old writer (Err (r.Write fault)) new writer' = StopsWriting count old writer new writer'
+  CopiesHeaders count old writer (Ok done) new writer' = CopiesEach count old writer new writer'
+  CopiesHeaders count old writer (Err (r.Read error)) new writer' = StopsAtPull count old writer error new writer'
+  CopiesHeaders count old writer (Err (r.Write fault)) new writer' = StopsAtPush count old writer new writer'
 
   -- ---- what that means where the bytes are told
 
   -- the reader gives the bytes that it tells, the writer has room for as many, and the offset fits
-  pub record IsReady (decoder : Decoder R) (writer : W) (due written : List ℕ) : Type 0 where
+  pub record IsReadyForTitles (decoder : Decoder R) (writer : W) (due written : List ℕ) : Type 0 where
     pub lenient : decoder.strict ≡ false
     pub steady : IsSteady source decoder
     pub due-told : view source decoder ≡ Some due
@@ -86,7 +86,7 @@ module _ {R E W F : Type 0} (source : Reader R E) (sink : Writer W F) where
     pub fits : decoder.offset + length due + 8 < offset_limit
 
   -- titles of the headers stand in front of the bytes due, and their shortest titles were written
-  pub record CopiesFront (headers : List Header) (due written : List ℕ) (writer' : W) : Type 0 where
+  pub record CopiesTitles (headers : List Header) (due written : List ℕ) (writer' : W) : Type 0 where
     pub front : List ℕ
     pub rest : List ℕ
     pub parts : due ≡ front ++ rest
@@ -94,10 +94,10 @@ module _ {R E W F : Type 0} (source : Reader R E) (sink : Writer W F) where
     pub output : sink.written writer' ≡ Some (written ++ shortest_titles headers)
 
   -- as many titles were copied, and what follows them is left
-  pub record CopiesCount (count : ℕ) (due written : List ℕ) (old new : Decoder R) (writer' : W) : Type 0 where
+  pub record CopiesSoMany (count : ℕ) (due written : List ℕ) (old new : Decoder R) (writer' : W) : Type 0 where
     pub headers : List Header
     pub all : length headers ≡ count
-    pub copied : CopiesFront headers due written writer'
+    pub copied : CopiesTitles headers due written writer'
     pub again : AreTitles (shortest_titles headers) headers
     pub left : view source new ≡ Some copied.rest
     pub offset : new.offset ≡ old.offset + length copied.front
@@ -106,16 +106,16 @@ module _ {R E W F : Type 0} (source : Reader R E) (sink : Writer W F) where
   pub record MeetsCutTitle (count : ℕ) (due written : List ℕ) (old new : Decoder R) (writer' : W) : Type 0 where
     pub headers : List Header
     pub fewer : length headers < count
-    pub copied : CopiesFront headers due written writer'
+    pub copied : CopiesTitles headers due written writer'
     pub cut : IsCutTitle copied.rest
     pub left : view source new ≡ Some (drop 1 copied.rest)
     pub offset : new.offset ≡ old.offset + length copied.front + length (take 1 copied.rest)
 
   -- behind fewer titles stands a byte with which no title begins; it is gone, and the place is its offset
-  pub record MeetsNoTitle (count : ℕ) (due written : List ℕ) (place : ℕ) (old new : Decoder R) (writer' : W) : Type 0 where
+  pub record MeetsRefused (count : ℕ) (due written : List ℕ) (place : ℕ) (old new : Decoder R) (writer' : W) : Type 0 where
     pub headers : List Header
     pub fewer : length headers < count
-    pub copied : CopiesFront headers due written writer'
+    pub copied : CopiesTitles headers due written writer'
     pub refused : BeginsRefused copied.rest
     pub at : place ≡ old.offset + length copied.front
     pub left : view source new ≡ Some (drop 1 copied.rest)
@@ -123,9 +123,9 @@ module _ {R E W F : Type 0} (source : Reader R E) (sink : Writer W F) where
 
   -- copying ends with all titles, or at the first place where none stands
   abbrev pub CopiesTold : ℕ → List ℕ → List ℕ → Decoder R → Result (Unit {0}) (RecodeError E F) → Decoder R → W → Type 0
-  CopiesTold count due written old (Ok done) new writer' = CopiesCount count due written old new writer'
+  CopiesTold count due written old (Ok done) new writer' = CopiesSoMany count due written old new writer'
   CopiesTold count due written old (Err (r.Read (e.Io fault))) new writer' = MeetsCutTitle count due written old new writer'
-  CopiesTold count due written old (Err (r.Read (e.Syntax place))) new writer' = MeetsNoTitle count due written place old new writer'
+  CopiesTold count due written old (Err (r.Read (e.Syntax place))) new writer' = MeetsRefused count due written place old new writer'
   CopiesTold count due written old (Err (r.Read e.TooLong)) new writer' = ⊥
   CopiesTold count due written old (Err (r.Read e.Waiting)) new writer' = ⊥
   CopiesTold count due written old (Err (r.Write fault)) new writer' = ⊥

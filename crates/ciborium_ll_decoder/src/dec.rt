@@ -60,7 +60,9 @@ impl<R: Read> Decoder<R> {
     ghost use Rattle.ciborium_ll_grammar.specs.Title.{title_len, IsTitle};
     ghost use Rattle.ciborium_ll_grammar.specs.Parts.{IsParts, title_bytes};
     ghost use Rattle.ciborium_ll_grammar.specs.TitleRows.{IsAffix};
-    ghost use Rattle.ciborium_ll_decoder.specs.Decoding.{IsFresh, IsFreshAs, IsWaiting, MovesOn, PullsHeader, PullsTitle, ReadsAll, ReadsBytes, ReadsMinor, TakesBack, offset_of, reader_of, refusals_of, strict_of, waiting_of};
+    ghost use Rattle.ciborium_ll_decoder.specs.Decoding.{IsFresh, IsFreshAs, IsWaiting, MovesOn, PullsHeader};
+    ghost use Rattle.ciborium_ll_decoder.specs.Decoding.{PullsTitle, ReadsAll, ReadsBytes, ReadsMinor, TakesBack, offset_of};
+    ghost use Rattle.ciborium_ll_decoder.specs.Decoding.{reader_of, refusals_of, strict_of, waiting_of};
 
     /// A decoder that counts from this offset, in bytes.
     pub fn with_offset(reader: R, offset: usize) -> Decoder<R>
@@ -307,15 +309,16 @@ impl<R: Read> Read for Decoder<R> {
     ghost use Rattle.std.specs.Prelude.{false, IsTrue, OnOk, OnErr, length, MatchResult};
     ghost use Rattle.std.specs.Io.KnownBytes.{Consumes};
     ghost use Rattle.std.proofs.Common.{rules};
-    ghost use Rattle.ciborium_ll_decoder.specs.Decoding.{CountsRefusal, IsSteady, ReadsBytes, refusals_of, told_unless_waiting};
+    ghost use Rattle.ciborium_ll_decoder.specs.Decoding.{CountsRefusal, IsSteady, ReadsBytes, reader_of};
+    ghost use Rattle.ciborium_ll_decoder.specs.Decoding.{refusals_of, told_unless_waiting, waiting_of};
 
     type Error = Error<R::Error>;
 
-    ghost ahead = { λ d. told_unless_waiting d.waiting (R.ahead d.reader) };
+    ghost ahead = { λ d. told_unless_waiting (waiting_of d) (R.ahead (reader_of d)) };
 
     ghost steady = { λ _. false };
 
-    ghost failures = { λ d. d.refusals.count + R.failures d.reader };
+    ghost failures = { λ d. refusals_of d + R.failures (reader_of d) };
 
     ghost steady_is_told = { λ _ h. Prim.search rules };
 
@@ -325,12 +328,12 @@ impl<R: Read> Read for Decoder<R> {
     /// `Io` where the reader failed. None of them moves the offset.
     fn read_exact(&mut self, data: &mut [u8]) -> Result<(), Error<R::Error>>
         // The trait's.
-        ensures bytes { OnOk result (Consumes (told_unless_waiting self.old.waiting (R.ahead self.old.reader))
-            (told_unless_waiting self.new.waiting (R.ahead self.new.reader)) «data».new) }
-        ensures ok { OnOk result (refusals_of self.new + R.failures self.new.reader
-            ≡ refusals_of self.old + R.failures self.old.reader) }
-        ensures err { OnErr result (refusals_of self.new + R.failures self.new.reader
-            ≡ refusals_of self.old + R.failures self.old.reader + 1) }
+        ensures bytes { OnOk result (Consumes (told_unless_waiting (waiting_of self.old) (R.ahead (reader_of self.old)))
+            (told_unless_waiting (waiting_of self.new) (R.ahead (reader_of self.new))) «data».new) }
+        ensures ok { OnOk result (refusals_of self.new + R.failures (reader_of self.new)
+            ≡ refusals_of self.old + R.failures (reader_of self.old)) }
+        ensures err { OnErr result (refusals_of self.new + R.failures (reader_of self.new)
+            ≡ refusals_of self.old + R.failures (reader_of self.old) + 1) }
 
         // The decoder's own.
         ensures read { ReadsBytes R.Read self.old result «data».new self.new }

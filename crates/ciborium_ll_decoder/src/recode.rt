@@ -7,9 +7,11 @@ ghost use Rattle.ciborium_ll_decoder.specs.Decoding.{MovesOn, offset_of, waiting
 ghost use Rattle.ciborium_ll_encoder.specs.Encoding.{writer_of};
 ghost use Rattle.ciborium_ll_decoder.specs.Chunks.{IsWhole, segment_decoder, segment_reference};
 ghost use Rattle.ciborium_ll_grammar.specs.Faults.{RunInFront};
-ghost use Rattle.ciborium_ll_decoder.specs.RecodingTold.{IsReady, IsReadyAs, IsTold, IsToldAs, RecodesAnyhow, RecodesTold};
+ghost use Rattle.ciborium_ll_decoder.specs.RecodingTold.{IsReady, IsReadyAs, IsTold, IsToldAs, RecodesAnyhow};
+ghost use Rattle.ciborium_ll_decoder.specs.RecodingTold.{RecodesTold};
 ghost use Rattle.ciborium_ll_decoder.specs.StrictRecoding.{RecodesStrictly, RecodesStrictlyAnyhow, StrictRunInFront};
-ghost use Rattle.ciborium_ll_decoder.specs.Recoding.{CopiesBehind, CopiesBody, CopiesElement, CopiesElements, CopiesSegments, WritesHeader};
+ghost use Rattle.ciborium_ll_decoder.specs.Recoding.{CopiesBehind, CopiesBody, CopiesElement, CopiesElements};
+ghost use Rattle.ciborium_ll_decoder.specs.Recoding.{CopiesSegments, WritesHeader};
 
 mod strict;
 
@@ -17,7 +19,7 @@ pub use self::strict::strict_len;
 use crate::dec::{Decoder, Error};
 use crate::seg::{Body, Bytes, Chunked, Segment, Segments, Text};
 use ciborium_ll_encoder::enc::{Encoder, push_title};
-use ciborium_ll_grammar::hdr::Header;
+use ciborium_ll_grammar::hdr::{Element, Header};
 use ciborium_ll_io::io::{Read, Write};
 
 /// Why a copy stopped.
@@ -41,7 +43,8 @@ fn copy_body<R: Read, W: Write, P: Chunked>(
     requires whole { IsWhole body segment.old }
     ensures same_reference { segment_reference segment.new ≡ segment_reference segment.old }
     ensures copied { CopiesBody R.Read W.Write P.kind body.length (length buffer.old) body.place
-        (segment_decoder segment.old) (writer_of encoder.old) result (segment_decoder segment.new) (writer_of encoder.new) }
+        (segment_decoder segment.old) (writer_of encoder.old) result (segment_decoder segment.new)
+        (writer_of encoder.new) }
     ensures moves_on { MovesOn R.Read (segment_decoder segment.old) (segment_decoder segment.new) }
     ensures target { W.target (writer_of encoder.new) ≡ W.target (writer_of encoder.old) }
 {
@@ -142,6 +145,28 @@ fn copy_segments<R: Read, W: Write, P: Chunked>(
     }
 }
 
+/// Copies a string, behind its header with this length.
+#[inline(always)]
+fn copy_string<R: Read, W: Write, P: Chunked>(
+    decoder: &mut Decoder<R>,
+    encoder: &mut Encoder<W>,
+    len: Option<usize>,
+    buffer: &mut [u8],
+) -> Result<(), RecodeError<R::Error, W::Error>>
+    requires room { 4 ≤ length buffer.old }
+    requires none_waits { waiting_of decoder.old ≡ None }
+    requires covered { title_len (kind_header P.kind len) ≤ offset_of decoder.old }
+    ensures copied { CopiesBehind R.Read W.Write (kind_header P.kind len) (length buffer.old)
+        decoder.old (writer_of encoder.old) result decoder.new (writer_of encoder.new) }
+    ensures moves_on { MovesOn R.Read decoder.old decoder.new }
+    ensures target { W.target (writer_of encoder.new) ≡ W.target (writer_of encoder.old) }
+{
+    match len {
+        Some(length) => copy_definite::<R, W, P>(decoder, encoder, length, buffer),
+        None => copy_indefinite::<R, W, P>(decoder, encoder, buffer),
+    }
+}
+
 /// Copies one element.
 fn copy_element<R: Read, W: Write>(
     decoder: &mut Decoder<R>,
@@ -158,15 +183,11 @@ fn copy_element<R: Read, W: Write>(
         Ok(pulled) => pulled,
         Err(error) => return Err(RecodeError::Read(error)),
     };
-    match header {
-        Header::Bytes(Some(length)) => copy_definite::<R, W, Bytes>(
-            decoder, encoder, length, buffer,
-        ),
-        Header::Bytes(None) => copy_indefinite::<R, W, Bytes>(decoder, encoder, buffer),
-        Header::Text(Some(length)) => copy_definite::<R, W, Text>(decoder, encoder, length, buffer),
-        Header::Text(None) => copy_indefinite::<R, W, Text>(decoder, encoder, buffer),
+    match title.element(header) {
+        Element::Bytes(len) => copy_string::<R, W, Bytes>(decoder, encoder, len, buffer),
+        Element::Text(len) => copy_string::<R, W, Text>(decoder, encoder, len, buffer),
         // What `push` of the header would write, without a look at which header it is.
-        _ => match push_title(encoder, title.shortest(header)) {
+        Element::Plain => match push_title(encoder, title.shortest(header)) {
             Ok(()) => Ok(()),
             Err(fault) => Err(RecodeError::Write(fault)),
         },
@@ -212,7 +233,8 @@ pub fn recode<R: Read, W: Write>(
         → IsReady R.Read W.Write count (length buffer.old) decoder.old (writer_of encoder.old) due written
         → (IsOk result ↔ RunInFront count due) }
     ensures anyhow { (due written : List ℕ) → IsTold R.Read W.Write decoder.old (writer_of encoder.old) due written
-        → RecodesAnyhow R.Read W.Write count (length buffer.old) due written decoder.old result decoder.new (writer_of encoder.new) }
+        → RecodesAnyhow R.Read W.Write count (length buffer.old) due written decoder.old result decoder.new
+        (writer_of encoder.new) }
     ensures strictly { (due written : List ℕ)
         → IsReadyAs R.Read W.Write true count (length buffer.old) decoder.old (writer_of encoder.old) due written
         → waiting_of decoder.old ≡ None

@@ -1,6 +1,7 @@
 //! Strings, lent piece by piece (RFC 7049, 2.2.2).
 
-ghost use Rattle.std.specs.Prelude.{◌≡◌, ◌≤◌, ◌<◌, ◌+◌, ◌^◌, ◌⊎◌, length, take, drop, true, IfOk, IfSome, IfNone, [], None, Some};
+ghost use Rattle.std.specs.Prelude.{◌≡◌, ◌≤◌, ◌<◌, ◌+◌, ◌^◌, ◌⊎◌, length, take, drop, true, IfOk, IfSome, IfNone, []};
+ghost use Rattle.std.specs.Prelude.{None, Some};
 ghost use Rattle.ciborium_ll_text.specs.States.{after};
 ghost use Rattle.ciborium_ll_text.specs.declared.state.State.TheVariants.{Between};
 ghost use Rattle.ciborium_ll_grammar.specs.declared.hdr.Header.TheVariants.{Break};
@@ -107,7 +108,8 @@ impl<'r, R: Read, P: Parser> Segments<'r, R, P> {
     ghost use Rattle.ciborium_ll_decoder.specs.declared.seg.Progress.TheVariants.{Open};
     ghost use Rattle.ciborium_ll_decoder.specs.Decoding.{MovesOn, offset_of, waiting_of};
     ghost use Rattle.std.specs.Borrow.{sem};
-    ghost use Rattle.ciborium_ll_decoder.specs.Segments.{AdvancesTo, GivesAgain, IsAtBeginning, StepsOver, opens_of, progress_of, string_decoder, string_reference};
+    ghost use Rattle.ciborium_ll_decoder.specs.Segments.{AdvancesTo, GivesAgain, IsAtBeginning, StepsOver, opens_of};
+    ghost use Rattle.ciborium_ll_decoder.specs.Segments.{progress_of, string_decoder, string_reference};
     ghost use Rattle.ciborium_ll_decoder.specs.Chunks.{IsWhole, PullsSegment, segment_decoder};
     ghost use Rattle.ciborium_ll_decoder.specs.Lend.{lends_segment, pulls_segment};
 
@@ -212,7 +214,8 @@ impl<'r, R: Read, P: Parser> Segments<'r, R, P> {
     fn step(&mut self, opens: usize) -> Result<Option<Body>, Error<R::Error>>
         requires { progress_of self.old ≡ Open opens }
         ensures same_reference { string_reference self.new ≡ string_reference self.old }
-        ensures steps { StepsOver R.Read P.kind opens (string_decoder self.old) result (progress_of self.new) (string_decoder self.new) }
+        ensures steps { StepsOver R.Read P.kind opens (string_decoder self.old) result (progress_of self.new)
+            (string_decoder self.new) }
         ensures goes_on { OnOk result (offset_of (string_decoder self.old) < offset_of (string_decoder self.new)) }
         ensures opens { opens_of (progress_of self.new) + offset_of (string_decoder self.old)
             ≤ opens + offset_of (string_decoder self.new) }
@@ -387,7 +390,8 @@ impl<'r, R: Read> Segment<'r, R, Bytes> {
         ensures same_reference { segment_reference self.new ≡ segment_reference self.old }
         ensures chunk { PullsChunk R.Read (length buffer.old) self.old result self.new }
         ensures left { IfOk result (λ chunk. IfSome chunk (λ c. length c.now + left_of self.new ≡ left_of self.old)) }
-        ensures rest { IfOk result (λ chunk. IfSome chunk (λ c. Consumes (rest R.Read self.old) (rest R.Read self.new) c.now)) }
+        ensures rest { IfOk result (λ chunk. IfSome chunk
+            (λ c. Consumes (rest R.Read self.old) (rest R.Read self.new) c.now)) }
         ensures moves_on { MovesOn R.Read (segment_decoder self.old) (segment_decoder self.new) }
     {
         if self.damaged {
@@ -407,7 +411,8 @@ impl<'r, R: Read> Segment<'r, R, Bytes> {
 impl<'r, R: Read> Segment<'r, R, Text> {
     ghost use Rattle.std.specs.Io.KnownBytes.{Consumes};
     ghost use Rattle.ciborium_ll_decoder.specs.Decoding.{MovesOn, ReadsBytes};
-    ghost use Rattle.ciborium_ll_decoder.specs.Chunks.{FillsBehind, IsSame, PullsChunk, left_of, rest, segment_decoder, segment_reference};
+    ghost use Rattle.ciborium_ll_decoder.specs.Chunks.{FillsBehind, IsSame, PullsChunk, left_of, rest, segment_decoder};
+    ghost use Rattle.ciborium_ll_decoder.specs.Chunks.{segment_reference};
 
     /// Reads the next bytes of the body, as many as there are and the buffer holds, and hands out the longest front of
     /// them that is text. Up to three bytes behind it are kept, since they may begin a character.
@@ -420,7 +425,8 @@ impl<'r, R: Read> Segment<'r, R, Text> {
         ensures same_reference { segment_reference self.new ≡ segment_reference self.old }
         ensures chunk { PullsChunk R.Read (length buffer.old) self.old result self.new }
         ensures left { IfOk result (λ chunk. IfSome chunk (λ c. length c.now + left_of self.new ≡ left_of self.old)) }
-        ensures rest { IfOk result (λ chunk. IfSome chunk (λ c. Consumes (rest R.Read self.old) (rest R.Read self.new) c.now)) }
+        ensures rest { IfOk result (λ chunk. IfSome chunk
+            (λ c. Consumes (rest R.Read self.old) (rest R.Read self.new) c.now)) }
         ensures moves_on { MovesOn R.Read (segment_decoder self.old) (segment_decoder self.new) }
     {
         if self.damaged {
@@ -467,7 +473,8 @@ impl<'r, R: Read> Segment<'r, R, Text> {
         requires { length (kept_bytes self.old.kept) ≤ length filled.old }
         ensures same_reference { segment_reference self.new ≡ segment_reference self.old }
         ensures same { IsSame self.old self.new }
-        ensures filled { FillsBehind R.Read (kept_bytes self.old.kept) (segment_decoder self.old) result filled.new (segment_decoder self.new) }
+        ensures filled { FillsBehind R.Read (kept_bytes self.old.kept) (segment_decoder self.old) result filled.new
+            (segment_decoder self.new) }
         ensures moves_on { MovesOn R.Read (segment_decoder self.old) (segment_decoder self.new) }
     {
         let kept = self.kept.len();

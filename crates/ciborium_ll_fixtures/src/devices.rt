@@ -189,7 +189,8 @@ impl<'a> Write for FailingWriter<'a> {
         ensures err { OnErr result (self.new.failures.count ≡ self.old.failures.count + 1) }
 
         ensures full { OnErr result (IfSome None (λ room. room < length «data».now)) }
-        ensures target { ⟦<SliceWriter<'a> as Write>⟧.target self.new.within ≡ ⟦<SliceWriter<'a> as Write>⟧.target self.old.within }
+        ensures target { ⟦<SliceWriter<'a> as Write>⟧.target self.new.within
+            ≡ ⟦<SliceWriter<'a> as Write>⟧.target self.old.within }
 
         // The device's own.
         ensures half { IsErrOf result DeviceFault.Planned

@@ -1,11 +1,11 @@
 -- What the code reads as the parts of a title is a title.
-use Rattle.std.proofs.Common.{◌≡◌, ℕ, zero, suc, ◌<◌, ◌⊎◌, List, [], Some, refl, sym, ap, subst, ◌∙◌, inl, inr, arith}
+use Rattle.std.proofs.Common.{◌≡◌, ℕ, zero, suc, ◌<◌, ◌⊎◌, List, [], Option, Some, None, refl, sym, ap, subst, ◌∙◌, inl, inr, arith}
 use Rattle.ciborium_ll_grammar.specs.declared.hdr.Header.{Header}
 use Rattle.ciborium_ll_grammar.specs.declared.hdr.Header.TheVariants as h
 use Rattle.ciborium_ll_grammar.specs.declared.hdr.Float.TheVariants as f
 use Rattle.ciborium_ll_grammar.specs.declared.hdr.Minor.{Minor}
 use Rattle.ciborium_ll_grammar.specs.declared.hdr.Minor.TheVariants as m
-use Rattle.ciborium_ll_grammar.specs.Title.{IsTitle, numbered, alone, Major, Unsigned, Negative, ByteString, TextString, Array, Map, Tag, Other, major_code, Size, Small, One, Two, Four, Eight, numbered_header, minor_of, affix_of, least_size, shortest_numbered, shortest_title}
+use Rattle.ciborium_ll_grammar.specs.Title.{IsTitle, numbered, alone, Major, Unsigned, Negative, ByteString, TextString, Array, Map, Tag, Other, major_code, Size, Small, One, Two, Four, Eight, numbered_header, open_header, minor_of, affix_of, least_size, shortest_numbered, shortest_title}
 use Rattle.ciborium_ll_grammar.specs.Parts.{IsMinor, minor_number, minor_code, minor_affix, parts_bytes}
 use Rattle.ciborium_ll_grammar.proofs.TitleLaws.{one_title}
 
@@ -70,3 +70,21 @@ keeps_other (m.Two n) header p small one t = ap shortest_title (one_header (part
 keeps_other (m.Four n) header p small one t = ap shortest_title (one_header (parts_bytes 7 (m.Four n)) (h.Float (f.Single n)) header (numbered Other Four n p) t)
 keeps_other (m.Eight n) header p small one t = ap shortest_title (one_header (parts_bytes 7 (m.Eight n)) (h.Float (f.Double n)) header (numbered Other Eight n p) t)
 keeps_other m.Open header p small one t = ap shortest_title (one_header (parts_bytes 7 m.Open) h.Break header (alone Other h.Break refl) t)
+
+-- ---- what a title begins
+
+-- the parts of a string's title tell its length
+string_parts : (major : Major) (minor : Minor) (of_length : Option ℕ → Header) (header : Header) → IsMinor minor → ((size : Size) (n : ℕ) → numbered_header major size n ≡ of_length (Some n))
+    → open_header major ≡ Some (of_length None) → IsTitle (parts_bytes (major_code major) minor) header → header ≡ of_length (minor_number minor)
+string_parts major (m.Small k) of_length header p alike opens t = sym (one_header (parts_bytes (major_code major) (m.Small k)) (numbered_header major Small k) header (numbered major Small k p) t) ∙ alike Small k
+string_parts major (m.One k) of_length header p alike opens t = sym (one_header (parts_bytes (major_code major) (m.One k)) (numbered_header major One k) header (numbered major One k p) t) ∙ alike One k
+string_parts major (m.Two k) of_length header p alike opens t = sym (one_header (parts_bytes (major_code major) (m.Two k)) (numbered_header major Two k) header (numbered major Two k p) t) ∙ alike Two k
+string_parts major (m.Four k) of_length header p alike opens t = sym (one_header (parts_bytes (major_code major) (m.Four k)) (numbered_header major Four k) header (numbered major Four k p) t) ∙ alike Four k
+string_parts major (m.Eight k) of_length header p alike opens t = sym (one_header (parts_bytes (major_code major) (m.Eight k)) (numbered_header major Eight k) header (numbered major Eight k p) t) ∙ alike Eight k
+string_parts major m.Open of_length header p alike opens t = sym (one_header (parts_bytes (major_code major) m.Open) (of_length None) header (alone major (of_length None) opens) t)
+
+pub bytes_parts : (minor : Minor) (header : Header) → IsMinor minor → IsTitle (parts_bytes 2 minor) header → header ≡ h.Bytes (minor_number minor)
+bytes_parts minor header p t = string_parts ByteString minor h.Bytes header p (λ s n. refl) refl t
+
+pub text_parts : (minor : Minor) (header : Header) → IsMinor minor → IsTitle (parts_bytes 3 minor) header → header ≡ h.Text (minor_number minor)
+text_parts minor header p t = string_parts TextString minor h.Text header p (λ s n. refl) refl t

@@ -1,9 +1,8 @@
 -- How far a copy of elements comes in bytes, what is due there, and the first fault, which stops it.
 use Rattle.std.specs.Prelude.{◌≡◌, ℕ, ◌+◌, ◌-◌, ◌<◌, ◌≤◌, ◌⊎◌, Bool, true, min, List, ◌∷◌, ◌++◌, length, take, Some, None}
 use Rattle.ciborium_ll_grammar.specs.declared.hdr.Header.{Header}
-use Rattle.ciborium_ll_grammar.specs.declared.hdr.Header.TheVariants as h
 use Rattle.ciborium_ll_grammar.specs.Title.{IsTitle, shortest_title, title_len, IsCutTitle, BeginsRefused}
-use Rattle.ciborium_ll_grammar.specs.Strings.{Kind, Bytes, Text, kind_header, AreStrings, IsMisplaced, IsWritable, most_kept}
+use Rattle.ciborium_ll_grammar.specs.Strings.{Kind, Text, kind_header, AreStrings, IsMisplaced, IsWritable, most_kept}
 use Rattle.ciborium_ll_text.specs.Text.{IsCharacters, BeginsNoText}
 use Rattle.ciborium_ll_grammar.specs.Elements.{IsSound, Mark, Open, pieces, spelling, IsRun}
 

@@ -1,8 +1,9 @@
 //! Headers, and the parts of a title.
 
-ghost use Rattle.std.specs.Prelude.{ℕ, ◌≡◌, ◌+◌, ◌*◌, ◌<◌, length, IfSome, IfNone, [], ◌∷◌};
+ghost use Rattle.std.specs.Prelude.{ℕ, Option, ◌≡◌, ◌+◌, ◌*◌, ◌<◌, length, IfSome, IfNone, [], ◌∷◌};
 ghost use Rattle.ciborium_ll_grammar.specs.Title.{IsInRange, IsTitle, IsNeverOpen, Major, least_size, minor_of, affix_of, shortest_title, title_len, shortest_with_length, major_code};
 ghost use Rattle.ciborium_ll_grammar.specs.Parts.{IsMinor, IsParts, minor_affix, minor_code, minor_number, longer_parts, parts_bytes, parts_first, title_bytes};
+ghost use Rattle.ciborium_ll_grammar.specs.Elements.{IsPlain};
 ghost use Rattle.ciborium_ll_grammar.specs.TitleRows.{IsKind};
 
 pub mod table;
@@ -78,6 +79,17 @@ impl Minor {
                 Some(n)
             }
             Minor::Open => None,
+        }
+    }
+
+    /// The length that the number is, or the indefinite form.
+    #[inline(always)]
+    fn length(self) -> Option<usize>
+        ensures { result ≡ minor_number self }
+    {
+        match self.number() {
+            Some(n) => Some(n as usize),
+            None => None,
         }
     }
 
@@ -184,6 +196,17 @@ impl Minor {
     }
 }
 
+/// What a title begins (RFC 7049, 2.1 and 2.2).
+#[derive(Clone, Copy)]
+pub enum Element {
+    /// A byte string of this many bytes, or of indefinite length.
+    Bytes(Option<usize>),
+    /// A text string of this many bytes, or of indefinite length.
+    Text(Option<usize>),
+    /// No string: the title is an element by itself.
+    Plain,
+}
+
 /// A title in its parts: the major type, below 8, and the minor.
 #[derive(Clone, Copy)]
 pub struct Title {
@@ -223,6 +246,22 @@ impl Title {
             Kind::Other => other_header(self.minor),
             Kind::Refused => return None,
         })
+    }
+
+    /// What the title begins, which means this header. It is told by the parts alone, so a copy need not make the header.
+    #[inline(always)]
+    pub fn element(self, header: Header) -> Element
+        requires parts { IsParts self }
+        requires title { IsTitle (title_bytes self) header }
+        ensures bytes { (length : Option ℕ) → result ≡ Element.Bytes length → header ≡ Header.Bytes length }
+        ensures text { (length : Option ℕ) → result ≡ Element.Text length → header ≡ Header.Text length }
+        ensures plain { result ≡ Element.Plain → IsPlain header }
+    {
+        match self.major {
+            2 => Element::Bytes(self.minor.length()),
+            3 => Element::Text(self.minor.length()),
+            _ => Element::Plain,
+        }
     }
 
     /// The shortest title of the header that this one means. It is made of the parts alone, so a copy need not tell

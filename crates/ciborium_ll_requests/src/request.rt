@@ -190,7 +190,8 @@ impl Request {
 
     /// Reads a request of this name.
     fn named(alloc: Global, name: &str, words: &str) -> Result<Option<Request>, AllocError>
-        ensures some { IfOk result (λ found. IfSome found (λ request. (name.now ≡ name_of request) × Spells words.now request)) }
+        ensures some { IfOk result (λ found. IfSome found (λ request. (name.now ≡ name_of request)
+            × Spells words.now request)) }
         ensures none { IfOk result (λ found. IfNone found ((request : Request)
             → name.now ≡ name_of request → Spells words.now request → ⊥)) }
     {

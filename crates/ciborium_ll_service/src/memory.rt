@@ -58,7 +58,8 @@ impl Write for VecWriter {
     fn write_all(&mut self, data: &[u8]) -> Result<(), OutOfMemory>
         // The trait's.
         ensures bytes { OnOk result (Appends (Some self.old.bytes.items) (Some self.new.bytes.items) «data».now) }
-        ensures front { OnErr result (AppendsFront (Some self.old.bytes.items) (Some self.new.bytes.items) None None «data».now) }
+        ensures front { OnErr result (AppendsFront (Some self.old.bytes.items) (Some self.new.bytes.items)
+            None None «data».now) }
         ensures ok { OnOk result (self.new.failures.count ≡ self.old.failures.count) }
         ensures err { OnErr result (self.new.failures.count ≡ self.old.failures.count + 1) }
 

@@ -64,7 +64,8 @@ pub fn raw_buffered<R: io::Read, W: io::Write>(
     count: usize,
 ) -> BufferedCopy<R, W>
     ensures { (due written : List ℕ) → R.remaining reader ≡ Some due → W.contents writer ≡ Some written
-        → CopiesRaw Untold (TellsFlushed W.contents result.flushed) count due written result.copied result.reader result.writer }
+        → CopiesRaw Untold (TellsFlushed W.contents result.flushed) count due written result.copied result.reader
+        result.writer }
 {
     let mut read_ahead = [0; ROOM];
     let mut kept_back = [0; ROOM];

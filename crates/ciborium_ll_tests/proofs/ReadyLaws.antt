@@ -4,7 +4,7 @@ use Rattle.ciborium_ll.specs.Types.Read.{Ghosts as Reader}
 use Rattle.ciborium_ll.specs.Types.Write.{Ghosts as Writer}
 use Rattle.ciborium_ll.specs.Types.Decoder.{Decoder}
 use Rattle.ciborium_ll.specs.Decoding.{IsFresh, offset_limit, view}
-use Rattle.ciborium_ll.specs.Copying.{IsReady as IsReadyForTitles}
+use Rattle.ciborium_ll.specs.Copying.{IsReadyForTitles}
 use Rattle.ciborium_ll.specs.RecodingTold.{IsReady}
 use Rattle.ciborium_ll.proofs.BodyLaws.{view_none}
 

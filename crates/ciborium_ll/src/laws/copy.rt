@@ -3,7 +3,7 @@
 ghost use Rattle.std.specs.Prelude.{◌≡◌, ℕ, List, ◌↔◌, IsOk};
 ghost use Rattle.ciborium_ll_decoder.specs.Decoding.{MovesOn};
 ghost use Rattle.ciborium_ll_encoder.specs.Encoding.{writer_of};
-ghost use Rattle.ciborium_ll_decoder.specs.Copying.{CopiesHeaders, CopiesTold, IsReady, TitlesInFront};
+ghost use Rattle.ciborium_ll_decoder.specs.Copying.{CopiesHeaders, CopiesTold, IsReadyForTitles, TitlesInFront};
 
 use ciborium_ll_decoder::dec::Decoder;
 use ciborium_ll_decoder::recode::RecodeError;
@@ -26,9 +26,11 @@ pub fn copy_headers<R: Read, W: Write>(
 ) -> Result<(), RecodeError<R::Error, W::Error>>
     ensures copied { CopiesHeaders R.Read W.Write count decoder.old (writer_of encoder.old) result
         decoder.new (writer_of encoder.new) }
-    ensures told { (due written : List ℕ) → IsReady R.Read W.Write decoder.old (writer_of encoder.old) due written
+    ensures told { (due written : List ℕ)
+        → IsReadyForTitles R.Read W.Write decoder.old (writer_of encoder.old) due written
         → CopiesTold R.Read W.Write count due written decoder.old result decoder.new (writer_of encoder.new) }
-    ensures exactly { (due written : List ℕ) → IsReady R.Read W.Write decoder.old (writer_of encoder.old) due written
+    ensures exactly { (due written : List ℕ)
+        → IsReadyForTitles R.Read W.Write decoder.old (writer_of encoder.old) due written
         → (IsOk result ↔ TitlesInFront count due) }
     ensures moves_on { MovesOn R.Read decoder.old decoder.new }
 {

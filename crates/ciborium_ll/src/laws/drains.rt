@@ -40,7 +40,8 @@ fn drain<R: Read, W: Write, P: Chunked>(
 ) -> Result<Drained, RecodeError<R::Error, W::Error>>
     requires fit { All (λ size. size ≤ length buffer.old) sizes.now }
     ensures same_reference { segment_reference segment.new ≡ segment_reference segment.old }
-    ensures drains { Drains R.Read W.Write sizes.now segment.old (writer_of sink.old) result segment.new (writer_of sink.new) }
+    ensures drains { Drains R.Read W.Write sizes.now segment.old (writer_of sink.old) result segment.new
+        (writer_of sink.new) }
     ensures moves_on { MovesOn R.Read (segment_decoder segment.old) (segment_decoder segment.new) }
 {
     'sizes: for (index, size) in sizes.iter().enumerate() {
@@ -67,7 +68,8 @@ fn drain<R: Read, W: Write, P: Chunked>(
 /// With sizes of at least so many bytes each, 4 for text and 1 for bytes at least, so many calls are enough as the
 /// body's length by that size, of text less 3, rounded up.
 pub fn enough_sizes()
-    ensures { (kind : Kind) (size bytes : ℕ) (sizes : List ℕ) → most_kept kind < size → All (λ other. size ≤ other) sizes
+    ensures { (kind : Kind) (size bytes : ℕ) (sizes : List ℕ) → most_kept kind < size
+        → All (λ other. size ≤ other) sizes
         → calls_for kind size bytes < length sizes → IsEnough kind sizes bytes (calls_for kind size bytes) }
 {}
 
@@ -88,13 +90,15 @@ pub fn drain_bytes<R: Read, W: Write>(
 ) -> Result<Drained, RecodeError<R::Error, W::Error>>
     requires fit { All (λ size. size ≤ length buffer.old) sizes.now }
     ensures same_reference { segment_reference segment.new ≡ segment_reference segment.old }
-    ensures drains { Drains R.Read W.Write sizes.now segment.old (writer_of sink.old) result segment.new (writer_of sink.new) }
+    ensures drains { Drains R.Read W.Write sizes.now segment.old (writer_of sink.old) result segment.new
+        (writer_of sink.new) }
     ensures moves_on { MovesOn R.Read (segment_decoder segment.old) (segment_decoder segment.new) }
     ensures told { (body written : List ℕ) → IsDrainable R.Read W.Write segment.old (writer_of sink.old) body written
         → DrainsTold R.Read W.Write sizes.now body written segment.old result segment.new (writer_of sink.new) }
     ensures exactly { (body written : List ℕ) → IsDrainable R.Read W.Write segment.old (writer_of sink.old) body written
         → (HasEnded result ↔ ((count : ℕ) × AddUp sizes.now (length body) count)) }
-    ensures soonest { (body written : List ℕ) (count : ℕ) → IsDrainable R.Read W.Write segment.old (writer_of sink.old) body written
+    ensures soonest { (body written : List ℕ) (count : ℕ)
+        → IsDrainable R.Read W.Write segment.old (writer_of sink.old) body written
         → AddUp sizes.now (length body) count → IfOk result (λ drained. drained.calls ≤ count + 1) }
 {
     drain::<R, W, Bytes>(segment, sizes, buffer, sink)
@@ -117,11 +121,13 @@ pub fn drain_text<R: Read, W: Write>(
 ) -> Result<Drained, RecodeError<R::Error, W::Error>>
     requires fit { All (λ size. size ≤ length buffer.old) sizes.now }
     ensures same_reference { segment_reference segment.new ≡ segment_reference segment.old }
-    ensures drains { Drains R.Read W.Write sizes.now segment.old (writer_of sink.old) result segment.new (writer_of sink.new) }
+    ensures drains { Drains R.Read W.Write sizes.now segment.old (writer_of sink.old) result segment.new
+        (writer_of sink.new) }
     ensures moves_on { MovesOn R.Read (segment_decoder segment.old) (segment_decoder segment.new) }
     ensures told { (body written : List ℕ) → IsDrainable R.Read W.Write segment.old (writer_of sink.old) body written
         → DrainsTold R.Read W.Write sizes.now body written segment.old result segment.new (writer_of sink.new) }
-    ensures any_sizes { (body written : List ℕ) (count : ℕ) → IsDrainable R.Read W.Write segment.old (writer_of sink.old) body written
+    ensures any_sizes { (body written : List ℕ) (count : ℕ)
+        → IsDrainable R.Read W.Write segment.old (writer_of sink.old) body written
         → IsEnough text_strings sizes.now (length body) count → (HasEnded result ↔ IsCharacters body) }
 {
     drain::<R, W, Text>(segment, sizes, buffer, sink)

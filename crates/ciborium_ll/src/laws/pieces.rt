@@ -6,7 +6,8 @@ ghost use Rattle.ciborium_ll_grammar.specs.Strings.{Bytes, Text};
 ghost use Rattle.ciborium_ll_grammar.specs.Elements.{Mark, IsRun, spelling};
 ghost use Rattle.ciborium_ll_encoder.specs.Encoding.{writer_of};
 ghost use Rattle.ciborium_ll_decoder.specs.RecodingTold.{IsReady};
-ghost use Rattle.ciborium_ll.specs.Pieces.{AreSpelled, CopiesSame, HasMarks, IsPlainPiece, IsSpelled, WritesElements, WritesPiece};
+ghost use Rattle.ciborium_ll.specs.Pieces.{AreSpelled, CopiesSame, HasMarks, IsPlainPiece, IsSpelled, WritesElements};
+ghost use Rattle.ciborium_ll.specs.Pieces.{WritesPiece};
 
 use ciborium_ll_decoder::dec::Decoder;
 use ciborium_ll_decoder::recode::{RecodeError, recode};
@@ -103,7 +104,8 @@ pub fn copy_spelled<R: Read, W: Write>(
 ) -> Result<(), RecodeError<R::Error, W::Error>>
     requires room { 4 ≤ length buffer.old }
     ensures { (marks : List Mark) (rest written : List ℕ) → IsRun count (spelling marks) marks
-        → IsReady R.Read W.Write count (length buffer.old) decoder.old (writer_of encoder.old) (spelling marks ++ rest) written
+        → IsReady R.Read W.Write count (length buffer.old) decoder.old (writer_of encoder.old)
+        (spelling marks ++ rest) written
         → CopiesSame R.Read W.Write (spelling marks) rest written result decoder.new (writer_of encoder.new) }
 {
     recode(decoder, encoder, count, buffer)

@@ -20,8 +20,8 @@ returns c =
     let ended = c.out-1.given.1.1 (sym c.new-writer.ensures.same_reference ∙ sym loan) in
     let stands = stands_behind behind writer output_is c.args.out.now _ target c.new-writer.ensures.before c.written-written.ensures.slice ended in
     let ready = λ (room : HasRoom c.args.count due (length c.args.out.now)).
-        ready_to_copy _ _ false c.args.count 64 (length c.args.out.now) c.new.result old writer due c.from-decoder.ensures refl
-        c.new.ensures.ahead c.new-writer.ensures.written c.new-writer.ensures.room room (omega arith) (omega arith) in
+    ready_to_copy _ _ false c.args.count 1024 (length c.args.out.now) c.new.result old writer due c.from-decoder.ensures refl
+    c.new.ensures.ahead c.new-writer.ensures.written c.new-writer.ensures.room room (omega arith) (omega arith) in
     record {
       copied = λ room.
           copy_said _ _ c.args.count due old new behind copied c.say.new.self output_is c.args.out.now _

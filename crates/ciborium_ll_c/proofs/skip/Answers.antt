@@ -12,11 +12,11 @@ returns c =
     record {
       skipped = skip_said _ c.args.depth due old new skipped c.say.new.self stop.result.0 stop.result.1 c.offset.result
           (c.skip_item-skipped.ensures.told due
-          (ready_to_skip _ 64 c.new.result old due c.from-decoder.ensures refl c.new.ensures.ahead
+          (ready_to_skip _ 1024 c.new.result old due c.from-decoder.ensures refl c.new.ensures.ahead
           (omega arith) (omega arith)))
           c.from-decoder.ensures.offset stop.ensures.answer stop.ensures.place c.offset.ensures.value c.say.ensures;
       exactly = skip_exactly skipped stop.result.0 stop.ensures.answer
           (c.skip_item-skipped.ensures.exactly due
-          (ready_to_skip _ 64 c.new.result old due c.from-decoder.ensures refl c.new.ensures.ahead
+          (ready_to_skip _ 1024 c.new.result old due c.from-decoder.ensures refl c.new.ensures.ahead
           (omega arith) (omega arith)));
     }

@@ -100,8 +100,8 @@ impl<'r, R: Read, P: Chunked> Segments<'r, R, P> {
     /// [`Segment::finish`] does.
     ///
     /// `Ok` says that the whole body was read, and that it is UTF-8 where it is of a text: the decoder is then behind
-    /// it. The errors are `Syntax` with the body's place where it is no text; `Io` where the reader failed, and `TooLong`
-    /// where the offset would pass `usize::MAX`. What was read before an error is consumed.
+    /// it. The errors are `Syntax` with the body's place where it is no text; `Io` where the reader failed, and
+    /// `TooLong` where the offset would pass `usize::MAX`. What was read before an error is consumed.
     pub fn finish(&mut self, body: Body, buffer: &mut [u8]) -> Result<(), Error<R::Error>>
         requires room { 4 ≤ length buffer.old }
         requires none_waits { waiting_of (string_decoder self.old) ≡ None }

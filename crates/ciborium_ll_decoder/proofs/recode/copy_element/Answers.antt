@@ -1,4 +1,4 @@
-use Rattle.std.proofs.Common.{rules, ap, subst, ◌∙◌, ◌≡◌, ◌≤◌, Some, None, Ok, Err, List, ℕ, length}
+use Rattle.std.proofs.Common.{subst, ◌≡◌, ◌≤◌, Ok, Err, List, ℕ, length}
 use Rattle.ciborium_ll_grammar.specs.declared.hdr.Header.{Header}
 use Rattle.ciborium_ll_grammar.specs.declared.hdr.Header.TheVariants as h
 use Rattle.ciborium_ll_decoder.specs.declared.recode.RecodeError.TheVariants as r
@@ -13,66 +13,42 @@ pub returns-in-Err-clause-copied : goal.returns-in-Err-clause-copied
 returns-in-Err-clause-copied g c = λ count before old writer behind.
     pull_stops g.R.Read g.W.Write count before old writer c.args.decoder.now c.args.encoder.now.writer (length c.args.buffer.now) c.pull_title.new.self c.in-Err.error behind c.in-Err.ensures.header
 
-pub copy_definite-requires-clause-covered : goal.copy_definite-requires-clause-covered
-copy_definite-requires-clause-covered g c =
-    let arm = c.in-Bytes-Some in
-    let len = rw arm.is at arm.field-0-is in
-    let is : c.in-Ok.pulled.0 ≡ h.Bytes (Some arm.length) = arm.is ∙ ap h.Bytes len in
+pub copy_string-requires-clause-covered : goal.copy_string-requires-clause-covered
+copy_string-requires-clause-covered g c =
+    let arm = c.in-Bytes in
+    let is : c.in-Ok.pulled.0 ≡ h.Bytes arm.len = c.element.ensures.bytes arm.len arm.is in
     subst (λ (x : Header). title_len x ≤ c.pull_title.new.self.offset) is (pulled_covers g.R.Read g.W.Write c.args.decoder.now c.pull_title.new.self c.in-Ok.pulled.0 c.in-Ok.ensures.header)
 
-pub copy_definite-requires-in-Text-Some-clause-covered : goal.copy_definite-requires-in-Text-Some-clause-covered
-copy_definite-requires-in-Text-Some-clause-covered g c =
-    let arm = c.in-Text-Some in
-    let len = rw arm.is at arm.field-0-is in
-    let is : c.in-Ok.pulled.0 ≡ h.Text (Some arm.length) = arm.is ∙ ap h.Text len in
+pub copy_string-requires-in-Text-clause-covered : goal.copy_string-requires-in-Text-clause-covered
+copy_string-requires-in-Text-clause-covered g c =
+    let arm = c.in-Text in
+    let is : c.in-Ok.pulled.0 ≡ h.Text arm.len = c.element.ensures.text arm.len arm.is in
     subst (λ (x : Header). title_len x ≤ c.pull_title.new.self.offset) is (pulled_covers g.R.Read g.W.Write c.args.decoder.now c.pull_title.new.self c.in-Ok.pulled.0 c.in-Ok.ensures.header)
 
-pub returns-in-Bytes-Some-clause-copied : goal.returns-in-Bytes-Some-clause-copied
-returns-in-Bytes-Some-clause-copied g c = λ count before old writer behind.
-    let arm = c.in-Bytes-Some in
-    let len = rw arm.is at arm.field-0-is in
-    let is : c.in-Ok.pulled.0 ≡ h.Bytes (Some arm.length) = arm.is ∙ ap h.Bytes len in
+pub returns-in-Bytes-clause-copied : goal.returns-in-Bytes-clause-copied
+returns-in-Bytes-clause-copied g c = λ count before old writer behind.
+    let arm = c.in-Bytes in
+    let is : c.in-Ok.pulled.0 ≡ h.Bytes arm.len = c.element.ensures.bytes arm.len arm.is in
     let pulled = subst (λ (x : Header). PullsTitle g.R.Read c.args.decoder.now x c.pull_title.new.self) is c.in-Ok.ensures.header in
-    c.copy_definite.ensures.copied count before old writer pulled.title pulled.is_title
-    (title_taken g.R.Read g.W.Write count before old writer c.args.decoder.now c.args.encoder.now.writer c.pull_title.new.self (h.Bytes (Some arm.length)) behind pulled)
-    (behind_pulled g.R.Read g.W.Write count before old writer c.args.decoder.now c.args.encoder.now.writer c.pull_title.new.self (h.Bytes (Some arm.length)) behind pulled c.pull_title.ensures.moves_on.steady)
+    c.copy_string.ensures.copied count before old writer pulled.title pulled.is_title
+    (title_taken g.R.Read g.W.Write count before old writer c.args.decoder.now c.args.encoder.now.writer c.pull_title.new.self (h.Bytes arm.len) behind pulled)
+    (behind_pulled g.R.Read g.W.Write count before old writer c.args.decoder.now c.args.encoder.now.writer c.pull_title.new.self (h.Bytes arm.len) behind pulled c.pull_title.ensures.moves_on.steady)
 
-pub returns-in-Bytes-None-clause-copied : goal.returns-in-Bytes-None-clause-copied
-returns-in-Bytes-None-clause-copied g c = λ count before old writer behind.
-    let arm = c.in-Bytes-None in
-    let len = rw arm.is at arm.field-0-is in
-    let is : c.in-Ok.pulled.0 ≡ h.Bytes None = arm.is ∙ ap h.Bytes len in
+pub returns-in-Text-clause-copied : goal.returns-in-Text-clause-copied
+returns-in-Text-clause-copied g c = λ count before old writer behind.
+    let arm = c.in-Text in
+    let is : c.in-Ok.pulled.0 ≡ h.Text arm.len = c.element.ensures.text arm.len arm.is in
     let pulled = subst (λ (x : Header). PullsTitle g.R.Read c.args.decoder.now x c.pull_title.new.self) is c.in-Ok.ensures.header in
-    c.copy_indefinite.ensures.copied count before old writer pulled.title pulled.is_title
-    (title_taken g.R.Read g.W.Write count before old writer c.args.decoder.now c.args.encoder.now.writer c.pull_title.new.self (h.Bytes None) behind pulled)
-    (behind_pulled g.R.Read g.W.Write count before old writer c.args.decoder.now c.args.encoder.now.writer c.pull_title.new.self (h.Bytes None) behind pulled c.pull_title.ensures.moves_on.steady)
-
-pub returns-in-Text-Some-clause-copied : goal.returns-in-Text-Some-clause-copied
-returns-in-Text-Some-clause-copied g c = λ count before old writer behind.
-    let arm = c.in-Text-Some in
-    let len = rw arm.is at arm.field-0-is in
-    let is : c.in-Ok.pulled.0 ≡ h.Text (Some arm.length) = arm.is ∙ ap h.Text len in
-    let pulled = subst (λ (x : Header). PullsTitle g.R.Read c.args.decoder.now x c.pull_title.new.self) is c.in-Ok.ensures.header in
-    c.copy_definite-in-Text-Some.ensures.copied count before old writer pulled.title pulled.is_title
-    (title_taken g.R.Read g.W.Write count before old writer c.args.decoder.now c.args.encoder.now.writer c.pull_title.new.self (h.Text (Some arm.length)) behind pulled)
-    (behind_pulled g.R.Read g.W.Write count before old writer c.args.decoder.now c.args.encoder.now.writer c.pull_title.new.self (h.Text (Some arm.length)) behind pulled c.pull_title.ensures.moves_on.steady)
-
-pub returns-in-Text-None-clause-copied : goal.returns-in-Text-None-clause-copied
-returns-in-Text-None-clause-copied g c = λ count before old writer behind.
-    let arm = c.in-Text-None in
-    let len = rw arm.is at arm.field-0-is in
-    let is : c.in-Ok.pulled.0 ≡ h.Text None = arm.is ∙ ap h.Text len in
-    let pulled = subst (λ (x : Header). PullsTitle g.R.Read c.args.decoder.now x c.pull_title.new.self) is c.in-Ok.ensures.header in
-    c.copy_indefinite-in-Text-None.ensures.copied count before old writer pulled.title pulled.is_title
-    (title_taken g.R.Read g.W.Write count before old writer c.args.decoder.now c.args.encoder.now.writer c.pull_title.new.self (h.Text None) behind pulled)
-    (behind_pulled g.R.Read g.W.Write count before old writer c.args.decoder.now c.args.encoder.now.writer c.pull_title.new.self (h.Text None) behind pulled c.pull_title.ensures.moves_on.steady)
+    c.copy_string-in-Text.ensures.copied count before old writer pulled.title pulled.is_title
+    (title_taken g.R.Read g.W.Write count before old writer c.args.decoder.now c.args.encoder.now.writer c.pull_title.new.self (h.Text arm.len) behind pulled)
+    (behind_pulled g.R.Read g.W.Write count before old writer c.args.decoder.now c.args.encoder.now.writer c.pull_title.new.self (h.Text arm.len) behind pulled c.pull_title.ensures.moves_on.steady)
 
 pub returns-in-Ok-push_title : goal.returns-in-Ok-push_title
 returns-in-Ok-push_title g c =
     record {
       copied = λ count before old writer behind.
           let pulled = c.in-Ok.ensures.header in
-          let plain : IsPlain c.in-Ok.pulled.0 = search rules in
+          let plain : IsPlain c.in-Ok.pulled.0 = c.element.ensures.plain c.in-Plain.is in
           let wrote = subst (λ (bytes : List ℕ). WritesAll g.W.Write c.args.encoder.now.writer bytes c.push_title.new.encoder.writer) c.shortest.ensures.bytes c.in-Ok-push_title.ensures.title in
           plain_goes_on g.R.Read g.W.Write count before old writer c.pull_title.new.self c.args.encoder.now.writer (length c.args.buffer.now) c.in-Ok.pulled.0 pulled.title (Ok c.in-Ok-push_title.field-0) c.push_title.new.encoder.writer
           plain pulled.is_title (title_taken g.R.Read g.W.Write count before old writer c.args.decoder.now c.args.encoder.now.writer c.pull_title.new.self c.in-Ok.pulled.0 behind pulled)
@@ -86,7 +62,7 @@ returns-in-Err-push_title g c =
     record {
       copied = λ count before old writer behind.
           let pulled = c.in-Ok.ensures.header in
-          let plain : IsPlain c.in-Ok.pulled.0 = search rules in
+          let plain : IsPlain c.in-Ok.pulled.0 = c.element.ensures.plain c.in-Plain.is in
           let wrote = subst (λ (bytes : List ℕ). WritesFront g.W.Write c.args.encoder.now.writer bytes c.push_title.new.encoder.writer) c.shortest.ensures.bytes c.in-Err-push_title.ensures.title in
           plain_goes_on g.R.Read g.W.Write count before old writer c.pull_title.new.self c.args.encoder.now.writer (length c.args.buffer.now) c.in-Ok.pulled.0 pulled.title (Err (r.Write c.in-Err-push_title.fault)) c.push_title.new.encoder.writer
           plain pulled.is_title (title_taken g.R.Read g.W.Write count before old writer c.args.decoder.now c.args.encoder.now.writer c.pull_title.new.self c.in-Ok.pulled.0 behind pulled)

@@ -1,6 +1,6 @@
 use Rattle.std.proofs.Common.{[], ◌∷◌, ◌++◌, Ok, Err, refl, ◌∙◌, arith, length-append}
 use Rattle.ciborium_ll_decoder.specs.declared.recode.RecodeError.TheVariants as r
-use Rattle.ciborium_ll_decoder.specs.Copying.{CopiesAll, StopsReading, StopsWriting}
+use Rattle.ciborium_ll_decoder.specs.Copying.{CopiesEach, StopsAtPull, StopsAtPush}
 use Rattle.ciborium_ll_decoder.proofs.DecodingLaws.{MovesOn-none, MovesOn-then}
 use Rattle.ciborium_ll_decoder.proofs.CopyingLaws.{Copies-none, Copies-push, AreTitles-shortest}
 use Rattle.ciborium_ll_decoder.proofs.CopyingTold.{told, exactly}
@@ -21,7 +21,7 @@ headers-preserved g c =
 
 pub returns-in-Err : goal.returns-in-Err
 returns-in-Err g c =
-    let copied : StopsReading g.R.Read g.W.Write c.args.count c.args.decoder.now c.args.encoder.now.writer c.in-Err.error c.pull.new.self c.headers.encoder.writer =
+    let copied : StopsAtPull g.R.Read g.W.Write c.args.count c.args.decoder.now c.args.encoder.now.writer c.in-Err.error c.pull.new.self c.headers.encoder.writer =
     record {
       headers = c.headers.invariant.0;
       fewer = omega (arith, c.headers.invariant.1, c.headers-test.true);
@@ -38,7 +38,7 @@ returns-in-Err g c =
 
 pub returns-in-Err-push : goal.returns-in-Err-push
 returns-in-Err-push g c =
-    let copied : StopsWriting g.R.Read g.W.Write c.args.count c.args.decoder.now c.args.encoder.now.writer c.pull.new.self c.push.new.self.writer =
+    let copied : StopsAtPush g.R.Read g.W.Write c.args.count c.args.decoder.now c.args.encoder.now.writer c.pull.new.self c.push.new.self.writer =
     record {
       headers = c.headers.invariant.0;
       fewer = omega (arith, c.headers.invariant.1, c.headers-test.true);
@@ -58,7 +58,7 @@ returns-in-Err-push g c =
 
 pub returns : goal.returns
 returns g c =
-    let copied : CopiesAll g.R.Read g.W.Write c.args.count c.args.decoder.now c.args.encoder.now.writer c.headers.decoder c.headers.encoder.writer =
+    let copied : CopiesEach g.R.Read g.W.Write c.args.count c.args.decoder.now c.args.encoder.now.writer c.headers.decoder c.headers.encoder.writer =
     record {
       headers = c.headers.invariant.0;
       all = omega (arith, c.headers.invariant.1, c.headers-test.false, c.headers.auto._copied-end);
