@@ -1,18 +1,22 @@
 -- Where an item is due in a whole one, it comes. So a whole item in front excludes whatever stops the read of it.
-use Rattle.std.proofs.Common.{◌≡◌, ℕ, suc, ◌*◌, ◌%◌, ◌==◌, ◌<◌, ◌⊎◌, Bool, true, false, List, [], ◌∷◌, ◌++◌, Some, refl, sym, ap, subst, ◌∙◌, inl, inr, arith, append_assoc, append-nil}
+use Rattle.std.proofs.Common.{◌≡◌, ℕ, suc, ◌*◌, ◌%◌, ◌==◌, ◌<◌, ◌⊎◌, Bool, true, false, List, [], ◌∷◌, ◌++◌, Some}
+use Rattle.std.proofs.Common.{refl, sym, ap, subst, ◌∙◌, inl, inr, arith, append_assoc, append-nil}
 use Rattle.ciborium_ll.specs.Types.Header.{Header}
 use Rattle.ciborium_ll.specs.Types.Header.TheVariants as h
 use Rattle.ciborium_ll.specs.Title.{IsTitle}
 use Rattle.ciborium_ll.specs.Strings.{Bytes, Text}
 use Rattle.ciborium_ll.specs.Elements.{Mark, Plain, Whole, open_marks, IsElement, plain, definite, indefinite}
 use Rattle.ciborium_ll.specs.Faults.{Place, Due, In}
-use Rattle.ciborium_ll.specs.Items.{Completes, positive, negative, float, simple, byte_string, text_string, open_bytes, open_text, tag, array, pairs, open_array, open_pairs, AreItems, no_items, more_items, IsItem}
+use Rattle.ciborium_ll.specs.Items.{Completes, positive, negative, float, simple, byte_string, text_string}
+use Rattle.ciborium_ll.specs.Items.{open_bytes, open_text, tag, array, pairs, open_array, open_pairs, AreItems}
+use Rattle.ciborium_ll.specs.Items.{no_items, more_items, IsItem}
 use Rattle.ciborium_ll.proofs.TitleLaws.{one_title}
 use Rattle.ciborium_ll.proofs.StringLaws.{break_title}
 use Rattle.ciborium_ll.proofs.ItemLaws.{one_item}
 use Rattle.ciborium_ll.proofs.HaltLaws.{opens_of, stop_bad, halt_bad, element_stops, element_inside}
 use Rattle.ciborium_ll.proofs.FaultLaws.{Stuck, stop, halt, bad_body, stuck}
-use Rattle.cbor_skip.specs.Due.{IsNest, TakesMore, may_close, ItemDue, here, within, ReachesItem, at_item, at_string, at_body, at_piece}
+use Rattle.cbor_skip.specs.Due.{IsNest, TakesMore, may_close, ItemDue, here, within, ReachesItem, at_item, at_string}
+use Rattle.cbor_skip.specs.Due.{at_body, at_piece}
 use Rattle.cbor_skip.specs.ItemFaults.{ItemInFront, HasItemFault, HasEarlyBreak, HasDeepNest}
 use Rattle.cbor_skip.proofs.RemainingLaws.{even_pairs}
 use Rattle.cbor_skip.proofs.ItemSteps.{item_of}

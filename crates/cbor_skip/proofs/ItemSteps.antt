@@ -1,5 +1,7 @@
 -- The steps of the read of an item, over any reader.
-use Rattle.std.proofs.Common.{◌≡◌, ℕ, zero, suc, ◌<◌, ◌*◌, Bool, true, false, List, [], ◌∷◌, ◌++◌, length, Option, Some, None, Result, Ok, Err, refl, sym, ap, subst, ◌∙◌, inl, arith, append_assoc, append-nil}
+use Rattle.std.proofs.Common.{◌≡◌, ℕ, zero, suc, ◌<◌, ◌*◌, Bool, true, false, List, [], ◌∷◌, ◌++◌, length, Option}
+use Rattle.std.proofs.Common.{Some, None, Result, Ok, Err, refl, sym, ap, subst, ◌∙◌, inl, arith, append_assoc}
+use Rattle.std.proofs.Common.{append-nil}
 use Rattle.ciborium_ll.specs.Types.Read.{Ghosts}
 use Rattle.ciborium_ll.specs.Types.Header.{Header}
 use Rattle.ciborium_ll.specs.Types.Header.TheVariants as h
@@ -9,7 +11,8 @@ use Rattle.ciborium_ll.specs.Title.{IsTitle, shortest_title}
 use Rattle.ciborium_ll.specs.Strings.{Kind, Bytes, Text, kind_header, IsString, AreStrings}
 use Rattle.ciborium_ll.specs.Strings.IsString.{definite, indefinite}
 use Rattle.ciborium_ll.specs.Elements.{IsSound}
-use Rattle.ciborium_ll.specs.Items.{Completes, byte_string, text_string, open_bytes, open_text, tag, array, pairs, open_array, open_pairs, AreItems, no_items, more_items, IsItem}
+use Rattle.ciborium_ll.specs.Items.{Completes, byte_string, text_string, open_bytes, open_text, tag, array, pairs}
+use Rattle.ciborium_ll.specs.Items.{open_array, open_pairs, AreItems, no_items, more_items, IsItem}
 use Rattle.ciborium_ll.specs.Decoding.{Passes, PullsHeader, PullsTitle, IsSteady}
 use Rattle.ciborium_ll.specs.Skipping.{SkipsWhole}
 use Rattle.ciborium_ll.proofs.TitleLaws.{IsTitle-shortest, title_in_range}

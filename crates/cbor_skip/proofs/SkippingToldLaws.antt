@@ -1,5 +1,7 @@
 -- What a skip means where the bytes are told: the premises turn the general statement into an exact one.
-use Rattle.std.proofs.Common.{◌≡◌, ℕ, ◌+◌, ◌-◌, ◌^◌, ◌<◌, ◌≤◌, ◌⊎◌, Bool, false, List, [], ◌∷◌, ◌++◌, length, drop, take, min, Option, Some, None, Result, Ok, Err, IsOk, ◌↔◌, refl, sym, ap, subst, ◌∙◌, inl, inr, arith, append_assoc, length-append}
+use Rattle.std.proofs.Common.{◌≡◌, ℕ, ◌+◌, ◌-◌, ◌^◌, ◌<◌, ◌≤◌, ◌⊎◌, Bool, false, List, [], ◌∷◌, ◌++◌, length, drop}
+use Rattle.std.proofs.Common.{take, min, Option, Some, None, Result, Ok, Err, IsOk, ◌↔◌, refl, sym, ap, subst, ◌∙◌}
+use Rattle.std.proofs.Common.{inl, inr, arith, append_assoc, length-append}
 use Rattle.std.proofs.lemmas.List.{length-take}
 use Rattle.std.proofs.Math.Seq.{drop-append_seam}
 use Rattle.std.proofs.lemmas.Bool.{cases_lt}
@@ -12,7 +14,8 @@ use Rattle.ciborium_ll.specs.Types.Error.TheVariants as e
 use Rattle.ciborium_ll.specs.Title.{BeginsRefused, title_len}
 use Rattle.ciborium_ll.specs.Strings.{Kind, Text, kind_header, IsMisplaced}
 use Rattle.ciborium_ll.specs.Text.{IsCharacters, BeginsNoText}
-use Rattle.ciborium_ll.specs.Faults.{Place, Due, In, Body, IsAtTitle, IsInside, FirstFault, CutTitle, NoTitle, OtherTitle, DamagedText, CutBody, CutDamagedText, Short, Syntax, with_front}
+use Rattle.ciborium_ll.specs.Faults.{Place, Due, In, Body, IsAtTitle, IsInside, FirstFault, CutTitle, NoTitle}
+use Rattle.ciborium_ll.specs.Faults.{OtherTitle, DamagedText, CutBody, CutDamagedText, Short, Syntax, with_front}
 use Rattle.ciborium_ll.specs.Decoding.{view, next_read, Passes, PullsHeader, PullsTitle, IsSteady}
 use Rattle.ciborium_ll.specs.Finishing.{EndsBody, RestFails, RestPasses, RestDamaged}
 use Rattle.ciborium_ll.specs.Skipping.{SkipsString, SkipsInside, MeetsNoTitle, MeetsBody}

@@ -1,5 +1,7 @@
 -- What a drain means where the bytes are told: the premises turn the general statement into an exact one.
-use Rattle.std.proofs.Common.{◌≡◌, ℕ, ◌+◌, ◌-◌, ◌*◌, ◌<◌, ◌≤◌, ◌↔◌, All, List, [], ◌∷◌, ◌++◌, length, take, drop, sum, Option, Some, None, Result, Ok, Err, IfOk, refl, sym, ap, subst, ◌∙◌, inl, inr, arith, append_assoc, append-nil, length-append, length-take-le, suc-mul, div-add-mod', mod-lt}
+use Rattle.std.proofs.Common.{◌≡◌, ℕ, ◌+◌, ◌-◌, ◌*◌, ◌<◌, ◌≤◌, ◌↔◌, All, List, [], ◌∷◌, ◌++◌, length, take, drop, sum}
+use Rattle.std.proofs.Common.{Option, Some, None, Result, Ok, Err, IfOk, refl, sym, ap, subst, ◌∙◌, inl, inr, arith}
+use Rattle.std.proofs.Common.{append_assoc, append-nil, length-append, length-take-le, suc-mul, div-add-mod', mod-lt}
 use Rattle.std.specs.Io.KnownBytes.{prepend_known}
 use Rattle.std.specs.Option.{option_map}
 use Rattle.std.proofs.Math.Seq.{take-append_seam, take-append-add}
@@ -23,7 +25,9 @@ use Rattle.ciborium_ll_text.specs.Text.{IsCharacters}
 use Rattle.ciborium_ll_decoder.specs.Kept.{kept_bytes}
 use Rattle.ciborium_ll_decoder.specs.Decoding.{ReadsAll}
 use Rattle.ciborium_ll_decoder.specs.Chunks.{IsSplit, EndsInCharacter, KeepsTooMuch, rest}
-use Rattle.ciborium_ll.specs.Drains.{gains, calls_for, IsEnough, AddUp, DrainsSome, DrainsAll, DrainsSizes, DrainFails, DrainUnwritten, EndsDrain, Drains, IsDrainable, WritesBody, LeavesRest, FindsNoText, EndsTold, DrainsTold, HasEnded}
+use Rattle.ciborium_ll.specs.Drains.{gains, calls_for, IsEnough, AddUp, DrainsSome, DrainsAll, DrainsSizes}
+use Rattle.ciborium_ll.specs.Drains.{DrainFails, DrainUnwritten, EndsDrain, Drains, IsDrainable, WritesBody}
+use Rattle.ciborium_ll.specs.Drains.{LeavesRest, FindsNoText, EndsTold, DrainsTold, HasEnded}
 use Rattle.ciborium_ll_decoder.proofs.BodyLaws.{view_none, split_parts, stuck_is_no_text, too_much_is_no_text}
 use Rattle.ciborium_ll_decoder.proofs.CopyingTold.{consumes_told, appends_told, shrinks_told}
 use Rattle.ciborium_ll_text.proofs.Lists.{length_zero}
@@ -37,20 +41,24 @@ gains-bytes (size ∷ sizes) =
     omega (arith, rest, sum_by-cons (λ (n : ℕ). n - 0) size sizes, sum_by-cons (λ (n : ℕ). n) size sizes)
 
 -- what each of the sizes brings on at least, added up
-least_gains : (kind : Kind) (size : ℕ) (sizes : List ℕ) → AllByRecursion (λ other. size ≤ other) sizes → length sizes * (size - most_kept kind) ≤ gains kind sizes
+least_gains : (kind : Kind) (size : ℕ) (sizes : List ℕ) → AllByRecursion (λ other. size ≤ other) sizes
+    → length sizes * (size - most_kept kind) ≤ gains kind sizes
 least_gains kind size [] all = omega arith
 least_gains kind size (first ∷ sizes) all =
     let rest = least_gains kind size sizes all.1 in
     let one = suc-mul (length sizes) (size - most_kept kind) in
     omega (arith, rest, one, all.0, sum_by-cons (λ (n : ℕ). n - most_kept kind) first sizes)
 
-pub calls_enough : (kind : Kind) (size bytes : ℕ) (sizes : List ℕ) → most_kept kind < size → All (λ other. size ≤ other) sizes → calls_for kind size bytes < length sizes
+pub calls_enough : (kind : Kind) (size bytes : ℕ) (sizes : List ℕ) → most_kept kind < size
+    → All (λ other. size ≤ other) sizes → calls_for kind size bytes < length sizes
     → IsEnough kind sizes bytes (calls_for kind size bytes)
 calls_enough kind size bytes sizes large all fewer =
     let gain = size - most_kept kind in
     let count = calls_for kind size bytes in
     let long = length-take-le count sizes (omega (arith, fewer)) in
-    let gained = least_gains kind size (take count sizes) (recursion_from_All (λ other. size ≤ other) (take count sizes) (All-take (λ other. size ≤ other) count sizes all)) in
+    let gained = least_gains kind size (take count sizes)
+    (recursion_from_All (λ other. size ≤ other) (take count sizes)
+    (All-take (λ other. size ≤ other) count sizes all)) in
     let least = rw long at gained in
     let parts = div-add-mod' (bytes + gain - 1) gain in
     let some : 0 < gain = omega (arith, large) in
@@ -60,12 +68,14 @@ calls_enough kind size bytes sizes large all fewer =
 -- ---- what is told
 
 -- the bytes that are told, where a part of the body is
-body_told : (kept : List ℕ) (unread : ℕ) (ahead : Option (List ℕ)) (body : List ℕ) → prepend_known kept (option_map (take unread) ahead) ≡ Some body
+body_told : (kept : List ℕ) (unread : ℕ) (ahead : Option (List ℕ)) (body : List ℕ)
+    → prepend_known kept (option_map (take unread) ahead) ≡ Some body
     → (due : List ℕ) × (ahead ≡ Some due) × (body ≡ kept ++ take unread due)
 body_told kept unread None body e = absurd cc
 body_told kept unread (Some due) body e = let same : kept ++ take unread due ≡ body = cc in (due, refl, sym same)
 
-module _ {R E P W F : Type 0} {parser : Parser P} (source : Reader R E) (sink : Writer W F) (sizes : List ℕ) (old : Segment R P parser) (writer : W) (body written : List ℕ)
+module _ {R E P W F : Type 0} {parser : Parser P} (source : Reader R E) (sink : Writer W F) (sizes : List ℕ)
+    (old : Segment R P parser) (writer : W) (body written : List ℕ)
     (ready : IsDrainable source sink old writer body written) where
   -- how far a drain came: what is left of the body, and what is told behind it
   record Came (given : List ℕ) (new : Segment R P parser) (writer' : W) : Type 0 where
@@ -77,7 +87,8 @@ module _ {R E P W F : Type 0} {parser : Parser P} (source : Reader R E) (sink : 
     left : rest source new ≡ Some (kept_bytes new.kept ++ more)
     output : sink.written writer' ≡ Some (written ++ given)
 
-  came : (used : List ℕ) (new : Segment R P parser) (writer' : W) (some : DrainsSome source sink used old writer new writer') → Came some.given new writer'
+  came : (used : List ℕ) (new : Segment R P parser) (writer' : W)
+      (some : DrainsSome source sink used old writer new writer') → Came some.given new writer'
   came used new writer' some =
       let kept = kept_bytes old.kept in
       let read = some.hands_out.read in
@@ -91,46 +102,63 @@ module _ {R E P W F : Type 0} {parser : Parser P} (source : Reader R E) (sink : 
       let known = sym after ∙ behind.1 in
       let more = take new.unread others in
       let sum : old.unread ≡ length read + new.unread = omega (arith, some.hands_out.unread) in
-      let front : take old.unread due ≡ read ++ more = ap (take old.unread) behind.2 ∙ ap (λ (n : ℕ). take n (read ++ others)) sum ∙ take-append-add read others new.unread in
+      let front : take old.unread due ≡ read ++ more = ap (take old.unread) behind.2
+      ∙ ap (λ (n : ℕ). take n (read ++ others)) sum ∙ take-append-add read others new.unread in
       let long = ap length told.2 in
       let parts = ap length front in
       record {
         more = more;
         beyond = drop new.unread others;
         ahead = known ∙ ap Some (sym (take-append-drop new.unread others));
-        counted = omega (arith, long, parts, sum, ready.whole, length-append kept (take old.unread due), length-append read more);
-        parts = told.2 ∙ ap (λ (z : List ℕ). kept ++ z) front ∙ sym (append_assoc kept read more) ∙ ap (λ (z : List ℕ). z ++ more) some.hands_out.parts
+        counted = omega (
+          arith,
+          long,
+          parts,
+          sum,
+          ready.whole,
+          length-append kept (take old.unread due),
+          length-append read more,
+        );
+        parts = told.2 ∙ ap (λ (z : List ℕ). kept ++ z) front ∙ sym (append_assoc kept read more)
+            ∙ ap (λ (z : List ℕ). z ++ more) some.hands_out.parts
             ∙ append_assoc some.given (kept_bytes new.kept) more;
-        left = ap (λ (known : Option (List ℕ)). prepend_known (kept_bytes new.kept) (option_map (take new.unread) known)) known;
+        left = ap (λ (known : Option (List ℕ)). prepend_known (kept_bytes new.kept)
+            (option_map (take new.unread) known)) known;
         output = appends_told _ _ written some.given ready.written-told some.written.appended;
       }
 
   -- ---- the body has ended
 
-  all_told : (calls : ℕ) (new : Segment R P parser) (writer' : W) → DrainsAll source sink sizes old writer calls new writer' → WritesBody source sink sizes body written calls new writer'
+  all_told : (calls : ℕ) (new : Segment R P parser) (writer' : W)
+      → DrainsAll source sink sizes old writer calls new writer' → WritesBody source sink sizes body written calls
+      new writer'
   all_told calls new writer' all =
       let c = came all.before all.between writer' all.some in
       let none = length_zero c.more (omega (arith, c.counted, all.ends.none_unread)) in
       let kept = all.ends.none_kept in
       let nothing : kept_bytes all.between.kept ++ c.more ≡ [] = ap (λ (z : List ℕ). z ++ c.more) kept ∙ none in
-      let whole : body ≡ all.some.given = c.parts ∙ ap (λ (z : List ℕ). all.some.given ++ z) nothing ∙ append-nil all.some.given in
+      let whole : body ≡ all.some.given = c.parts ∙ ap (λ (z : List ℕ). all.some.given ++ z) nothing
+      ∙ append-nil all.some.given in
       let parts = ap length all.is_behind.1 in
       let counted = length-append all.before (all.size ∷ all.is_behind.0) in
       let same = all.ends.same in
       let front : take (calls - 1) sizes ≡ all.before =
       let at : calls - 1 ≡ length all.before = omega (arith, all.counted) in
-      ap (λ (n : ℕ). take n sizes) at ∙ ap (take (length all.before)) all.is_behind.1 ∙ take-append_seam all.before (all.size ∷ all.is_behind.0) in
+      ap (λ (n : ℕ). take n sizes) at ∙ ap (take (length all.before)) all.is_behind.1
+      ∙ take-append_seam all.before (all.size ∷ all.is_behind.0) in
       record {
         sound = subst (IsWritable parser.kind) (sym whole) all.some.hands_out.sound;
         output = c.output ∙ ap (λ (z : List ℕ). Some (written ++ z)) (sym whole);
-        left = (λ k. prepend_known (kept_bytes (same.kept k)) (option_map (take (same.unread k)) (source.ahead (all.ends.decoder k).reader))) ∙ c.left ∙ ap Some nothing;
+        left = (λ k. prepend_known (kept_bytes (same.kept k))
+            (option_map (take (same.unread k)) (source.ahead (all.ends.decoder k).reader))) ∙ c.left ∙ ap Some nothing;
         some_calls = omega (arith, all.counted);
         no_more = omega (arith, all.counted, parts, counted);
         needed = let long = ap length whole in let added = ap sum front in omega (arith, long, added, all.some.most);
         soon = λ count enough. elim (cases_lt count (length all.before)) [
           | inl less ↦
               let due = all.some.needed count less in
-              let taken : take count sizes ≡ take count all.before = ap (take count) all.is_behind.1 ∙ take-append-le count all.before (all.size ∷ all.is_behind.0) (omega (arith, less)) in
+              let taken : take count sizes ≡ take count all.before = ap (take count) all.is_behind.1
+              ∙ take-append-le count all.before (all.size ∷ all.is_behind.0) (omega (arith, less)) in
               let gained = ap (gains parser.kind) taken in
               absurd (omega (arith, due, gained, enough.enough, ready.whole))
           | inr more ↦ omega (arith, more, all.counted)
@@ -139,7 +167,9 @@ module _ {R E P W F : Type 0} {parser : Parser P} (source : Reader R E) (sink : 
 
   -- ---- the sizes are used up
 
-  rest_told : (calls : ℕ) (new : Segment R P parser) (writer' : W) → DrainsSizes source sink sizes old writer calls new writer' → LeavesRest source sink sizes body written calls old new writer'
+  rest_told : (calls : ℕ) (new : Segment R P parser) (writer' : W)
+      → DrainsSizes source sink sizes old writer calls new writer'
+      → LeavesRest source sink sizes body written calls old new writer'
   rest_told calls new writer' all =
       let c = came sizes new writer' all.some in
       record {
@@ -154,51 +184,69 @@ module _ {R E P W F : Type 0} {parser : Parser P} (source : Reader R E) (sink : 
           | inl least ↦ inl (omega (arith, least, all.some.hands_out.unread))
           | inr none ↦ inr none
         ];
-        too_few = λ count enough. let due = all.some.needed count enough.fewer in omega (arith, due, enough.enough, ready.whole);
+        too_few = λ count enough. let due = all.some.needed count enough.fewer in
+            omega (arith, due, enough.enough, ready.whole);
       }
 
   -- ---- the body is no text
 
   -- bytes that were read on are the front of what was left
-  read_on : (given read : List ℕ) (between new : Segment R P parser) (writer' : W) (c : Came given between writer') → ReadsAll source between.decoder.now read new.decoder.now
+  read_on : (given read : List ℕ) (between new : Segment R P parser) (writer' : W) (c : Came given between writer')
+      → ReadsAll source between.decoder.now read new.decoder.now
       → length read ≤ between.unread → (others : List ℕ) × (c.more ≡ read ++ others)
   read_on given read between new writer' c reads within =
       let told = consumes_told _ _ (c.more ++ c.beyond) read c.ahead reads.bytes in
       let fits : length read ≤ length c.more = omega (arith, within, c.counted) in
       let front : take (length read) c.more ≡ read =
-      sym (take-append-le (length read) c.more c.beyond fits) ∙ ap (take (length read)) told.2 ∙ take-append_seam read told.0 in
-      (drop (length read) c.more, sym (take-append-drop (length read) c.more) ∙ ap (λ (z : List ℕ). z ++ drop (length read) c.more) front)
+      sym (take-append-le (length read) c.more c.beyond fits) ∙ ap (take (length read)) told.2
+      ∙ take-append_seam read told.0 in (
+        drop (length read) c.more,
+        sym (take-append-drop (length read) c.more)
+            ∙ ap (λ (z : List ℕ). z ++ drop (length read) c.more) front,
+      )
 
-  damaged_end : (given : List ℕ) (between new : Segment R P parser) (writer' : W) (c : Came given between writer') (kind : Kind) → parser.kind ≡ kind → IsWritable kind given
+  damaged_end : (given : List ℕ) (between new : Segment R P parser) (writer' : W) (c : Came given between writer')
+      (kind : Kind) → parser.kind ≡ kind → IsWritable kind given
       → EndsInCharacter source between new → (kind ≡ Text) × IsCharacters given × (IsCharacters body → ⊥)
-  damaged_end given between new writer' c Bytes is sound ends = absurd (let none = ap length (between.text_alone is) in let some = ends.some_kept in omega (arith, none, some))
+  damaged_end given between new writer' c Bytes is sound ends =
+      absurd (let none = ap length (between.text_alone is) in let some = ends.some_kept in omega (arith, none, some))
   damaged_end given between new writer' c Text is sound ends =
       let kept = kept_bytes between.kept in
       let none = length_zero c.more (omega (arith, c.counted, ends.none_unread)) in
-      let parts : body ≡ given ++ kept = c.parts ∙ ap (λ (z : List ℕ). given ++ (kept ++ z)) none ∙ ap (λ (z : List ℕ). given ++ z) (append-nil kept) in
+      let parts : body ≡ given ++ kept = c.parts ∙ ap (λ (z : List ℕ). given ++ (kept ++ z)) none
+      ∙ ap (λ (z : List ℕ). given ++ z) (append-nil kept) in
       (refl, sound, stuck_is_no_text body given kept parts sound between.stuck ends.some_kept)
 
-  damaged_middle : (given : List ℕ) (room : ℕ) (between new : Segment R P parser) (writer' : W) (c : Came given between writer') (kind : Kind) → parser.kind ≡ kind → IsWritable kind given
-      → (keeps : KeepsTooMuch source room between new) → IsSplit kind (kept_bytes between.kept ++ keeps.read) keeps.front keeps.left → (kind ≡ Text) × IsCharacters given × (IsCharacters body → ⊥)
-  damaged_middle given room between new writer' c Bytes is sound keeps split = absurd (let none = ap length split.1 in let much = keeps.too_much in omega (arith, none, much))
+  damaged_middle : (given : List ℕ) (room : ℕ) (between new : Segment R P parser) (writer' : W)
+      (c : Came given between writer') (kind : Kind) → parser.kind ≡ kind → IsWritable kind given
+      → (keeps : KeepsTooMuch source room between new) → IsSplit kind (kept_bytes between.kept ++ keeps.read)
+      keeps.front keeps.left → (kind ≡ Text) × IsCharacters given × (IsCharacters body → ⊥)
+  damaged_middle given room between new writer' c Bytes is sound keeps split =
+      absurd (let none = ap length split.1 in let much = keeps.too_much in omega (arith, none, much))
   damaged_middle given room between new writer' c Text is sound keeps split =
       let kept = kept_bytes between.kept in
       let on = read_on given keeps.read between new writer' c keeps.reads.reads (omega (arith, keeps.reads.unread)) in
       let parts : body ≡ (given ++ (kept ++ keeps.read)) ++ on.0 =
-      c.parts ∙ ap (λ (z : List ℕ). given ++ (kept ++ z)) on.1 ∙ ap (λ (z : List ℕ). given ++ z) (sym (append_assoc kept keeps.read on.0))
+      c.parts ∙ ap (λ (z : List ℕ). given ++ (kept ++ z)) on.1 ∙ ap (λ (z : List ℕ). given ++ z)
+      (sym (append_assoc kept keeps.read on.0))
       ∙ sym (append_assoc given (kept ++ keeps.read) on.0) in
-      let none = too_much_is_no_text (given ++ (kept ++ keeps.read)) given kept keeps.read keeps.front keeps.left refl sound split keeps.too_much in
+      let none = too_much_is_no_text (given ++ (kept ++ keeps.read)) given kept keeps.read keeps.front keeps.left
+      refl sound split keeps.too_much in
       (refl, sound, λ whole. none on.0 (subst IsCharacters parts whole))
 
-  damage_told : (at : ℕ) (new : Segment R P parser) (writer' : W) → DrainFails source sink sizes old writer (e.Syntax at) new writer' → FindsNoText source sink body written at old writer'
+  damage_told : (at : ℕ) (new : Segment R P parser) (writer' : W)
+      → DrainFails source sink sizes old writer (e.Syntax at) new writer'
+      → FindsNoText source sink body written at old writer'
   damage_told at new writer' stops =
       let c = came stops.before stops.between writer' stops.some in
       let given = stops.some.given in
       let found : (parser.kind ≡ Text) × IsCharacters given × (IsCharacters body → ⊥) = elim stops.fails.cause [
-        | inl stays ↦ absurd (let a = stays.damaged-before in let b = stops.some.hands_out.damaged in let s = ready.sound in cc)
+        | inl stays ↦ absurd (let a = stays.damaged-before in let b = stops.some.hands_out.damaged in let s =
+            ready.sound in cc)
         | inr found ↦ elim found [
           | inl ends ↦ damaged_end given stops.between new writer' c parser.kind refl stops.some.hands_out.sound ends
-          | inr keeps ↦ damaged_middle given stops.size stops.between new writer' c parser.kind refl stops.some.hands_out.sound keeps keeps.split
+          | inr keeps ↦ damaged_middle given stops.size stops.between new writer' c parser.kind refl
+              stops.some.hands_out.sound keeps keeps.split
         ]
       ] in
       record {
@@ -214,14 +262,16 @@ module _ {R E P W F : Type 0} {parser : Parser P} (source : Reader R E) (sink : 
 
   -- ---- no side fails
 
-  no_failure : (fault : E) (new : Segment R P parser) (writer' : W) → DrainFails source sink sizes old writer (e.Io fault) new writer' → ⊥
+  no_failure : (fault : E) (new : Segment R P parser) (writer' : W)
+      → DrainFails source sink sizes old writer (e.Io fault) new writer' → ⊥
   no_failure fault new writer' stops =
       let c = came stops.before stops.between writer' stops.some in
       let short = stops.fails.fails.steady (stops.some.hands_out.passed.steady ready.steady) in
       let few = rw c.ahead at short.1 in
       omega (arith, few, c.counted, length-append c.more c.beyond)
 
-  no_overflow : (new : Segment R P parser) (writer' : W) → DrainFails source sink sizes old writer e.TooLong new writer' → ⊥
+  no_overflow : (new : Segment R P parser) (writer' : W) → DrainFails source sink sizes old writer e.TooLong new
+      writer' → ⊥
   no_overflow new writer' stops =
       omega (arith, stops.fails.full, stops.some.hands_out.passed.offset, stops.some.hands_out.unread, ready.fits)
 
@@ -250,12 +300,14 @@ module _ {R E P W F : Type 0} {parser : Parser P} (source : Reader R E) (sink : 
 
   -- ---- a drain, by its answer
 
-  ends_told : (calls : ℕ) (how : End) (new : Segment R P parser) (writer' : W) → EndsDrain source sink sizes old writer calls how new writer'
+  ends_told : (calls : ℕ) (how : End) (new : Segment R P parser) (writer' : W)
+      → EndsDrain source sink sizes old writer calls how new writer'
       → EndsTold source sink sizes body written old calls how new writer'
   ends_told calls end.Ended new writer' all = all_told calls new writer' all
   ends_told calls end.OutOfSizes new writer' all = rest_told calls new writer' all
 
-  pub drains_told : (result : Result Drained (RecodeError E F)) (new : Segment R P parser) (writer' : W) → Drains source sink sizes old writer result new writer'
+  pub drains_told : (result : Result Drained (RecodeError E F)) (new : Segment R P parser) (writer' : W)
+      → Drains source sink sizes old writer result new writer'
       → DrainsTold source sink sizes body written old result new writer'
   drains_told (Ok drained) new writer' drains = ends_told drained.calls drained.end new writer' drains
   drains_told (Err (r.Read (e.Syntax at))) new writer' stops = damage_told at new writer' stops
@@ -266,10 +318,13 @@ module _ {R E P W F : Type 0} {parser : Parser P} (source : Reader R E) (sink : 
 
   -- ---- how it ends depends on the body and the sizes alone
 
-  ended_bytes : (calls : ℕ) (how : End) (new : Segment R P parser) (writer' : W) → parser.kind ≡ Bytes → EndsTold source sink sizes body written old calls how new writer'
+  ended_bytes : (calls : ℕ) (how : End) (new : Segment R P parser) (writer' : W) → parser.kind ≡ Bytes
+      → EndsTold source sink sizes body written old calls how new writer'
       → (how ≡ end.Ended) ↔ ((count : ℕ) × AddUp sizes (length body) count)
-  ended_bytes calls end.Ended new writer' is all =
-      (λ same. (calls - 1, record { fewer = omega (arith, all.some_calls, all.no_more); enough = all.needed }), λ enough. refl)
+  ended_bytes calls end.Ended new writer' is all = (
+    λ same. (calls - 1, record { fewer = omega (arith, all.some_calls, all.no_more); enough = all.needed }),
+    λ enough. refl,
+  )
   ended_bytes calls end.OutOfSizes new writer' is all = (
     λ never. absurd cc,
     λ enough. absurd
@@ -280,8 +335,10 @@ module _ {R E P W F : Type 0} {parser : Parser P} (source : Reader R E) (sink : 
         ),
   )
 
-  pub bytes_exactly : (result : Result Drained (RecodeError E F)) (new : Segment R P parser) (writer' : W) → parser.kind ≡ Bytes
-      → DrainsTold source sink sizes body written old result new writer' → HasEnded result ↔ ((count : ℕ) × AddUp sizes (length body) count)
+  pub bytes_exactly : (result : Result Drained (RecodeError E F)) (new : Segment R P parser) (writer' : W)
+      → parser.kind ≡ Bytes
+      → DrainsTold source sink sizes body written old result new writer'
+      → HasEnded result ↔ ((count : ℕ) × AddUp sizes (length body) count)
   bytes_exactly (Ok drained) new writer' is told = ended_bytes drained.calls drained.end new writer' is told
   bytes_exactly (Err (r.Read (e.Syntax at))) new writer' is told = absurd (let not = told.textual in cc)
   bytes_exactly (Err (r.Read (e.Io fault))) new writer' is told = absurd told
@@ -289,33 +346,44 @@ module _ {R E P W F : Type 0} {parser : Parser P} (source : Reader R E) (sink : 
   bytes_exactly (Err (r.Read e.Waiting)) new writer' is told = absurd told
   bytes_exactly (Err (r.Write fault)) new writer' is told = absurd told
 
-  soonest_how : (calls : ℕ) (how : End) (new : Segment R P parser) (writer' : W) (count : ℕ) → IsEnough parser.kind sizes (length body) count
+  soonest_how : (calls : ℕ) (how : End) (new : Segment R P parser) (writer' : W) (count : ℕ)
+      → IsEnough parser.kind sizes (length body) count
       → EndsTold source sink sizes body written old calls how new writer' → calls ≤ count + 1
   soonest_how calls end.Ended new writer' count enough all = all.soon count enough
   soonest_how calls end.OutOfSizes new writer' count enough all = absurd (all.too_few count enough)
 
-  soonest_bytes : (calls : ℕ) (how : End) (new : Segment R P parser) (writer' : W) (count : ℕ) → parser.kind ≡ Bytes → AddUp sizes (length body) count
+  soonest_bytes : (calls : ℕ) (how : End) (new : Segment R P parser) (writer' : W) (count : ℕ) → parser.kind ≡ Bytes
+      → AddUp sizes (length body) count
       → EndsTold source sink sizes body written old calls how new writer' → calls ≤ count + 1
   soonest_bytes calls how new writer' count is enough told =
       let same = ap (λ (kind : Kind). gains kind (take count sizes)) is in
       let added = gains-bytes (take count sizes) in
-      let is_enough : IsEnough parser.kind sizes (length body) count = record { fewer = enough.fewer; enough = omega (arith, same, added, enough.enough) } in
+      let is_enough : IsEnough parser.kind sizes (length body) count =
+      record { fewer = enough.fewer; enough = omega (arith, same, added, enough.enough) } in
       soonest_how calls how new writer' count is_enough told
 
-  pub bytes_soonest : (result : Result Drained (RecodeError E F)) (new : Segment R P parser) (writer' : W) (count : ℕ) → parser.kind ≡ Bytes → AddUp sizes (length body) count
-      → DrainsTold source sink sizes body written old result new writer' → IfOk result (λ drained. drained.calls ≤ count + 1)
-  bytes_soonest (Ok drained) new writer' count is enough told = soonest_bytes drained.calls drained.end new writer' count is enough told
+  pub bytes_soonest : (result : Result Drained (RecodeError E F)) (new : Segment R P parser) (writer' : W)
+      (count : ℕ) → parser.kind ≡ Bytes → AddUp sizes (length body) count
+      → DrainsTold source sink sizes body written old result new writer'
+      → IfOk result (λ drained. drained.calls ≤ count + 1)
+  bytes_soonest (Ok drained) new writer' count is enough told =
+      soonest_bytes drained.calls drained.end new writer' count is enough told
   bytes_soonest (Err error) new writer' count is enough told = tt
 
-  ended_text : (calls : ℕ) (how : End) (new : Segment R P parser) (writer' : W) (count : ℕ) → parser.kind ≡ Text → IsEnough parser.kind sizes (length body) count
+  ended_text : (calls : ℕ) (how : End) (new : Segment R P parser) (writer' : W) (count : ℕ) → parser.kind ≡ Text
+      → IsEnough parser.kind sizes (length body) count
       → EndsTold source sink sizes body written old calls how new writer' → (how ≡ end.Ended) ↔ IsCharacters body
-  ended_text calls end.Ended new writer' count is enough all = (λ same. subst (λ (kind : Kind). IsWritable kind body) is all.sound, λ text. refl)
+  ended_text calls end.Ended new writer' count is enough all =
+      (λ same. subst (λ (kind : Kind). IsWritable kind body) is all.sound, λ text. refl)
   ended_text calls end.OutOfSizes new writer' count is enough all = absurd (all.too_few count enough)
 
-  pub text_exactly : (result : Result Drained (RecodeError E F)) (new : Segment R P parser) (writer' : W) (count : ℕ) → parser.kind ≡ Text → IsEnough parser.kind sizes (length body) count
+  pub text_exactly : (result : Result Drained (RecodeError E F)) (new : Segment R P parser) (writer' : W)
+      (count : ℕ) → parser.kind ≡ Text → IsEnough parser.kind sizes (length body) count
       → DrainsTold source sink sizes body written old result new writer' → HasEnded result ↔ IsCharacters body
-  text_exactly (Ok drained) new writer' count is enough told = ended_text drained.calls drained.end new writer' count is enough told
-  text_exactly (Err (r.Read (e.Syntax at))) new writer' count is enough told = (λ never. absurd never, λ text. absurd (told.no_text text))
+  text_exactly (Ok drained) new writer' count is enough told =
+      ended_text drained.calls drained.end new writer' count is enough told
+  text_exactly (Err (r.Read (e.Syntax at))) new writer' count is enough told =
+      (λ never. absurd never, λ text. absurd (told.no_text text))
   text_exactly (Err (r.Read (e.Io fault))) new writer' count is enough told = absurd told
   text_exactly (Err (r.Read e.TooLong)) new writer' count is enough told = absurd told
   text_exactly (Err (r.Read e.Waiting)) new writer' count is enough told = absurd told

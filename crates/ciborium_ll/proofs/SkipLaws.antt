@@ -1,5 +1,7 @@
 -- A string that is read to its end.
-use Rattle.std.proofs.Common.{◌≡◌, ℕ, zero, suc, ◌+◌, ◌-◌, ◌^◌, ◌<◌, ◌⊎◌, List, [], ◌∷◌, ◌++◌, length, Option, Some, None, Result, Ok, Err, refl, sym, ap, subst, ◌∙◌, inl, inr, arith, append_assoc, length-append}
+use Rattle.std.proofs.Common.{◌≡◌, ℕ, zero, suc, ◌+◌, ◌-◌, ◌^◌, ◌<◌, ◌⊎◌, List, [], ◌∷◌, ◌++◌, length, Option, Some}
+use Rattle.std.proofs.Common.{None, Result, Ok, Err, refl, sym, ap, subst, ◌∙◌, inl, inr, arith, append_assoc}
+use Rattle.std.proofs.Common.{length-append}
 use Rattle.ciborium_ll_io.specs.declared.io.Read.{Ghosts as Reader}
 use Rattle.ciborium_ll_io.specs.declared.io.Write.{Ghosts as Writer}
 use Rattle.ciborium_ll_grammar.specs.declared.hdr.Header.TheVariants as h
@@ -23,24 +25,35 @@ use Rattle.ciborium_ll_grammar.proofs.StepLaws.{counted, never}
 use Rattle.ciborium_ll_decoder.proofs.DecodingLaws.{Passes-none, Passes-then, Passes-pulled}
 use Rattle.ciborium_ll_decoder.proofs.NestLaws.{alone_bytes, open_length, title_some, advance_definite, FindsOnly}
 use Rattle.ciborium_ll_decoder.proofs.RecodeLaws.{sound_body, passes_same}
-use Rattle.ciborium_ll_decoder.proofs.SegmentLaws.{StringSoFar, AdvancesAmong, IsAmong, advances_among, segment_added, opens_counted, misplaced_inside, some_open}
+use Rattle.ciborium_ll_decoder.proofs.SegmentLaws.{StringSoFar, AdvancesAmong, IsAmong, advances_among, segment_added}
+use Rattle.ciborium_ll_decoder.proofs.SegmentLaws.{opens_counted, misplaced_inside, some_open}
 
 -- a writer that tells nothing
 abbrev silent : Writer (Unit {0}) (Unit {0})
-silent = record { written = λ w. None; room = λ w. None; failures = λ w. 0; flushed = λ old new. Unit {0}; target = λ w. None }
+silent = record {
+  written = λ w. None;
+  room = λ w. None;
+  failures = λ w. 0;
+  flushed = λ old new. Unit {0};
+  target =
+      λ w. None;
+}
 
 nothing : (bytes : List ℕ) → WritesAll silent tt bytes tt
 nothing bytes = record { appended = tt; room = tt; failures = refl }
 
 -- the last break makes a string
-close_string : (k : Kind) (u : List ℕ) (bs : List (List ℕ)) → IsInsideAt k (suc zero) u bs → IsString k (u ++ 0xff ∷ []) bs
+close_string : (k : Kind) (u : List ℕ) (bs : List (List ℕ)) → IsInsideAt k (suc zero) u bs
+    → IsString k (u ++ 0xff ∷ []) bs
 close_string k u bs (one_open {title = t} {strings = x} p s) = rw (append_assoc t x (0xff ∷ [])) (indefinite p s)
 close_string k u bs (more_open {outer = y} {bodies = ds} i p s) = absurd (never k y ds i)
 
 -- ---- the end of a body
 
-module _ {R E : Type 0} (source : Reader R E) (k : Kind) (len : ℕ) (old new : Decoder R) (passed : Passes source old [] new) where
-  begins_behind : (between : Decoder R) → BeginsRest source k [] len new between → BeginsRest source k [] len old between
+module _ {R E : Type 0} (source : Reader R E) (k : Kind) (len : ℕ) (old new : Decoder R)
+    (passed : Passes source old [] new) where
+  begins_behind : (between : Decoder R) → BeginsRest source k [] len new between
+      → BeginsRest source k [] len old between
   begins_behind between part = record {
     read = part.read;
     front = part.front;
@@ -60,7 +73,9 @@ module _ {R E : Type 0} (source : Reader R E) (k : Kind) (len : ℕ) (old new : 
     passed = Passes-then source old new ended [] reads.read passed reads.passed;
   }
 
-  ends_behind : (room place : ℕ) (error : Error E) (ended : Decoder R) → EndsBody source k [] len room place new (Err error) ended → EndsBody source k [] len room place old (Err error) ended
+  ends_behind : (room place : ℕ) (error : Error E) (ended : Decoder R)
+      → EndsBody source k [] len room place new (Err error) ended → EndsBody source k [] len room place old
+      (Err error) ended
   unfolding begins_behind
   ends_behind room place (e.Io fault) ended fails = record {
     between = fails.between;
@@ -98,7 +113,8 @@ module _ {R E : Type 0} (source : Reader R E) (k : Kind) where
   pub record AloneSoFar (len : ℕ) (opened : Decoder R) (progress : Progress) (now : Decoder R) : Type 0 where
     pub none_waits : opened.waiting ≡ None
     pub in_range : IsInRange (kind_header k (Some len))
-    pub far : ((progress ≡ p.Open 0) × TakesBack source opened (kind_header k (Some len)) now) ⊎ ((progress ≡ p.Ended) × ReadsRest source k [] len opened now)
+    pub far : ((progress ≡ p.Open 0) × TakesBack source opened (kind_header k (Some len)) now) ⊎
+        ((progress ≡ p.Ended) × ReadsRest source k [] len opened now)
 
   -- what the loop keeps
   abbrev pub SkipsSoFar : Option ℕ → Decoder R → Progress → Decoder R → Type 0
@@ -107,10 +123,12 @@ module _ {R E : Type 0} (source : Reader R E) (k : Kind) where
 
   -- ---- a lone body
 
-  module _ (len : ℕ) (opened now new : Decoder R) (progress progress' : Progress) (so_far : AloneSoFar len opened progress now) where
+  module _ (len : ℕ) (opened now new : Decoder R) (progress progress' : Progress)
+      (so_far : AloneSoFar len opened progress now) where
     -- the only answers: the body first, and then the end
     lone_found : (result : Result (Option Body) (Error E)) → AdvancesTo source k progress now result progress' new
-        → FindsOnly source k len opened result progress' new ⊎ ((result ≡ Ok None) × ReadsRest source k [] len opened new)
+        → FindsOnly source k len opened result progress' new ⊎
+        ((result ≡ Ok None) × ReadsRest source k [] len opened new)
     lone_found result advances = elim so_far.far [
       | inl due ↦ (
           let from : AdvancesFrom source k 0 now result progress' new = rw due.0 at advances in
@@ -131,7 +149,8 @@ module _ {R E : Type 0} (source : Reader R E) (k : Kind) where
           record {
             behind = body;
             bodies = body ∷ [];
-            is_string = definite (subst (λ (n : ℕ). IsTitle title (kind_header k (Some n))) (sym read.1.all) (IsTitle-shortest (kind_header k (Some len)) so_far.in_range));
+            is_string = definite (subst (λ (n : ℕ). IsTitle title (kind_header k (Some n))) (sym read.1.all)
+                (IsTitle-shortest (kind_header k (Some len)) so_far.in_range));
             sound = sound_body k body read.1.sound;
             passed = read.1.passed;
           }
@@ -162,25 +181,40 @@ module _ {R E : Type 0} (source : Reader R E) (k : Kind) where
           record {
             lengths = lengths;
             place = omega (arith, places, only.place);
-            passed = passes_same source silent opened opened new [] (Passes-none source opened) so_far.none_waits only.reader only.offset only.none_waits only.mode;
+            passed = passes_same source silent opened opened new [] (Passes-none source opened) so_far.none_waits
+                only.reader only.offset only.none_waits only.mode;
             ended = only.ended;
             rises = elim so_far.far [
-              | inl due ↦ omega (arith, due.1.offset, only.offset, title_some (shortest_title (kind_header k (Some len))) (kind_header k (Some len)) (IsTitle-shortest (kind_header k (Some len)) so_far.in_range))
-              | inr read ↦ absurd (let ended : (Ok (Some body) ≡ Ok None) × (progress' ≡ p.Ended) × (new ≡ now) = rw read.0 at advances in let f = ended.0 in cc)
+              | inl due ↦ omega (
+                arith,
+                due.1.offset,
+                only.offset,
+                title_some
+                    (shortest_title (kind_header k (Some len))) (kind_header k (Some len))
+                    (IsTitle-shortest (kind_header k (Some len)) so_far.in_range),
+              )
+              | inr read ↦ absurd (let ended : (Ok (Some body) ≡ Ok None) × (progress' ≡ p.Ended) × (new ≡ now) =
+                  rw read.0 at advances in let f = ended.0 in cc)
             ];
           }
           )
       | inr read ↦ absurd (let f = read.0 in cc)
     ]
 
-    lone_reads : (body : Body) (ended : Decoder R) → LoneBody body → ReadsRest source k [] body.length new ended → AloneSoFar len opened progress' ended
+    lone_reads : (body : Body) (ended : Decoder R) → LoneBody body → ReadsRest source k [] body.length new ended
+        → AloneSoFar len opened progress' ended
     lone_reads body ended lone reads = record {
       none_waits = so_far.none_waits;
       in_range = so_far.in_range;
-      far = inr (lone.ended, subst (λ (n : ℕ). ReadsRest source k [] n opened ended) lone.lengths (reads_behind source k body.length opened new lone.passed ended reads));
+      far = inr (
+        lone.ended,
+        subst (λ (n : ℕ). ReadsRest source k [] n opened ended) lone.lengths
+            (reads_behind source k body.length opened new lone.passed ended reads),
+      );
     }
 
-    lone_stops : (room : ℕ) (body : Body) (ended : Decoder R) (error : Error E) → LoneBody body → EndsBody source k [] body.length room body.place new (Err error) ended
+    lone_stops : (room : ℕ) (body : Body) (ended : Decoder R) (error : Error E) → LoneBody body
+        → EndsBody source k [] body.length room body.place new (Err error) ended
         → EndsBody source k [] len room (opened.offset - title_len (kind_header k (Some len))) opened (Err error) ended
     lone_stops room body ended error lone ends =
         subst (λ (n : ℕ). EndsBody source k [] len room n opened (Err error) ended) lone.place
@@ -189,19 +223,31 @@ module _ {R E : Type 0} (source : Reader R E) (k : Kind) where
 
   -- ---- segments behind an open
 
-  body_stops : (room : ℕ) (opened : Decoder R) (error : Error E) (ended : Decoder R) → MeetsBody source k room opened error ended → StopsInside source k room opened error ended
+  body_stops : (room : ℕ) (opened : Decoder R) (error : Error E) (ended : Decoder R)
+      → MeetsBody source k room opened error ended → StopsInside source k room opened error ended
   body_stops room opened (e.Io fault) ended meets = inr meets
   body_stops room opened (e.Syntax at) ended meets = inr (inr meets)
   body_stops room opened e.TooLong ended meets = inr meets
   body_stops room opened e.Waiting ended meets = meets.ends
 
-  module _ (opened now new : Decoder R) (progress progress' : Progress) (so_far : StringSoFar source silent k opened tt progress now tt) (settled : 0 < opened.offset)
+  module _ (opened now new : Decoder R) (progress progress' : Progress)
+      (so_far : StringSoFar source silent k opened tt progress now tt) (settled : 0 < opened.offset)
       (steady : IsSteady source now → IsSteady source new) where
-    among : (result : Result (Option Body) (Error E)) → AdvancesTo source k progress now result progress' new → AdvancesAmong source silent k opened tt now result progress' new tt
-    among result advances = advances_among source silent k opened now tt tt result progress progress' new so_far advances steady
+    among : (result : Result (Option Body) (Error E)) → AdvancesTo source k progress now result progress' new
+        → AdvancesAmong source silent k opened tt now result progress' new tt
+    among result advances = advances_among source silent k opened now tt tt result progress progress' new so_far
+        advances steady
 
-    part_of : (left : ℕ) (between : Decoder R) → IsAmong source silent k left opened tt between tt → SkipsInside source k opened between
-    part_of left between a = record { behind = a.strings; bodies = a.bodies; inside = counted k left _ _ a.within; sound = a.sound; passed = a.passed }
+    part_of : (left : ℕ) (between : Decoder R) → IsAmong source silent k left opened tt between tt
+        → SkipsInside source k opened between
+    part_of left between a = record {
+      behind = a.strings;
+      bodies = a.bodies;
+      inside =
+          counted k left _ _ a.within;
+      sound = a.sound;
+      passed = a.passed;
+    }
 
     open_end : AdvancesTo source k progress now (Ok None) progress' new → SkipsWhole source k None opened new
     open_end advances =
@@ -214,20 +260,35 @@ module _ {R E : Type 0} (source : Reader R E) (k : Kind) where
         record {
           behind = strings ++ 0xff ∷ [];
           bodies = bodies;
-          is_string = subst (λ (z : List ℕ). IsString k z bodies) (append_assoc front strings (0xff ∷ [])) (close_string k (front ++ strings) bodies last);
+          is_string = subst (λ (z : List ℕ). IsString k z bodies) (append_assoc front strings (0xff ∷ []))
+              (close_string k (front ++ strings) bodies last);
           sound = all.among.sound;
           passed = subst (λ (z : List ℕ). Passes source opened z new) (ap (λ (z : List ℕ). strings ++ z) break)
               (Passes-pulled source opened all.between new strings h.Break all.ends.pulled all.among.passed all.steady);
         }
 
     -- so many opens take more bytes than an offset counts
-    not_too_deep : (left : ℕ) (between : Decoder R) (title : List ℕ) → IsAmong source silent k left opened tt between tt → left ≡ 2 ^ 64 - 1 → new.offset ≡ between.offset + length title
+    not_too_deep : (left : ℕ) (between : Decoder R) (title : List ℕ)
+        → IsAmong source silent k left opened tt between tt → left ≡ 2 ^ 64 - 1 → new.offset
+        ≡ between.offset + length title
         → IsTitle title (kind_header k None) → new.offset < 2 ^ 64 → ⊥
     not_too_deep left between title a most moved t less =
         let front = shortest_title (kind_header k None) in
-        omega (arith, settled, most, moved, less, a.passed.offset, opens_counted k left _ _ a.within, open_length k, length-append front a.strings, title_some title (kind_header k None) t)
+        omega (
+          arith,
+          settled,
+          most,
+          moved,
+          less,
+          a.passed.offset,
+          opens_counted k left _ _ a.within,
+          open_length k,
+          length-append front a.strings,
+          title_some title (kind_header k None) t,
+        )
 
-    open_error : (room : ℕ) (error : Error E) → new.offset < 2 ^ 64 → AdvancesTo source k progress now (Err error) progress' new → StopsInside source k room opened error new
+    open_error : (room : ℕ) (error : Error E) → new.offset < 2 ^ 64
+        → AdvancesTo source k progress now (Err error) progress' new → StopsInside source k room opened error new
     open_error room (e.Io fault) less advances =
         let all = among (Err (e.Io fault)) advances in
         inl (record { between = all.between; part = part_of all.left all.between all.among; fails = all.ends.0 })
@@ -241,26 +302,45 @@ module _ {R E : Type 0} (source : Reader R E) (k : Kind) where
             part = part;
             header = other.header;
             pulled = other.pulled;
-            misplaced = misplaced_inside all.between.strict k all.left other.header (some_open k all.left _ _ all.among.within) other.misplaced;
+            misplaced = misplaced_inside all.between.strict k all.left other.header
+                (some_open k all.left _ _ all.among.within) other.misplaced;
             place = other.place;
           }))
         ]
     open_error room e.TooLong less advances =
         let all = among (Err e.TooLong) advances in
         elim all.ends [
-          | inl passes ↦ inl (record { between = all.between; part = part_of all.left all.between all.among; fails = passes.0 })
-          | inr deep ↦ absurd (not_too_deep all.left all.between deep.pulled.title all.among deep.most deep.pulled.offset deep.pulled.is_title less)
+          | inl passes ↦ inl (record {
+            between = all.between;
+            part = part_of all.left all.between all.among;
+            fails =
+                passes.0;
+          })
+          | inr deep ↦ absurd (not_too_deep all.left all.between deep.pulled.title all.among deep.most
+              deep.pulled.offset deep.pulled.is_title less)
         ]
     open_error room e.Waiting less advances = absurd (let all = among (Err e.Waiting) advances in all.ends)
 
-    open_reads : (body : Body) (ended : Decoder R) → AdvancesTo source k progress now (Ok (Some body)) progress' new → (IsSteady source new → IsSteady source ended)
+    open_reads : (body : Body) (ended : Decoder R) → AdvancesTo source k progress now (Ok (Some body)) progress' new
+        → (IsSteady source new → IsSteady source ended)
         → ReadsRest source k [] body.length new ended → StringSoFar source silent k opened tt progress' ended tt
     open_reads body ended advances steady' reads =
-        let whole : CopiesWhole source silent k body.length new tt ended tt = record { body = reads.read; all = reads.all; sound = reads.sound; passed = reads.passed; written = nothing reads.read } in
-        segment_added source silent k opened now new ended tt tt tt tt body progress' so_far.none_waits (among (Ok (Some body)) advances) (nothing _) whole steady'
+        let whole : CopiesWhole source silent k body.length new tt ended tt =
+        record {
+          body = reads.read;
+          all = reads.all;
+          sound = reads.sound;
+          passed = reads.passed;
+          written =
+              nothing reads.read;
+        } in
+        segment_added source silent k opened now new ended tt tt tt tt body progress' so_far.none_waits
+        (among (Ok (Some body)) advances) (nothing _) whole steady'
 
-    open_stops : (room : ℕ) (body : Body) (ended : Decoder R) (error : Error E) → AdvancesTo source k progress now (Ok (Some body)) progress' new
-        → EndsBody source k [] body.length room body.place new (Err error) ended → StopsInside source k room opened error ended
+    open_stops : (room : ℕ) (body : Body) (ended : Decoder R) (error : Error E)
+        → AdvancesTo source k progress now (Ok (Some body)) progress' new
+        → EndsBody source k [] body.length room body.place new (Err error) ended
+        → StopsInside source k room opened error ended
     open_stops room body ended error advances ends =
         let all = among (Ok (Some body)) advances in
         let meets : MeetsBody source k room opened error ended = record {
@@ -276,36 +356,59 @@ module _ {R E : Type 0} (source : Reader R E) (k : Kind) where
 
   -- ---- both
 
-  pub skips_end : (len : Option ℕ) (room : ℕ) (opened now new : Decoder R) (progress progress' : Progress) → SkipsSoFar len opened progress now → (IsSteady source now → IsSteady source new)
-      → AdvancesTo source k progress now (Ok None) progress' new → SkipsString source k len room opened (Ok (tt {0})) new
-  skips_end None room opened now new progress progress' so_far steady advances = open_end opened now new progress progress' so_far.0 so_far.1 steady advances
-  skips_end (Some len) room opened now new progress progress' so_far steady advances = lone_end len opened now new progress progress' so_far advances
+  pub skips_end : (len : Option ℕ) (room : ℕ) (opened now new : Decoder R) (progress progress' : Progress)
+      → SkipsSoFar len opened progress now → (IsSteady source now → IsSteady source new)
+      → AdvancesTo source k progress now (Ok None) progress' new → SkipsString source k len room opened
+      (Ok (tt {0})) new
+  skips_end None room opened now new progress progress' so_far steady advances =
+      open_end opened now new progress progress' so_far.0 so_far.1 steady advances
+  skips_end (Some len) room opened now new progress progress' so_far steady advances =
+      lone_end len opened now new progress progress' so_far advances
 
-  pub skips_error : (len : Option ℕ) (room : ℕ) (opened now new : Decoder R) (progress progress' : Progress) (error : Error E) → new.offset < 2 ^ 64 → SkipsSoFar len opened progress now
-      → (IsSteady source now → IsSteady source new) → AdvancesTo source k progress now (Err error) progress' new → SkipsString source k len room opened (Err error) new
-  skips_error None room opened now new progress progress' error less so_far steady advances = open_error opened now new progress progress' so_far.0 so_far.1 steady room error less advances
-  skips_error (Some len) room opened now new progress progress' error less so_far steady advances = absurd (lone_error len opened now new progress progress' so_far error advances)
+  pub skips_error : (len : Option ℕ) (room : ℕ) (opened now new : Decoder R) (progress progress' : Progress)
+      (error : Error E) → new.offset < 2 ^ 64 → SkipsSoFar len opened progress now
+      → (IsSteady source now → IsSteady source new) → AdvancesTo source k progress now (Err error) progress' new
+      → SkipsString source k len room opened (Err error) new
+  skips_error None room opened now new progress progress' error less so_far steady advances =
+      open_error opened now new progress progress' so_far.0 so_far.1 steady room error less advances
+  skips_error (Some len) room opened now new progress progress' error less so_far steady advances =
+      absurd (lone_error len opened now new progress progress' so_far error advances)
 
-  pub skips_body : (len : Option ℕ) (room : ℕ) (opened now new ended : Decoder R) (progress progress' : Progress) (body : Body) → SkipsSoFar len opened progress now
-      → (IsSteady source now → IsSteady source new) → (IsSteady source new → IsSteady source ended) → AdvancesTo source k progress now (Ok (Some body)) progress' new
+  pub skips_body : (len : Option ℕ) (room : ℕ) (opened now new ended : Decoder R) (progress progress' : Progress)
+      (body : Body) → SkipsSoFar len opened progress now
+      → (IsSteady source now → IsSteady source new) → (IsSteady source new → IsSteady source ended)
+      → AdvancesTo source k progress now (Ok (Some body)) progress' new
       → EndsBody source k [] body.length room body.place new (Ok (tt {0})) ended → SkipsSoFar len opened progress' ended
-  skips_body None room opened now new ended progress progress' body so_far steady steady' advances reads =
-      (open_reads opened now new progress progress' so_far.0 so_far.1 steady body ended advances steady' reads, so_far.1)
+  skips_body None room opened now new ended progress progress' body so_far steady steady' advances reads = (
+    open_reads opened now new progress progress' so_far.0 so_far.1 steady body ended advances steady' reads,
+    so_far.1,
+  )
   skips_body (Some len) room opened now new ended progress progress' body so_far steady steady' advances reads =
-      lone_reads len opened now new progress progress' so_far body ended (lone_body len opened now new progress progress' so_far body advances) reads
+      lone_reads len opened now new progress progress' so_far body ended
+      (lone_body len opened now new progress progress' so_far body advances) reads
 
-  pub skips_stop : (len : Option ℕ) (room : ℕ) (opened now new ended : Decoder R) (progress progress' : Progress) (body : Body) (error : Error E) → SkipsSoFar len opened progress now
+  pub skips_stop : (len : Option ℕ) (room : ℕ) (opened now new ended : Decoder R) (progress progress' : Progress)
+      (body : Body) (error : Error E) → SkipsSoFar len opened progress now
       → (IsSteady source now → IsSteady source new) → AdvancesTo source k progress now (Ok (Some body)) progress' new
-      → EndsBody source k [] body.length room body.place new (Err error) ended → SkipsString source k len room opened (Err error) ended
+      → EndsBody source k [] body.length room body.place new (Err error) ended
+      → SkipsString source k len room opened (Err error) ended
   skips_stop None room opened now new ended progress progress' body error so_far steady advances ends =
       open_stops opened now new progress progress' so_far.0 so_far.1 steady room body ended error advances ends
   skips_stop (Some len) room opened now new ended progress progress' body error so_far steady advances ends =
-      lone_stops len opened now new progress progress' so_far room body ended error (lone_body len opened now new progress progress' so_far body advances) ends
+      lone_stops len opened now new progress progress' so_far room body ended error
+      (lone_body len opened now new progress progress' so_far body advances) ends
 
   -- the title of a body takes a byte
-  pub found_rises : (progress progress' : Progress) (now new : Decoder R) (body : Body) → AdvancesTo source k progress now (Ok (Some body)) progress' new → now.offset < new.offset
+  pub found_rises : (progress progress' : Progress) (now new : Decoder R) (body : Body)
+      → AdvancesTo source k progress now (Ok (Some body)) progress' new → now.offset < new.offset
   found_rises (p.Open opens) progress' now new body all =
-      omega (arith, all.passed.offset, all.ends.pulled.offset, title_some all.ends.pulled.title (kind_header k (Some body.length)) all.ends.pulled.is_title)
+      omega (
+        arith,
+        all.passed.offset,
+        all.ends.pulled.offset,
+        title_some all.ends.pulled.title
+            (kind_header k (Some body.length)) all.ends.pulled.is_title,
+      )
   found_rises p.Ended progress' now new body ended = absurd (let f = ended.0 in cc)
   found_rises (p.Damaged at) progress' now new body ended = absurd (let f = ended.0 in cc)
   found_rises p.TooDeep progress' now new body ended = absurd (let f = ended.0 in cc)

@@ -1,5 +1,6 @@
 -- A body drained into a writer, through buffers of given sizes.
-use Rattle.std.specs.Prelude.{◌≡◌, ℕ, ◌+◌, ◌-◌, ◌/◌, ◌<◌, ◌≤◌, ◌⊎◌, max, false, List, [], ◌∷◌, ◌++◌, length, take, sum, sum_by, Some, Result, Ok, Err}
+use Rattle.std.specs.Prelude.{◌≡◌, ℕ, ◌+◌, ◌-◌, ◌/◌, ◌<◌, ◌≤◌, ◌⊎◌, max, false, List, [], ◌∷◌, ◌++◌, length, take}
+use Rattle.std.specs.Prelude.{sum, sum_by, Some, Result, Ok, Err}
 use Rattle.ciborium_ll_io.specs.declared.io.Read.{Ghosts as Reader}
 use Rattle.ciborium_ll_io.specs.declared.io.Write.{Ghosts as Writer}
 use Rattle.ciborium_ll_decoder.specs.declared.dec.Error.{Error}
@@ -62,7 +63,8 @@ module _ {R E P W F : Type 0} {parser : Parser P} (source : Reader R E) (sink : 
     pub damaged : new.damaged ≡ old.damaged
 
   -- with buffers of these sizes chunks were handed out and written
-  pub record DrainsSome (sizes : List ℕ) (old : Segment R P parser) (writer : W) (new : Segment R P parser) (writer' : W) : Type 0 where
+  pub record DrainsSome (sizes : List ℕ) (old : Segment R P parser) (writer : W) (new : Segment R P parser)
+      (writer' : W) : Type 0 where
     pub given : List ℕ
     pub hands_out : HandsOut old given new
     pub written : WritesAll sink writer given writer'
@@ -75,7 +77,8 @@ module _ {R E P W F : Type 0} {parser : Parser P} (source : Reader R E) (sink : 
     pub filled : (greatest sizes ≤ length (kept_bytes old.kept) + length hands_out.read) ⊎ (new.unread ≡ 0)
 
   -- the call with this size behind others found that the body had ended
-  pub record DrainsAll (sizes : List ℕ) (old : Segment R P parser) (writer : W) (calls : ℕ) (new : Segment R P parser) (writer' : W) : Type 0 where
+  pub record DrainsAll (sizes : List ℕ) (old : Segment R P parser) (writer : W) (calls : ℕ)
+      (new : Segment R P parser) (writer' : W) : Type 0 where
     pub before : List ℕ
     pub size : ℕ
     pub is_behind : HasBehind sizes before size
@@ -85,12 +88,14 @@ module _ {R E P W F : Type 0} {parser : Parser P} (source : Reader R E) (sink : 
     pub ends : SegmentEnds source between new
 
   -- each size was used
-  pub record DrainsSizes (sizes : List ℕ) (old : Segment R P parser) (writer : W) (calls : ℕ) (new : Segment R P parser) (writer' : W) : Type 0 where
+  pub record DrainsSizes (sizes : List ℕ) (old : Segment R P parser) (writer : W) (calls : ℕ)
+      (new : Segment R P parser) (writer' : W) : Type 0 where
     pub counted : calls ≡ length sizes
     pub some : DrainsSome sizes old writer new writer'
 
   -- the call with this size behind others failed
-  pub record DrainFails (sizes : List ℕ) (old : Segment R P parser) (writer : W) (error : Error E) (new : Segment R P parser) (writer' : W) : Type 0 where
+  pub record DrainFails (sizes : List ℕ) (old : Segment R P parser) (writer : W) (error : Error E)
+      (new : Segment R P parser) (writer' : W) : Type 0 where
     pub before : List ℕ
     pub size : ℕ
     pub is_behind : HasBehind sizes before size
@@ -99,7 +104,8 @@ module _ {R E P W F : Type 0} {parser : Parser P} (source : Reader R E) (sink : 
     pub fails : PullsChunk source size between (Err error) new
 
   -- the write of the chunk that came with this size behind others failed
-  pub record DrainUnwritten (sizes : List ℕ) (old : Segment R P parser) (writer : W) (new : Segment R P parser) (writer' : W) : Type 0 where
+  pub record DrainUnwritten (sizes : List ℕ) (old : Segment R P parser) (writer : W) (new : Segment R P parser)
+      (writer' : W) : Type 0 where
     pub before : List ℕ
     pub size : ℕ
     pub is_behind : HasBehind sizes before size
@@ -116,7 +122,8 @@ module _ {R E P W F : Type 0} {parser : Parser P} (source : Reader R E) (sink : 
   EndsDrain sizes old writer calls end.OutOfSizes new writer' = DrainsSizes sizes old writer calls new writer'
 
   -- a drain, by its answer
-  abbrev pub Drains : List ℕ → Segment R P parser → W → Result Drained (RecodeError E F) → Segment R P parser → W → Type 0
+  abbrev pub Drains : List ℕ → Segment R P parser → W → Result Drained (RecodeError E F) → Segment R P parser → W
+      → Type 0
   Drains sizes old writer (Ok drained) new writer' = EndsDrain sizes old writer drained.calls drained.end new writer'
   Drains sizes old writer (Err (r.Read error)) new writer' = DrainFails sizes old writer error new writer'
   Drains sizes old writer (Err (r.Write fault)) new writer' = DrainUnwritten sizes old writer new writer'
@@ -136,17 +143,19 @@ module _ {R E P W F : Type 0} {parser : Parser P} (source : Reader R E) (sink : 
     pub enough : length body ≤ room
 
   -- the whole body was written, as soon as the sizes were enough
-  pub record WritesBody (sizes body written : List ℕ) (calls : ℕ) (new : Segment R P parser) (writer' : W) : Type 0 where
-    pub sound : IsWritable parser.kind body
-    pub output : sink.written writer' ≡ Some (written ++ body)
-    pub left : rest source new ≡ Some []
-    pub some_calls : 0 < calls
-    pub no_more : calls ≤ length sizes
-    pub needed : length body ≤ sum (take (calls - 1) sizes)
-    pub soon : (count : ℕ) → IsEnough parser.kind sizes (length body) count → calls ≤ count + 1
+  pub record WritesBody (sizes body written : List ℕ) (calls : ℕ) (new : Segment R P parser) (writer' : W) : Type 0
+    where
+      pub sound : IsWritable parser.kind body
+      pub output : sink.written writer' ≡ Some (written ++ body)
+      pub left : rest source new ≡ Some []
+      pub some_calls : 0 < calls
+      pub no_more : calls ≤ length sizes
+      pub needed : length body ≤ sum (take (calls - 1) sizes)
+      pub soon : (count : ℕ) → IsEnough parser.kind sizes (length body) count → calls ≤ count + 1
 
   -- a beginning of the body was written and the rest is left, since the sizes were not enough
-  pub record LeavesRest (sizes body written : List ℕ) (calls : ℕ) (old new : Segment R P parser) (writer' : W) : Type 0 where
+  pub record LeavesRest (sizes body written : List ℕ) (calls : ℕ) (old new : Segment R P parser) (writer' : W) :
+      Type 0 where
     pub all_sizes : calls ≡ length sizes
     pub given : List ℕ
     pub behind : List ℕ
@@ -174,8 +183,10 @@ module _ {R E P W F : Type 0} {parser : Parser P} (source : Reader R E) (sink : 
   EndsTold sizes body written old calls end.OutOfSizes new writer' = LeavesRest sizes body written calls old new writer'
 
   -- a drain: the body is written, or the sizes are not enough, or the body is no text
-  abbrev pub DrainsTold : List ℕ → List ℕ → List ℕ → Segment R P parser → Result Drained (RecodeError E F) → Segment R P parser → W → Type 0
-  DrainsTold sizes body written old (Ok drained) new writer' = EndsTold sizes body written old drained.calls drained.end new writer'
+  abbrev pub DrainsTold : List ℕ → List ℕ → List ℕ → Segment R P parser → Result Drained (RecodeError E F)
+      → Segment R P parser → W → Type 0
+  DrainsTold sizes body written old (Ok drained) new writer' =
+      EndsTold sizes body written old drained.calls drained.end new writer'
   DrainsTold sizes body written old (Err (r.Read (e.Syntax at))) new writer' = FindsNoText body written at old writer'
   DrainsTold sizes body written old (Err (r.Read (e.Io fault))) new writer' = ⊥
   DrainsTold sizes body written old (Err (r.Read e.TooLong)) new writer' = ⊥

@@ -33,7 +33,8 @@ IsPiece (p.Text value segment) marks = IsValue Text segment value.now marks
 -- the marks of the pieces, one by one
 pub data HaveMarks : List Piece → List Mark → Type 0 where
   none : HaveMarks [] []
-  next : {piece : Piece} {rest : List Piece} (marks : List Mark) {others : List Mark} → IsPiece piece marks → HaveMarks rest others
+  next : {piece : Piece} {rest : List Piece} (marks : List Mark) {others : List Mark} → IsPiece piece marks
+      → HaveMarks rest others
       → HaveMarks (piece ∷ rest) (marks ++ others)
 
 -- marks of the pieces, whose spelling is an element for each piece
@@ -68,7 +69,8 @@ module _ {W F : Type 0} (sink : Ghosts W F) where
 
 module _ {R E W F : Type 0} (source : Reader R E) (sink : Ghosts W F) where
   -- the bytes were copied unchanged, and just what follows them is left
-  pub record CopiesSame {T X : Type 0} (bytes rest written : List ℕ) (result : Result T X) (new : Decoder R) (writer' : W) : Type 0 where
+  pub record CopiesSame {T X : Type 0} (bytes rest written : List ℕ) (result : Result T X) (new : Decoder R)
+      (writer' : W) : Type 0 where
     pub ok : IsOk result
     pub output : sink.written writer' ≡ Some (written ++ bytes)
     pub left : view source new ≡ Some rest

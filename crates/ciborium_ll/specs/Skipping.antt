@@ -58,7 +58,8 @@ module _ {R E : Type 0} (source : Ghosts R E) (kind : Kind) where
   -- how the read of a string of indefinite length fails
   abbrev pub StopsInside : ℕ → Decoder R → Error E → Decoder R → Type 0
   StopsInside room old (e.Io fault) new = MeetsNoTitle old (e.Io fault) new ⊎ MeetsBody room old (e.Io fault) new
-  StopsInside room old (e.Syntax at) new = MeetsNoTitle old (e.Syntax at) new ⊎ (MeetsOther old at new ⊎ MeetsBody room old (e.Syntax at) new)
+  StopsInside room old (e.Syntax at) new = MeetsNoTitle old (e.Syntax at) new ⊎
+      (MeetsOther old at new ⊎ MeetsBody room old (e.Syntax at) new)
   StopsInside room old e.TooLong new = MeetsNoTitle old e.TooLong new ⊎ MeetsBody room old e.TooLong new
   StopsInside room old e.Waiting new = ⊥
 

@@ -1,5 +1,6 @@
 -- What a copy by a fresh decoder says of the bytes ahead.
-use Rattle.std.proofs.Common.{◌≡◌, ℕ, ◌+◌, ◌<◌, ◌≤◌, ◌^◌, ◌∙◌, ◌↔◌, IsTrue, IsOk, Bool, max, List, [], ◌++◌, drop, length, Option, Result, Ok, Err, Some, ap, sym, subst, refl, arith, length-append}
+use Rattle.std.proofs.Common.{◌≡◌, ℕ, ◌+◌, ◌<◌, ◌≤◌, ◌^◌, ◌∙◌, ◌↔◌, IsTrue, IsOk, Bool, max, List, [], ◌++◌, drop}
+use Rattle.std.proofs.Common.{length, Option, Result, Ok, Err, Some, ap, sym, subst, refl, arith, length-append}
 use Rattle.ciborium_ll.specs.Types.Read.{Ghosts as Reader}
 use Rattle.ciborium_ll.specs.Types.Write.{Ghosts as Writer}
 use Rattle.ciborium_ll.specs.Types.SliceWriter.{SliceWriter}
@@ -25,7 +26,8 @@ use Rattle.ciborium_ll_c.proofs.PullLaws.{due_ahead, still_steady}
 same_bytes : (known : Option (List ℕ)) (one other : List ℕ) → known ≡ Some one → known ≡ Some other → one ≡ other
 same_bytes known one other p q = let same : Some one ≡ Some other = sym p ∙ q in cc
 
-same_length : (known : Option (List ℕ)) (one other : List ℕ) → known ≡ Some one → known ≡ Some other → length one ≡ length other
+same_length : (known : Option (List ℕ)) (one other : List ℕ) → known ≡ Some one → known ≡ Some other → length one
+    ≡ length other
 same_length known one other p q = ap length (same_bytes known one other p q)
 
 -- what a writer tells of what it wrote stands in the output where that does
@@ -35,7 +37,8 @@ stands_too known one other before after p q stands =
     subst (λ (bytes : List ℕ). StandInFront bytes before after) (same_bytes known one other p q) stands
 
 -- no more is consumed than is ahead
-no_more : (place : Place) (ahead more : List ℕ) (consumed : ℕ) → StopsAt place ahead more consumed → consumed ≤ length ahead
+no_more : (place : Place) (ahead more : List ℕ) (consumed : ℕ) → StopsAt place ahead more consumed → consumed
+    ≤ length ahead
 no_more Due ahead more consumed stops = omega (arith, stops.1)
 no_more (In kind) ahead more consumed stops = omega (arith, stops.1)
 no_more (Body kind len start) ahead more consumed stops = omega (arith, stops.7)
@@ -52,15 +55,18 @@ stands_behind behind first written out after kept begun slice ended =
     ended ∙ slice ∙ ap (λ l. written ++ drop (length written) l) (ap (λ t. t.before) kept ∙ begun)
 
 module _ {R E W F : Type 0} (source : Reader R E) (sink : Writer W F) where
-  pub told_to_copy : (strict : Bool) (reader : R) (decoder : Decoder R) (writer : W) (due : List ℕ) → IsFreshAs strict reader 0 decoder
-      → source.ahead reader ≡ Some due → sink.written writer ≡ Some [] → IsToldAs source sink strict decoder writer due []
+  pub told_to_copy : (strict : Bool) (reader : R) (decoder : Decoder R) (writer : W) (due : List ℕ)
+      → IsFreshAs strict reader 0 decoder
+      → source.ahead reader ≡ Some due → sink.written writer ≡ Some []
+      → IsToldAs source sink strict decoder writer due []
   told_to_copy strict reader decoder writer due fresh ahead output = record {
     mode = fresh.mode;
     due-told = due_ahead source strict reader decoder fresh due ahead;
     written-told = output;
   }
 
-  pub ready_to_copy : (strict : Bool) (count size room : ℕ) (reader : R) (decoder : Decoder R) (writer : W) (due : List ℕ)
+  pub ready_to_copy : (strict : Bool) (count size room : ℕ) (reader : R) (decoder : Decoder R) (writer : W)
+      (due : List ℕ)
       → IsFreshAs strict reader 0 decoder → IsTrue (source.steady reader) → source.ahead reader ≡ Some due
       → sink.written writer ≡ Some [] → sink.room writer ≡ Some room → HasRoom count due room
       → length due + 8 < offset_limit → length due + size < offset_limit
@@ -86,7 +92,8 @@ module _ {R E W F : Type 0} (source : Reader R E) (sink : Writer W F) where
     stands_too (sink.written writer') output (spelling told.front.marks) before after out told.output stands,
     record {
       consumed_is = omega (arith, reports.consumed_is, told.offset, start);
-      written_is = reports.written_is ∙ same_length (sink.written writer') output (spelling told.front.marks) out told.output;
+      written_is = reports.written_is ∙ same_length (sink.written writer') output (spelling told.front.marks) out
+          told.output;
       place_is = reports.place_is;
     },
   )
@@ -100,7 +107,8 @@ module _ {R E W F : Type 0} (source : Reader R E) (sink : Writer W F) where
       place_is = reports.place_is;
     },
   )
-  copy_reported count due old new writer' (Err (r.Read (e.Syntax place))) report output before after told start out reports stands =
+  copy_reported count due old new writer' (Err (r.Read (e.Syntax place))) report output before after told start out
+      reports stands =
       let named : told.0 ≡ report.place = omega (arith, told.1, start, reports.place_is) in
       let met = told.2 in (
         met.fault,
@@ -127,7 +135,8 @@ module _ {R E W F : Type 0} (source : Reader R E) (sink : Writer W F) where
     stands_too (sink.written writer') output (spelling told.front.marks) before after out told.output stands,
     record {
       consumed_is = omega (arith, reports.consumed_is, told.offset, start);
-      written_is = reports.written_is ∙ same_length (sink.written writer') output (spelling told.front.marks) out told.output;
+      written_is = reports.written_is ∙ same_length (sink.written writer') output (spelling told.front.marks) out
+          told.output;
       place_is = reports.place_is;
     },
   )
@@ -140,7 +149,8 @@ module _ {R E W F : Type 0} (source : Reader R E) (sink : Writer W F) where
       place_is = reports.place_is;
     },
   )
-  anyhow_reported count due old new writer' (Err (r.Read (e.Syntax place))) report output before after told object start out reports stands =
+  anyhow_reported count due old new writer' (Err (r.Read (e.Syntax place))) report output before after told object
+      start out reports stands =
       let named : told.0 ≡ report.place = omega (arith, told.1, start, reports.place_is) in
       let met = told.2 in (
         met.fault,
@@ -152,7 +162,8 @@ module _ {R E W F : Type 0} (source : Reader R E) (sink : Writer W F) where
           place_is = refl;
         },
       )
-  anyhow_reported count due old new writer' (Err (r.Read e.TooLong)) report output before after told object start out reports stands =
+  anyhow_reported count due old new writer' (Err (r.Read e.TooLong)) report output before after told object start
+      out reports stands =
       let stop = told.0.stop in
       let parts = ap length stop.is in
       let few = no_more stop.place stop.ahead stop.more stop.consumed stop.stops in
@@ -176,7 +187,8 @@ module _ {R E W F : Type 0} (source : Reader R E) (sink : Writer W F) where
       → old.offset ≡ 0 → sink.written writer' ≡ Some output → answer ≡ copy_answer result → place ≡ copy_place result
       → behind ≡ new.offset → Reports report behind (length output) place
       → StandInFront output before after → Copies count due before answer after report
-  copy_said count due old new writer' result report output before after answer place behind told start out same named at reports stands =
+  copy_said count due old new writer' result report output before after answer place behind told start out same
+      named at reports stands =
       let said = copy_reported count due old new writer' result report output before after told start out record {
         consumed_is = reports.consumed_is ∙ at;
         written_is = reports.written_is;
@@ -191,8 +203,10 @@ module _ {R E W F : Type 0} (source : Reader R E) (sink : Writer W F) where
       → length due < 2 ^ 63 → old.offset ≡ 0 → sink.written writer' ≡ Some output → answer ≡ copy_answer result
       → place ≡ copy_place result → behind ≡ new.offset → Reports report behind (length output) place
       → StandInFront output before after → CopiesAnyhow count due before answer after report
-  anyhow_said count due old new writer' result report output before after answer place behind told object start out same named at reports stands =
-      let said = anyhow_reported count due old new writer' result report output before after told object start out record {
+  anyhow_said count due old new writer' result report output before after answer place behind told object start out
+      same named at reports stands =
+      let said = anyhow_reported count due old new writer' result report output before after told object start out
+      record {
         consumed_is = reports.consumed_is ∙ at;
         written_is = reports.written_is;
         place_is = reports.place_is ∙ named;
@@ -250,7 +264,8 @@ module _ {R E W F : Type 0} (source : Reader R E) (sink : Writer W F) where
       subst (λ (x : Answer). Checks count due x report) (sym same) said
 
 -- the answer `Ok` stands for the copy that succeeded alone
-copy_answers_ok : {E F : Type 0} (result : Result (Unit {0}) (RecodeError E F)) → (copy_answer result ≡ a.Ok) ↔ IsOk result
+copy_answers_ok : {E F : Type 0} (result : Result (Unit {0}) (RecodeError E F))
+    → (copy_answer result ≡ a.Ok) ↔ IsOk result
 copy_answers_ok (Ok done) = (λ same. cc, λ ok. refl)
 copy_answers_ok (Err (r.Read (e.Io fault))) = (λ same. absurd cc, λ ok. absurd cc)
 copy_answers_ok (Err (r.Read (e.Syntax place))) = (λ same. absurd cc, λ ok. absurd cc)
@@ -258,7 +273,8 @@ copy_answers_ok (Err (r.Read e.TooLong)) = (λ same. absurd cc, λ ok. absurd cc
 copy_answers_ok (Err (r.Read e.Waiting)) = (λ same. absurd cc, λ ok. absurd cc)
 copy_answers_ok (Err (r.Write fault)) = (λ same. absurd cc, λ ok. absurd cc)
 
-pub copy_exactly : {E F Holds : Type 0} (result : Result (Unit {0}) (RecodeError E F)) (answer : Answer) → answer ≡ copy_answer result
+pub copy_exactly : {E F Holds : Type 0} (result : Result (Unit {0}) (RecodeError E F)) (answer : Answer) → answer
+    ≡ copy_answer result
     → IsOk result ↔ Holds → (answer ≡ a.Ok) ↔ Holds
 copy_exactly result answer same exact =
     let ok = copy_answers_ok result in (λ is. exact.0 (ok.0 (sym same ∙ is)), λ holds. same ∙ ok.1 (exact.1 holds))

@@ -19,7 +19,8 @@ use Rattle.ciborium_ll_c.specs.Pulling.{Pulls, TitleInFront}
 
 -- where the bytes end inside a title, none stands in front
 pub front_not_cut : (bytes : List ℕ) → TitleInFront bytes → IsCutTitle bytes → ⊥
-front_not_cut bytes front cut = title_not_cut front.title front.rest front.header front.is_title (subst IsCutTitle front.is cut)
+front_not_cut bytes front cut = title_not_cut front.title front.rest front.header front.is_title
+    (subst IsCutTitle front.is cut)
 
 -- nor where they begin with a byte that no title begins with
 pub front_not_refused : (bytes : List ℕ) → TitleInFront bytes → BeginsRefused bytes → ⊥

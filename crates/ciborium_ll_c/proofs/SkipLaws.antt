@@ -1,5 +1,6 @@
 -- What a skip by a fresh decoder says of the bytes ahead.
-use Rattle.std.proofs.Common.{◌≡◌, ℕ, ◌+◌, ◌<◌, ◌∙◌, ◌↔◌, IsTrue, IsOk, false, List, length, Result, Ok, Err, Some, ap, sym, subst, refl, arith}
+use Rattle.std.proofs.Common.{◌≡◌, ℕ, ◌+◌, ◌<◌, ◌∙◌, ◌↔◌, IsTrue, IsOk, false, List, length, Result, Ok, Err, Some}
+use Rattle.std.proofs.Common.{ap, sym, subst, refl, arith}
 use Rattle.ciborium_ll.specs.Types.Read.{Ghosts}
 use Rattle.ciborium_ll.specs.Types.Decoder.{Decoder}
 use Rattle.ciborium_ll.specs.Types.Error.TheVariants as e
@@ -90,7 +91,8 @@ module _ {R E : Type 0} (source : Ghosts R E) where
       subst (λ (x : Answer). Skips depth due x report) (sym same) said
 
 -- the answer `Ok` stands for the skip that succeeded alone
-pub skip_answers_ok : {E : Type 0} (result : Result (Unit {0}) (SkipError E)) → (skip_answer result ≡ a.Ok) ↔ IsOk result
+pub skip_answers_ok : {E : Type 0} (result : Result (Unit {0}) (SkipError E))
+    → (skip_answer result ≡ a.Ok) ↔ IsOk result
 skip_answers_ok (Ok done) = (λ same. cc, λ ok. refl)
 skip_answers_ok (Err (s.Read (e.Io fault))) = (λ same. absurd cc, λ ok. absurd cc)
 skip_answers_ok (Err (s.Read (e.Syntax place))) = (λ same. absurd cc, λ ok. absurd cc)
@@ -99,7 +101,8 @@ skip_answers_ok (Err (s.Read e.Waiting)) = (λ same. absurd cc, λ ok. absurd cc
 skip_answers_ok (Err (s.Break place)) = (λ same. absurd cc, λ ok. absurd cc)
 skip_answers_ok (Err (s.Deep place)) = (λ same. absurd cc, λ ok. absurd cc)
 
-pub skip_exactly : {E Holds : Type 0} (result : Result (Unit {0}) (SkipError E)) (answer : Answer) → answer ≡ skip_answer result
+pub skip_exactly : {E Holds : Type 0} (result : Result (Unit {0}) (SkipError E)) (answer : Answer) → answer
+    ≡ skip_answer result
     → IsOk result ↔ Holds → (answer ≡ a.Ok) ↔ Holds
 skip_exactly result answer same exact =
     let ok = skip_answers_ok result in (λ is. exact.0 (ok.0 (sym same ∙ is)), λ holds. same ∙ ok.1 (exact.1 holds))

@@ -20,7 +20,8 @@ pub record TitleInFront (bytes : List ℕ) : Type 0 where
 -- the title in front, by the answer: the parts of its header, and its length as what was consumed. Where there is none,
 -- the parts are as they were, and a first byte was consumed if there is one
 abbrev pub Pulls : List ℕ → Answer → CllHeader → CllHeader → CllReport → Type 0
-Pulls bytes a.Ok old new report = (front : TitleInFront bytes) × Says new front.header × Reports report (length front.title) 0 0
+Pulls bytes a.Ok old new report = (front : TitleInFront bytes) × Says new front.header
+    × Reports report (length front.title) 0 0
 Pulls bytes a.Short old new report = IsCutTitle bytes × (new ≡ old) × Reports report (min 1 (length bytes)) 0 0
 Pulls bytes a.Syntax old new report = BeginsRefused bytes × (new ≡ old) × Reports report 1 0 0
 Pulls bytes answer old new report = ⊥

@@ -1,5 +1,6 @@
 -- How the titles of a string lead on, one after the other.
-use Rattle.std.proofs.Common.{Some, IsTrue, ◌≤◌, ◌≡◌, ℕ, suc, ◌+◌, ◌-◌, ◌<◌, ◌⊎◌, List, ◌++◌, length, Option, None, Result, Ok, Err, refl, ap, subst, ◌∙◌, inl, inr, arith, add-one, length-append}
+use Rattle.std.proofs.Common.{Some, IsTrue, ◌≤◌, ◌≡◌, ℕ, suc, ◌+◌, ◌-◌, ◌<◌, ◌⊎◌, List, ◌++◌, length, Option, None}
+use Rattle.std.proofs.Common.{Result, Ok, Err, refl, ap, subst, ◌∙◌, inl, inr, arith, add-one, length-append}
 use Rattle.ciborium_ll_io.specs.declared.io.Read.{Ghosts}
 use Rattle.ciborium_ll_decoder.specs.declared.dec.Decoder.{Decoder}
 use Rattle.ciborium_ll_decoder.specs.declared.dec.Error.{Error}
@@ -10,7 +11,8 @@ use Rattle.ciborium_ll_decoder.specs.declared.seg.Parser.{Ghosts as Parser}
 use Rattle.ciborium_ll_decoder.specs.declared.seg.Segment.{Segment}
 use Rattle.ciborium_ll_grammar.specs.Strings.{Kind, kind_header}
 use Rattle.ciborium_ll_decoder.specs.Decoding.{IsSteady, Passes}
-use Rattle.ciborium_ll_decoder.specs.Segments.{Nests, in_place, deeper, back, AdvancesFrom, AdvancesTo, EndsAdvance, GivesAgain, StepsOver, Deepens, ClosesInner}
+use Rattle.ciborium_ll_decoder.specs.Segments.{Nests, in_place, deeper, back, AdvancesFrom, AdvancesTo, EndsAdvance}
+use Rattle.ciborium_ll_decoder.specs.Segments.{GivesAgain, StepsOver, Deepens, ClosesInner}
 use Rattle.ciborium_ll_decoder.specs.Chunks.{PullsSegment}
 use Rattle.ciborium_ll_decoder.proofs.DecodingLaws.{Passes-none, Passes-pull}
 use Rattle.ciborium_ll_decoder.proofs.NestLaws.{alone_bytes, open_alone, open_length, nests_zero, nests_counted}
@@ -28,21 +30,32 @@ module _ {R E : Type 0} (source : Ghosts R E) (kind : Kind) where
     pub shallow : IsTrue old.strict → opens ≤ 1 → opens + length nest ≤ 1
     pub is : progress ≡ p.Open left
 
-  -- what the loop over titles keeps: they lead on or ended the string; and where it has an answer that stays, it is as before
+  -- what the loop over titles keeps: they lead on or ended the string; and where it has an answer that stays, it is
+  -- as before
   abbrev pub Reached : Progress → Decoder R → Progress → Decoder R → Type 0
-  Reached (p.Open opens) old progress now = LeadsTo opens old progress now ⊎ AdvancesFrom source kind opens old (Ok None) progress now
+  Reached (p.Open opens) old progress now = LeadsTo opens old progress now ⊎ AdvancesFrom source kind opens old
+      (Ok None) progress now
   Reached p.Ended old progress now = (progress ≡ p.Ended) × (now ≡ old)
   Reached (p.Damaged place) old progress now = (progress ≡ p.Damaged place) × (now ≡ old)
   Reached p.TooDeep old progress now = (progress ≡ p.TooDeep) × (now ≡ old)
 
   pub Reached-start : (progress : Progress) (decoder : Decoder R) → Reached progress decoder progress decoder
-  Reached-start (p.Open opens) decoder = inl (record { nest = _; left = opens; nests = in_place; passed = Passes-none source decoder; shallow = λ on few. omega (arith, few); is = refl })
+  Reached-start (p.Open opens) decoder = inl (record {
+    nest = _;
+    left = opens;
+    nests = in_place;
+    passed = Passes-none source decoder;
+    shallow =
+        λ on few. omega (arith, few);
+    is = refl;
+  })
   Reached-start p.Ended decoder = (refl, refl)
   Reached-start (p.Damaged place) decoder = (refl, refl)
   Reached-start p.TooDeep decoder = (refl, refl)
 
   -- the nest so far, with a title that leads on
-  leads_deeper : (opens left : ℕ) (old now new : Decoder R) (after : Progress) (led : LeadsTo opens old (p.Open left) now) → (IsSteady source now → IsSteady source new)
+  leads_deeper : (opens left : ℕ) (old now new : Decoder R) (after : Progress)
+      (led : LeadsTo opens old (p.Open left) now) → (IsSteady source now → IsSteady source new)
       → Deepens source kind left now after new → LeadsTo opens old after new
   leads_deeper opens left old now new after led steady step =
       let f = led.is in
@@ -54,14 +67,16 @@ module _ {R E : Type 0} (source : Ghosts R E) (kind : Kind) where
         passed = Passes-pull source old now new led.nest _ step.pulled led.passed steady;
         shallow = λ on few.
             let first = nests_zero kind opens led.nest led.left led.nests (same ∙ step.level (led.passed.mode ∙ on)) in
-            let one = ap length (alone_bytes step.pulled.title (kind_header kind None) step.pulled.is_title (open_alone kind)) in
+            let one = ap length (alone_bytes step.pulled.title (kind_header kind None) step.pulled.is_title
+            (open_alone kind)) in
             let none = ap length first.0 in
             let zero = first.1 in
             omega (arith, one, none, zero, open_length kind, length-append led.nest step.pulled.title);
         is = rw (← add-one) step.after;
       }
 
-  leads_back : (opens left : ℕ) (old now new : Decoder R) (after : Progress) (led : LeadsTo opens old (p.Open left) now) → (IsSteady source now → IsSteady source new)
+  leads_back : (opens left : ℕ) (old now new : Decoder R) (after : Progress)
+      (led : LeadsTo opens old (p.Open left) now) → (IsSteady source now → IsSteady source new)
       → ClosesInner source kind left now after new → LeadsTo opens old after new
   leads_back opens left old now new after led steady step =
       let f = led.is in
@@ -73,12 +88,14 @@ module _ {R E : Type 0} (source : Ghosts R E) (kind : Kind) where
         left = suc two.0;
         nests = back (subst (λ (z : ℕ). Nests kind opens led.nest z) (same ∙ two.1) led.nests) step.pulled.is_title;
         passed = Passes-pull source old now new led.nest _ step.pulled led.passed steady;
-        shallow = λ on few. let shallow = led.shallow on few in let inner = step.inner in absurd (omega (arith, shallow, inner, same, nests_counted kind opens led.nest led.left led.nests));
+        shallow = λ on few. let shallow = led.shallow on few in let inner = step.inner in
+            absurd (omega (arith, shallow, inner, same, nests_counted kind opens led.nest led.left led.nests));
         is = step.after ∙ ap p.Open one;
       }
 
   -- the nest so far, and the title that decides
-  ends_from : (opens left : ℕ) (old now new : Decoder R) (result : Result (Option Body) (Error E)) (after : Progress) → LeadsTo opens old (p.Open left) now
+  ends_from : (opens left : ℕ) (old now new : Decoder R) (result : Result (Option Body) (Error E))
+      (after : Progress) → LeadsTo opens old (p.Open left) now
       → EndsAdvance source kind left now result after new → AdvancesFrom source kind opens old result after new
   ends_from opens left old now new result after led ends =
       let f = led.is in
@@ -94,30 +111,40 @@ module _ {R E : Type 0} (source : Ghosts R E) (kind : Kind) where
       }
 
   -- a string that has ended has no open left
-  not_ended : (opens left : ℕ) (old now : Decoder R) → AdvancesFrom source kind opens old (Ok None) (p.Open left) now → ⊥
+  not_ended : (opens left : ℕ) (old now : Decoder R) → AdvancesFrom source kind opens old (Ok None) (p.Open left)
+      now → ⊥
   not_ended opens left old now all = let f = all.ends.after in cc
 
-  pub Reached-step : (first : Progress) (left : ℕ) (old now new : Decoder R) (after : Progress) → Reached first old (p.Open left) now → (IsSteady source now → IsSteady source new)
+  pub Reached-step : (first : Progress) (left : ℕ) (old now new : Decoder R) (after : Progress)
+      → Reached first old (p.Open left) now → (IsSteady source now → IsSteady source new)
       → StepsOver source kind left now (Ok None) after new → Reached first old after new
-  Reached-step (p.Open opens) left old now new after (inl led) steady (inl closes) = inr (ends_from opens left old now new (Ok None) after led closes)
-  Reached-step (p.Open opens) left old now new after (inl led) steady (inr (inl deepens)) = inl (leads_deeper opens left old now new after led steady deepens)
-  Reached-step (p.Open opens) left old now new after (inl led) steady (inr (inr inner)) = inl (leads_back opens left old now new after led steady inner)
-  Reached-step (p.Open opens) left old now new after (inr ended) steady step = absurd (not_ended opens left old now ended)
+  Reached-step (p.Open opens) left old now new after (inl led) steady (inl closes) =
+      inr (ends_from opens left old now new (Ok None) after led closes)
+  Reached-step (p.Open opens) left old now new after (inl led) steady (inr (inl deepens)) =
+      inl (leads_deeper opens left old now new after led steady deepens)
+  Reached-step (p.Open opens) left old now new after (inl led) steady (inr (inr inner)) =
+      inl (leads_back opens left old now new after led steady inner)
+  Reached-step (p.Open opens) left old now new after (inr ended) steady step =
+      absurd (not_ended opens left old now ended)
   Reached-step p.Ended left old now new after r steady step = let f = r.0 in cc
   Reached-step (p.Damaged place) left old now new after r steady step = let f = r.0 in cc
   Reached-step p.TooDeep left old now new after r steady step = let f = r.0 in cc
 
   -- a title that decides gives the answer
-  pub Reached-ends : (first : Progress) (left : ℕ) (old now new : Decoder R) (result : Result (Option Body) (Error E)) (after : Progress) → Reached first old (p.Open left) now
+  pub Reached-ends : (first : Progress) (left : ℕ) (old now new : Decoder R)
+      (result : Result (Option Body) (Error E)) (after : Progress) → Reached first old (p.Open left) now
       → EndsAdvance source kind left now result after new → AdvancesTo source kind first old result after new
-  Reached-ends (p.Open opens) left old now new result after (inl led) ends = ends_from opens left old now new result after led ends
-  Reached-ends (p.Open opens) left old now new result after (inr ended) ends = absurd (not_ended opens left old now ended)
+  Reached-ends (p.Open opens) left old now new result after (inl led) ends =
+      ends_from opens left old now new result after led ends
+  Reached-ends (p.Open opens) left old now new result after (inr ended) ends =
+      absurd (not_ended opens left old now ended)
   Reached-ends p.Ended left old now new result after r ends = let f = r.0 in cc
   Reached-ends (p.Damaged place) left old now new result after r ends = let f = r.0 in cc
   Reached-ends p.TooDeep left old now new result after r ends = let f = r.0 in cc
 
   -- behind the title of a body no header waits
-  pub none_waits_for_body : (first : Progress) (old : Decoder R) (body : Body) (after : Progress) (new : Decoder R) → AdvancesTo source kind first old (Ok (Some body)) after new → new.waiting ≡ None
+  pub none_waits_for_body : (first : Progress) (old : Decoder R) (body : Body) (after : Progress) (new : Decoder R)
+      → AdvancesTo source kind first old (Ok (Some body)) after new → new.waiting ≡ None
   none_waits_for_body (p.Open opens) old body after new advanced = advanced.ends.pulled.none_waits
   none_waits_for_body p.Ended old body after new advanced = let f = advanced.0 in cc
   none_waits_for_body (p.Damaged place) old body after new advanced = let f = advanced.0 in cc
@@ -125,7 +152,9 @@ module _ {R E : Type 0} (source : Ghosts R E) (kind : Kind) where
 
 module _ {R E P : Type 0} {parser : Parser P} (source : Ghosts R E) (kind : Kind) where
   -- what `pull` answers where an answer stays
-  pub given_again : (progress : Progress) (old : Decoder R) (result : Result (Option (Segment R P parser)) (Error E)) → PullsSegment source kind progress old result → GivesAgain progress result
+  pub given_again : (progress : Progress) (old : Decoder R)
+      (result : Result (Option (Segment R P parser)) (Error E)) → PullsSegment source kind progress old result
+      → GivesAgain progress result
   given_again (p.Open opens) old result pulls = tt
   given_again p.Ended old (Ok None) pulls = refl
   given_again p.Ended old (Ok (Some segment)) pulls = let f = pulls.goes_on.advanced.0 in cc

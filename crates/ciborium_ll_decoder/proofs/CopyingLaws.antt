@@ -1,5 +1,6 @@
 -- Titles joined, and the copy of one header more.
-use Rattle.std.proofs.Common.{◌≡◌, ℕ, List, [], ◌∷◌, ◌++◌, Option, Some, None, Ok, refl, sym, ap, subst, ◌∙◌, arith, append_assoc, append-nil}
+use Rattle.std.proofs.Common.{◌≡◌, ℕ, List, [], ◌∷◌, ◌++◌, Option, Some, None, Ok, refl, sym, ap, subst, ◌∙◌, arith}
+use Rattle.std.proofs.Common.{append_assoc, append-nil}
 use Rattle.std.proofs.KnownBytes.{Appends-nil}
 use Rattle.ciborium_ll_io.specs.declared.io.Read.{Ghosts as Reader}
 use Rattle.ciborium_ll_io.specs.declared.io.Write.{Ghosts as Writer}
@@ -15,20 +16,27 @@ use Rattle.ciborium_ll_decoder.proofs.DecodingLaws.{Passes-none, Passes-pull}
 use Rattle.ciborium_ll_encoder.proofs.EncodingLaws.{WritesBytes-then}
 
 -- one title more
-pub AreTitles-push : (bytes title : List ℕ) (headers : List Header) (header : Header) → AreTitles bytes headers → IsTitle title header
+pub AreTitles-push : (bytes title : List ℕ) (headers : List Header) (header : Header) → AreTitles bytes headers
+    → IsTitle title header
     → AreTitles (bytes ++ title) (headers ++ header ∷ [])
-AreTitles-push bytes title headers header none t = subst (λ (z : List ℕ). AreTitles z (header ∷ [])) (append-nil title) (next t none)
+AreTitles-push bytes title headers header none t = subst (λ (z : List ℕ). AreTitles z (header ∷ []))
+    (append-nil title) (next t none)
 AreTitles-push bytes title headers header (next {title = first} {rest = rest} {header = h} {headers = hs} p ts) t =
-    subst (λ (z : List ℕ). AreTitles z (h ∷ (hs ++ header ∷ []))) (sym (append_assoc first rest title)) (next p (AreTitles-push rest title hs header ts t))
+    subst (λ (z : List ℕ). AreTitles z (h ∷ (hs ++ header ∷ []))) (sym (append_assoc first rest title))
+    (next p (AreTitles-push rest title hs header ts t))
 
-pub shortest_titles-push : (headers : List Header) (header : Header) → shortest_titles (headers ++ header ∷ []) ≡ shortest_titles headers ++ shortest_title header
+pub shortest_titles-push : (headers : List Header) (header : Header) → shortest_titles (headers ++ header ∷ [])
+    ≡ shortest_titles headers ++ shortest_title header
 shortest_titles-push [] header = append-nil (shortest_title header)
-shortest_titles-push (h ∷ hs) header = ap (λ (z : List ℕ). shortest_title h ++ z) (shortest_titles-push hs header) ∙ sym (append_assoc (shortest_title h) (shortest_titles hs) (shortest_title header))
+shortest_titles-push (h ∷ hs) header = ap (λ (z : List ℕ). shortest_title h ++ z) (shortest_titles-push hs header)
+    ∙ sym (append_assoc (shortest_title h) (shortest_titles hs) (shortest_title header))
 
 -- the shortest titles of headers are titles of just these headers
-pub AreTitles-shortest : (bytes : List ℕ) (headers : List Header) → AreTitles bytes headers → AreTitles (shortest_titles headers) headers
+pub AreTitles-shortest : (bytes : List ℕ) (headers : List Header) → AreTitles bytes headers
+    → AreTitles (shortest_titles headers) headers
 AreTitles-shortest bytes headers none = none
-AreTitles-shortest bytes headers (next {title = t} {rest = rest} {header = h} {headers = hs} p ts) = next (IsTitle-shortest h (title_in_range t h p)) (AreTitles-shortest rest hs ts)
+AreTitles-shortest bytes headers (next {title = t} {rest = rest} {header = h} {headers = hs} p ts) =
+    next (IsTitle-shortest h (title_in_range t h p)) (AreTitles-shortest rest hs ts)
 
 pub Shrinks-zero : (room : Option ℕ) → Shrinks room room 0
 Shrinks-zero None = tt
@@ -41,17 +49,25 @@ module _ {R E W F : Type 0} (source : Reader R E) (sink : Writer W F) where
     bytes = [];
     titles = none;
     passed = Passes-none source decoder;
-    written = record { appended = Appends-nil (sink.written writer); room = Shrinks-zero (sink.room writer); failures = refl };
+    written = record {
+      appended = Appends-nil (sink.written writer);
+      room =
+          Shrinks-zero (sink.room writer);
+      failures = refl;
+    };
   }
 
   -- one header more
-  pub Copies-push : (headers : List Header) (header : Header) (old between new : Decoder R) (writer writer-between writer' : W) → Copies source sink headers old writer between writer-between
-      → PullsTitle source between header new → (IsSteady source between → IsSteady source new) → WritesAll sink writer-between (shortest_title header) writer'
+  pub Copies-push : (headers : List Header) (header : Header) (old between new : Decoder R)
+      (writer writer-between writer' : W) → Copies source sink headers old writer between writer-between
+      → PullsTitle source between header new → (IsSteady source between → IsSteady source new)
+      → WritesAll sink writer-between (shortest_title header) writer'
       → Copies source sink (headers ++ header ∷ []) old writer new writer'
   Copies-push headers header old between new writer writer-between writer' copied pulled steady written = record {
     bytes = copied.bytes ++ pulled.title;
     titles = AreTitles-push copied.bytes pulled.title headers header copied.titles pulled.is_title;
     passed = Passes-pull source old between new copied.bytes header pulled copied.passed steady;
     written = subst (λ (z : List ℕ). WritesAll sink writer z writer') (sym (shortest_titles-push headers header))
-        (WritesBytes-then sink {T = Unit {0}} writer writer-between writer' (Ok (tt {0})) (shortest_titles headers) (shortest_title header) copied.written written);
+        (WritesBytes-then sink {T = Unit {0}} writer writer-between writer' (Ok (tt {0})) (shortest_titles headers)
+        (shortest_title header) copied.written written);
   }

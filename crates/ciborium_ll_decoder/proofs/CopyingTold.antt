@@ -1,6 +1,8 @@
 -- What a copy of headers means where the bytes are told: the premises turn the general statement into an exact one.
 use Rattle.std.specs.Prelude.{if◌then◌else◌, ◌==◌}
-use Rattle.std.proofs.Common.{◌≡◌, ℕ, ◌%◌, ◌^◌, Bool, true, false, ◌+◌, ◌<◌, ◌≤◌, List, [], ◌∷◌, ◌++◌, ◌⊎◌, length, take, drop, Option, Some, None, Result, Ok, Err, IsOk, ◌↔◌, refl, sym, ap, subst, ◌∙◌, inl, inr, arith, append_assoc, length-append}
+use Rattle.std.proofs.Common.{◌≡◌, ℕ, ◌%◌, ◌^◌, Bool, true, false, ◌+◌, ◌<◌, ◌≤◌, List, [], ◌∷◌, ◌++◌, ◌⊎◌, length}
+use Rattle.std.proofs.Common.{take, drop, Option, Some, None, Result, Ok, Err, IsOk, ◌↔◌, refl, sym, ap, subst, ◌∙◌}
+use Rattle.std.proofs.Common.{inl, inr, arith, append_assoc, length-append}
 use Rattle.std.specs.Io.KnownBytes.{Consumes, Appends}
 use Rattle.ciborium_ll_io.specs.declared.io.Read.{Ghosts as Reader}
 use Rattle.ciborium_ll_io.specs.declared.io.Write.{Ghosts as Writer}
@@ -13,7 +15,9 @@ use Rattle.ciborium_ll_decoder.specs.declared.recode.RecodeError.TheVariants as 
 use Rattle.ciborium_ll_grammar.specs.Title.{IsTitle, shortest_title, BeginsRefused, IsCutTitle}
 use Rattle.ciborium_ll_io.specs.Transfer.{Shrinks}
 use Rattle.ciborium_ll_decoder.specs.Decoding.{view, next_read}
-use Rattle.ciborium_ll_decoder.specs.Copying.{AreTitles, none, next, shortest_titles, TitlesInFront, Copies, CopiesEach, StopsAtPull, StopsAtPush, CopiesHeaders, IsReadyForTitles, CopiesTitles, CopiesSoMany, CopiesTold}
+use Rattle.ciborium_ll_decoder.specs.Copying.{AreTitles, none, next, shortest_titles, TitlesInFront, Copies}
+use Rattle.ciborium_ll_decoder.specs.Copying.{CopiesEach, StopsAtPull, StopsAtPush, CopiesHeaders, IsReadyForTitles}
+use Rattle.ciborium_ll_decoder.specs.Copying.{CopiesTitles, CopiesSoMany, CopiesTold}
 use Rattle.ciborium_ll_decoder.proofs.DecodingLaws.{lenient_refuses}
 use Rattle.ciborium_ll_grammar.proofs.TitleLaws.{one_title, shortest_no_longer, title_refused}
 use Rattle.ciborium_ll_grammar.proofs.AffixLaws.{title_not_cut}
@@ -21,29 +25,36 @@ use Rattle.ciborium_ll_grammar.proofs.AffixLaws.{title_not_cut}
 -- ---- fewer titles in front of a fault, and more titles in front
 
 -- behind fewer titles than stand in front comes a title
-title_behind : (ts r ts' r' : List ℕ) (hs hs' : List Header) → AreTitles ts hs → AreTitles ts' hs' → ts ++ r ≡ ts' ++ r' → length hs < length hs'
+title_behind : (ts r ts' r' : List ℕ) (hs hs' : List Header) → AreTitles ts hs → AreTitles ts' hs' → ts ++ r
+    ≡ ts' ++ r' → length hs < length hs'
     → (t : List ℕ) × (h : Header) × (more : List ℕ) × IsTitle t h × (r ≡ t ++ more)
 title_behind ts r ts' r' hs hs' none none e l = absurd (omega arith)
-title_behind ts r ts' r' hs hs' none (next {title = t} {rest = q} {header = h} p ps) e l = (t, h, q ++ r', p, e ∙ append_assoc t q r')
+title_behind ts r ts' r' hs hs' none (next {title = t} {rest = q} {header = h} p ps) e l =
+    (t, h, q ++ r', p, e ∙ append_assoc t q r')
 title_behind ts r ts' r' hs hs' (next p ps) none e l = absurd (omega arith)
-title_behind ts r ts' r' hs hs' (next {title = t} {rest = q} {header = h} {headers = gs} p ps) (next {title = t'} {rest = q'} {header = h'} {headers = gs'} p' ps') e l =
+title_behind ts r ts' r' hs hs' (next {title = t} {rest = q} {header = h} {headers = gs} p ps)
+    (next {title = t'} {rest = q'} {header = h'} {headers = gs'} p' ps') e l =
     let same = one_title t t' (q ++ r) (q' ++ r') h h' p p' (sym (append_assoc t q r) ∙ e ∙ append_assoc t' q' r') in
     title_behind q r q' r' gs gs' ps ps' same.2 (omega arith)
 
 -- ---- what is told
 
-pub consumes_told : (known known' : Option (List ℕ)) (due bytes : List ℕ) → known ≡ Some due → Consumes known known' bytes
+pub consumes_told : (known known' : Option (List ℕ)) (due bytes : List ℕ) → known ≡ Some due
+    → Consumes known known' bytes
     → (rest : List ℕ) × (known' ≡ Some rest) × (due ≡ bytes ++ rest)
 consumes_told None known' due bytes e c = absurd cc
 consumes_told (Some x) None due bytes e c = absurd c
 consumes_told (Some x) (Some y) due bytes e c = let same : x ≡ due = cc in (y, refl, sym same ∙ c)
 
-pub appends_told : (known known' : Option (List ℕ)) (written bytes : List ℕ) → known ≡ Some written → Appends known known' bytes → known' ≡ Some (written ++ bytes)
+pub appends_told : (known known' : Option (List ℕ)) (written bytes : List ℕ) → known ≡ Some written
+    → Appends known known' bytes → known' ≡ Some (written ++ bytes)
 appends_told None known' written bytes e a = absurd cc
 appends_told (Some x) None written bytes e a = absurd a
-appends_told (Some x) (Some y) written bytes e a = let same : x ≡ written = cc in ap Some (a ∙ ap (λ z. z ++ bytes) same)
+appends_told (Some x) (Some y) written bytes e a = let same : x ≡ written = cc in
+    ap Some (a ∙ ap (λ z. z ++ bytes) same)
 
-pub shrinks_told : (room room' : Option ℕ) (n count : ℕ) → room ≡ Some n → Shrinks room room' count → (m : ℕ) × (room' ≡ Some m) × (n ≡ m + count)
+pub shrinks_told : (room room' : Option ℕ) (n count : ℕ) → room ≡ Some n → Shrinks room room' count → (m : ℕ)
+    × (room' ≡ Some m) × (n ≡ m + count)
 shrinks_told None room' n count e s = absurd cc
 shrinks_told (Some x) None n count e s = absurd s
 shrinks_told (Some x) (Some y) n count e s = let same : x ≡ n = cc in (y, refl, omega arith)
@@ -56,7 +67,9 @@ either_small false x y p q = q
 pub next_read_small : (read : List ℕ) → next_read read ≤ 8
 next_read_small [] = omega arith
 next_read_small (byte ∷ more) =
-    either_small (byte % 32 == 24) 1 _ (omega arith) (either_small (byte % 32 == 25) 2 _ (omega arith) (either_small (byte % 32 == 26) 4 _ (omega arith) (either_small (byte % 32 == 27) 8 0 (omega arith) (omega arith))))
+    either_small (byte % 32 == 24) 1 _ (omega arith) (either_small (byte % 32 == 25) 2 _ (omega arith)
+    (either_small (byte % 32 == 26) 4 _ (omega arith) (either_small (byte % 32 == 27) 8 0 (omega arith)
+    (omega arith))))
 
 -- the shortest titles are no longer
 titles_no_longer : (ts : List ℕ) (hs : List Header) → AreTitles ts hs → length (shortest_titles hs) ≤ length ts
@@ -74,8 +87,10 @@ record Passed (headers : List Header) (due front : List ℕ) (known' : Option (L
   parts : due ≡ front ++ rest
   left : known' ≡ Some rest
 
-passed : (headers : List Header) (due front : List ℕ) (known known' : Option (List ℕ)) → known ≡ Some due → Consumes known known' front → Passed headers due front known'
-passed headers due front known known' e c = let t = consumes_told known known' due front e c in record { rest = t.0; parts = t.2; left = t.1 }
+passed : (headers : List Header) (due front : List ℕ) (known known' : Option (List ℕ)) → known ≡ Some due
+    → Consumes known known' front → Passed headers due front known'
+passed headers due front known known' e c = let t = consumes_told known known' due front e c in
+    record { rest = t.0; parts = t.2; left = t.1 }
 
 -- a first byte or none is gone
 pub first_gone : (rest read left : List ℕ) → rest ≡ read ++ left → read ≡ take 1 rest → left ≡ drop 1 rest
@@ -87,10 +102,13 @@ pub refused_byte : (rest left : List ℕ) (byte : ℕ) → rest ≡ byte ∷ lef
 refused_byte rest left byte e = sym (ap (drop 1) e)
 
 module _ {R E W F : Type 0} (source : Reader R E) (sink : Writer W F) where
-  abbrev copies_front : (headers : List Header) (old between : Decoder R) (writer writer' : W) (due written : List ℕ) → IsReadyForTitles source sink old writer due written
-      → Copies source sink headers old writer between writer' → (front : CopiesTitles source sink headers due written writer') × (view source between ≡ Some front.rest)
+  abbrev copies_front : (headers : List Header) (old between : Decoder R) (writer writer' : W)
+      (due written : List ℕ) → IsReadyForTitles source sink old writer due written
+      → Copies source sink headers old writer between writer' →
+      (front : CopiesTitles source sink headers due written writer') × (view source between ≡ Some front.rest)
   copies_front headers old between writer writer' due written ready copied =
-      let p = passed headers due copied.bytes (view source old) (view source between) ready.due-told copied.passed.consumed in (
+      let p = passed headers due copied.bytes (view source old) (view source between) ready.due-told
+      copied.passed.consumed in (
         record {
           front = copied.bytes;
           rest = p.rest;
@@ -101,14 +119,25 @@ module _ {R E W F : Type 0} (source : Reader R E) (sink : Writer W F) where
         p.left,
       )
 
-  told_all : (count : ℕ) (old new : Decoder R) (writer writer' : W) (due written : List ℕ) → IsReadyForTitles source sink old writer due written
+  told_all : (count : ℕ) (old new : Decoder R) (writer writer' : W) (due written : List ℕ)
+      → IsReadyForTitles source sink old writer due written
       → CopiesEach source sink count old writer new writer' → CopiesSoMany source sink count due written old new writer'
   told_all count old new writer writer' due written ready all =
       let f = copies_front all.headers old new writer writer' due written ready all.copied in
-      record { headers = all.headers; all = all.all; copied = f.0; again = all.again; left = f.1; offset = all.copied.passed.offset }
+      record {
+        headers = all.headers;
+        all = all.all;
+        copied = f.0;
+        again = all.again;
+        left = f.1;
+        offset =
+            all.copied.passed.offset;
+      }
 
-  told_stop : (count : ℕ) (old new : Decoder R) (writer writer' : W) (due written : List ℕ) (error : Error E) → IsReadyForTitles source sink old writer due written
-      → StopsAtPull source sink count old writer error new writer' → CopiesTold source sink count due written old (Err (r.Read error)) new writer'
+  told_stop : (count : ℕ) (old new : Decoder R) (writer writer' : W) (due written : List ℕ) (error : Error E)
+      → IsReadyForTitles source sink old writer due written
+      → StopsAtPull source sink count old writer error new writer'
+      → CopiesTold source sink count due written old (Err (r.Read error)) new writer'
   told_stop count old new writer writer' due written (e.Io fault) ready stops =
       let f = copies_front stops.headers old stops.between writer writer' due written ready stops.copied in
       let cut = stops.stopped.steady (stops.copied.passed.steady ready.steady) in
@@ -120,11 +149,17 @@ module _ {R E W F : Type 0} (source : Reader R E) (sink : Writer W F) where
         copied = f.0;
         cut = ends.0;
         left = gone.1 ∙ ap Some (first_gone f.0.rest stops.stopped.read gone.0 gone.2 ends.1);
-        offset = let counted = ap length ends.1 in omega (arith, counted, stops.stopped.offset, stops.copied.passed.offset);
+        offset = let counted = ap length ends.1 in omega (
+          arith,
+          counted,
+          stops.stopped.offset,
+          stops.copied.passed.offset,
+        );
       }
   told_stop count old new writer writer' due written (e.Syntax place) ready stops =
       let f = copies_front stops.headers old stops.between writer writer' due written ready stops.copied in
-      let stopped = lenient_refuses source stops.between place new (stops.copied.passed.mode ∙ ready.lenient) stops.stopped in
+      let stopped = lenient_refuses source stops.between place new (stops.copied.passed.mode ∙ ready.lenient)
+      stops.stopped in
       let byte = stopped.byte in
       let gone = consumes_told _ _ f.0.rest (byte ∷ []) f.1 stopped.bytes in
       record {
@@ -144,10 +179,22 @@ module _ {R E W F : Type 0} (source : Reader R E) (sink : Writer W F) where
       let whole = ap length f.0.parts in
       let fits : old.offset + length due + 8 < 2 ^ 64 = ready.fits in
       let full : 2 ^ 64 ≤ new.offset + next_read read = stops.stopped.full in
-      absurd (omega (arith, behind, whole, fits, full, next_read_small read, stops.stopped.offset, stops.copied.passed.offset, length-append read gone.0, length-append f.0.front f.0.rest))
+      absurd (omega (
+        arith,
+        behind,
+        whole,
+        fits,
+        full,
+        next_read_small read,
+        stops.stopped.offset,
+        stops.copied.passed.offset,
+        length-append read gone.0,
+        length-append f.0.front f.0.rest,
+      ))
   told_stop count old new writer writer' due written e.Waiting ready stops = absurd stops.stopped
 
-  never_full : (count : ℕ) (old new : Decoder R) (writer writer' : W) (due written : List ℕ) → IsReadyForTitles source sink old writer due written
+  never_full : (count : ℕ) (old new : Decoder R) (writer writer' : W) (due written : List ℕ)
+      → IsReadyForTitles source sink old writer due written
       → StopsAtPush source sink count old writer new writer' → ⊥
   never_full count old new writer writer' due written ready stops =
       let f = copies_front stops.headers old stops.between writer stops.writer-between due written ready stops.copied in
@@ -155,7 +202,8 @@ module _ {R E W F : Type 0} (source : Reader R E) (sink : Writer W F) where
       let gone = consumes_told _ _ f.0.rest stops.pulled.title f.1 stops.pulled.bytes in
       let behind = ap length gone.2 in
       let whole = ap length f.0.parts in
-      let room = shrinks_told _ _ ready.room (length (shortest_titles stops.headers)) ready.room-told stops.copied.written.room in
+      let room = shrinks_told _ _ ready.room (length (shortest_titles stops.headers)) ready.room-told
+      stops.copied.written.room in
       let less : room.0 < length (shortest_title last) = rw room.1 at stops.stopped.full in
       let enough : length due ≤ ready.room = ready.enough in
       omega (
@@ -171,23 +219,31 @@ module _ {R E W F : Type 0} (source : Reader R E) (sink : Writer W F) where
         length-append f.0.front f.0.rest,
       )
 
-  pub told : (count : ℕ) (old new : Decoder R) (writer writer' : W) (due written : List ℕ) (result : Result (Unit {0}) (RecodeError E F)) → IsReadyForTitles source sink old writer due written
-      → CopiesHeaders source sink count old writer result new writer' → CopiesTold source sink count due written old result new writer'
-  told count old new writer writer' due written (Ok done) ready all = told_all count old new writer writer' due written ready all
-  told count old new writer writer' due written (Err (r.Read error)) ready stops = told_stop count old new writer writer' due written error ready stops
-  told count old new writer writer' due written (Err (r.Write fault)) ready stops = never_full count old new writer writer' due written ready stops
+  pub told : (count : ℕ) (old new : Decoder R) (writer writer' : W) (due written : List ℕ)
+      (result : Result (Unit {0}) (RecodeError E F)) → IsReadyForTitles source sink old writer due written
+      → CopiesHeaders source sink count old writer result new writer'
+      → CopiesTold source sink count due written old result new writer'
+  told count old new writer writer' due written (Ok done) ready all =
+      told_all count old new writer writer' due written ready all
+  told count old new writer writer' due written (Err (r.Read error)) ready stops =
+      told_stop count old new writer writer' due written error ready stops
+  told count old new writer writer' due written (Err (r.Write fault)) ready stops =
+      never_full count old new writer writer' due written ready stops
 
   -- a fault excludes as many titles in front
-  fault_or_titles : (count : ℕ) (due written : List ℕ) (writer' : W) (headers : List Header) (copied : CopiesTitles source sink headers due written writer') → length headers < count
+  fault_or_titles : (count : ℕ) (due written : List ℕ) (writer' : W) (headers : List Header)
+      (copied : CopiesTitles source sink headers due written writer') → length headers < count
       → BeginsRefused copied.rest ⊎ IsCutTitle copied.rest → TitlesInFront count due → ⊥
   fault_or_titles count due written writer' headers copied fewer fault front =
-      let next = title_behind copied.front copied.rest front.front front.rest headers front.headers copied.titles front.titles (sym copied.parts ∙ front.parts) (omega (arith, fewer, front.all)) in
+      let next = title_behind copied.front copied.rest front.front front.rest headers front.headers copied.titles
+      front.titles (sym copied.parts ∙ front.parts) (omega (arith, fewer, front.all)) in
       elim fault [
         | inl refused ↦ title_refused next.0 next.2 next.1 next.3 (subst BeginsRefused next.4 refused)
         | inr cut ↦ title_not_cut next.0 next.2 next.1 next.3 (subst IsCutTitle next.4 cut)
       ]
 
-  exactly_told : (count : ℕ) (old new : Decoder R) (writer' : W) (due written : List ℕ) (result : Result (Unit {0}) (RecodeError E F))
+  exactly_told : (count : ℕ) (old new : Decoder R) (writer' : W) (due written : List ℕ)
+      (result : Result (Unit {0}) (RecodeError E F))
       → CopiesTold source sink count due written old result new writer' → IsOk result ↔ TitlesInFront count due
   exactly_told count old new writer' due written (Ok done) told = (
     λ ok. record {
@@ -202,17 +258,21 @@ module _ {R E W F : Type 0} (source : Reader R E) (sink : Writer W F) where
   )
   exactly_told count old new writer' due written (Err (r.Read (e.Io fault))) told = (
     λ ok. absurd cc,
-    λ front. absurd (fault_or_titles count due written writer' told.headers told.copied told.fewer (inr told.cut) front),
+    λ front. absurd (fault_or_titles count due written writer' told.headers told.copied told.fewer (inr told.cut)
+        front),
   )
   exactly_told count old new writer' due written (Err (r.Read (e.Syntax place))) told = (
     λ ok. absurd cc,
-    λ front. absurd (fault_or_titles count due written writer' told.headers told.copied told.fewer (inl told.refused) front),
+    λ front. absurd (fault_or_titles count due written writer' told.headers told.copied told.fewer
+        (inl told.refused) front),
   )
   exactly_told count old new writer' due written (Err (r.Read e.TooLong)) told = absurd told
   exactly_told count old new writer' due written (Err (r.Read e.Waiting)) told = absurd told
   exactly_told count old new writer' due written (Err (r.Write fault)) told = absurd told
 
-  pub exactly : (count : ℕ) (old new : Decoder R) (writer writer' : W) (due written : List ℕ) (result : Result (Unit {0}) (RecodeError E F)) → IsReadyForTitles source sink old writer due written
+  pub exactly : (count : ℕ) (old new : Decoder R) (writer writer' : W) (due written : List ℕ)
+      (result : Result (Unit {0}) (RecodeError E F)) → IsReadyForTitles source sink old writer due written
       → CopiesHeaders source sink count old writer result new writer' → IsOk result ↔ TitlesInFront count due
   exactly count old new writer writer' due written result ready copied =
-      exactly_told count old new writer' due written result (told count old new writer writer' due written result ready copied)
+      exactly_told count old new writer' due written result
+      (told count old new writer writer' due written result ready copied)

@@ -1,5 +1,6 @@
 -- What the relations of the decoder's calls have in common.
-use Rattle.std.proofs.Common.{◌≡◌, ℕ, false, ◌⊎◌, List, [], ◌++◌, length, Option, Some, None, IfSome, Result, Ok, Err, refl, sym, ap, subst, ◌∙◌, inl, inr, arith, append_assoc, append-nil, length-append}
+use Rattle.std.proofs.Common.{◌≡◌, ℕ, false, ◌⊎◌, List, [], ◌++◌, length, Option, Some, None, IfSome, Result, Ok, Err}
+use Rattle.std.proofs.Common.{refl, sym, ap, subst, ◌∙◌, inl, inr, arith, append_assoc, append-nil, length-append}
 use Rattle.std.proofs.KnownBytes.{Consumes-nil, Consumes-trans}
 use Rattle.std.specs.Io.KnownBytes.{Consumes, prepend_known}
 use Rattle.ciborium_ll_grammar.specs.declared.hdr.Header.{Header}
@@ -9,7 +10,8 @@ use Rattle.ciborium_ll_decoder.specs.declared.dec.Error.{Error}
 use Rattle.ciborium_ll_decoder.specs.declared.dec.Error.TheVariants as e
 use Rattle.ciborium_ll_text.proofs.Lists.{length_zero}
 use Rattle.ciborium_ll_grammar.specs.Title.{shortest_title, title_len}
-use Rattle.ciborium_ll_decoder.specs.Decoding.{Begins, behind_waiting, view, IsSteady, MovesOn, Passes, PullsTitle, PullsHeader, RefusesTitle, TakesBack, PullsAgain}
+use Rattle.ciborium_ll_decoder.specs.Decoding.{Begins, behind_waiting, view, IsSteady, MovesOn, Passes, PullsTitle}
+use Rattle.ciborium_ll_decoder.specs.Decoding.{PullsHeader, RefusesTitle, TakesBack, PullsAgain}
 
 -- bytes put in front are the next ones
 pub Consumes-prepended : (known : Option (List ℕ)) (front : List ℕ) → Consumes (prepend_known front known) known front
@@ -17,15 +19,19 @@ Consumes-prepended None front = tt
 Consumes-prepended (Some bytes) front = refl
 
 -- a waiting header that is taken leaves what was behind it
-pub Consumes-waiting : (waiting waiting' : Option Header) (header : Header) (ahead : Option (List ℕ)) → waiting ≡ Some header → waiting' ≡ None
+pub Consumes-waiting : (waiting waiting' : Option Header) (header : Header) (ahead : Option (List ℕ)) → waiting
+    ≡ Some header → waiting' ≡ None
     → Consumes (behind_waiting waiting ahead) (behind_waiting waiting' ahead) (shortest_title header)
 Consumes-waiting waiting waiting' header ahead e e' =
-    subst (λ (w : Option Header). Consumes (behind_waiting w ahead) (behind_waiting waiting' ahead) (shortest_title header)) (sym e)
-    (subst (λ (w : Option Header). Consumes (prepend_known (shortest_title header) ahead) (behind_waiting w ahead) (shortest_title header)) (sym e')
+    subst (λ (w : Option Header). Consumes (behind_waiting w ahead) (behind_waiting waiting' ahead)
+    (shortest_title header)) (sym e)
+    (subst (λ (w : Option Header). Consumes (prepend_known (shortest_title header) ahead) (behind_waiting w ahead)
+    (shortest_title header)) (sym e')
     (Consumes-prepended ahead (shortest_title header)))
 
 -- a header that is given back is the next one
-pub pulls_again : {R E : Type 0} (source : Ghosts R E) (old pulled pushed new : Decoder R) (header : Header) (result : Result Header (Error E)) → PullsTitle source old header pulled
+pub pulls_again : {R E : Type 0} (source : Ghosts R E) (old pulled pushed new : Decoder R) (header : Header)
+    (result : Result Header (Error E)) → PullsTitle source old header pulled
     → TakesBack source pulled header pushed → PullsHeader source pushed result new → PullsAgain source old result new
 pulls_again source old pulled pushed new header (Ok again) first back second =
     let waited = rw back.waits at second.waited in
@@ -42,10 +48,14 @@ pulls_again source old pulled pushed new header (Ok again) first back second =
       offset = omega (arith, counted, taken, second.offset, back.offset);
       none_waits = second.none_waits;
     }
-pulls_again source old pulled pushed new header (Err (e.Io fault)) first back second = let a = back.waits in let b = second.none_waited in absurd cc
-pulls_again source old pulled pushed new header (Err (e.Syntax place)) first back (inl second) = let a = back.waits in let b = second.none_waited in absurd cc
-pulls_again source old pulled pushed new header (Err (e.Syntax place)) first back (inr second) = let a = back.waits in let b = second.none_waited in absurd cc
-pulls_again source old pulled pushed new header (Err e.TooLong) first back second = let a = back.waits in let b = second.none_waited in absurd cc
+pulls_again source old pulled pushed new header (Err (e.Io fault)) first back second = let a = back.waits in let b =
+    second.none_waited in absurd cc
+pulls_again source old pulled pushed new header (Err (e.Syntax place)) first back (inl second) = let a =
+    back.waits in let b = second.none_waited in absurd cc
+pulls_again source old pulled pushed new header (Err (e.Syntax place)) first back (inr second) = let a =
+    back.waits in let b = second.none_waited in absurd cc
+pulls_again source old pulled pushed new header (Err e.TooLong) first back second = let a = back.waits in let b =
+    second.none_waited in absurd cc
 pulls_again source old pulled pushed new header (Err e.Waiting) first back second = absurd second
 
 -- what holds of every value holds of the one, if there is one
@@ -54,12 +64,14 @@ IfSome-all None P all = tt
 IfSome-all (Some value) P all = all value
 
 -- what holds of the value of an option, at that value
-pub IfSome-at : {A : Type 0} (option : Option A) (value : A) (P : A → Type 0) → option ≡ Some value → IfSome option P → P value
+pub IfSome-at : {A : Type 0} (option : Option A) (value : A) (P : A → Type 0) → option ≡ Some value
+    → IfSome option P → P value
 IfSome-at None value P e holds = absurd cc
 IfSome-at (Some x) value P e holds = let same : x ≡ value = cc in subst P same holds
 
 -- the title of a waiting header goes first, also with one title more
-waited_pull : {R : Type 0} (old between new : Decoder R) (bytes title : List ℕ) (header : Header) (waiting : Option Header) → old.waiting ≡ waiting
+waited_pull : {R : Type 0} (old between new : Decoder R) (bytes title : List ℕ) (header : Header)
+    (waiting : Option Header) → old.waiting ≡ waiting
     → IfSome waiting (λ h. (between ≡ old) ⊎ Begins (shortest_title h) bytes) → (between ≡ old → bytes ≡ [])
     → IfSome between.waiting (λ kept. (kept ≡ header) × (title ≡ shortest_title header) × (new.reader ≡ between.reader))
     → IfSome waiting (λ h. (new ≡ old) ⊎ Begins (shortest_title h) (bytes ++ title))
@@ -72,13 +84,16 @@ waited_pull old between new bytes title header (Some h) e (inl same) nil waited 
 waited_pull old between new bytes title header (Some h) e (inr begins) nil waited =
     inr (begins.0 ++ title, ap (λ (z : List ℕ). z ++ title) begins.1 ∙ append_assoc (shortest_title h) begins.0 title)
 
-waiting_then : {R : Type 0} (old between new : Decoder R) (bytes more : List ℕ) → ((bytes ≡ []) × (between ≡ old)) ⊎ (between.waiting ≡ None)
-    → ((more ≡ []) × (new ≡ between)) ⊎ (new.waiting ≡ None) → ((bytes ++ more ≡ []) × (new ≡ old)) ⊎ (new.waiting ≡ None)
+waiting_then : {R : Type 0} (old between new : Decoder R) (bytes more : List ℕ)
+    → ((bytes ≡ []) × (between ≡ old)) ⊎ (between.waiting ≡ None)
+    → ((more ≡ []) × (new ≡ between)) ⊎ (new.waiting ≡ None) → ((bytes ++ more ≡ []) × (new ≡ old)) ⊎
+    (new.waiting ≡ None)
 waiting_then old between new bytes more first (inr none) = inr none
 waiting_then old between new bytes more (inl a) (inl b) = inl (rw (a.0, b.0) refl, b.1 ∙ a.1)
 waiting_then old between new bytes more (inr none) (inl b) = inr (ap (λ d. d.waiting) b.1 ∙ none)
 
-waited_then : {R : Type 0} (old between new : Decoder R) (bytes more : List ℕ) (waiting : Option Header) → old.waiting ≡ waiting
+waited_then : {R : Type 0} (old between new : Decoder R) (bytes more : List ℕ) (waiting : Option Header)
+    → old.waiting ≡ waiting
     → IfSome waiting (λ h. (between ≡ old) ⊎ Begins (shortest_title h) bytes) → (between ≡ old → bytes ≡ [])
     → IfSome between.waiting (λ h. (new ≡ between) ⊎ Begins (shortest_title h) more)
     → IfSome waiting (λ h. (new ≡ old) ⊎ Begins (shortest_title h) (bytes ++ more))
@@ -86,7 +101,8 @@ waited_then old between new bytes more None e first nil second = tt
 waited_then old between new bytes more (Some h) e (inr begins) nil second =
     inr (begins.0 ++ more, ap (λ (z : List ℕ). z ++ more) begins.1 ∙ append_assoc (shortest_title h) begins.0 more)
 waited_then old between new bytes more (Some h) e (inl same) nil second =
-    elim (IfSome-at between.waiting h (λ g. (new ≡ between) ⊎ Begins (shortest_title g) more) (ap (λ d. d.waiting) same ∙ e) second) [
+    elim (IfSome-at between.waiting h (λ g. (new ≡ between) ⊎ Begins (shortest_title g) more)
+    (ap (λ d. d.waiting) same ∙ e) second) [
       | inl still ↦ inl (still ∙ same)
       | inr begins ↦ inr (begins.0, ap (λ (z : List ℕ). z ++ more) (nil same) ∙ begins.1)
     ]
@@ -97,7 +113,8 @@ module _ {R E : Type 0} (source : Ghosts R E) where
   MovesOn-none decoder = record { steady = λ s. s; refusals = refl; rises = omega arith }
 
   -- one call behind others
-  pub MovesOn-then : (old between new : Decoder R) → MovesOn source old between → MovesOn source between new → MovesOn source old new
+  pub MovesOn-then : (old between new : Decoder R) → MovesOn source old between → MovesOn source between new
+      → MovesOn source old new
   MovesOn-then old between new first second = record {
     steady = λ s. second.steady (first.steady s);
     refusals = second.refusals ∙ first.refusals;
@@ -117,38 +134,44 @@ module _ {R E : Type 0} (source : Ghosts R E) where
   }
 
   -- one title more
-  pub Passes-pulled : (old between new : Decoder R) (bytes : List ℕ) (header : Header) (title : PullsTitle source between header new) → Passes source old bytes between
+  pub Passes-pulled : (old between new : Decoder R) (bytes : List ℕ) (header : Header)
+      (title : PullsTitle source between header new) → Passes source old bytes between
       → (IsSteady source old → IsSteady source new) → Passes source old (bytes ++ title.title) new
   Passes-pulled old between new bytes header title passed steady = record {
     consumed = Consumes-trans _ _ _ bytes title.title passed.consumed title.bytes;
     offset = omega (arith, passed.offset, title.offset, length-append bytes title.title);
     waiting = inr title.none_waits;
     waited = waited_pull old between new bytes title.title header old.waiting refl passed.waited
-        (λ same. length_zero bytes (let moved = ap (λ d. d.offset) same in omega (arith, moved, passed.offset))) title.waited;
+        (λ same. length_zero bytes (let moved = ap (λ d. d.offset) same in omega (arith, moved, passed.offset)))
+        title.waited;
     failures = cc (passed.failures, title.failures);
     steady = steady;
     mode = title.mode ∙ passed.mode;
   }
 
-  pub Passes-pull : (old between new : Decoder R) (bytes : List ℕ) (header : Header) (title : PullsTitle source between header new) → Passes source old bytes between
+  pub Passes-pull : (old between new : Decoder R) (bytes : List ℕ) (header : Header)
+      (title : PullsTitle source between header new) → Passes source old bytes between
       → (IsSteady source between → IsSteady source new) → Passes source old (bytes ++ title.title) new
   Passes-pull old between new bytes header title passed steady =
       Passes-pulled old between new bytes header title passed (λ s. steady (passed.steady s))
 
   -- bytes, and then bytes
-  pub Passes-then : (old between new : Decoder R) (bytes more : List ℕ) → Passes source old bytes between → Passes source between more new → Passes source old (bytes ++ more) new
+  pub Passes-then : (old between new : Decoder R) (bytes more : List ℕ) → Passes source old bytes between
+      → Passes source between more new → Passes source old (bytes ++ more) new
   Passes-then old between new bytes more first second = record {
     consumed = Consumes-trans _ _ _ bytes more first.consumed second.consumed;
     offset = omega (arith, first.offset, second.offset, length-append bytes more);
     waiting = waiting_then old between new bytes more first.waiting second.waiting;
     waited = waited_then old between new bytes more old.waiting refl first.waited
-        (λ same. length_zero bytes (let moved = ap (λ d. d.offset) same in omega (arith, moved, first.offset))) second.waited;
+        (λ same. length_zero bytes (let moved = ap (λ d. d.offset) same in omega (arith, moved, first.offset)))
+        second.waited;
     failures = cc (first.failures, second.failures);
     steady = λ s. second.steady (first.steady s);
     mode = second.mode ∙ first.mode;
   }
 
   -- a decoder that isn't strict refuses first bytes alone
-  pub lenient_refuses : (old : Decoder R) (place : ℕ) (new : Decoder R) → old.strict ≡ false → PullsHeader source old (Err (e.Syntax place)) new → RefusesTitle source old place new
+  pub lenient_refuses : (old : Decoder R) (place : ℕ) (new : Decoder R) → old.strict ≡ false
+      → PullsHeader source old (Err (e.Syntax place)) new → RefusesTitle source old place new
   lenient_refuses old place new lenient (inl refused) = refused
   lenient_refuses old place new lenient (inr longer) = absurd (let on = longer.strict in cc)

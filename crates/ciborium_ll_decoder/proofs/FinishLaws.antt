@@ -1,5 +1,7 @@
 -- What is left of a body, read chunk by chunk.
-use Rattle.std.proofs.Common.{◌≡◌, ℕ, ◌+◌, ◌≤◌, true, List, [], ◌++◌, length, Option, Some, None, Result, Ok, Err, IsOk, refl, sym, ap, subst, ◌∙◌, inl, inr, arith, append_assoc, append-nil, length-append}
+use Rattle.std.proofs.Common.{◌≡◌, ℕ, ◌+◌, ◌≤◌, true, List, [], ◌++◌, length, Option, Some, None, Result, Ok, Err}
+use Rattle.std.proofs.Common.{IsOk, refl, sym, ap, subst, ◌∙◌, inl, inr, arith, append_assoc, append-nil}
+use Rattle.std.proofs.Common.{length-append}
 use Rattle.std.specs.Borrow.{Bor}
 use Rattle.ciborium_ll_io.specs.declared.io.Read.{Ghosts as Reader}
 use Rattle.ciborium_ll_decoder.specs.declared.dec.Decoder.{Decoder}
@@ -10,10 +12,12 @@ use Rattle.ciborium_ll_decoder.specs.declared.seg.Segment.{Segment}
 use Rattle.ciborium_ll_grammar.specs.Strings.{Kind, Bytes, Text, IsWritable}
 use Rattle.ciborium_ll_decoder.specs.Kept.{kept_bytes}
 use Rattle.ciborium_ll_decoder.specs.Decoding.{IsSteady, Passes}
-use Rattle.ciborium_ll_decoder.specs.Chunks.{IsSplit, GivesChunk, FindsDamage, EndsInCharacter, KeepsTooMuch, ChunkFails, ChunkPasses, PullsChunk, read_count}
+use Rattle.ciborium_ll_decoder.specs.Chunks.{IsSplit, GivesChunk, FindsDamage, EndsInCharacter, KeepsTooMuch}
+use Rattle.ciborium_ll_decoder.specs.Chunks.{ChunkFails, ChunkPasses, PullsChunk, read_count}
 use Rattle.ciborium_ll_decoder.specs.Finishing.{BeginsRest, RestFails, RestPasses, RestDamaged, Finishes}
 use Rattle.ciborium_ll_decoder.proofs.DecodingLaws.{Passes-none}
-use Rattle.ciborium_ll_decoder.proofs.BodyLaws.{split_parts, writable_nil, writable_chunk, three_kept, few_kept, stuck_is_no_text, too_much_is_no_text, Passes-read}
+use Rattle.ciborium_ll_decoder.proofs.BodyLaws.{split_parts, writable_nil, writable_chunk, three_kept, few_kept}
+use Rattle.ciborium_ll_decoder.proofs.BodyLaws.{stuck_is_no_text, too_much_is_no_text, Passes-read}
 
 module _ {R E P : Type 0} {parser : Parser P} (source : Reader R E) where
   -- of the rest of the first segment these bytes were read, and those behind the chunks are kept
@@ -42,28 +46,34 @@ module _ {R E P : Type 0} {parser : Parser P} (source : Reader R E) where
   }
 
   module _ (first segment : Segment R P parser) (so_far : RestSoFar first segment) where
-    pub rest_chunk : (room : ℕ) (chunk : List ℕ) (new : Segment R P parser) (gives : GivesChunk source room segment chunk new)
+    pub rest_chunk : (room : ℕ) (chunk : List ℕ) (new : Segment R P parser)
+        (gives : GivesChunk source room segment chunk new)
         → (IsSteady source segment.decoder.now → IsSteady source new.decoder.now) → RestSoFar first new
     rest_chunk room chunk new gives steady =
         let more = gives.read in
         record {
           read = so_far.read ++ more;
           front = so_far.front ++ chunk;
-          parts = sym (append_assoc (kept_bytes first.kept) so_far.read more) ∙ ap (λ (z : List ℕ). z ++ more) so_far.parts
+          parts = sym (append_assoc (kept_bytes first.kept) so_far.read more)
+              ∙ ap (λ (z : List ℕ). z ++ more) so_far.parts
               ∙ append_assoc so_far.front (kept_bytes segment.kept) more
-              ∙ ap (λ (z : List ℕ). so_far.front ++ z) (split_parts parser.kind (kept_bytes segment.kept ++ more) chunk (kept_bytes new.kept) gives.split)
+              ∙ ap (λ (z : List ℕ). so_far.front ++ z) (split_parts parser.kind (kept_bytes segment.kept ++ more)
+              chunk (kept_bytes new.kept) gives.split)
               ∙ sym (append_assoc so_far.front chunk (kept_bytes new.kept));
           sound = writable_chunk parser.kind so_far.front _ chunk _ so_far.sound gives.split;
           counted = omega (arith, so_far.counted, gives.reads.unread, length-append so_far.read more);
-          passed = Passes-read source first.decoder.now segment.decoder.now new.decoder.now so_far.read more so_far.passed gives.reads.reads steady;
+          passed = Passes-read source first.decoder.now segment.decoder.now new.decoder.now so_far.read more
+              so_far.passed gives.reads.reads steady;
           at = gives.reads.place ∙ so_far.at;
           damage = gives.still_sound ∙ sym gives.reads.sound ∙ so_far.damage;
           still = λ damaged. absurd (let never = gives.still_sound in cc);
         }
 
     -- the same of whatever a pull gave, if it didn't fail and gave no `None`
-    pub rest_pulled : (room : ℕ) (result : Result (Option (Bor (List ℕ))) (Error E)) (new : Segment R P parser) → PullsChunk source room segment result new
-        → IsOk result → (result ≡ Ok None → ⊥) → (IsSteady source segment.decoder.now → IsSteady source new.decoder.now) → RestSoFar first new
+    pub rest_pulled : (room : ℕ) (result : Result (Option (Bor (List ℕ))) (Error E)) (new : Segment R P parser)
+        → PullsChunk source room segment result new
+        → IsOk result → (result ≡ Ok None → ⊥) → (IsSteady source segment.decoder.now
+        → IsSteady source new.decoder.now) → RestSoFar first new
     rest_pulled room (Ok (Some chunk)) new pulled ok some steady = rest_chunk room chunk.now new pulled steady
     rest_pulled room (Ok None) new pulled ok some steady = absurd (some refl)
     rest_pulled room (Err error) new pulled ok some steady = cc
@@ -105,36 +115,47 @@ module _ {R E P : Type 0} {parser : Parser P} (source : Reader R E) where
       untouched = passes.untouched;
     }
 
-    damaged_end : (new : Segment R P parser) → (kind : Kind) → parser.kind ≡ kind → EndsInCharacter source segment new → IsWritable kind so_far.front
+    damaged_end : (new : Segment R P parser) → (kind : Kind) → parser.kind ≡ kind
+        → EndsInCharacter source segment new → IsWritable kind so_far.front
         → RestDamaged source kind (kept_bytes first.kept) first.unread first.decoder.now new.decoder.now
-    damaged_end new Bytes is ends sound = absurd (let none = ap length (segment.text_alone is) in let some = ends.some_kept in omega (arith, none, some))
+    damaged_end new Bytes is ends sound = absurd (let none = ap length (segment.text_alone is) in let some =
+        ends.some_kept in omega (arith, none, some))
     damaged_end new Text is ends sound = record {
       textual = refl;
       read = so_far.read;
       within = omega (arith, so_far.counted);
       no_text = inl (
         omega (arith, so_far.counted, ends.none_unread),
-        stuck_is_no_text (kept_bytes first.kept ++ so_far.read) so_far.front (kept_bytes segment.kept) so_far.parts sound segment.stuck ends.some_kept,
+        stuck_is_no_text (kept_bytes first.kept ++ so_far.read) so_far.front (kept_bytes segment.kept) so_far.parts
+            sound segment.stuck ends.some_kept,
       );
-      passed = subst (λ (d : Decoder R). Passes source first.decoder.now so_far.read d) (sym ends.decoder) so_far.passed;
+      passed = subst (λ (d : Decoder R). Passes source first.decoder.now so_far.read d) (sym ends.decoder)
+          so_far.passed;
     }
 
-    damaged_middle : (room : ℕ) (new : Segment R P parser) → (IsSteady source segment.decoder.now → IsSteady source new.decoder.now) → (kind : Kind) → parser.kind ≡ kind
-        → (keeps : KeepsTooMuch source room segment new) → IsWritable kind so_far.front → IsSplit kind (kept_bytes segment.kept ++ keeps.read) keeps.front keeps.left
+    damaged_middle : (room : ℕ) (new : Segment R P parser) →
+        (IsSteady source segment.decoder.now → IsSteady source new.decoder.now) → (kind : Kind) → parser.kind ≡ kind
+        → (keeps : KeepsTooMuch source room segment new) → IsWritable kind so_far.front
+        → IsSplit kind (kept_bytes segment.kept ++ keeps.read) keeps.front keeps.left
         → RestDamaged source kind (kept_bytes first.kept) first.unread first.decoder.now new.decoder.now
-    damaged_middle room new steady Bytes is keeps sound split = absurd (let none = ap length split.1 in let much = keeps.too_much in omega (arith, none, much))
+    damaged_middle room new steady Bytes is keeps sound split = absurd
+        (let none = ap length split.1 in let much = keeps.too_much in omega (arith, none, much))
     damaged_middle room new steady Text is keeps sound split =
         let kept = kept_bytes first.kept in
-        let parts = sym (append_assoc kept so_far.read keeps.read) ∙ ap (λ (z : List ℕ). z ++ keeps.read) so_far.parts ∙ append_assoc so_far.front (kept_bytes segment.kept) keeps.read in
+        let parts = sym (append_assoc kept so_far.read keeps.read) ∙ ap (λ (z : List ℕ). z ++ keeps.read)
+        so_far.parts ∙ append_assoc so_far.front (kept_bytes segment.kept) keeps.read in
         record {
           textual = refl;
           read = so_far.read ++ keeps.read;
           within = omega (arith, so_far.counted, keeps.reads.unread, length-append so_far.read keeps.read);
-          no_text = inr (too_much_is_no_text (kept ++ (so_far.read ++ keeps.read)) so_far.front (kept_bytes segment.kept) keeps.read keeps.front keeps.left parts sound split keeps.too_much);
-          passed = Passes-read source first.decoder.now segment.decoder.now new.decoder.now so_far.read keeps.read so_far.passed keeps.reads.reads steady;
+          no_text = inr (too_much_is_no_text (kept ++ (so_far.read ++ keeps.read)) so_far.front
+              (kept_bytes segment.kept) keeps.read keeps.front keeps.left parts sound split keeps.too_much);
+          passed = Passes-read source first.decoder.now segment.decoder.now new.decoder.now so_far.read keeps.read
+              so_far.passed keeps.reads.reads steady;
         }
 
-    rest_damaged : (room at : ℕ) (new : Segment R P parser) → (IsSteady source segment.decoder.now → IsSteady source new.decoder.now) → FindsDamage source room segment at new
+    rest_damaged : (room at : ℕ) (new : Segment R P parser) →
+        (IsSteady source segment.decoder.now → IsSteady source new.decoder.now) → FindsDamage source room segment at new
         → Finishes source room first (Err (e.Syntax at)) new.decoder.now
     rest_damaged room at new steady finds =
         let placed = finds.place ∙ so_far.at in
@@ -157,18 +178,26 @@ module _ {R E P : Type 0} {parser : Parser P} (source : Reader R E) where
         ]
 
     -- a pull that fails is the last one
-    rest_error : (room : ℕ) (error : Error E) (new : Segment R P parser) → 4 ≤ room → (IsSteady source segment.decoder.now → IsSteady source new.decoder.now)
+    rest_error : (room : ℕ) (error : Error E) (new : Segment R P parser) → 4 ≤ room
+        → (IsSteady source segment.decoder.now → IsSteady source new.decoder.now)
         → PullsChunk source room segment (Err error) new → Finishes source room first (Err error) new.decoder.now
-    rest_error room (e.Io fault) new four steady fails = inl (record { undamaged = sym so_far.damage ∙ fails.sound; ends = rest_fails room new four fails })
+    rest_error room (e.Io fault) new four steady fails = inl
+        (record { undamaged = sym so_far.damage ∙ fails.sound; ends = rest_fails room new four fails })
     rest_error room (e.Syntax at) new four steady finds = rest_damaged room at new steady finds
-    rest_error room e.TooLong new four steady passes = inl (record { undamaged = sym so_far.damage ∙ passes.sound; ends = rest_passes room new passes })
+    rest_error room e.TooLong new four steady passes = inl
+        (record { undamaged = sym so_far.damage ∙ passes.sound; ends = rest_passes room new passes })
     rest_error room e.Waiting new four steady never = absurd never
 
     -- the same of whatever a pull and the loop gave, if both are one error
-    pub rest_stopped : (room buffer : ℕ) (result : Result (Option (Bor (List ℕ))) (Error E)) (answer : Result Unit (Error E)) (error : Error E)
-        (new : Segment R P parser) → PullsChunk source room segment result new → result ≡ Err error → answer ≡ Err error → room ≡ buffer → 4 ≤ buffer
-        → (IsSteady source segment.decoder.now → IsSteady source new.decoder.now) → Finishes source buffer first answer new.decoder.now
+    pub rest_stopped : (room buffer : ℕ) (result : Result (Option (Bor (List ℕ))) (Error E))
+        (answer : Result Unit (Error E)) (error : Error E)
+        (new : Segment R P parser) → PullsChunk source room segment result new → result ≡ Err error → answer
+        ≡ Err error → room ≡ buffer → 4 ≤ buffer
+        → (IsSteady source segment.decoder.now → IsSteady source new.decoder.now)
+        → Finishes source buffer first answer new.decoder.now
     rest_stopped room buffer result answer error new pulled failed answered same four steady =
-        let fails = subst (λ (z : Result (Option (Bor (List ℕ))) (Error E)). PullsChunk source buffer segment z new) failed
-            (subst (λ (n : ℕ). PullsChunk source n segment result new) same pulled) in
-        subst (λ (z : Result Unit (Error E)). Finishes source buffer first z new.decoder.now) (sym answered) (rest_error buffer error new four steady fails)
+        let fails = subst (λ (z : Result (Option (Bor (List ℕ))) (Error E)). PullsChunk source buffer segment z new)
+        failed
+        (subst (λ (n : ℕ). PullsChunk source n segment result new) same pulled) in
+        subst (λ (z : Result Unit (Error E)). Finishes source buffer first z new.decoder.now) (sym answered)
+        (rest_error buffer error new four steady fails)

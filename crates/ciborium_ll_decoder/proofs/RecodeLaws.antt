@@ -1,5 +1,7 @@
 -- Where the copy of elements stops, and how an element is added.
-use Rattle.std.proofs.Common.{◌≡◌, ℕ, suc, ◌+◌, ◌-◌, ◌<◌, ◌≤◌, ◌⊎◌, List, [], ◌∷◌, ◌++◌, length, Option, Some, None, IfSome, IsTrue, Result, Ok, Err, refl, sym, ap, subst, ◌∙◌, inl, inr, arith, append_assoc, append-nil, length-append}
+use Rattle.std.proofs.Common.{◌≡◌, ℕ, suc, ◌+◌, ◌-◌, ◌<◌, ◌≤◌, ◌⊎◌, List, [], ◌∷◌, ◌++◌, length, Option, Some, None}
+use Rattle.std.proofs.Common.{IfSome, IsTrue, Result, Ok, Err, refl, sym, ap, subst, ◌∙◌, inl, inr, arith}
+use Rattle.std.proofs.Common.{append_assoc, append-nil, length-append}
 use Rattle.std.proofs.lemmas.Bool.{cases_lt}
 use Rattle.std.specs.Io.KnownBytes.{Consumes}
 use Rattle.ciborium_ll_io.specs.declared.io.Read.{Ghosts as Reader}
@@ -15,7 +17,8 @@ use Rattle.ciborium_ll_grammar.specs.Elements.{IsSound, Mark, Whole, spelling, d
 use Rattle.ciborium_ll_grammar.specs.Faults.{Place, Due, Body, Reaches, due, body}
 use Rattle.ciborium_ll_decoder.specs.Decoding.{Begins, behind_waiting, view, Passes, Strictly}
 use Rattle.ciborium_ll_encoder.specs.Encoding.{WritesAll, WritesFront}
-use Rattle.ciborium_ll_decoder.specs.Recoding.{WritesHeader, CopiesBody, CopiesWhole, BodyUnwritten, IsUnderWay, Copied, StopsWriting, StopsCopy, AddsElement, GoesOn}
+use Rattle.ciborium_ll_decoder.specs.Recoding.{WritesHeader, CopiesBody, CopiesWhole, BodyUnwritten, IsUnderWay}
+use Rattle.ciborium_ll_decoder.specs.Recoding.{Copied, StopsWriting, StopsCopy, AddsElement, GoesOn}
 use Rattle.ciborium_ll_grammar.proofs.TitleLaws.{shortest_no_longer}
 use Rattle.ciborium_ll_grammar.proofs.ElementLaws.{spelling-append}
 use Rattle.ciborium_ll_grammar.proofs.StepLaws.{add_element}
@@ -24,7 +27,8 @@ use Rattle.ciborium_ll_decoder.proofs.DecodingLaws.{Passes-then}
 use Rattle.ciborium_ll_encoder.proofs.EncodingLaws.{WritesBytes-then}
 
 -- so many elements, or fewer with one due
-run_belongs : (count j : ℕ) (bytes : List ℕ) (marks : List Mark) → IsRun j bytes marks → j ≤ count → IsRun count bytes marks ⊎ Reaches count bytes marks Due
+run_belongs : (count j : ℕ) (bytes : List ℕ) (marks : List Mark) → IsRun j bytes marks → j ≤ count
+    → IsRun count bytes marks ⊎ Reaches count bytes marks Due
 run_belongs count j bytes marks run within =
     elim (cases_lt j count) [
       | inl less ↦ inr (due less run)
@@ -36,51 +40,68 @@ pub sound_body : (k : Kind) (b : List ℕ) → IsWritable k b → IsSound k (b �
 sound_body Bytes b w = tt
 sound_body Text b w = (w, tt)
 
-waited_same : {R : Type 0} (old now now' : Decoder R) (bytes : List ℕ) (waiting : Option Header) → old.waiting ≡ waiting → now.waiting ≡ None
-    → IfSome waiting (λ h. (now ≡ old) ⊎ Begins (shortest_title h) bytes) → IfSome waiting (λ h. (now' ≡ old) ⊎ Begins (shortest_title h) bytes)
+waited_same : {R : Type 0} (old now now' : Decoder R) (bytes : List ℕ) (waiting : Option Header) → old.waiting
+    ≡ waiting → now.waiting ≡ None
+    → IfSome waiting (λ h. (now ≡ old) ⊎ Begins (shortest_title h) bytes)
+    → IfSome waiting (λ h. (now' ≡ old) ⊎ Begins (shortest_title h) bytes)
 waited_same old now now' bytes None e none before = tt
-waited_same old now now' bytes (Some h) e none (inl same) = absurd (let waits : now.waiting ≡ Some h = ap (λ d. d.waiting) same ∙ e in cc)
+waited_same old now now' bytes (Some h) e none (inl same) = absurd
+    (let waits : now.waiting ≡ Some h = ap (λ d. d.waiting) same ∙ e in cc)
 waited_same old now now' bytes (Some h) e none (inr begins) = inr begins
 
 module _ {R E W F : Type 0} (source : Reader R E) (sink : Writer W F) where
-  pub writes_then : (writer between writer' : W) (xs ys : List ℕ) → WritesAll sink writer xs between → WritesAll sink between ys writer' → WritesAll sink writer (xs ++ ys) writer'
-  writes_then writer between writer' xs ys first second = WritesBytes-then sink {T = Unit {0}} writer between writer' (Ok (tt {0})) xs ys first second
+  pub writes_then : (writer between writer' : W) (xs ys : List ℕ) → WritesAll sink writer xs between
+      → WritesAll sink between ys writer' → WritesAll sink writer (xs ++ ys) writer'
+  writes_then writer between writer' xs ys first second = WritesBytes-then sink {T = Unit {0}} writer between
+      writer' (Ok (tt {0})) xs ys first second
 
-  stops_then : (writer between writer' : W) (fault : F) (xs ys : List ℕ) → WritesAll sink writer xs between → WritesFront sink between ys writer' → WritesFront sink writer (xs ++ ys) writer'
-  stops_then writer between writer' fault xs ys first second = WritesBytes-then sink {T = Unit {0}} writer between writer' (Err fault) xs ys first second
+  stops_then : (writer between writer' : W) (fault : F) (xs ys : List ℕ) → WritesAll sink writer xs between
+      → WritesFront sink between ys writer' → WritesFront sink writer (xs ++ ys) writer'
+  stops_then writer between writer' fault xs ys first second =
+      WritesBytes-then sink {T = Unit {0}} writer between writer' (Err fault) xs ys first second
 
   -- marks, and one mark more, are written
-  pub marks_then : (writer between writer' : W) (marks others : List Mark) → WritesAll sink writer (spelling marks) between → WritesAll sink between (spelling others) writer'
+  pub marks_then : (writer between writer' : W) (marks others : List Mark)
+      → WritesAll sink writer (spelling marks) between → WritesAll sink between (spelling others) writer'
       → WritesAll sink writer (spelling (marks ++ others)) writer'
   marks_then writer between writer' marks others first second =
-      subst (λ (z : List ℕ). WritesAll sink writer z writer') (sym (spelling-append marks others)) (writes_then writer between writer' (spelling marks) (spelling others) first second)
+      subst (λ (z : List ℕ). WritesAll sink writer z writer') (sym (spelling-append marks others))
+      (writes_then writer between writer' (spelling marks) (spelling others) first second)
 
   module _ (count room : ℕ) (old : Decoder R) (writer : W) where
     -- the marks of one more header belong to the copy, and the writer failed at it
-    pub mark_unwritten : (bytes : List ℕ) (marks others : List Mark) (now : Decoder R) (between writer' : W) (fault : F) → Passes source old bytes now
+    pub mark_unwritten : (bytes : List ℕ) (marks others : List Mark) (now : Decoder R) (between writer' : W)
+        (fault : F) → Passes source old bytes now
         → WritesAll sink writer (spelling marks) between → WritesFront sink between (spelling others) writer'
-        → IsRun count bytes (marks ++ others) ⊎ ((place : Place) × Reaches count bytes (marks ++ others) place × IsUnderWay place [] []) → StopsWriting source sink count old writer now writer'
+        → IsRun count bytes (marks ++ others) ⊎ ((place : Place) × Reaches count bytes (marks ++ others) place
+        × IsUnderWay place [] []) → StopsWriting source sink count old writer now writer'
     mark_unwritten bytes marks others now between writer' fault passed written stopped belongs = record {
       bytes = bytes;
       marks = marks ++ others;
       more = [];
       read = [];
       passed = subst (λ (z : List ℕ). Passes source old z now) (sym (append-nil bytes)) passed;
-      stopped = subst (λ (z : List ℕ). WritesFront sink writer z writer') (sym (append-nil (spelling (marks ++ others)) ∙ spelling-append marks others))
+      stopped = subst (λ (z : List ℕ). WritesFront sink writer z writer')
+          (sym (append-nil (spelling (marks ++ others)) ∙ spelling-append marks others))
           (stops_then writer between writer' fault (spelling marks) (spelling others) written stopped);
       belongs = elim belongs [ inl run ↦ inl (run, refl, refl) | inr reach ↦ inr reach ];
     }
 
     -- the element that is added belongs to the copy
-    pub element_unwritten : (before : ℕ) (bytes : List ℕ) (marks others : List Mark) (now : Decoder R) (between writer' : W) (fault : F) → before < count → IsRun (suc before) bytes (marks ++ others)
-        → Passes source old bytes now → WritesAll sink writer (spelling marks) between → WritesFront sink between (spelling others) writer' → StopsWriting source sink count old writer now writer'
+    pub element_unwritten : (before : ℕ) (bytes : List ℕ) (marks others : List Mark) (now : Decoder R)
+        (between writer' : W) (fault : F) → before < count → IsRun (suc before) bytes (marks ++ others)
+        → Passes source old bytes now → WritesAll sink writer (spelling marks) between
+        → WritesFront sink between (spelling others) writer' → StopsWriting source sink count old writer now writer'
     element_unwritten before bytes marks others now between writer' fault less run passed written stopped =
         mark_unwritten bytes marks others now between writer' fault passed written stopped
-        (elim (run_belongs count (suc before) bytes (marks ++ others) run (omega (arith, less))) [ inl all ↦ inl all | inr reach ↦ inr (Due, reach, (refl, refl)) ])
+        (elim (run_belongs count (suc before) bytes (marks ++ others) run (omega (arith, less)))
+        [ inl all ↦ inl all | inr reach ↦ inr (Due, reach, (refl, refl)) ])
 
     -- the writer failed at the title of a body
-    pub title_unwritten : (bytes : List ℕ) (marks : List Mark) (k : Kind) (len start : ℕ) (now : Decoder R) (between writer' : W) (fault : F) → Reaches count bytes marks (Body k len start)
-        → Copied source sink old writer bytes marks now between → WritesFront sink between (shortest_title (kind_header k (Some len))) writer' → StopsWriting source sink count old writer now writer'
+    pub title_unwritten : (bytes : List ℕ) (marks : List Mark) (k : Kind) (len start : ℕ) (now : Decoder R)
+        (between writer' : W) (fault : F) → Reaches count bytes marks (Body k len start)
+        → Copied source sink old writer bytes marks now between → WritesFront sink between
+        (shortest_title (kind_header k (Some len))) writer' → StopsWriting source sink count old writer now writer'
     title_unwritten bytes marks k len start now between writer' fault reach copied stopped =
         let title = shortest_title (kind_header k (Some len)) in
         record {
@@ -94,36 +115,52 @@ module _ {R E W F : Type 0} (source : Reader R E) (sink : Writer W F) where
         }
 
     -- the writer failed within a body
-    body_unwritten : (bytes : List ℕ) (marks : List Mark) (k : Kind) (len start : ℕ) (between new : Decoder R) (writer-between titled writer' : W) (fault : F) → Reaches count bytes marks (Body k len start)
-        → Copied source sink old writer bytes marks between writer-between → WritesAll sink writer-between (shortest_title (kind_header k (Some len))) titled
-        → BodyUnwritten source sink k len between titled new writer' → StopsWriting source sink count old writer new writer'
+    body_unwritten : (bytes : List ℕ) (marks : List Mark) (k : Kind) (len start : ℕ) (between new : Decoder R)
+        (writer-between titled writer' : W) (fault : F) → Reaches count bytes marks (Body k len start)
+        → Copied source sink old writer bytes marks between writer-between
+        → WritesAll sink writer-between (shortest_title (kind_header k (Some len))) titled
+        → BodyUnwritten source sink k len between titled new writer'
+        → StopsWriting source sink count old writer new writer'
     body_unwritten bytes marks k len start between new writer-between titled writer' fault reach copied title stops =
         let shortest = shortest_title (kind_header k (Some len)) in
         let part = stops.front ++ stops.chunk in
         let read = stops.front ++ (stops.chunk ++ stops.kept) in
-        let listed : (spelling marks ++ shortest) ++ part ≡ spelling marks ++ (shortest ++ part) = append_assoc (spelling marks) shortest part in
+        let listed : (spelling marks ++ shortest) ++ part ≡ spelling marks ++ (shortest ++ part) =
+        append_assoc (spelling marks) shortest part in
         let before = writes_then writer writer-between titled (spelling marks) shortest copied.written title in
-        let front = stops_then titled stops.writer-between writer' fault stops.front stops.chunk stops.written stops.stopped in
+        let front = stops_then titled stops.writer-between writer' fault stops.front stops.chunk stops.written
+        stops.stopped in
         record {
           bytes = bytes;
           marks = marks;
           more = shortest ++ part;
           read = read;
           passed = Passes-then source old between new bytes read copied.passed stops.passed;
-          stopped = subst (λ (z : List ℕ). WritesFront sink writer z writer') listed (stops_then writer titled writer' fault (spelling marks ++ shortest) part before front);
+          stopped = subst (λ (z : List ℕ). WritesFront sink writer z writer') listed
+              (stops_then writer titled writer' fault (spelling marks ++ shortest) part before front);
           belongs = inr (
             Body k len start,
             reach,
-            (part, refl, (stops.kept, sym (append_assoc stops.front stops.chunk stops.kept)), omega (arith, stops.within, length-append stops.front stops.chunk)),
+            (
+              part,
+              refl,
+              (stops.kept, sym (append_assoc stops.front stops.chunk stops.kept)),
+              omega
+                  (arith, stops.within, length-append stops.front stops.chunk),
+            ),
           );
         }
 
     -- the copy of a body stops the copy of elements
-    pub body_stops : (bytes : List ℕ) (marks : List Mark) (k : Kind) (len start : ℕ) (between new : Decoder R) (writer-between titled writer' : W) (error : RecodeError E F) → Reaches count bytes marks (Body k len start)
+    pub body_stops : (bytes : List ℕ) (marks : List Mark) (k : Kind) (len start : ℕ) (between new : Decoder R)
+        (writer-between titled writer' : W) (error : RecodeError E F) → Reaches count bytes marks (Body k len start)
         → Strictly old (IsStrictSpelling bytes marks (shortest_title (kind_header k (Some len))))
-        → Copied source sink old writer bytes marks between writer-between → WritesAll sink writer-between (shortest_title (kind_header k (Some len))) titled
-        → CopiesBody source sink k len room (old.offset + start) between titled (Err error) new writer' → StopsCopy source sink count room old writer error new writer'
-    body_stops bytes marks k len start between new writer-between titled writer' (r.Write fault) reach strict copied title stops =
+        → Copied source sink old writer bytes marks between writer-between
+        → WritesAll sink writer-between (shortest_title (kind_header k (Some len))) titled
+        → CopiesBody source sink k len room (old.offset + start) between titled (Err error) new writer'
+        → StopsCopy source sink count room old writer error new writer'
+    body_stops bytes marks k len start between new writer-between titled writer' (r.Write fault) reach strict copied
+        title stops =
         body_unwritten bytes marks k len start between new writer-between titled writer' fault reach copied title stops
     body_stops bytes marks k len start between new writer-between titled writer' (r.Read (e.Io fault)) reach strict copied title stops = inr (record {
       bytes = bytes;
@@ -173,64 +210,100 @@ module _ {R E W F : Type 0} (source : Reader R E) (sink : Writer W F) where
     body_stops bytes marks k len start between new writer-between titled writer' (r.Read e.Waiting) reach strict copied title stops = stops
 
     -- the place of a body is where its shortest title would begin, behind a title of any length
-    body_start : (before : ℕ) (title : List ℕ) (k : Kind) (len : ℕ) → IsTitle title (kind_header k (Some len)) → (bytes : List ℕ) → before + title_len (kind_header k (Some len)) ≡ old.offset + length (bytes ++ title)
+    body_start : (before : ℕ) (title : List ℕ) (k : Kind) (len : ℕ) → IsTitle title (kind_header k (Some len))
+        → (bytes : List ℕ) → before + title_len (kind_header k (Some len)) ≡ old.offset + length (bytes ++ title)
         → old.offset + (length (bytes ++ title) - title_len (kind_header k (Some len))) ≡ before
-    body_start before title k len t bytes e = omega (arith, e, shortest_no_longer title (kind_header k (Some len)) t, length-append bytes title)
+    body_start before title k len t bytes e = omega (
+      arith,
+      e,
+      shortest_no_longer title (kind_header k (Some len))
+          t,
+      length-append bytes title,
+    )
 
     -- the copy of a definite string that goes through adds an element
-    definite_added : (before : ℕ) (bytes title : List ℕ) (marks : List Mark) (k : Kind) (len : ℕ) (between new : Decoder R) (writer-between titled writer' : W) → IsTitle title (kind_header k (Some len))
-        → IsRun before bytes marks → Passes source old (bytes ++ title) between → WritesAll sink writer (spelling marks) writer-between
-        → WritesAll sink writer-between (shortest_title (kind_header k (Some len))) titled → CopiesWhole source sink k len between titled new writer'
-        → Strictly old (IsStrictTitle title (kind_header k (Some len))) → Strictly old (IsStrictSpelling bytes marks []) → AddsElement source sink before old writer new writer'
-    definite_added before bytes title marks k len between new writer-between titled writer' t run passed written title-written whole only strict =
+    definite_added : (before : ℕ) (bytes title : List ℕ) (marks : List Mark) (k : Kind) (len : ℕ)
+        (between new : Decoder R) (writer-between titled writer' : W) → IsTitle title (kind_header k (Some len))
+        → IsRun before bytes marks → Passes source old (bytes ++ title) between
+        → WritesAll sink writer (spelling marks) writer-between
+        → WritesAll sink writer-between (shortest_title (kind_header k (Some len))) titled
+        → CopiesWhole source sink k len between titled new writer'
+        → Strictly old (IsStrictTitle title (kind_header k (Some len)))
+        → Strictly old (IsStrictSpelling bytes marks []) → AddsElement source sink before old writer new writer'
+    definite_added before bytes title marks k len between new writer-between titled writer' t run passed written
+        title-written whole only strict =
         let b = whole.body in
         let lengths : len ≡ length b = sym whole.all in
         let t' = subst (λ (n : ℕ). IsTitle title (kind_header k (Some n))) lengths t in
-        let w' = subst (λ (n : ℕ). WritesAll sink writer-between (shortest_title (kind_header k (Some n))) titled) lengths title-written in
+        let w' = subst (λ (n : ℕ). WritesAll sink writer-between (shortest_title (kind_header k (Some n))) titled)
+        lengths title-written in
         let mark = Whole k b ∷ [] in
-        let spelled = writes_then writer-between titled writer' (shortest_title (kind_header k (Some (length b)))) b w' whole.written in
-        let one = subst (λ (z : List ℕ). WritesAll sink writer-between z writer') (sym (append-nil (shortest_title (kind_header k (Some (length b))) ++ b))) spelled in
+        let spelled = writes_then writer-between titled writer' (shortest_title (kind_header k (Some (length b)))) b
+        w' whole.written in
+        let one = subst (λ (z : List ℕ). WritesAll sink writer-between z writer')
+        (sym (append-nil (shortest_title (kind_header k (Some (length b))) ++ b))) spelled in
         record {
           bytes = bytes ++ (title ++ b);
           marks = marks ++ mark;
           run = add_element before bytes marks run (title ++ b) mark (definite k t' (sound_body k b whole.sound));
           copied = record {
-            passed = subst (λ (z : List ℕ). Passes source old z new) (append_assoc bytes title b) (Passes-then source old between new (bytes ++ title) b passed whole.passed);
+            passed = subst (λ (z : List ℕ). Passes source old z new) (append_assoc bytes title b)
+                (Passes-then source old between new (bytes ++ title) b passed whole.passed);
             written = marks_then writer writer-between writer' marks mark written one;
           };
           strict = λ on none.
               let first = (only on none).shortest ∙ ap (λ (n : ℕ). shortest_title (kind_header k (Some n))) lengths in
-              spelled_then bytes marks (title ++ b) mark (strict on none) (ap (λ (z : List ℕ). z ++ b) first ∙ sym (append-nil (shortest_title (kind_header k (Some (length b))) ++ b))) (tt, tt);
+              spelled_then bytes marks (title ++ b) mark (strict on none)
+              (ap (λ (z : List ℕ). z ++ b) first ∙ sym (append-nil
+              (shortest_title (kind_header k (Some (length b))) ++ b))) (tt, tt);
         }
 
     -- a body of a definite string, with its answer
-    pub definite_goes_on : (before : ℕ) (bytes title : List ℕ) (marks : List Mark) (k : Kind) (len place : ℕ) (between new : Decoder R) (writer-between titled writer' : W)
-        (result : Result (Unit {0}) (RecodeError E F)) → before < count → IsTitle title (kind_header k (Some len)) → IsRun before bytes marks → Passes source old (bytes ++ title) between
-        → place + title_len (kind_header k (Some len)) ≡ between.offset → WritesAll sink writer (spelling marks) writer-between
-        → WritesAll sink writer-between (shortest_title (kind_header k (Some len))) titled → CopiesBody source sink k len room place between titled result new writer'
-        → Strictly old (IsStrictTitle title (kind_header k (Some len))) → Strictly old (IsStrictSpelling bytes marks []) → GoesOn source sink count before room old writer result new writer'
-    definite_goes_on before bytes title marks k len place between new writer-between titled writer' (Ok done) less t run passed at written title-written copied only strict =
-        definite_added before bytes title marks k len between new writer-between titled writer' t run passed written title-written copied only strict
-    definite_goes_on before bytes title marks k len place between new writer-between titled writer' (Err error) less t run passed at written title-written copied only strict =
+    pub definite_goes_on : (before : ℕ) (bytes title : List ℕ) (marks : List Mark) (k : Kind) (len place : ℕ)
+        (between new : Decoder R) (writer-between titled writer' : W)
+        (result : Result (Unit {0}) (RecodeError E F)) → before < count → IsTitle title (kind_header k (Some len))
+        → IsRun before bytes marks → Passes source old (bytes ++ title) between
+        → place + title_len (kind_header k (Some len)) ≡ between.offset
+        → WritesAll sink writer (spelling marks) writer-between
+        → WritesAll sink writer-between (shortest_title (kind_header k (Some len))) titled
+        → CopiesBody source sink k len room place between titled result new writer'
+        → Strictly old (IsStrictTitle title (kind_header k (Some len)))
+        → Strictly old (IsStrictSpelling bytes marks []) → GoesOn source sink count before room old writer
+        result new writer'
+    definite_goes_on before bytes title marks k len place between new writer-between titled writer' (Ok done) less t
+        run passed at written title-written copied only strict =
+        definite_added before bytes title marks k len between new writer-between titled writer' t run passed written
+        title-written copied only strict
+    definite_goes_on before bytes title marks k len place between new writer-between titled writer' (Err error) less
+        t run passed at written title-written copied only strict =
         let start = length (bytes ++ title) - title_len (kind_header k (Some len)) in
         let placed : old.offset + start ≡ place = body_start place title k len t bytes (at ∙ passed.offset) in
-        body_stops (bytes ++ title) marks k len start between new writer-between titled writer' error (body k (due less run) t)
-        (λ on none. spelled_title bytes marks title (shortest_title (kind_header k (Some len))) (strict on none) (only on none).shortest) (record { passed = passed; written = written }) title-written
-        (subst (λ (n : ℕ). CopiesBody source sink k len room n between titled (Err error) new writer') (sym placed) copied)
+        body_stops (bytes ++ title) marks k len start between new writer-between titled writer' error
+        (body k (due less run) t)
+        (λ on none. spelled_title bytes marks title (shortest_title (kind_header k (Some len))) (strict on none)
+        (only on none).shortest) (record { passed = passed; written = written }) title-written
+        (subst (λ (n : ℕ). CopiesBody source sink k len room n between titled (Err error) new writer') (sym placed)
+        copied)
 
     -- the writer failed at the title of a definite string
-    pub definite_unwritten : (before : ℕ) (bytes title : List ℕ) (marks : List Mark) (k : Kind) (len : ℕ) (now : Decoder R) (between writer' : W) (fault : F) → before < count
-        → IsTitle title (kind_header k (Some len)) → IsRun before bytes marks → Passes source old (bytes ++ title) now → WritesAll sink writer (spelling marks) between
-        → WritesFront sink between (shortest_title (kind_header k (Some len))) writer' → StopsWriting source sink count old writer now writer'
+    pub definite_unwritten : (before : ℕ) (bytes title : List ℕ) (marks : List Mark) (k : Kind) (len : ℕ)
+        (now : Decoder R) (between writer' : W) (fault : F) → before < count
+        → IsTitle title (kind_header k (Some len)) → IsRun before bytes marks
+        → Passes source old (bytes ++ title) now → WritesAll sink writer (spelling marks) between
+        → WritesFront sink between (shortest_title (kind_header k (Some len))) writer'
+        → StopsWriting source sink count old writer now writer'
     definite_unwritten before bytes title marks k len now between writer' fault less t run passed written stopped =
-        title_unwritten (bytes ++ title) marks k len (length (bytes ++ title) - title_len (kind_header k (Some len))) now between writer' fault (body k (due less run) t)
+        title_unwritten (bytes ++ title) marks k len (length (bytes ++ title) - title_len
+        (kind_header k (Some len))) now between writer' fault (body k (due less run) t)
         (record { passed = passed; written = written }) stopped
 
   -- a decoder with the same reader and offset, and with no header that waits either
-  pub passes_same : (old now now' : Decoder R) (bytes : List ℕ) → Passes source old bytes now → now.waiting ≡ None → now'.reader ≡ now.reader → now'.offset ≡ now.offset → now'.waiting ≡ None → now'.strict ≡ now.strict
+  pub passes_same : (old now now' : Decoder R) (bytes : List ℕ) → Passes source old bytes now → now.waiting ≡ None
+      → now'.reader ≡ now.reader → now'.offset ≡ now.offset → now'.waiting ≡ None → now'.strict ≡ now.strict
       → Passes source old bytes now'
   passes_same old now now' bytes passed none reader offset none' mode =
-      let same : view source now' ≡ view source now = ap (λ (w : Option Header). behind_waiting w (source.ahead now'.reader)) (none' ∙ sym none)
+      let same : view source now' ≡ view source now = ap
+      (λ (w : Option Header). behind_waiting w (source.ahead now'.reader)) (none' ∙ sym none)
       ∙ ap (λ (r : R). behind_waiting now.waiting (source.ahead r)) reader in
       record {
         consumed = subst (λ (z : Option (List ℕ)). Consumes (view source old) z bytes) (sym same) passed.consumed;
@@ -243,8 +316,10 @@ module _ {R E W F : Type 0} (source : Reader R E) (sink : Writer W F) where
       }
 
   -- the only error of a header's write is the writer's
-  pub header_error : (count room : ℕ) (old new : Decoder R) (writer between writer' : W) (header : Header) (error : RecodeError E F) → WritesHeader {E = E} sink between (Err error) header writer'
-      → ((fault : F) → WritesFront sink between (shortest_title header) writer' → StopsWriting source sink count old writer new writer')
+  pub header_error : (count room : ℕ) (old new : Decoder R) (writer between writer' : W) (header : Header)
+      (error : RecodeError E F) → WritesHeader {E = E} sink between (Err error) header writer'
+      → ((fault : F) → WritesFront sink between (shortest_title header) writer'
+      → StopsWriting source sink count old writer new writer')
       → StopsCopy source sink count room old writer error new writer'
   header_error count room old new writer between writer' header (r.Write fault) wrote stops = stops fault wrote
   header_error count room old new writer between writer' header (r.Read error) wrote stops = absurd wrote

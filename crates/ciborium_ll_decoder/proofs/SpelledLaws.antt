@@ -8,7 +8,8 @@ use Rattle.ciborium_ll_grammar.specs.Elements.{Mark, Close, pieces, open_marks, 
 use Rattle.ciborium_ll_decoder.specs.Decoding.{Passes}
 use Rattle.ciborium_ll_grammar.proofs.ElementLaws.{spelling-append}
 
-pub meant_append : (ms ns : List Mark) → AllByRecursion IsMeant ms → AllByRecursion IsMeant ns → AllByRecursion IsMeant (ms ++ ns)
+pub meant_append : (ms ns : List Mark) → AllByRecursion IsMeant ms → AllByRecursion IsMeant ns
+    → AllByRecursion IsMeant (ms ++ ns)
 meant_append [] ns p q = q
 meant_append (m ∷ ms) ns p q = (p.0, meant_append ms ns p.1 q)
 
@@ -27,20 +28,25 @@ pub spelled_alone : (bytes : List ℕ) (marks : List Mark) → IsStrictSpelling 
 spelled_alone bytes marks s = s.same ∙ append-nil (spelling marks)
 
 -- marks more
-pub spelled_then : (bytes : List ℕ) (marks : List Mark) (more : List ℕ) (others : List Mark) → IsStrictSpelling bytes marks [] → more ≡ spelling others → AllByRecursion IsMeant others
+pub spelled_then : (bytes : List ℕ) (marks : List Mark) (more : List ℕ) (others : List Mark)
+    → IsStrictSpelling bytes marks [] → more ≡ spelling others → AllByRecursion IsMeant others
     → IsStrictSpelling (bytes ++ more) (marks ++ others) []
 spelled_then bytes marks more others s e meant = record {
-  same = ap (λ (z : List ℕ). z ++ more) (spelled_alone bytes marks s) ∙ ap (λ (z : List ℕ). spelling marks ++ z) e ∙ sym (spelling-append marks others) ∙ sym (append-nil (spelling (marks ++ others)));
+  same = ap (λ (z : List ℕ). z ++ more) (spelled_alone bytes marks s) ∙ ap (λ (z : List ℕ). spelling marks ++ z) e
+      ∙ sym (spelling-append marks others) ∙ sym (append-nil (spelling (marks ++ others)));
   meant = meant_append marks others s.meant meant;
 }
 
 -- a title of a body more
-pub spelled_title : (bytes : List ℕ) (marks : List Mark) (title more : List ℕ) → IsStrictSpelling bytes marks [] → title ≡ more → IsStrictSpelling (bytes ++ title) marks more
+pub spelled_title : (bytes : List ℕ) (marks : List Mark) (title more : List ℕ) → IsStrictSpelling bytes marks []
+    → title ≡ more → IsStrictSpelling (bytes ++ title) marks more
 spelled_title bytes marks title more s e = record {
   same = ap (λ (z : List ℕ). z ++ title) (spelled_alone bytes marks s) ∙ ap (λ (z : List ℕ). spelling marks ++ z) e;
   meant = s.meant;
 }
 
 -- where no header waited none waits
-pub passes_settled : {R E : Type 0} (source : Ghosts R E) (old new : Decoder R) (bytes : List ℕ) → Passes source old bytes new → old.waiting ≡ None → new.waiting ≡ None
-passes_settled source old new bytes passed none = elim passed.waiting [ inl same ↦ ap (λ d. d.waiting) same.1 ∙ none | inr settled ↦ settled ]
+pub passes_settled : {R E : Type 0} (source : Ghosts R E) (old new : Decoder R) (bytes : List ℕ)
+    → Passes source old bytes new → old.waiting ≡ None → new.waiting ≡ None
+passes_settled source old new bytes passed none = elim passed.waiting
+    [ inl same ↦ ap (λ d. d.waiting) same.1 ∙ none | inr settled ↦ settled ]

@@ -1,18 +1,24 @@
 -- A strict decoder's fault and a strict run of enough elements exclude each other.
-use Rattle.std.proofs.Common.{◌≡◌, ℕ, ◌+◌, ◌<◌, ◌≤◌, List, [], ◌∷◌, ◌++◌, length, Option, Some, None, refl, sym, ap, subst, ◌∙◌, arith, append_assoc, append-nil, length-append}
+use Rattle.std.proofs.Common.{◌≡◌, ℕ, ◌+◌, ◌<◌, ◌≤◌, List, [], ◌∷◌, ◌++◌, length, Option, Some, None, refl, sym, ap}
+use Rattle.std.proofs.Common.{subst, ◌∙◌, arith, append_assoc, append-nil, length-append}
 use Rattle.std.specs.List.{AllByRecursion}
 use Rattle.ciborium_ll_grammar.specs.declared.hdr.Header.{Header}
 use Rattle.ciborium_ll_grammar.specs.declared.hdr.Header.TheVariants as h
 use Rattle.ciborium_ll_grammar.specs.Title.{IsTitle, IsSmallSimple, IsStrictTitle, shortest_title, title_len}
 use Rattle.ciborium_ll_grammar.specs.Strings.{Kind, Bytes, Text, kind_header, IsString, AreStrings, none, more}
 use Rattle.ciborium_ll_grammar.specs.Strings.IsString.{definite as definite_str, indefinite as indefinite_str}
-use Rattle.ciborium_ll_grammar.specs.Elements.{Mark, Open, pieces, spelling, IsElement, plain, definite, indefinite, IsPlain, IsRun, done, next, IsMeant, IsStrictSpelling}
-use Rattle.ciborium_ll_grammar.specs.Faults.{Place, Due, In, Body, IsAtTitle, IsInside, opened, deeper, Reaches, due, inside, body, body_inside, Answer}
-use Rattle.ciborium_ll_decoder.specs.StrictRecoding.{due_title, IsStrictRun, StrictRunInFront, StrictlyReaches, StrictFault, Fault, LongTitle, NestedOpen, HasStrictFault}
+use Rattle.ciborium_ll_grammar.specs.Elements.{Mark, Open, pieces, spelling, IsElement, plain, definite, indefinite}
+use Rattle.ciborium_ll_grammar.specs.Elements.{IsPlain, IsRun, done, next, IsMeant, IsStrictSpelling}
+use Rattle.ciborium_ll_grammar.specs.Faults.{Place, Due, In, Body, IsAtTitle, IsInside, opened, deeper, Reaches, due}
+use Rattle.ciborium_ll_grammar.specs.Faults.{inside, body, body_inside, Answer}
+use Rattle.ciborium_ll_decoder.specs.StrictRecoding.{due_title, IsStrictRun, StrictRunInFront, StrictlyReaches}
+use Rattle.ciborium_ll_decoder.specs.StrictRecoding.{StrictFault, Fault, LongTitle, NestedOpen, HasStrictFault}
 use Rattle.ciborium_ll_text.proofs.Lists.{same_front}
 use Rattle.ciborium_ll_grammar.proofs.TitleLaws.{one_title, shortest_no_longer, IsTitle-shortest}
 use Rattle.ciborium_ll_grammar.proofs.StringLaws.{mixed, not_break, break_title, string_not_break, one_string}
-use Rattle.ciborium_ll_grammar.proofs.ElementLaws.{not_plain, string_fronts, one_element, AreStrings-append, pieces-append, spelling-append, respell_one, respell_all, open_spelled, element_again, run_again}
+use Rattle.ciborium_ll_grammar.proofs.ElementLaws.{not_plain, string_fronts, one_element, AreStrings-append}
+use Rattle.ciborium_ll_grammar.proofs.ElementLaws.{pieces-append, spelling-append, respell_one, respell_all}
+use Rattle.ciborium_ll_grammar.proofs.ElementLaws.{open_spelled, element_again, run_again}
 use Rattle.ciborium_ll_decoder.proofs.NestLaws.{alone_bytes, open_alone, open_length, open_in_range, title_some}
 use Rattle.ciborium_ll_grammar.proofs.TightLaws.{tight_title}
 use Rattle.ciborium_ll_decoder.proofs.SpelledLaws.{spelled_alone}
@@ -21,7 +27,8 @@ use Rattle.ciborium_ll_grammar.proofs.FaultLaws.{no_fault}
 -- ---- titles
 
 -- a title in front of the same bytes as a strict one is that one
-same_strictly : (t w r q : List ℕ) (x y : Header) → IsTitle t x → IsTitle w y → w ≡ shortest_title y → (IsSmallSimple y → ⊥) → t ++ r ≡ w ++ q → IsStrictTitle t x
+same_strictly : (t w r q : List ℕ) (x y : Header) → IsTitle t x → IsTitle w y → w ≡ shortest_title y
+    → (IsSmallSimple y → ⊥) → t ++ r ≡ w ++ q → IsStrictTitle t x
 same_strictly t w r q x y p p' s m e =
     let o = one_title t w r q x y p p' e in
     subst (λ (z : Header). IsStrictTitle t z) (sym o.1) (record { shortest = o.0 ∙ s; meant = m })
@@ -45,7 +52,8 @@ meant_right [] ns p = p
 meant_right (m ∷ ms) ns p = meant_right ms ns p.1
 
 -- an element and elements behind it that are spelled shortest are so each
-next_same : (x y : List ℕ) (ns os : List Mark) (m : ℕ) → IsElement x ns → IsRun m y os → x ++ y ≡ spelling (ns ++ os) → (x ≡ spelling ns) × (y ≡ spelling os)
+next_same : (x y : List ℕ) (ns os : List Mark) (m : ℕ) → IsElement x ns → IsRun m y os → x ++ y
+    ≡ spelling (ns ++ os) → (x ≡ spelling ns) × (y ≡ spelling os)
 next_same x y ns os m a r e =
     let b = element_again x ns a in
     let c = run_again m y os r in
@@ -53,7 +61,15 @@ next_same x y ns os m a r e =
     let lc = c.shorter in
     let s = e ∙ spelling-append ns os in
     let counted = ap length s in
-    same_front x (spelling ns) y (spelling os) (omega (arith, lb, lc, counted, length-append x y, length-append (spelling ns) (spelling os))) s
+    same_front x (spelling ns) y (spelling os) (omega (
+      arith,
+      lb,
+      lc,
+      counted,
+      length-append x y,
+      length-append
+          (spelling ns) (spelling os),
+    )) s
 
 -- the next element of a longer strict run stands behind a shorter run
 record FollowsStrictly (x : List ℕ) : Type 0 where
@@ -65,34 +81,58 @@ record FollowsStrictly (x : List ℕ) : Type 0 where
   rest : List ℕ
   is : x ≡ word ++ rest
 
-follows_strictly : (i : ℕ) (u : List ℕ) (ms : List Mark) → IsRun i u ms → (n : ℕ) (w : List ℕ) (ns : List Mark) → IsRun n w ns → w ≡ spelling ns → AllByRecursion IsMeant ns → i < n
+follows_strictly : (i : ℕ) (u : List ℕ) (ms : List Mark) → IsRun i u ms → (n : ℕ) (w : List ℕ) (ns : List Mark)
+    → IsRun n w ns → w ≡ spelling ns → AllByRecursion IsMeant ns → i < n
     → (x v : List ℕ) → u ++ x ≡ w ++ v → FollowsStrictly x
 follows_strictly i u ms done n w ns done s m l x v e = absurd (omega arith)
-follows_strictly i u ms done n w ns (next {count = j} {first = a} {rest = b} {marks = os} {others = ps} p r) s m l x v e =
-    record { word = a; marks = os; ok = p; same = (next_same a b os ps j p r s).0; meant = meant_left os ps m; rest = b ++ v; is = e ∙ append_assoc a b v }
+follows_strictly i u ms done n w ns (next {count = j} {first = a} {rest = b} {marks = os} {others = ps} p r) s m l x
+    v e =
+    record {
+      word = a;
+      marks = os;
+      ok = p;
+      same = (next_same a b os ps j p r s).0;
+      meant =
+          meant_left os ps m;
+      rest = b ++ v;
+      is = e ∙ append_assoc a b v;
+    }
 follows_strictly i u ms (next p r) n w ns done s m l x v e = absurd (omega arith)
 follows_strictly i u ms (next {count = j} {first = a} {rest = b} {marks = os} {others = ps} p r) n w ns
     (next {count = i'} {first = a'} {rest = b'} {marks = os'} {others = ps'} p' r') s m l x v e =
     let o = one_element a a' (b ++ x) (b' ++ v) os os' p p' (sym (append_assoc a b x) ∙ (e ∙ append_assoc a' b' v)) in
-    follows_strictly j b ps r i' b' ps' r' (next_same a' b' os' ps' i' p' r' s).1 (meant_right os' ps' m) (omega arith) x v o.2
+    follows_strictly j b ps r i' b' ps' r' (next_same a' b' os' ps' i' p' r' s).1 (meant_right os' ps' m)
+    (omega arith) x v o.2
 
 -- ---- where an element is due
 
 -- a title in front of the same bytes as a strict element is a strict one
-element_begins : (w : List ℕ) (ms : List Mark) → IsElement w ms → w ≡ spelling ms → AllByRecursion IsMeant ms → (t r q : List ℕ) (x : Header) → IsTitle t x → t ++ r ≡ w ++ q → IsStrictTitle t x
-element_begins w ms (plain y p f) s m t r q x c e = same_strictly t w r q x y c p (s ∙ append-nil (shortest_title y)) m.0 e
+element_begins : (w : List ℕ) (ms : List Mark) → IsElement w ms → w ≡ spelling ms → AllByRecursion IsMeant ms
+    → (t r q : List ℕ) (x : Header) → IsTitle t x → t ++ r ≡ w ++ q → IsStrictTitle t x
+element_begins w ms (plain y p f) s m t r q x c e = same_strictly t w r q x y c p
+    (s ∙ append-nil (shortest_title y)) m.0 e
 element_begins w ms (definite {title = y} {body = b} k p f) s m t r q x c e =
     let front = shortest_title (kind_header k (Some (length b))) in
     let l = ap length s in
-    let first = same_front y front b b (omega (arith, l, length-append y b, length-append (front ++ b) [], length-append front b)) (s ∙ append-nil (front ++ b)) in
-    same_strictly t y r (b ++ q) x (kind_header k (Some (length b))) c p first.0 (kind_meant k (Some (length b))) (e ∙ append_assoc y b q)
+    let first = same_front y front b b (omega (
+      arith,
+      l,
+      length-append y b,
+      length-append (front ++ b) [],
+      length-append front b,
+    )) (s ∙ append-nil (front ++ b)) in
+    same_strictly t y r (b ++ q) x (kind_header k (Some (length b))) c p first.0 (kind_meant k (Some (length b)))
+    (e ∙ append_assoc y b q)
 element_begins w ms (indefinite {title = y} {strings = z} {bodies = bs} k p g f) s m t r q x c e =
-    same_strictly t y r ((z ++ 0xff ∷ []) ++ q) x (kind_header k None) c p (alone_bytes y (kind_header k None) p (open_alone k)) (kind_meant k None) (e ∙ append_assoc y (z ++ 0xff ∷ []) q)
+    same_strictly t y r ((z ++ 0xff ∷ []) ++ q) x (kind_header k None) c p
+    (alone_bytes y (kind_header k None) p (open_alone k)) (kind_meant k None)
+    (e ∙ append_assoc y (z ++ 0xff ∷ []) q)
 
 -- ---- within a string
 
 -- strings no longer than their spelling are so each
-tight_parts : (k : Kind) (x y : List ℕ) (cs ds : List (List ℕ)) → IsString k x cs → AreStrings k y ds → length (x ++ y) ≤ length (spelling (pieces k (cs ++ ds)))
+tight_parts : (k : Kind) (x y : List ℕ) (cs ds : List (List ℕ)) → IsString k x cs → AreStrings k y ds
+    → length (x ++ y) ≤ length (spelling (pieces k (cs ++ ds)))
     → (length x ≤ length (spelling (pieces k cs))) × (length y ≤ length (spelling (pieces k ds)))
 tight_parts k x y cs ds s ss l =
     let a = respell_one k x cs s in
@@ -100,8 +140,11 @@ tight_parts k x y cs ds s ss l =
     let m = a.shorter in
     let n = b.shorter in
     let counted = ap length (ap spelling (pieces-append k cs ds) ∙ spelling-append (pieces k cs) (pieces k ds)) in
-    let sizes = length-append (spelling (pieces k cs)) (spelling (pieces k ds)) in
-    (omega (arith, l, m, n, counted, sizes, length-append x y), omega (arith, l, m, n, counted, sizes, length-append x y))
+    let sizes = length-append (spelling (pieces k cs)) (spelling (pieces k ds)) in (
+      omega (arith, l, m, n, counted, sizes, length-append x y),
+      omega
+          (arith, l, m, n, counted, sizes, length-append x y),
+    )
 
 -- strings in front of more strings no longer than their spelling, and a break, leave such strings and the break
 record GoesTight (k : Kind) (x v : List ℕ) : Type 0 where
@@ -111,31 +154,45 @@ record GoesTight (k : Kind) (x v : List ℕ) : Type 0 where
   tight : length strings ≤ length (spelling (pieces k bodies))
   is : x ≡ strings ++ 0xff ∷ v
 
-goes_tight : (k : Kind) (w : List ℕ) (bs : List (List ℕ)) → AreStrings k w bs → (w' x v : List ℕ) (bs' : List (List ℕ)) → AreStrings k w' bs'
+goes_tight : (k : Kind) (w : List ℕ) (bs : List (List ℕ)) → AreStrings k w bs
+    → (w' x v : List ℕ) (bs' : List (List ℕ)) → AreStrings k w' bs'
     → length w' ≤ length (spelling (pieces k bs')) → w ++ x ≡ w' ++ 0xff ∷ v → GoesTight k x v
 goes_tight k w bs none w' x v bs' s' l e = record { strings = w'; bodies = bs'; ok = s'; tight = l; is = e }
 goes_tight k w bs (more {first = a} {rest = y} {bodies = cs} {others = ds} s ss) w' x v bs' none l e =
     absurd (string_not_break k a (y ++ x) v cs s (sym (append_assoc a y x) ∙ e))
 goes_tight k w bs (more {first = a} {rest = y} {bodies = cs} {others = ds} s ss) w' x v bs'
     (more {first = a'} {rest = y'} {bodies = cs'} {others = ds'} s' ss') l e =
-    let o = one_string k a a' (y ++ x) (y' ++ 0xff ∷ v) cs cs' s s' (sym (append_assoc a y x) ∙ (e ∙ append_assoc a' y' (0xff ∷ v))) in
+    let o = one_string k a a' (y ++ x) (y' ++ 0xff ∷ v) cs cs' s s'
+    (sym (append_assoc a y x) ∙ (e ∙ append_assoc a' y' (0xff ∷ v))) in
     goes_tight k y ds ss y' x v ds' ss' (tight_parts k a' y' cs' ds' s' ss' l).1 o.2
 
 -- a title in front of the same bytes as a string no longer than its spelling is a strict one, and no open
-inner_string : (k : Kind) (a : List ℕ) (cs : List (List ℕ)) → IsString k a cs → length a ≤ length (spelling (pieces k cs)) → (t r q : List ℕ) (x : Header) → IsTitle t x → t ++ r ≡ a ++ q
+inner_string : (k : Kind) (a : List ℕ) (cs : List (List ℕ)) → IsString k a cs → length a
+    ≤ length (spelling (pieces k cs)) → (t r q : List ℕ) (x : Header) → IsTitle t x → t ++ r ≡ a ++ q
     → IsStrictTitle t x × (x ≡ kind_header k None → ⊥)
 inner_string k a cs (definite_str {title = y} {body = b} p) l t r q x c e =
     let z = kind_header k (Some (length b)) in
     let front = shortest_title z in
-    let first = tight_title y z p (omega (arith, l, length-append y b, length-append (front ++ b) [], length-append front b)) in
+    let first = tight_title y z p (omega (
+      arith,
+      l,
+      length-append y b,
+      length-append (front ++ b) [],
+      length-append
+          front b,
+    )) in
     let e2 = e ∙ append_assoc y b q in
-    let o = one_title t y r (b ++ q) x z c p e2 in
-    (same_strictly t y r (b ++ q) x z c p first (kind_meant k (Some (length b))) e2, λ same. open_has_none k (length b) (sym same ∙ o.1))
+    let o = one_title t y r (b ++ q) x z c p e2 in (
+      same_strictly t y r (b ++ q) x z c p first (kind_meant k (Some (length b))) e2,
+      λ same. open_has_none k
+          (length b) (sym same ∙ o.1),
+    )
 inner_string k a cs (indefinite_str {title = y} {strings = z} p s) l t r q x c e =
     let n = respell_all k z cs s in
     absurd (let m = n.shorter in omega (arith, l, m, length-append y (z ++ 0xff ∷ []), length-append z (0xff ∷ [])))
 
-inner_title : (k : Kind) (w : List ℕ) (bs : List (List ℕ)) → AreStrings k w bs → length w ≤ length (spelling (pieces k bs)) → (t r v : List ℕ) (x : Header) → IsTitle t x → t ++ r ≡ w ++ 0xff ∷ v
+inner_title : (k : Kind) (w : List ℕ) (bs : List (List ℕ)) → AreStrings k w bs → length w
+    ≤ length (spelling (pieces k bs)) → (t r v : List ℕ) (x : Header) → IsTitle t x → t ++ r ≡ w ++ 0xff ∷ v
     → IsStrictTitle t x × (x ≡ kind_header k None → ⊥)
 inner_title k w bs none l t r v x c e =
     let o = one_title t (0xff ∷ []) r v x h.Break c break_title e in
@@ -144,36 +201,52 @@ inner_title k w bs (more {first = a} {rest = y} {bodies = cs} {others = ds} s ss
     inner_string k a cs s (tight_parts k a y cs ds s ss l).0 t r (y ++ 0xff ∷ v) x c (e ∙ append_assoc a y (0xff ∷ v))
 
 -- the spelling of what is inside a string is strings
-inside_strings : (k : Kind) (u : List ℕ) (bs : List (List ℕ)) → IsInside k u bs → AreStrings k (spelling (pieces k bs)) bs
+inside_strings : (k : Kind) (u : List ℕ) (bs : List (List ℕ)) → IsInside k u bs
+    → AreStrings k (spelling (pieces k bs)) bs
 inside_strings k u bs (opened {strings = y} p s) = (respell_all k y bs s).strings
 inside_strings k u bs (deeper {outer = x} {inner = y} {bodies = cs} {others = ds} i j) =
-    subst (λ (z : List ℕ). AreStrings k z (cs ++ ds)) (sym (ap spelling (pieces-append k cs ds) ∙ spelling-append (pieces k cs) (pieces k ds)))
-    (AreStrings-append k (spelling (pieces k cs)) cs (inside_strings k x cs i) (spelling (pieces k ds)) ds (inside_strings k y ds j))
+    subst (λ (z : List ℕ). AreStrings k z (cs ++ ds)) (sym
+    (ap spelling (pieces-append k cs ds) ∙ spelling-append (pieces k cs) (pieces k ds)))
+    (AreStrings-append k (spelling (pieces k cs)) cs (inside_strings k x cs i) (spelling (pieces k ds)) ds
+    (inside_strings k y ds j))
 
 -- and is no longer
-pub inside_shorter : (k : Kind) (u : List ℕ) (bs : List (List ℕ)) → IsInside k u bs → title_len (kind_header k None) + length (spelling (pieces k bs)) ≤ length u
+pub inside_shorter : (k : Kind) (u : List ℕ) (bs : List (List ℕ)) → IsInside k u bs
+    → title_len (kind_header k None) + length (spelling (pieces k bs)) ≤ length u
 inside_shorter k u bs (opened {title = t} {strings = y} p s) =
     let rest = respell_all k y bs s in
     omega (arith, shortest_no_longer t (kind_header k None) p, rest.shorter, length-append t y)
 inside_shorter k u bs (deeper {outer = x} {inner = y} {bodies = cs} {others = ds} i j) =
     let spelled = ap length (ap spelling (pieces-append k cs ds) ∙ spelling-append (pieces k cs) (pieces k ds)) in
-    omega (arith, inside_shorter k x cs i, inside_shorter k y ds j, spelled, length-append (spelling (pieces k cs)) (spelling (pieces k ds)), length-append x y)
+    omega (
+      arith,
+      inside_shorter k x cs i,
+      inside_shorter k y ds j,
+      spelled,
+      length-append (spelling (pieces k cs))
+          (spelling (pieces k ds)),
+      length-append x y,
+    )
 
 -- a title behind an open and strings, in front of the same bytes as a strict element
-element_goes : (w : List ℕ) (ms : List Mark) → IsElement w ms → w ≡ spelling ms → (k : Kind) (y : List ℕ) (bs : List (List ℕ)) → AreStrings k y bs → (t r q : List ℕ) (x : Header) → IsTitle t x
+element_goes : (w : List ℕ) (ms : List Mark) → IsElement w ms → w ≡ spelling ms
+    → (k : Kind) (y : List ℕ) (bs : List (List ℕ)) → AreStrings k y bs → (t r q : List ℕ) (x : Header) → IsTitle t x
     → (shortest_title (kind_header k None) ++ y) ++ (t ++ r) ≡ w ++ q → IsStrictTitle t x × (x ≡ kind_header k None → ⊥)
 element_goes w ms (plain z p f) s k y bs ys t r q x c e =
     let front = shortest_title (kind_header k None) in
-    let o = one_title front w (y ++ (t ++ r)) q (kind_header k None) z (IsTitle-shortest (kind_header k None) (open_in_range k)) p (sym (append_assoc front y (t ++ r)) ∙ e) in
+    let o = one_title front w (y ++ (t ++ r)) q (kind_header k None) z
+    (IsTitle-shortest (kind_header k None) (open_in_range k)) p (sym (append_assoc front y (t ++ r)) ∙ e) in
     absurd (not_plain k None (subst IsPlain (sym o.1) f))
 element_goes w ms (definite {title = z} {body = b} j p f) s k y bs ys t r q x c e =
     let front = shortest_title (kind_header k None) in
-    let o = string_fronts k j front z (y ++ (t ++ r)) (b ++ q) None (Some (length b)) (IsTitle-shortest (kind_header k None) (open_in_range k)) p
+    let o = string_fronts k j front z (y ++ (t ++ r)) (b ++ q) None (Some (length b))
+    (IsTitle-shortest (kind_header k None) (open_in_range k)) p
     (sym (append_assoc front y (t ++ r)) ∙ (e ∙ append_assoc z b q)) in
     absurd (mixed (length b) (sym o.2))
 element_goes w ms (indefinite {title = z} {strings = a} {bodies = cs} j p g f) s k y bs ys t r q x c e =
     let front = shortest_title (kind_header k None) in
-    let o = string_fronts k j front z (y ++ (t ++ r)) ((a ++ 0xff ∷ []) ++ q) None None (IsTitle-shortest (kind_header k None) (open_in_range k)) p
+    let o = string_fronts k j front z (y ++ (t ++ r)) ((a ++ 0xff ∷ []) ++ q) None None
+    (IsTitle-shortest (kind_header k None) (open_in_range k)) p
     (sym (append_assoc front y (t ++ r)) ∙ (e ∙ append_assoc z (a ++ 0xff ∷ []) q)) in
     let jk = sym o.0 in
     let counted = ap length (s ∙ open_spelled j cs) in
@@ -187,12 +260,14 @@ element_goes w ms (indefinite {title = z} {strings = a} {bodies = cs} j p g f) s
       length-append (shortest_title (kind_header j None)) (spelling (pieces j cs) ++ 0xff ∷ []),
       length-append (spelling (pieces j cs)) (0xff ∷ []),
     ) in
-    let behind = goes_tight k y bs ys a (t ++ r) q cs (subst (λ (i : Kind). AreStrings i a cs) jk g) (subst (λ (i : Kind). length a ≤ length (spelling (pieces i cs))) jk tight)
+    let behind = goes_tight k y bs ys a (t ++ r) q cs (subst (λ (i : Kind). AreStrings i a cs) jk g)
+    (subst (λ (i : Kind). length a ≤ length (spelling (pieces i cs))) jk tight)
     (o.3 ∙ append_assoc a (0xff ∷ []) q) in
     inner_title k behind.strings behind.bodies behind.ok behind.tight t r q x c behind.is
 
 -- what is inside a string behind elements is its spelling, where all of it is
-inside_same : (i : ℕ) (k : Kind) (a b : List ℕ) (os : List Mark) (bs : List (List ℕ)) → IsRun i a os → IsInside k b bs → a ++ b ≡ spelling (os ++ Open k ∷ pieces k bs)
+inside_same : (i : ℕ) (k : Kind) (a b : List ℕ) (os : List Mark) (bs : List (List ℕ)) → IsRun i a os
+    → IsInside k b bs → a ++ b ≡ spelling (os ++ Open k ∷ pieces k bs)
     → b ≡ shortest_title (kind_header k None) ++ spelling (pieces k bs)
 inside_same i k a b os bs r n e =
     let again = run_again i a os r in
@@ -201,7 +276,16 @@ inside_same i k a b os bs r n e =
     let counted = ap length s in
     let front = shortest_title (kind_header k None) in
     (same_front a (spelling os) b (front ++ spelling (pieces k bs))
-    (omega (arith, la, inside_shorter k b bs n, counted, length-append a b, length-append (spelling os) (front ++ spelling (pieces k bs)), length-append front (spelling (pieces k bs)))) s).1
+    (omega (
+      arith,
+      la,
+      inside_shorter k b bs n,
+      counted,
+      length-append a b,
+      length-append (spelling os)
+          (front ++ spelling (pieces k bs)),
+      length-append front (spelling (pieces k bs)),
+    )) s).1
 
 -- ---- a beginning of a strict run, and a title behind it
 
@@ -211,34 +295,55 @@ IsNoOpen Due x = Unit {0}
 IsNoOpen (In k) x = x ≡ kind_header k None → ⊥
 IsNoOpen (Body k len start) x = Unit {0}
 
-title_strictly : (n : ℕ) (u : List ℕ) (ms : List Mark) (at : Place) → Reaches n u ms at → IsAtTitle at → u ≡ spelling ms → (t r : List ℕ) (x : Header) → IsTitle t x
+title_strictly : (n : ℕ) (u : List ℕ) (ms : List Mark) (at : Place) → Reaches n u ms at → IsAtTitle at → u
+    ≡ spelling ms → (t r : List ℕ) (x : Header) → IsTitle t x
     → (w v : List ℕ) (ns : List Mark) → IsStrictRun n w ns → u ++ (t ++ r) ≡ w ++ v → IsStrictTitle t x × IsNoOpen at x
 title_strictly n u ms at (due {before = i} l q) d s t r x c w v ns run e =
     let z = follows_strictly i u ms q n w ns run.run run.same run.meant l (t ++ r) v e in
     (element_begins z.word z.marks z.ok z.same z.meant t r z.rest x c z.is, tt)
-title_strictly n u ms at (inside {before = i} {bytes = a} {opens = b} {marks = os} {bodies = bs} {kind = k} l q f ok) d s t r x c w v ns run e =
-    let z = follows_strictly i a os q n w ns run.run run.same run.meant l (b ++ (t ++ r)) v (sym (append_assoc a b (t ++ r)) ∙ e) in
+title_strictly n u ms at (inside {before = i} {bytes = a} {opens = b} {marks = os} {bodies = bs} {kind = k} l q f
+    ok) d s t r x c w v ns run e =
+    let z = follows_strictly i a os q n w ns run.run run.same run.meant l (b ++ (t ++ r)) v
+    (sym (append_assoc a b (t ++ r)) ∙ e) in
     let same = inside_same i k a b os bs q f s in
-    element_goes z.word z.marks z.ok z.same k (spelling (pieces k bs)) bs (inside_strings k b bs f) t r z.rest x c (ap (λ (y : List ℕ). y ++ (t ++ r)) (sym same) ∙ z.is)
+    element_goes z.word z.marks z.ok z.same k (spelling (pieces k bs)) bs (inside_strings k b bs f) t r z.rest x c
+    (ap (λ (y : List ℕ). y ++ (t ++ r)) (sym same) ∙ z.is)
 title_strictly n u ms at (body k q p) d s t r x c w v ns run e = absurd d
 title_strictly n u ms at (body_inside q p) d s t r x c w v ns run e = absurd d
 
-at_title_spelled : (place : Place) (bytes : List ℕ) (marks : List Mark) → IsAtTitle place → IsStrictSpelling bytes marks (due_title place) → bytes ≡ spelling marks
+at_title_spelled : (place : Place) (bytes : List ℕ) (marks : List Mark) → IsAtTitle place
+    → IsStrictSpelling bytes marks (due_title place) → bytes ≡ spelling marks
 at_title_spelled Due bytes marks d spelled = spelled_alone bytes marks spelled
 at_title_spelled (In k) bytes marks d spelled = spelled_alone bytes marks spelled
 at_title_spelled (Body k len start) bytes marks d spelled = absurd d
 
-strictly_stuck : (n : ℕ) (u : List ℕ) (ms : List Mark) (at : Place) → StrictlyReaches n u ms at → (s : List ℕ) (a : Answer) (out : List ℕ) (c : ℕ) → StrictFault u ms at s a out c
+strictly_stuck : (n : ℕ) (u : List ℕ) (ms : List Mark) (at : Place) → StrictlyReaches n u ms at
+    → (s : List ℕ) (a : Answer) (out : List ℕ) (c : ℕ) → StrictFault u ms at s a out c
     → (w v : List ℕ) (ns : List Mark) → IsStrictRun n w ns → u ++ s ≡ w ++ v → ⊥
 strictly_stuck n u ms at reach s a out c (Fault f) w v ns run e =
     no_fault n (w ++ v) (record { elements = w; marks = ns; rest = v; run = run.run; is = refl })
-    (record { before = u; marks = ms; place = at; ahead = s; answer = a; written = out; consumed = c; reach = reach.reaches; is = sym e; fault = f })
+    (record {
+      before = u;
+      marks = ms;
+      place = at;
+      ahead = s;
+      answer = a;
+      written = out;
+      consumed = c;
+      reach =
+          reach.reaches;
+      is = sym e;
+      fault = f;
+    })
 strictly_stuck n u ms at reach s a out c (LongTitle {title = t} x r d p refuses g) w v ns run e =
-    refuses (title_strictly n u ms at reach.reaches d (at_title_spelled at u ms d reach.spelled) t r x p w v ns run (ap (λ (z : List ℕ). u ++ z) (sym g) ∙ e)).0
+    refuses (title_strictly n u ms at reach.reaches d (at_title_spelled at u ms d reach.spelled) t r x p w v ns run
+    (ap (λ (z : List ℕ). u ++ z) (sym g) ∙ e)).0
 strictly_stuck n u ms at reach s a out c (NestedOpen {kind = k} {title = t} r p g) w v ns run e =
-    (title_strictly n u ms (In k) reach.reaches tt (spelled_alone u ms reach.spelled) t r (kind_header k None) p w v ns run (ap (λ (z : List ℕ). u ++ z) (sym g) ∙ e)).1 refl
+    (title_strictly n u ms (In k) reach.reaches tt (spelled_alone u ms reach.spelled) t r (kind_header k None) p w v
+    ns run (ap (λ (z : List ℕ). u ++ z) (sym g) ∙ e)).1 refl
 
 -- where a strict run of n elements stands in front, there is no strict fault
 pub no_strict_fault : (n : ℕ) (x : List ℕ) → StrictRunInFront n x → HasStrictFault n x → ⊥
 no_strict_fault n x r f =
-    strictly_stuck n f.before f.marks f.place f.reach f.ahead f.answer f.written f.consumed f.fault r.elements r.rest r.marks r.run (sym f.is ∙ r.is)
+    strictly_stuck n f.before f.marks f.place f.reach f.ahead f.answer f.written f.consumed f.fault r.elements
+    r.rest r.marks r.run (sym f.is ∙ r.is)

@@ -1,5 +1,6 @@
 -- What the calls on a segment do, which gives its body chunk by chunk.
-use Rattle.std.specs.Prelude.{◌≡◌, ℕ, ◌+◌, ◌-◌, ◌<◌, ◌≤◌, ◌⊎◌, min, true, false, List, [], ◌++◌, length, take, Option, Some, None, Result, Ok, Err}
+use Rattle.std.specs.Prelude.{◌≡◌, ℕ, ◌+◌, ◌-◌, ◌<◌, ◌≤◌, ◌⊎◌, min, true, false, List, [], ◌++◌, length, take, Option}
+use Rattle.std.specs.Prelude.{Some, None, Result, Ok, Err}
 use Rattle.std.specs.Borrow.{Bor, GName}
 use Rattle.std.specs.Io.KnownBytes.{prepend_known}
 use Rattle.std.specs.Option.{option_map}
@@ -65,7 +66,8 @@ module _ {R E : Type 0} (source : Ghosts R E) where
   abbrev pub FillsBehind : List ℕ → Decoder R → Result (Unit {0}) (Error E) → List ℕ → Decoder R → Type 0
   FillsBehind front old (Ok done) filled new = ReadsBehind front old filled new
   FillsBehind front old (Err (e.Io fault)) filled new = ReadFails source old (length filled - length front) new
-  FillsBehind front old (Err e.TooLong) filled new = (offset_limit ≤ old.offset + (length filled - length front)) × IsUntouched old new
+  FillsBehind front old (Err e.TooLong) filled new = (offset_limit ≤ old.offset + (length filled - length front))
+      × IsUntouched old new
   FillsBehind front old (Err (e.Syntax place)) filled new = ⊥
   FillsBehind front old (Err e.Waiting) filled new = ⊥
 
@@ -145,7 +147,8 @@ module _ {R E P : Type 0} {parser : Parser P} (source : Ghosts R E) where
     pub same : IsSame old new
 
   -- a pull into so much room
-  abbrev pub PullsChunk : ℕ → Segment R P parser → Result (Option (Bor (List ℕ))) (Error E) → Segment R P parser → Type 0
+  abbrev pub PullsChunk : ℕ → Segment R P parser → Result (Option (Bor (List ℕ))) (Error E) → Segment R P parser
+      → Type 0
   PullsChunk room old (Ok None) new = SegmentEnds old new
   PullsChunk room old (Ok (Some chunk)) new = GivesChunk room old chunk.now new
   PullsChunk room old (Err (e.Io fault)) new = ChunkFails room old new
@@ -155,7 +158,8 @@ module _ {R E P : Type 0} {parser : Parser P} (source : Ghosts R E) where
 
 module _ {R E : Type 0} (source : Ghosts R E) (kind : Kind) where
   -- `advance` gave this answer and left this decoder, whose offset rose by one at least for each further open
-  pub record GoesOnTo (progress : Progress) (old : Decoder R) (result : Result (Option Body) (Error E)) (new : Decoder R) : Type 0 where
+  pub record GoesOnTo (progress : Progress) (old : Decoder R) (result : Result (Option Body) (Error E))
+      (new : Decoder R) : Type 0 where
     pub after : Progress
     pub advanced : AdvancesTo source kind progress old result after new
     pub opens : opens_of after + offset_of old ≤ opens_of progress + offset_of new

@@ -1,5 +1,6 @@
 -- Headers copied from a decoder to a writer.
-use Rattle.std.specs.Prelude.{◌≡◌, ℕ, false, ◌+◌, ◌<◌, ◌≤◌, List, [], ◌∷◌, ◌++◌, length, take, drop, Some, Result, Ok, Err}
+use Rattle.std.specs.Prelude.{◌≡◌, ℕ, false, ◌+◌, ◌<◌, ◌≤◌, List, [], ◌∷◌, ◌++◌, length, take, drop, Some, Result, Ok}
+use Rattle.std.specs.Prelude.{Err}
 use Rattle.ciborium_ll_io.specs.declared.io.Read.{Ghosts as Reader}
 use Rattle.ciborium_ll_io.specs.declared.io.Write.{Ghosts as Writer}
 use Rattle.ciborium_ll_grammar.specs.declared.hdr.Header.{Header}
@@ -34,11 +35,12 @@ pub record TitlesInFront (count : ℕ) (bytes : List ℕ) : Type 0 where
 
 module _ {R E W F : Type 0} (source : Reader R E) (sink : Writer W F) where
   -- the titles of the headers were read, and their shortest titles written
-  pub record Copies (headers : List Header) (old : Decoder R) (writer : W) (new : Decoder R) (writer' : W) : Type 0 where
-    pub bytes : List ℕ
-    pub titles : AreTitles bytes headers
-    pub passed : Passes source old bytes new
-    pub written : WritesAll sink writer (shortest_titles headers) writer'
+  pub record Copies (headers : List Header) (old : Decoder R) (writer : W) (new : Decoder R) (writer' : W) : Type 0
+    where
+      pub bytes : List ℕ
+      pub titles : AreTitles bytes headers
+      pub passed : Passes source old bytes new
+      pub written : WritesAll sink writer (shortest_titles headers) writer'
 
   -- all headers were copied; what was written are titles of just these headers again
   pub record CopiesEach (count : ℕ) (old : Decoder R) (writer : W) (new : Decoder R) (writer' : W) : Type 0 where
@@ -48,7 +50,8 @@ module _ {R E W F : Type 0} (source : Reader R E) (sink : Writer W F) where
     pub again : AreTitles (shortest_titles headers) headers
 
   -- behind fewer headers, `pull` failed with this error
-  pub record StopsAtPull (count : ℕ) (old : Decoder R) (writer : W) (error : Error E) (new : Decoder R) (writer' : W) : Type 0 where
+  pub record StopsAtPull (count : ℕ) (old : Decoder R) (writer : W) (error : Error E) (new : Decoder R)
+      (writer' : W) : Type 0 where
     pub headers : List Header
     pub fewer : length headers < count
     pub between : Decoder R
@@ -112,7 +115,8 @@ module _ {R E W F : Type 0} (source : Reader R E) (sink : Writer W F) where
     pub offset : new.offset ≡ old.offset + length copied.front + length (take 1 copied.rest)
 
   -- behind fewer titles stands a byte with which no title begins; it is gone, and the place is its offset
-  pub record MeetsRefused (count : ℕ) (due written : List ℕ) (place : ℕ) (old new : Decoder R) (writer' : W) : Type 0 where
+  pub record MeetsRefused (count : ℕ) (due written : List ℕ) (place : ℕ) (old new : Decoder R) (writer' : W) : Type
+      0 where
     pub headers : List Header
     pub fewer : length headers < count
     pub copied : CopiesTitles headers due written writer'
@@ -124,8 +128,10 @@ module _ {R E W F : Type 0} (source : Reader R E) (sink : Writer W F) where
   -- copying ends with all titles, or at the first place where none stands
   abbrev pub CopiesTold : ℕ → List ℕ → List ℕ → Decoder R → Result (Unit {0}) (RecodeError E F) → Decoder R → W → Type 0
   CopiesTold count due written old (Ok done) new writer' = CopiesSoMany count due written old new writer'
-  CopiesTold count due written old (Err (r.Read (e.Io fault))) new writer' = MeetsCutTitle count due written old new writer'
-  CopiesTold count due written old (Err (r.Read (e.Syntax place))) new writer' = MeetsRefused count due written place old new writer'
+  CopiesTold count due written old (Err (r.Read (e.Io fault))) new writer' =
+      MeetsCutTitle count due written old new writer'
+  CopiesTold count due written old (Err (r.Read (e.Syntax place))) new writer' =
+      MeetsRefused count due written place old new writer'
   CopiesTold count due written old (Err (r.Read e.TooLong)) new writer' = ⊥
   CopiesTold count due written old (Err (r.Read e.Waiting)) new writer' = ⊥
   CopiesTold count due written old (Err (r.Write fault)) new writer' = ⊥

@@ -2,7 +2,8 @@
 --
 -- Bytes are spoken of where the reader tells them: `Consumes` says nothing of bytes that are not told. All else holds
 -- over any reader.
-use Rattle.std.specs.Prelude.{◌≡◌, ℕ, ◌+◌, ◌<◌, ◌≤◌, ◌^◌, List, [], ◌∷◌, ◌++◌, length, take, Bool, true, false, Option, Some, None, Result, Ok, Err, ◌⊎◌, IfSome, IsSome, IsTrue, ◌%◌, ◌/◌}
+use Rattle.std.specs.Prelude.{◌≡◌, ℕ, ◌+◌, ◌<◌, ◌≤◌, ◌^◌, List, [], ◌∷◌, ◌++◌, length, take, Bool, true, false}
+use Rattle.std.specs.Prelude.{Option, Some, None, Result, Ok, Err, ◌⊎◌, IfSome, IsSome, IsTrue, ◌%◌, ◌/◌}
 use Rattle.std.specs.Io.KnownBytes.{Consumes, prepend_known}
 use Rattle.ciborium_ll_io.specs.declared.io.Read.{Ghosts}
 use Rattle.ciborium_ll_grammar.specs.declared.hdr.Header.{Header}
@@ -10,7 +11,8 @@ use Rattle.ciborium_ll_grammar.specs.declared.hdr.Minor.{Minor}
 use Rattle.ciborium_ll_decoder.specs.declared.dec.Decoder.{Decoder}
 use Rattle.ciborium_ll_decoder.specs.declared.dec.Error.{Error}
 use Rattle.ciborium_ll_decoder.specs.declared.dec.Error.TheVariants as e
-use Rattle.ciborium_ll_grammar.specs.Title.{IsTitle, IsStrictTitle, IsRefused, IsReserved, IsCutTitle, affix_len, shortest_title, title_len}
+use Rattle.ciborium_ll_grammar.specs.Title.{IsTitle, IsStrictTitle, IsRefused, IsReserved, IsCutTitle, affix_len}
+use Rattle.ciborium_ll_grammar.specs.Title.{shortest_title, title_len}
 use Rattle.ciborium_ll_grammar.specs.Parts.{IsMinor, longer_parts, minor_code, minor_affix}
 
 -- offsets are below this one: at most usize::MAX
@@ -125,7 +127,8 @@ module _ {R E : Type 0} (source : Ghosts R E) where
     pub none_waits : new.waiting ≡ None
     pub failures : failures_of new ≡ failures_of old
     -- a header that waited is the one given, and nothing was read
-    pub waited : IfSome old.waiting (λ kept. (kept ≡ header) × (title ≡ shortest_title header) × (new.reader ≡ old.reader))
+    pub waited : IfSome old.waiting (λ kept. (kept ≡ header) × (title ≡ shortest_title header)
+        × (new.reader ≡ old.reader))
     pub mode : new.strict ≡ old.strict
     -- a strict decoder takes a strict title alone; a header that waited is given as it was pushed
     pub strict : IsTrue old.strict → old.waiting ≡ None → IsStrictTitle title header
@@ -166,7 +169,8 @@ module _ {R E : Type 0} (source : Ghosts R E) where
     pub none_waits : new.waiting ≡ None
     pub failures : failures_of new ≡ failures_of old + 1
     -- a steady reader fails only inside a title, of which the first byte was read where there is one
-    pub steady : IsSteady old → Consumes (view old) (view new) read × IfSome (view old) (λ due. IsCutTitle due × (read ≡ take 1 due))
+    pub steady : IsSteady old → Consumes (view old) (view new) read
+        × IfSome (view old) (λ due. IsCutTitle due × (read ≡ take 1 due))
 
   -- the offset can't take the read behind the bytes `read`, which are none or a first byte
   pub record PassesOffset (old new : Decoder R) : Type 0 where
@@ -248,14 +252,16 @@ module _ {R E : Type 0} (source : Ghosts R E) where
     pub none_waits : new.waiting ≡ None
     pub failures : failures_of new ≡ failures_of old + 1
     -- a steady reader fails only where bytes are missing, and keeps what there is
-    pub steady : IsSteady old → (source.ahead new.reader ≡ source.ahead old.reader) × IfSome (source.ahead old.reader) (λ bytes. length bytes < count)
+    pub steady : IsSteady old → (source.ahead new.reader ≡ source.ahead old.reader)
+        × IfSome (source.ahead old.reader) (λ bytes. length bytes < count)
 
   -- a read of as many bytes as the list has, which holds them where the answer is Ok
   abbrev pub ReadsBytes : Decoder R → Result (Unit {0}) (Error E) → List ℕ → Decoder R → Type 0
   ReadsBytes old (Ok done) bytes new = ReadsAll old bytes new
   ReadsBytes old (Err (e.Io fault)) bytes new = ReadFails old (length bytes) new
   ReadsBytes old (Err e.Waiting) bytes new = IsWaiting old × IsUntouched old new
-  ReadsBytes old (Err e.TooLong) bytes new = (old.waiting ≡ None) × (offset_limit ≤ old.offset + length bytes) × IsUntouched old new
+  ReadsBytes old (Err e.TooLong) bytes new = (old.waiting ≡ None) × (offset_limit ≤ old.offset + length bytes)
+      × IsUntouched old new
   ReadsBytes old (Err (e.Syntax place)) bytes new = ⊥
 
   -- ---- the affix of a title, inside `pull`

@@ -18,6 +18,7 @@ error_text shown e.TooLong = Some (codes "the offset can't take the next read")
 error_text shown e.Waiting = Some (codes "a header waits in front of the bytes")
 
 -- what an error of a copy says: the decoder's, or that the writer failed
-abbrev pub recode_error_text : {E F : Type 0} → (E → Option (List ℕ)) → (F → Option (List ℕ)) → RecodeError E F → Option (List ℕ)
+abbrev pub recode_error_text : {E F : Type 0} → (E → Option (List ℕ)) → (F → Option (List ℕ)) → RecodeError E F
+    → Option (List ℕ)
 recode_error_text shown told (r.Read error) = error_text shown error
 recode_error_text shown told (r.Write fault) = behind (codes "the writer failed: ") (told fault)

@@ -68,15 +68,18 @@ module _ {R E : Type 0} (source : Ghosts R E) (kind : Kind) (kept : List ℕ) (u
 
 module _ {R E P : Type 0} {parser : Parser P} (source : Ghosts R E) where
   -- the segment was found to be damaged before, and nothing is read
-  pub record EndsDamaged (segment : Segment R P parser) (result : Result (Unit {0}) (Error E)) (new : Decoder R) : Type 0 where
+  pub record EndsDamaged (segment : Segment R P parser) (result : Result (Unit {0}) (Error E)) (new : Decoder R) :
+      Type 0 where
     pub damaged : segment.damaged ≡ true
     pub answer : result ≡ Err (e.Syntax segment.place)
     pub same : new ≡ segment.decoder.now
 
   -- the segment is sound so far, and the rest of its body is read
-  pub record EndsSound (room : ℕ) (segment : Segment R P parser) (result : Result (Unit {0}) (Error E)) (new : Decoder R) : Type 0 where
+  pub record EndsSound (room : ℕ) (segment : Segment R P parser) (result : Result (Unit {0}) (Error E))
+      (new : Decoder R) : Type 0 where
     pub undamaged : segment.damaged ≡ false
-    pub ends : EndsBody source parser.kind (kept_bytes segment.kept) segment.unread room segment.place segment.decoder.now result new
+    pub ends : EndsBody source parser.kind (kept_bytes segment.kept) segment.unread room segment.place
+        segment.decoder.now result new
 
   -- `finish` through a buffer of so much room, and the decoder afterwards
   abbrev pub Finishes : ℕ → Segment R P parser → Result (Unit {0}) (Error E) → Decoder R → Type 0

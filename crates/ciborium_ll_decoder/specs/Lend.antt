@@ -22,11 +22,12 @@ with_decoder s d = record s { decoder = record s.decoder { now = d } }
 
 module _ {R E P : Type 0} (source : Ghosts R E) (kind : Kind) where
   -- all that `advance` promises of the string: its answer is this result, and it leads from the old string to the new
-  pub record IsAdvanced (old : Segments R P) (result : Result (Option Body) (Error E)) (new : Segments R P) : Type 0 where
-    pub same_reference : new.decoder.ghost_name ≡ old.decoder.ghost_name
-    pub advances : AdvancesTo source kind old.progress old.decoder.now result new.progress new.decoder.now
-    pub opens : opens_of new.progress + offset_of old.decoder.now ≤ opens_of old.progress + offset_of new.decoder.now
-    pub moves_on : MovesOn source old.decoder.now new.decoder.now
+  pub record IsAdvanced (old : Segments R P) (result : Result (Option Body) (Error E)) (new : Segments R P) : Type 0
+    where
+      pub same_reference : new.decoder.ghost_name ≡ old.decoder.ghost_name
+      pub advances : AdvancesTo source kind old.progress old.decoder.now result new.progress new.decoder.now
+      pub opens : opens_of new.progress + offset_of old.decoder.now ≤ opens_of old.progress + offset_of new.decoder.now
+      pub moves_on : MovesOn source old.decoder.now new.decoder.now
 
 module _ {R P E : Type 0} {parser : Parser P} where
   -- the reference to the decoder in a segment that the result may have
@@ -51,13 +52,17 @@ module _ (R P : RattleType) {parser : Parser P.Denot} where
   -- once the segment is gone, the string holds the decoder that the segment left
   abbrev pub lends_segment : MutBor (Segments R.Denot P.Denot) → Segment R.Denot P.Denot parser → Fml
   lends_segment s segment =
-      follows (segments.the_row (record { mir = named 1; lft = [] }) R P) (decoder.the_row R) s.ghost_name segment.decoder.ghost_name
+      follows (segments.the_row (record { mir = named 1; lft = [] }) R P) (decoder.the_row R) s.ghost_name
+      segment.decoder.ghost_name
       (with_decoder s.now)
 
   -- once the segment in the result is gone, the string is as `advance` left it, whose decoder the segment had, with the
   -- decoder that the segment left; where the result has no segment, the string is as `advance` left it
-  abbrev pub pulls_segment : {E : Type 0} → Ghosts R.Denot E → MutBor (Segments R.Denot P.Denot) → Result (Option (Segment R.Denot P.Denot parser)) (Error E) → Fml
+  abbrev pub pulls_segment : {E : Type 0} → Ghosts R.Denot E → MutBor (Segments R.Denot P.Denot)
+      → Result (Option (Segment R.Denot P.Denot parser)) (Error E) → Fml
   pulls_segment source s result =
-      follows_so (segments.the_row (record { mir = named 1; lft = [] }) R P) (decoder.the_row R) s.ghost_name (lent_reference result)
-      (λ left ended. (advanced : Segments R.Denot P.Denot) × IsAdvanced source parser.kind s.now (advance_answer result) advanced × HoldsDecoder result advanced × (ended ≡ with_decoder advanced left))
+      follows_so (segments.the_row (record { mir = named 1; lft = [] }) R P) (decoder.the_row R) s.ghost_name
+      (lent_reference result)
+      (λ left ended. (advanced : Segments R.Denot P.Denot) × IsAdvanced source parser.kind s.now
+      (advance_answer result) advanced × HoldsDecoder result advanced × (ended ≡ with_decoder advanced left))
       (IsAdvanced source parser.kind s.now (advance_answer result))

@@ -11,9 +11,11 @@ use Rattle.ciborium_ll_decoder.specs.declared.recode.RecodeError.TheVariants as 
 use Rattle.ciborium_ll_grammar.specs.Title.{IsTitle, IsStrictTitle, shortest_title}
 use Rattle.ciborium_ll_grammar.specs.Strings.{Kind, Text, kind_header, IsWritable, most_kept}
 use Rattle.ciborium_ll_text.specs.Text.{IsCharacters, BeginsNoText}
-use Rattle.ciborium_ll_grammar.specs.Elements.{Mark, Open, pieces, open_marks, spelling, IsElement, IsRun, IsStrictSpelling}
+use Rattle.ciborium_ll_grammar.specs.Elements.{Mark, Open, pieces, open_marks, spelling, IsElement, IsRun}
+use Rattle.ciborium_ll_grammar.specs.Elements.{IsStrictSpelling}
 use Rattle.ciborium_ll_grammar.specs.Faults.{Place, Due, In, Body, Reaches, IsAtTitle, IsRefusedIn}
-use Rattle.ciborium_ll_decoder.specs.Decoding.{offset_limit, Begins, Strictly, Passes, PullsHeader, PullsTitle, ReadFails, IsUntouched}
+use Rattle.ciborium_ll_decoder.specs.Decoding.{offset_limit, Begins, Strictly, Passes, PullsHeader, PullsTitle}
+use Rattle.ciborium_ll_decoder.specs.Decoding.{ReadFails, IsUntouched}
 use Rattle.ciborium_ll_encoder.specs.Encoding.{WritesAll, WritesFront}
 
 -- ---- one header
@@ -101,7 +103,8 @@ module _ {R E W F : Type 0} (source : Reader R E) (sink : Writer W F) (kind : Ki
   CopiesBody len room place old writer (Ok done) new writer' = CopiesWhole len old writer new writer'
   CopiesBody len room place old writer (Err (r.Read (e.Io fault))) new writer' = BodyFails len old writer new writer'
   CopiesBody len room place old writer (Err (r.Read e.TooLong)) new writer' = BodyPasses len room old writer new writer'
-  CopiesBody len room place old writer (Err (r.Read (e.Syntax at))) new writer' = (at ≡ place) × BodyDamaged len old writer new writer'
+  CopiesBody len room place old writer (Err (r.Read (e.Syntax at))) new writer' = (at ≡ place)
+      × BodyDamaged len old writer new writer'
   CopiesBody len room place old writer (Err (r.Read e.Waiting)) new writer' = ⊥
   CopiesBody len room place old writer (Err (r.Write fault)) new writer' = BodyUnwritten len old writer new writer'
 
@@ -112,11 +115,13 @@ abbrev pub IsUnderWay : Place → List ℕ → List ℕ → Type 0
 IsUnderWay Due more read = (more ≡ []) × (read ≡ [])
 IsUnderWay (In kind) more read = (more ≡ []) × (read ≡ [])
 IsUnderWay (Body kind len start) more read =
-    (part : List ℕ) × (more ≡ shortest_title (kind_header kind (Some len)) ++ part) × Begins part read × (length part ≤ len)
+    (part : List ℕ) × (more ≡ shortest_title (kind_header kind (Some len)) ++ part) × Begins part read
+    × (length part ≤ len)
 
 module _ {R E W F : Type 0} (source : Reader R E) (sink : Writer W F) where
   -- the bytes were read, and the spelling of the marks was written
-  pub record Copied (old : Decoder R) (writer : W) (bytes : List ℕ) (marks : List Mark) (new : Decoder R) (writer' : W) : Type 0 where
+  pub record Copied (old : Decoder R) (writer : W) (bytes : List ℕ) (marks : List Mark) (new : Decoder R)
+      (writer' : W) : Type 0 where
     pub passed : Passes source old bytes new
     pub written : WritesAll sink writer (spelling marks) writer'
 
@@ -138,7 +143,8 @@ module _ {R E W F : Type 0} (source : Reader R E) (sink : Writer W F) where
     pub settled : 0 < count → new.waiting ≡ None
 
   -- `pull` failed where a title is due
-  pub record StopsAtTitle (count : ℕ) (old : Decoder R) (writer : W) (error : Error E) (new : Decoder R) (writer' : W) : Type 0 where
+  pub record StopsAtTitle (count : ℕ) (old : Decoder R) (writer : W) (error : Error E) (new : Decoder R)
+      (writer' : W) : Type 0 where
     pub bytes : List ℕ
     pub marks : List Mark
     pub place : Place
@@ -150,7 +156,8 @@ module _ {R E W F : Type 0} (source : Reader R E) (sink : Writer W F) where
     pub strict : Strictly old (IsStrictSpelling bytes marks [])
 
   -- a title came that may not stand within its string
-  pub record StopsAtOther (count : ℕ) (old : Decoder R) (writer : W) (at : ℕ) (new : Decoder R) (writer' : W) : Type 0 where
+  pub record StopsAtOther (count : ℕ) (old : Decoder R) (writer : W) (at : ℕ) (new : Decoder R) (writer' : W) : Type
+      0 where
     pub bytes : List ℕ
     pub marks : List Mark
     pub kind : Kind
@@ -175,7 +182,8 @@ module _ {R E W F : Type 0} (source : Reader R E) (sink : Writer W F) where
     pub full : offset_limit ≤ new.offset + 1
 
   -- a body stopped, behind its title
-  pub record StopsInBody (count room : ℕ) (old : Decoder R) (writer : W) (error : Error E) (new : Decoder R) (writer' : W) : Type 0 where
+  pub record StopsInBody (count room : ℕ) (old : Decoder R) (writer : W) (error : Error E) (new : Decoder R)
+      (writer' : W) : Type 0 where
     pub bytes : List ℕ
     pub marks : List Mark
     pub kind : Kind
@@ -187,7 +195,8 @@ module _ {R E W F : Type 0} (source : Reader R E) (sink : Writer W F) where
     pub writer-between : W
     pub copied : Copied old writer bytes marks between writer-between
     pub titled : WritesAll sink writer-between (shortest_title (kind_header kind (Some len))) writer-titled
-    pub stopped : CopiesBody source sink kind len room (old.offset + start) between writer-titled (Err (r.Read error)) new writer'
+    pub stopped : CopiesBody source sink kind len room (old.offset + start) between writer-titled
+        (Err (r.Read error)) new writer'
     pub strict : Strictly old (IsStrictSpelling bytes marks (shortest_title (kind_header kind (Some len))))
 
   -- the writer failed
@@ -198,15 +207,20 @@ module _ {R E W F : Type 0} (source : Reader R E) (sink : Writer W F) where
     pub read : List ℕ
     pub passed : Passes source old (bytes ++ read) new
     pub stopped : WritesFront sink writer (spelling marks ++ more) writer'
-    pub belongs : (IsRun count bytes marks × (more ≡ []) × (read ≡ [])) ⊎ ((place : Place) × Reaches count bytes marks place × IsUnderWay place more read)
+    pub belongs : (IsRun count bytes marks × (more ≡ []) × (read ≡ [])) ⊎
+        ((place : Place) × Reaches count bytes marks place × IsUnderWay place more read)
 
   -- the copy of elements, of which there are to be so many, through a buffer of so much room: an error
   abbrev pub StopsCopy : ℕ → ℕ → Decoder R → W → RecodeError E F → Decoder R → W → Type 0
-  StopsCopy count room old writer (r.Read (e.Io fault)) new writer' = StopsAtTitle count old writer (e.Io fault) new writer' ⊎ StopsInBody count room old writer (e.Io fault) new writer'
+  StopsCopy count room old writer (r.Read (e.Io fault)) new writer' =
+      StopsAtTitle count old writer (e.Io fault) new writer' ⊎ StopsInBody count room old writer (e.Io fault) new
+      writer'
   StopsCopy count room old writer (r.Read (e.Syntax at)) new writer' =
-      StopsAtTitle count old writer (e.Syntax at) new writer' ⊎ (StopsAtOther count old writer at new writer' ⊎ StopsInBody count room old writer (e.Syntax at) new writer')
+      StopsAtTitle count old writer (e.Syntax at) new writer' ⊎
+      (StopsAtOther count old writer at new writer' ⊎ StopsInBody count room old writer (e.Syntax at) new writer')
   StopsCopy count room old writer (r.Read e.TooLong) new writer' =
-      StopsAtTitle count old writer e.TooLong new writer' ⊎ (StopsTooDeep count old writer new writer' ⊎ StopsInBody count room old writer e.TooLong new writer')
+      StopsAtTitle count old writer e.TooLong new writer' ⊎
+      (StopsTooDeep count old writer new writer' ⊎ StopsInBody count room old writer e.TooLong new writer')
   StopsCopy count room old writer (r.Read e.Waiting) new writer' = ⊥
   StopsCopy count room old writer (r.Write fault) new writer' = StopsWriting count old writer new writer'
 
@@ -218,7 +232,8 @@ module _ {R E W F : Type 0} (source : Reader R E) (sink : Writer W F) where
   -- ---- the parts of the copy: each goes on from any copy that came so far
 
   -- so many elements were copied and one is due; of that the bytes of a title were read
-  pub record IsBehind (count before : ℕ) (title : List ℕ) (old : Decoder R) (writer : W) (now : Decoder R) (writer' : W) : Type 0 where
+  pub record IsBehind (count before : ℕ) (title : List ℕ) (old : Decoder R) (writer : W) (now : Decoder R)
+      (writer' : W) : Type 0 where
     pub bytes : List ℕ
     pub marks : List Mark
     pub due : before < count
@@ -247,11 +262,14 @@ module _ {R E W F : Type 0} (source : Reader R E) (sink : Writer W F) where
 
   -- the copy of an element behind its title
   abbrev pub CopiesBehind : Header → ℕ → Decoder R → W → Result (Unit {0}) (RecodeError E F) → Decoder R → W → Type 0
-  CopiesBehind header room now writer-now result new writer' = (count before : ℕ) (old : Decoder R) (writer : W) (title : List ℕ) → IsTitle title header
-      → Strictly old (IsStrictTitle title header) → IsBehind count before title old writer now writer-now → GoesOn count before room old writer result new writer'
+  CopiesBehind header room now writer-now result new writer' =
+      (count before : ℕ) (old : Decoder R) (writer : W) (title : List ℕ) → IsTitle title header
+      → Strictly old (IsStrictTitle title header) → IsBehind count before title old writer now writer-now
+      → GoesOn count before room old writer result new writer'
 
   -- the segments of a string of indefinite length and its break were read, and the open and the pieces written
-  pub record ReadsString (before : ℕ) (kind : Kind) (old : Decoder R) (writer : W) (new : Decoder R) (writer' : W) : Type 0 where
+  pub record ReadsString (before : ℕ) (kind : Kind) (old : Decoder R) (writer : W) (new : Decoder R) (writer' : W) :
+      Type 0 where
     pub bytes : List ℕ
     pub marks : List Mark
     pub run : IsRun before bytes marks
@@ -263,12 +281,15 @@ module _ {R E W F : Type 0} (source : Reader R E) (sink : Writer W F) where
     pub strict : Strictly old (IsStrictSpelling (bytes ++ element) (marks ++ open_marks kind bodies) [])
 
   -- a string up to its last break, or an error that stops the whole copy
-  abbrev pub GoesOnWithin : ℕ → ℕ → Kind → ℕ → Decoder R → W → Result (Unit {0}) (RecodeError E F) → Decoder R → W → Type 0
+  abbrev pub GoesOnWithin : ℕ → ℕ → Kind → ℕ → Decoder R → W → Result (Unit {0}) (RecodeError E F) → Decoder R → W
+      → Type 0
   GoesOnWithin count before kind room old writer (Ok done) new writer' = ReadsString before kind old writer new writer'
-  GoesOnWithin count before kind room old writer (Err error) new writer' = StopsCopy count room old writer error new writer'
+  GoesOnWithin count before kind room old writer (Err error) new writer' =
+      StopsCopy count room old writer error new writer'
 
   -- so many elements were copied, and the open of a string was read and written
-  pub record IsWithin (count before : ℕ) (kind : Kind) (old : Decoder R) (writer : W) (now : Decoder R) (writer' : W) : Type 0 where
+  pub record IsWithin (count before : ℕ) (kind : Kind) (old : Decoder R) (writer : W) (now : Decoder R)
+      (writer' : W) : Type 0 where
     pub bytes : List ℕ
     pub marks : List Mark
     pub due : before < count
@@ -280,4 +301,5 @@ module _ {R E W F : Type 0} (source : Reader R E) (sink : Writer W F) where
   -- the copy of the segments of a string behind its open
   abbrev pub CopiesSegments : Kind → ℕ → Decoder R → W → Result (Unit {0}) (RecodeError E F) → Decoder R → W → Type 0
   CopiesSegments kind room now writer-now result new writer' = (count before : ℕ) (old : Decoder R) (writer : W)
-      → IsWithin count before kind old writer now writer-now → GoesOnWithin count before kind room old writer result new writer'
+      → IsWithin count before kind old writer now writer-now → GoesOnWithin count before kind room old writer result
+      new writer'

@@ -1,5 +1,6 @@
 -- What a copy of elements means where the bytes are told: whatever fails, and where no side fails by itself.
-use Rattle.std.specs.Prelude.{◌≡◌, ℕ, Bool, false, ◌+◌, ◌<◌, ◌≤◌, ◌⊎◌, min, max, List, [], ◌++◌, length, drop, None, Some, Result, Ok, Err}
+use Rattle.std.specs.Prelude.{◌≡◌, ℕ, Bool, false, ◌+◌, ◌<◌, ◌≤◌, ◌⊎◌, min, max, List, [], ◌++◌, length, drop, None}
+use Rattle.std.specs.Prelude.{Some, Result, Ok, Err}
 use Rattle.ciborium_ll_io.specs.declared.io.Read.{Ghosts as Reader}
 use Rattle.ciborium_ll_io.specs.declared.io.Write.{Ghosts as Writer}
 use Rattle.ciborium_ll_decoder.specs.declared.dec.Decoder.{Decoder}
@@ -13,17 +14,21 @@ use Rattle.ciborium_ll_grammar.specs.Faults.{Place, Due, In, Body, Reaches, Answ
 use Rattle.ciborium_ll_decoder.specs.Decoding.{offset_limit, Begins, view, IsSteady}
 use Rattle.ciborium_ll_decoder.specs.Recoding.{IsUnderWay}
 
--- A side failed at this place, with these bytes ahead. `more` is what is written of a body under way: its shortest title,
--- and a front of it. The count is that of the bytes ahead that are consumed: of a title the first byte at most, of a text
+-- A side failed at this place, with these bytes ahead. `more` is what is written of a body under way: its shortest
+-- title,
+-- and a front of it. The count is that of the bytes ahead that are consumed: of a title the first byte at most, of a
+-- text
 -- up to three more than are written
 abbrev pub StopsAt : Place → List ℕ → List ℕ → ℕ → Type 0
 StopsAt Due ahead more consumed = (more ≡ []) × (consumed ≤ min 1 (length ahead))
 StopsAt (In kind) ahead more consumed = (more ≡ []) × (consumed ≤ min 1 (length ahead))
 StopsAt (Body kind len start) ahead more consumed =
-    (front : List ℕ) × (rest : List ℕ) × (ahead ≡ front ++ rest) × (more ≡ shortest_title (kind_header kind (Some len)) ++ front) × IsWritable kind front
+    (front : List ℕ) × (rest : List ℕ) × (ahead ≡ front ++ rest)
+    × (more ≡ shortest_title (kind_header kind (Some len)) ++ front) × IsWritable kind front
     × (length front ≤ consumed) × (consumed ≤ length front + most_kept kind) × (consumed ≤ min len (length ahead))
 
--- a copy of so many elements stops there, since no more can be read: behind a part of them. What is written of it in all
+-- a copy of so many elements stops there, since no more can be read: behind a part of them. What is written of it in
+-- all
 pub record StopInReading (count : ℕ) (bytes : List ℕ) : Type 0 where
   pub before : List ℕ
   pub marks : List Mark
@@ -37,7 +42,8 @@ pub record StopInReading (count : ℕ) (bytes : List ℕ) : Type 0 where
   pub written : List ℕ
   pub spelled : written ≡ spelling marks ++ more
 
--- a copy of so many elements stops there, since no more can be written: behind all of them or a part. What is written of
+-- a copy of so many elements stops there, since no more can be written: behind all of them or a part. What is written
+-- of
 -- it in all is a beginning of its spelling and of a body under way; what was read and not written yet is that body's
 pub record StopInWriting (count : ℕ) (bytes : List ℕ) : Type 0 where
   pub before : List ℕ
@@ -45,7 +51,8 @@ pub record StopInWriting (count : ℕ) (bytes : List ℕ) : Type 0 where
   pub read : List ℕ
   pub more : List ℕ
   pub rest : List ℕ
-  pub belongs : (IsRun count before marks × (more ≡ []) × (read ≡ [])) ⊎ ((place : Place) × Reaches count before marks place × IsUnderWay place more read)
+  pub belongs : (IsRun count before marks × (more ≡ []) × (read ≡ [])) ⊎
+      ((place : Place) × Reaches count before marks place × IsUnderWay place more read)
   pub is : bytes ≡ (before ++ read) ++ rest
   pub written : List ℕ
   pub begun : Begins written (spelling marks ++ more)
@@ -63,7 +70,8 @@ module _ {R E W F : Type 0} (source : Reader R E) (sink : Writer W F) where
 
   -- the reader gives the bytes that it tells, the writer has room, and the offset takes every read, through
   -- a buffer of so much room
-  pub record IsReadyAs (strict : Bool) (count room-in : ℕ) (decoder : Decoder R) (writer : W) (due written : List ℕ) : Type 0 where
+  pub record IsReadyAs (strict : Bool) (count room-in : ℕ) (decoder : Decoder R) (writer : W)
+      (due written : List ℕ) : Type 0 where
     pub steady : IsSteady source decoder
     pub told : IsToldAs strict decoder writer due written
     pub room : ℕ
@@ -90,7 +98,8 @@ module _ {R E W F : Type 0} (source : Reader R E) (sink : Writer W F) where
     pub still : count ≡ 0 → new.waiting ≡ old.waiting
 
   -- a fault was met: the answer, what was written up to it and what is consumed are its own
-  pub record MeetsFault (count : ℕ) (due written : List ℕ) (answer : Answer) (old new : Decoder R) (writer' : W) : Type 0 where
+  pub record MeetsFault (count : ℕ) (due written : List ℕ) (answer : Answer) (old new : Decoder R) (writer' : W) :
+      Type 0 where
     pub fault : HasFault count due
     pub answered : fault.answer ≡ answer
     pub output : sink.written writer' ≡ Some (written ++ fault.written)
@@ -98,9 +107,11 @@ module _ {R E W F : Type 0} (source : Reader R E) (sink : Writer W F) where
     pub offset : new.offset ≡ old.offset + length fault.before + fault.consumed
 
   -- `recode`: all elements are copied, or the first fault stops it
-  abbrev pub RecodesTold : ℕ → List ℕ → List ℕ → Decoder R → Result (Unit {0}) (RecodeError E F) → Decoder R → W → Type 0
+  abbrev pub RecodesTold : ℕ → List ℕ → List ℕ → Decoder R → Result (Unit {0}) (RecodeError E F) → Decoder R → W
+      → Type 0
   RecodesTold count due written old (Ok done) new writer' = CopiesFront count due written old new writer'
-  RecodesTold count due written old (Err (r.Read (e.Io fault))) new writer' = MeetsFault count due written Short old new writer'
+  RecodesTold count due written old (Err (r.Read (e.Io fault))) new writer' =
+      MeetsFault count due written Short old new writer'
   RecodesTold count due written old (Err (r.Read (e.Syntax place))) new writer' =
       (start : ℕ) × (place ≡ old.offset + start) × MeetsFault count due written (Syntax start) old new writer'
   RecodesTold count due written old (Err (r.Read e.TooLong)) new writer' = ⊥
@@ -123,12 +134,15 @@ module _ {R E W F : Type 0} (source : Reader R E) (sink : Writer W F) where
     pub offset : new.offset ≡ old.offset + length stop.before + length stop.read
 
   -- `recode` through a buffer of so much room, whatever fails: `Ok` and `Syntax` mean the same as where nothing does
-  abbrev pub RecodesAnyhow : ℕ → ℕ → List ℕ → List ℕ → Decoder R → Result (Unit {0}) (RecodeError E F) → Decoder R → W → Type 0
+  abbrev pub RecodesAnyhow : ℕ → ℕ → List ℕ → List ℕ → Decoder R → Result (Unit {0}) (RecodeError E F) → Decoder R
+      → W → Type 0
   RecodesAnyhow count room-in due written old (Ok done) new writer' = CopiesFront count due written old new writer'
-  RecodesAnyhow count room-in due written old (Err (r.Read (e.Io fault))) new writer' = StopsShort count due written old new writer'
+  RecodesAnyhow count room-in due written old (Err (r.Read (e.Io fault))) new writer' =
+      StopsShort count due written old new writer'
   RecodesAnyhow count room-in due written old (Err (r.Read (e.Syntax place))) new writer' =
       (start : ℕ) × (place ≡ old.offset + start) × MeetsFault count due written (Syntax start) old new writer'
   RecodesAnyhow count room-in due written old (Err (r.Read e.TooLong)) new writer' =
       StopsShort count due written old new writer' × (offset_limit ≤ new.offset + max 8 room-in)
   RecodesAnyhow count room-in due written old (Err (r.Read e.Waiting)) new writer' = ⊥
-  RecodesAnyhow count room-in due written old (Err (r.Write fault)) new writer' = StopsUnwritten count due written old new writer'
+  RecodesAnyhow count room-in due written old (Err (r.Write fault)) new writer' =
+      StopsUnwritten count due written old new writer'

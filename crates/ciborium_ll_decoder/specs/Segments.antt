@@ -1,5 +1,6 @@
 -- What the calls on strings do, which lend a decoder piece by piece.
-use Rattle.std.specs.Prelude.{◌≡◌, ℕ, ◌≤◌, IsTrue, suc, ◌+◌, ◌-◌, ◌<◌, ◌^◌, ◌⊎◌, true, List, [], ◌++◌, length, Option, Some, None, Result, Ok, Err}
+use Rattle.std.specs.Prelude.{◌≡◌, ℕ, ◌≤◌, IsTrue, suc, ◌+◌, ◌-◌, ◌<◌, ◌^◌, ◌⊎◌, true, List, [], ◌++◌, length, Option}
+use Rattle.std.specs.Prelude.{Some, None, Result, Ok, Err}
 use Rattle.std.specs.Borrow.{GName}
 use Rattle.ciborium_ll_io.specs.declared.io.Read.{Ghosts}
 use Rattle.ciborium_ll_grammar.specs.declared.hdr.Header.{Header}
@@ -35,12 +36,15 @@ module _ {R P : Type 0} where
 
 -- ---- opens and breaks in a row
 
--- `Nests kind opens bytes left`: the bytes are opens of the kind and breaks in a row, which lead from so many opens that
+-- `Nests kind opens bytes left`: the bytes are opens of the kind and breaks in a row, which lead from so many opens
+-- that
 -- aren't closed to so many, and leave one at least behind each (RFC 7049, 2.2.2)
 pub data Nests (kind : Kind) (opens : ℕ) : List ℕ → ℕ → Type 0 where
   in_place : Nests kind opens [] opens
-  deeper : {bytes title : List ℕ} {left : ℕ} → Nests kind opens bytes left → IsTitle title (kind_header kind None) → Nests kind opens (bytes ++ title) (suc left)
-  back : {bytes title : List ℕ} {left : ℕ} → Nests kind opens bytes (suc (suc left)) → IsTitle title h.Break → Nests kind opens (bytes ++ title) (suc left)
+  deeper : {bytes title : List ℕ} {left : ℕ} → Nests kind opens bytes left → IsTitle title (kind_header kind None)
+      → Nests kind opens (bytes ++ title) (suc left)
+  back : {bytes title : List ℕ} {left : ℕ} → Nests kind opens bytes (suc (suc left)) → IsTitle title h.Break
+      → Nests kind opens (bytes ++ title) (suc left)
 
 -- ---- the segments of a string
 
@@ -65,10 +69,11 @@ module _ {A E : Type 0} where
 
 module _ {R E : Type 0} (source : Ghosts R E) (kind : Kind) where
   -- a title with a length announces a segment; a lone string ends with it
-  pub record FindsBody (opens : ℕ) (old : Decoder R) (body : Body) (progress : Progress) (new : Decoder R) : Type 0 where
-    pub pulled : PullsTitle source old (kind_header kind (Some body.length)) new
-    pub place : body.place ≡ old.offset
-    pub after : ((opens ≡ 0) × (progress ≡ p.Ended)) ⊎ ((0 < opens) × (progress ≡ p.Open opens))
+  pub record FindsBody (opens : ℕ) (old : Decoder R) (body : Body) (progress : Progress) (new : Decoder R) : Type 0
+    where
+      pub pulled : PullsTitle source old (kind_header kind (Some body.length)) new
+      pub place : body.place ≡ old.offset
+      pub after : ((opens ≡ 0) × (progress ≡ p.Ended)) ⊎ ((0 < opens) × (progress ≡ p.Open opens))
 
   -- the break of the only open that isn't closed ends the string
   pub record ClosesString (opens : ℕ) (old : Decoder R) (progress : Progress) (new : Decoder R) : Type 0 where
@@ -80,7 +85,8 @@ module _ {R E : Type 0} (source : Ghosts R E) (kind : Kind) where
   pub record FindsOther (opens : ℕ) (old : Decoder R) (at : ℕ) (progress : Progress) (new : Decoder R) : Type 0 where
     pub header : Header
     pub pulled : PullsTitle source old header new
-    pub misplaced : IsMisplacedAt kind opens header ⊎ ((0 < opens) × (old.strict ≡ true) × (header ≡ kind_header kind None))
+    pub misplaced : IsMisplacedAt kind opens header ⊎ ((0 < opens) × (old.strict ≡ true)
+        × (header ≡ kind_header kind None))
     pub place : at ≡ old.offset
     pub after : progress ≡ p.Damaged at
 
@@ -94,9 +100,11 @@ module _ {R E : Type 0} (source : Ghosts R E) (kind : Kind) where
   abbrev pub EndsAdvance : ℕ → Decoder R → Result (Option Body) (Error E) → Progress → Decoder R → Type 0
   EndsAdvance opens old (Ok (Some body)) progress new = FindsBody opens old body progress new
   EndsAdvance opens old (Ok None) progress new = ClosesString opens old progress new
-  EndsAdvance opens old (Err (e.Io fault)) progress new = PullsHeader source old (Err (e.Io fault)) new × (progress ≡ p.Open opens)
+  EndsAdvance opens old (Err (e.Io fault)) progress new = PullsHeader source old (Err (e.Io fault)) new
+      × (progress ≡ p.Open opens)
   EndsAdvance opens old (Err (e.Syntax place)) progress new =
-      (PullsHeader source old (Err (e.Syntax place)) new × (progress ≡ p.Damaged place)) ⊎ FindsOther opens old place progress new
+      (PullsHeader source old (Err (e.Syntax place)) new × (progress ≡ p.Damaged place)) ⊎ FindsOther opens old
+      place progress new
   EndsAdvance opens old (Err e.TooLong) progress new =
       (PullsHeader source old (Err e.TooLong) new × (progress ≡ p.Open opens)) ⊎ NestsTooDeep opens old progress new
   EndsAdvance opens old (Err e.Waiting) progress new = ⊥
@@ -117,11 +125,13 @@ module _ {R E : Type 0} (source : Ghosts R E) (kind : Kind) where
   -- one title of a string
   abbrev pub StepsOver : ℕ → Decoder R → Result (Option Body) (Error E) → Progress → Decoder R → Type 0
   StepsOver opens old (Ok (Some body)) progress new = FindsBody opens old body progress new
-  StepsOver opens old (Ok None) progress new = ClosesString opens old progress new ⊎ (Deepens opens old progress new ⊎ ClosesInner opens old progress new)
+  StepsOver opens old (Ok None) progress new = ClosesString opens old progress new ⊎
+      (Deepens opens old progress new ⊎ ClosesInner opens old progress new)
   StepsOver opens old (Err error) progress new = EndsAdvance opens old (Err error) progress new
 
   -- `advance` with so many opens that aren't closed: opens and breaks in a row, and the title that decides
-  pub record AdvancesFrom (opens : ℕ) (old : Decoder R) (result : Result (Option Body) (Error E)) (progress : Progress) (new : Decoder R) : Type 0 where
+  pub record AdvancesFrom (opens : ℕ) (old : Decoder R) (result : Result (Option Body) (Error E))
+      (progress : Progress) (new : Decoder R) : Type 0 where
     pub nest : List ℕ
     pub left : ℕ
     pub nests : Nests kind opens nest left
@@ -135,5 +145,6 @@ module _ {R E : Type 0} (source : Ghosts R E) (kind : Kind) where
   abbrev pub AdvancesTo : Progress → Decoder R → Result (Option Body) (Error E) → Progress → Decoder R → Type 0
   AdvancesTo (p.Open opens) old result progress new = AdvancesFrom opens old result progress new
   AdvancesTo p.Ended old result progress new = (result ≡ Ok None) × (progress ≡ p.Ended) × (new ≡ old)
-  AdvancesTo (p.Damaged place) old result progress new = (result ≡ Err (e.Syntax place)) × (progress ≡ p.Damaged place) × (new ≡ old)
+  AdvancesTo (p.Damaged place) old result progress new = (result ≡ Err (e.Syntax place))
+      × (progress ≡ p.Damaged place) × (new ≡ old)
   AdvancesTo p.TooDeep old result progress new = (result ≡ Err e.TooLong) × (progress ≡ p.TooDeep) × (new ≡ old)

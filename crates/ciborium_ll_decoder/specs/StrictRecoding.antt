@@ -12,7 +12,8 @@ use Rattle.ciborium_ll_decoder.specs.declared.recode.RecodeError.TheVariants as 
 use Rattle.ciborium_ll_grammar.specs.Title.{IsTitle, IsStrictTitle, shortest_title}
 use Rattle.ciborium_ll_grammar.specs.Strings.{Kind, kind_header}
 use Rattle.ciborium_ll_grammar.specs.Elements.{Mark, spelling, IsRun, IsMeant, IsStrictSpelling}
-use Rattle.ciborium_ll_grammar.specs.Faults.{Place, Due, In, Body, Reaches, IsAtTitle, Answer, Short, Syntax, FirstFault}
+use Rattle.ciborium_ll_grammar.specs.Faults.{Place, Due, In, Body, Reaches, IsAtTitle, Answer, Short, Syntax}
+use Rattle.ciborium_ll_grammar.specs.Faults.{FirstFault}
 use Rattle.ciborium_ll_decoder.specs.Decoding.{offset_limit, view}
 use Rattle.ciborium_ll_decoder.specs.RecodingTold.{StopsShort, StopsUnwritten}
 
@@ -47,14 +48,17 @@ pub record StrictlyReaches (count : ℕ) (bytes : List ℕ) (marks : List Mark) 
 
 -- what stops a strict decoder: the faults for others, and two more
 pub data StrictFault (before : List ℕ) (marks : List Mark) : Place → List ℕ → Answer → List ℕ → ℕ → Type 0 where
-  Fault : {place : Place} {ahead written : List ℕ} {answer : Answer} {consumed : ℕ} → FirstFault before marks place ahead answer written consumed
+  Fault : {place : Place} {ahead written : List ℕ} {answer : Answer} {consumed : ℕ}
+      → FirstFault before marks place ahead answer written consumed
       → StrictFault before marks place ahead answer written consumed
   -- a title is due, and one comes that isn't the shortest, or a small simple value
-  LongTitle : {place : Place} {title ahead : List ℕ} (header : Header) (rest : List ℕ) → IsAtTitle place → IsTitle title header
+  LongTitle : {place : Place} {title ahead : List ℕ} (header : Header) (rest : List ℕ) → IsAtTitle place
+      → IsTitle title header
       → (IsStrictTitle title header → ⊥) → ahead ≡ title ++ rest
       → StrictFault before marks place ahead (Syntax (length before)) (spelling marks) (length title)
   -- within a string a further open comes
-  NestedOpen : {kind : Kind} {title ahead : List ℕ} (rest : List ℕ) → IsTitle title (kind_header kind None) → ahead ≡ title ++ rest
+  NestedOpen : {kind : Kind} {title ahead : List ℕ} (rest : List ℕ) → IsTitle title (kind_header kind None) → ahead
+      ≡ title ++ rest
       → StrictFault before marks (In kind) ahead (Syntax (length before)) (spelling marks) (length title)
 
 -- a fault stops a strict copy of so many elements
@@ -83,7 +87,8 @@ module _ {R E W F : Type 0} (source : Reader R E) (sink : Writer W F) where
     pub none_waits : new.waiting ≡ None
 
   -- a fault was met: the answer, what was written up to it and what is consumed are its own
-  pub record MeetsStrictFault (count : ℕ) (due written : List ℕ) (answer : Answer) (old new : Decoder R) (writer' : W) : Type 0 where
+  pub record MeetsStrictFault (count : ℕ) (due written : List ℕ) (answer : Answer) (old new : Decoder R)
+      (writer' : W) : Type 0 where
     pub fault : HasStrictFault count due
     pub answered : fault.answer ≡ answer
     pub output : sink.written writer' ≡ Some (written ++ fault.written)
@@ -91,9 +96,11 @@ module _ {R E W F : Type 0} (source : Reader R E) (sink : Writer W F) where
     pub offset : new.offset ≡ old.offset + length fault.before + fault.consumed
 
   -- `recode` on a strict decoder on which no header waits: all elements are copied, or the first fault stops it
-  abbrev pub RecodesStrictly : ℕ → List ℕ → List ℕ → Decoder R → Result (Unit {0}) (RecodeError E F) → Decoder R → W → Type 0
+  abbrev pub RecodesStrictly : ℕ → List ℕ → List ℕ → Decoder R → Result (Unit {0}) (RecodeError E F) → Decoder R → W
+      → Type 0
   RecodesStrictly count due written old (Ok done) new writer' = CopiesStrictly count due written old new writer'
-  RecodesStrictly count due written old (Err (r.Read (e.Io fault))) new writer' = MeetsStrictFault count due written Short old new writer'
+  RecodesStrictly count due written old (Err (r.Read (e.Io fault))) new writer' =
+      MeetsStrictFault count due written Short old new writer'
   RecodesStrictly count due written old (Err (r.Read (e.Syntax place))) new writer' =
       (start : ℕ) × (place ≡ old.offset + start) × MeetsStrictFault count due written (Syntax start) old new writer'
   RecodesStrictly count due written old (Err (r.Read e.TooLong)) new writer' = ⊥
@@ -101,12 +108,16 @@ module _ {R E W F : Type 0} (source : Reader R E) (sink : Writer W F) where
   RecodesStrictly count due written old (Err (r.Write fault)) new writer' = ⊥
 
   -- the same through a buffer of so much room, whatever fails: `Ok` and `Syntax` mean the same as where nothing does
-  abbrev pub RecodesStrictlyAnyhow : ℕ → ℕ → List ℕ → List ℕ → Decoder R → Result (Unit {0}) (RecodeError E F) → Decoder R → W → Type 0
-  RecodesStrictlyAnyhow count room-in due written old (Ok done) new writer' = CopiesStrictly count due written old new writer'
-  RecodesStrictlyAnyhow count room-in due written old (Err (r.Read (e.Io fault))) new writer' = StopsShort source sink count due written old new writer'
+  abbrev pub RecodesStrictlyAnyhow : ℕ → ℕ → List ℕ → List ℕ → Decoder R → Result (Unit {0}) (RecodeError E F)
+      → Decoder R → W → Type 0
+  RecodesStrictlyAnyhow count room-in due written old (Ok done) new writer' =
+      CopiesStrictly count due written old new writer'
+  RecodesStrictlyAnyhow count room-in due written old (Err (r.Read (e.Io fault))) new writer' =
+      StopsShort source sink count due written old new writer'
   RecodesStrictlyAnyhow count room-in due written old (Err (r.Read (e.Syntax place))) new writer' =
       (start : ℕ) × (place ≡ old.offset + start) × MeetsStrictFault count due written (Syntax start) old new writer'
   RecodesStrictlyAnyhow count room-in due written old (Err (r.Read e.TooLong)) new writer' =
       StopsShort source sink count due written old new writer' × (offset_limit ≤ new.offset + max 8 room-in)
   RecodesStrictlyAnyhow count room-in due written old (Err (r.Read e.Waiting)) new writer' = ⊥
-  RecodesStrictlyAnyhow count room-in due written old (Err (r.Write fault)) new writer' = StopsUnwritten source sink count due written old new writer'
+  RecodesStrictlyAnyhow count room-in due written old (Err (r.Write fault)) new writer' =
+      StopsUnwritten source sink count due written old new writer'

@@ -56,12 +56,14 @@ impl<R: Read> From<R> for Decoder<R> {
 }
 
 impl<R: Read> Decoder<R> {
-    ghost use Rattle.std.specs.Prelude.{replicate, ◌<◌, ◌^◌, ◌%◌, IsTrue, true, ◌↔◌, None, Some, Err, IfOk, MatchResult, IsErrOf};
+    ghost use Rattle.std.specs.Prelude.{replicate, ◌<◌, ◌^◌, ◌%◌, IsTrue, true, ◌↔◌, None, Some};
+    ghost use Rattle.std.specs.Prelude.{Err, IfOk, MatchResult, IsErrOf};
     ghost use Rattle.ciborium_ll_grammar.specs.Title.{title_len, IsTitle};
     ghost use Rattle.ciborium_ll_grammar.specs.Parts.{IsParts, title_bytes};
     ghost use Rattle.ciborium_ll_grammar.specs.TitleRows.{IsAffix};
     ghost use Rattle.ciborium_ll_decoder.specs.Decoding.{IsFresh, IsFreshAs, IsWaiting, MovesOn, PullsHeader};
-    ghost use Rattle.ciborium_ll_decoder.specs.Decoding.{PullsTitle, ReadsAll, ReadsBytes, ReadsMinor, TakesBack, offset_of};
+    ghost use Rattle.ciborium_ll_decoder.specs.Decoding.{PullsTitle, ReadsAll, ReadsBytes};
+    ghost use Rattle.ciborium_ll_decoder.specs.Decoding.{ReadsMinor, TakesBack, offset_of};
     ghost use Rattle.ciborium_ll_decoder.specs.Decoding.{reader_of, refusals_of, strict_of, waiting_of};
 
     /// A decoder that counts from this offset, in bytes.
@@ -274,7 +276,8 @@ impl<R: Read> Decoder<R> {
         Ok(Some(minor))
     }
 
-    /// Reads an affix of so many bytes. Each affix has an array of its own here, which is cleared only where it is read.
+    /// Reads an affix of so many bytes. Each affix has an array of its own here, which is cleared only where it is
+    /// read.
     #[inline(always)]
     fn affix<const N: usize>(&mut self) -> Result<[u8; N], Error<R::Error>>
         requires { waiting_of self.old ≡ None }

@@ -1,8 +1,11 @@
 -- A value written piece by piece.
-use Rattle.std.proofs.Common.{◌≡◌, ℕ, zero, suc, get_or, ◌+◌, ◌<◌, ◌≤◌, max, List, [], ◌∷◌, ◌++◌, length, take, drop, Option, Some, None, Result, Ok, Err, IsErr, OnOk, sym, ap, ◌∙◌, subst, inl, inr, arith, append_assoc}
+use Rattle.std.proofs.Common.{◌≡◌, ℕ, zero, suc, get_or, ◌+◌, ◌<◌, ◌≤◌, max, List, [], ◌∷◌, ◌++◌, length, take, drop}
+use Rattle.std.proofs.Common.{Option, Some, None, Result, Ok, Err, IsErr, OnOk, sym, ap, ◌∙◌, subst, inl, inr, arith}
+use Rattle.std.proofs.Common.{append_assoc}
 use Rattle.std.proofs.lemmas.Bool.{cases_lt}
 use Rattle.std.proofs.lemmas.List.{append-nil, take-append-drop, length-take-le, length-drop}
-use Rattle.std.proofs.lemmas.Str.{IsUtf8-take, IsUtf8-drop, IsCharBoundary-past_char, IsCharBoundary-start, length-encode}
+use Rattle.std.proofs.lemmas.Str.{IsUtf8-take, IsUtf8-drop, IsCharBoundary-past_char, IsCharBoundary-start}
+use Rattle.std.proofs.lemmas.Str.{length-encode}
 use Rattle.std.proofs.Math.Utf8.{encode}
 use Rattle.std.specs.Option.{unwrap_or}
 use Rattle.std.specs.Str.{IsUtf8, IsCharBoundary}
@@ -13,7 +16,8 @@ use Rattle.ciborium_ll_text.specs.Text.{joined, IsCharacter, IsTail}
 use Rattle.ciborium_ll_grammar.specs.Elements.{IsSound, Whole, body_spelling, spelling, pieces, open_marks}
 use Rattle.ciborium_ll_text.specs.Cuts.{IsFilled, AreFilled}
 use Rattle.ciborium_ll_grammar.specs.Values.{least_limit, value_limit, ArePieces, in_one, in_pieces}
-use Rattle.ciborium_ll_encoder.specs.Encoding.{WritesAll, WritesFront, WritesBytes, WritesPieces, WritesValue, WritesFewest}
+use Rattle.ciborium_ll_encoder.specs.Encoding.{WritesAll, WritesFront, WritesBytes, WritesPieces, WritesValue}
+use Rattle.ciborium_ll_encoder.specs.Encoding.{WritesFewest}
 use Rattle.ciborium_ll_grammar.proofs.ElementLaws.{pieces-append, spelling-append, open_spelled}
 use Rattle.ciborium_ll_encoder.proofs.EncodingLaws.{WritesBytes-then, WritesBytes-stopped}
 use Rattle.ciborium_ll_text.proofs.TextLaws.{character_length}
@@ -57,18 +61,21 @@ abbrev pub IsLastWithin : ℕ → List ℕ → ℕ → Type 0
 IsLastWithin limit text n = (other : ℕ) → n < other → other ≤ limit → ¬ (IsCharBoundary text other)
 
 -- the first character fits a limit of at least 4
-pub some_within : (limit : ℕ) (text : List ℕ) (n : ℕ) → IsUtf8 text → 0 < length text → 4 ≤ limit → IsLastWithin limit text n → 0 < n
+pub some_within : (limit : ℕ) (text : List ℕ) (n : ℕ) → IsUtf8 text → 0 < length text → 4 ≤ limit
+    → IsLastWithin limit text n → 0 < n
 some_within limit text n u l four last =
     let s = starts text (from_std text u) l in
     let m = character_length s.char s.ok in
     elim (cases_lt 0 n) [
       | inl some ↦ some
-      | inr none ↦ absurd (last (0 + length s.char) (omega (arith, m.0)) (omega (arith, m.1)) (next_place text s.char s.rest 0 u (IsCharBoundary-start text u) s.ok s.is))
+      | inr none ↦ absurd (last (0 + length s.char) (omega (arith, m.0)) (omega (arith, m.1))
+          (next_place text s.char s.rest 0 u (IsCharBoundary-start text u) s.ok s.is))
     ]
 
 -- no text begins with a later byte of a character
 pub past_tail : (text : List ℕ) (n : ℕ) → IsUtf8 text → n < length text → IsTail (get_or text n 0) → 0 < n
-past_tail text zero u l tail = let start = IsCharBoundary-start text u in absurd (omega (arith, start.1 l tail.0, tail.1))
+past_tail text zero u l tail = let start = IsCharBoundary-start text u in
+    absurd (omega (arith, start.1 l tail.0, tail.1))
 past_tail text (suc n) u l tail = omega arith
 
 -- where no later byte of a character stands is a place
@@ -82,7 +89,8 @@ at_no_tail text n within none = (
 )
 
 -- the last place within the limit is at most three bytes in front of it
-pub near_limit : (limit : ℕ) (text : List ℕ) (n : ℕ) → IsUtf8 text → IsCharBoundary text n → n ≤ limit → limit < length text
+pub near_limit : (limit : ℕ) (text : List ℕ) (n : ℕ) → IsUtf8 text → IsCharBoundary text n → n ≤ limit
+    → limit < length text
     → IsLastWithin limit text n → limit ≤ n + 3
 near_limit limit text n u b within longer last =
     let left : 0 < length (drop n text) = omega (arith, length-drop n text) in
@@ -90,7 +98,8 @@ near_limit limit text n u b within longer last =
     let m = character_length s.char s.ok in
     elim (cases_lt limit (n + length s.char)) [
       | inl cut ↦ omega (arith, m.1)
-      | inr fits ↦ absurd (last (n + length s.char) (omega (arith, m.0)) fits (next_place text s.char s.rest n u b s.ok s.is))
+      | inr fits ↦ absurd (last (n + length s.char) (omega (arith, m.0)) fits
+          (next_place text s.char s.rest n u b s.ok s.is))
     ]
 
 -- the first character behind the last place within the limit doesn't fit
@@ -104,7 +113,8 @@ last_is_filled limit text n following behind u b last e character rest p f =
     let len = length-take-le n text b.0 in
     elim (cases_lt limit (length (take n text) + length character)) [
       | inl l ↦ l
-      | inr l ↦ absurd (last (n + length character) (omega (arith, m.0)) (omega arith) (next_place text character (rest ++ behind) n u b p same))
+      | inr l ↦ absurd (last (n + length character) (omega (arith, m.0)) (omega arith)
+          (next_place text character (rest ++ behind) n u b p same))
     ]
 
 -- the last place within the limit ends a member that is filled
@@ -115,7 +125,8 @@ filled_first limit text n [] u b last e f = tt
 filled_first limit text n (x ∷ xs) u b last e f = (last_is_filled limit text n x (joined xs) u b last e, f)
 
 -- the front of a text up to the last place within the limit leads the rest
-pub text_leads : (limit : ℕ) (text : List ℕ) (n : ℕ) (piece behind : List ℕ) → piece ≡ take n text → behind ≡ drop n text → IsUtf8 text
+pub text_leads : (limit : ℕ) (text : List ℕ) (n : ℕ) (piece behind : List ℕ) → piece ≡ take n text → behind
+    ≡ drop n text → IsUtf8 text
     → IsCharBoundary text n → n ≤ limit → 0 < n → IsLastWithin limit text n → Leads Text limit text (piece ∷ []) behind
 text_leads limit text n piece behind p q u b within some last others o =
     let len = length-take-le n text b.0 in
@@ -132,11 +143,13 @@ text_leads limit text n piece behind p q u b within some last others o =
 -- ---- what a rest that fits has as its pieces
 
 -- bytes within the limit are one piece
-pub bytes_last : (limit : ℕ) (rest : List ℕ) → 0 < length rest → length rest ≤ limit → ArePieces Bytes limit rest (rest ∷ [])
+pub bytes_last : (limit : ℕ) (rest : List ℕ) → 0 < length rest → length rest ≤ limit
+    → ArePieces Bytes limit rest (rest ∷ [])
 bytes_last limit rest some fits = (sym (append-nil rest), (some, fits))
 
 -- a text within the limit is one piece
-pub text_last : (limit : ℕ) (rest : List ℕ) → IsUtf8 rest → 0 < length rest → length rest ≤ limit → ArePieces Text limit rest (rest ∷ [])
+pub text_last : (limit : ℕ) (rest : List ℕ) → IsUtf8 rest → 0 < length rest → length rest ≤ limit
+    → ArePieces Text limit rest (rest ∷ [])
 text_last limit rest u some fits = record {
   cut = record { whole = sym (append-nil rest); each = ((from_std rest u, fits), tt) };
   nonempty = (some, tt);
@@ -156,7 +169,8 @@ limit_is k (Some n) value limit e = e
 -- pieces behind pieces
 spelled_then : (k : Kind) (done others : List (List ℕ))
     → spelling (pieces k (done ++ others)) ≡ spelling (pieces k done) ++ spelling (pieces k others)
-spelled_then k done others = ap spelling (pieces-append k done others) ∙ spelling-append (pieces k done) (pieces k others)
+spelled_then k done others = ap spelling (pieces-append k done others)
+    ∙ spelling-append (pieces k done) (pieces k others)
 
 -- one piece more
 spelled_more : (k : Kind) (done : List (List ℕ)) (piece : List ℕ)
@@ -172,7 +186,8 @@ module _ {W F : Type 0} (sink : Ghosts W F) where
     pub written : WritesAll sink old (spelling (pieces kind done)) current
 
   -- one piece more is written
-  pub Progress-more : (k : Kind) (limit : ℕ) (value : List ℕ) (old : W) (rest : List ℕ) (current : W) (piece behind : List ℕ) (new : W)
+  pub Progress-more : (k : Kind) (limit : ℕ) (value : List ℕ) (old : W) (rest : List ℕ) (current : W)
+      (piece behind : List ℕ) (new : W)
       → Progress k limit value old rest current → Leads k limit rest (piece ∷ []) behind
       → WritesAll sink current (body_spelling k piece) new
       → Progress k limit value old behind new
@@ -180,7 +195,8 @@ module _ {W F : Type 0} (sink : Ghosts W F) where
     done = p.done ++ piece ∷ [];
     leads = Leads-then k limit value rest behind p.done (piece ∷ []) p.leads leads;
     written = subst (λ (z : List ℕ). WritesAll sink old z new) (sym (spelled_more k p.done piece))
-        (WritesBytes-then sink {T = Unit {0}} old current new (Ok (tt {0})) (spelling (pieces k p.done)) (body_spelling k piece) p.written all);
+        (WritesBytes-then sink {T = Unit {0}} old current new (Ok (tt {0})) (spelling (pieces k p.done))
+        (body_spelling k piece) p.written all);
   }
 
   -- the writer failed at a piece, with others behind it
@@ -194,12 +210,14 @@ module _ {W F : Type 0} (sink : Ghosts W F) where
     members = p.done ++ (piece ∷ others);
     are_pieces = p.leads (piece ∷ others) (leads others o);
     bytes = subst (λ (z : List ℕ). WritesBytes sink old result z new) (sym (spelled_then k p.done (piece ∷ others)))
-        (WritesBytes-then sink old current new result (spelling (pieces k p.done)) (spelling (pieces k (piece ∷ others))) p.written
+        (WritesBytes-then sink old current new result (spelling (pieces k p.done))
+        (spelling (pieces k (piece ∷ others))) p.written
         (WritesBytes-stopped sink current new result (body_spelling k piece) (spelling (pieces k others)) e front));
   }
 
   -- the rest is written as the last piece
-  pub Progress-last : {T : Type 0} (result : Result T F) (k : Kind) (limit : ℕ) (value : List ℕ) (old : W) (rest : List ℕ)
+  pub Progress-last : {T : Type 0} (result : Result T F) (k : Kind) (limit : ℕ) (value : List ℕ) (old : W)
+      (rest : List ℕ)
       (current new : W)
       → Progress k limit value old rest current → ArePieces k limit rest (rest ∷ [])
       → WritesBytes sink current result (body_spelling k rest) new
@@ -208,14 +226,17 @@ module _ {W F : Type 0} (sink : Ghosts W F) where
     members = p.done ++ rest ∷ [];
     are_pieces = p.leads (rest ∷ []) last;
     bytes = subst (λ (z : List ℕ). WritesBytes sink old result z new) (sym (spelled_more k p.done rest))
-        (WritesBytes-then sink old current new result (spelling (pieces k p.done)) (body_spelling k rest) p.written next);
+        (WritesBytes-then sink old current new result (spelling (pieces k p.done)) (body_spelling k rest) p.written
+        next);
   }
 
   -- ---- a whole value
 
   -- a value in one string
-  pub WritesValue-in_one : {T : Type 0} (result : Result T F) (k : Kind) (segment : Option ℕ) (value : List ℕ) (limit : ℕ) (old new : W)
-      → limit ≡ value_limit k segment value → length value ≤ limit → WritesBytes sink old result (body_spelling k value) new
+  pub WritesValue-in_one : {T : Type 0} (result : Result T F) (k : Kind) (segment : Option ℕ) (value : List ℕ)
+      (limit : ℕ) (old new : W)
+      → limit ≡ value_limit k segment value → length value ≤ limit
+      → WritesBytes sink old result (body_spelling k value) new
       → WritesValue sink k segment value old result new
   WritesValue-in_one result k segment value limit old new same fits bytes = record {
     marks = Whole k value ∷ [];
@@ -224,10 +245,12 @@ module _ {W F : Type 0} (sink : Ghosts W F) where
   }
 
   -- a value in pieces
-  in_open : {T : Type 0} (result : Result T F) (k : Kind) (segment : Option ℕ) (value : List ℕ) (limit : ℕ) (members : List (List ℕ))
+  in_open : {T : Type 0} (result : Result T F) (k : Kind) (segment : Option ℕ) (value : List ℕ) (limit : ℕ)
+      (members : List (List ℕ))
       (old new : W)
       → limit ≡ value_limit k segment value → limit < length value → ArePieces k limit value members
-      → WritesBytes sink old result (shortest_title (kind_header k None) ++ (spelling (pieces k members) ++ 0xff ∷ [])) new
+      → WritesBytes sink old result (shortest_title (kind_header k None) ++
+      (spelling (pieces k members) ++ 0xff ∷ [])) new
       → WritesValue sink k segment value old result new
   in_open result k segment value limit members old new same longer are bytes = record {
     marks = open_marks k members;
@@ -243,21 +266,25 @@ module _ {W F : Type 0} (sink : Ghosts W F) where
   WritesValue-unopened result e k segment value limit old new sound least same longer front =
       let p = pieces_exist k limit value least sound longer in
       in_open result k segment value limit p.0 old new same longer p.1
-      (WritesBytes-stopped sink old new result (shortest_title (kind_header k None)) (spelling (pieces k p.0) ++ 0xff ∷ []) e front)
+      (WritesBytes-stopped sink old new result (shortest_title (kind_header k None))
+      (spelling (pieces k p.0) ++ 0xff ∷ []) e front)
 
   -- the writer failed at the pieces
   pub WritesValue-cut : {T : Type 0} (result : Result T F) → IsErr result
       → (k : Kind) (segment : Option ℕ) (value : List ℕ) (limit : ℕ) (old open_new new : W)
       (fault : F) → limit ≡ value_limit k segment value → limit < length value
       → WritesAll sink old (shortest_title (kind_header k None)) open_new
-      → WritesPieces sink {T = T} k limit value open_new (Err fault) new → WritesValue sink k segment value old result new
+      → WritesPieces sink {T = T} k limit value open_new (Err fault) new
+      → WritesValue sink k segment value old result new
   WritesValue-cut result e k segment value limit old open_new new fault same longer all p =
       in_open result k segment value limit p.members old new same longer p.are_pieces
-      (WritesBytes-then sink old open_new new result (shortest_title (kind_header k None)) (spelling (pieces k p.members) ++ 0xff ∷ []) all
+      (WritesBytes-then sink old open_new new result (shortest_title (kind_header k None))
+      (spelling (pieces k p.members) ++ 0xff ∷ []) all
       (WritesBytes-stopped sink open_new new result (spelling (pieces k p.members)) (0xff ∷ []) e p.bytes))
 
   -- the pieces were written, and then the break, or the writer failed there
-  pub WritesValue-closed : {T : Type 0} (result : Result T F) (k : Kind) (segment : Option ℕ) (value : List ℕ) (limit : ℕ)
+  pub WritesValue-closed : {T : Type 0} (result : Result T F) (k : Kind) (segment : Option ℕ) (value : List ℕ)
+      (limit : ℕ)
       (old open_new last new : W)
       (done : T) → limit ≡ value_limit k segment value → limit < length value
       → WritesAll sink old (shortest_title (kind_header k None)) open_new
@@ -265,11 +292,13 @@ module _ {W F : Type 0} (sink : Ghosts W F) where
       → WritesValue sink k segment value old result new
   WritesValue-closed result k segment value limit old open_new last new done same longer all p close =
       in_open result k segment value limit p.members old new same longer p.are_pieces
-      (WritesBytes-then sink old open_new new result (shortest_title (kind_header k None)) (spelling (pieces k p.members) ++ 0xff ∷ []) all
+      (WritesBytes-then sink old open_new new result (shortest_title (kind_header k None))
+      (spelling (pieces k p.members) ++ 0xff ∷ []) all
       (WritesBytes-then sink open_new last new result (spelling (pieces k p.members)) (0xff ∷ []) p.bytes close))
 
   -- a text that was written has the fewest segments
-  pub WritesFewest-of : {T : Type 0} (result : Result T F) (segment : Option ℕ) (text : List ℕ) (old new : W) → IsUtf8 text
+  pub WritesFewest-of : {T : Type 0} (result : Result T F) (segment : Option ℕ) (text : List ℕ) (old new : W)
+      → IsUtf8 text
       → WritesValue sink Text segment text old result new
       → OnOk result (0 < length text → WritesFewest sink (value_limit Text segment text) text old new)
   WritesFewest-of (Ok done) segment text old new u w = λ some. record {

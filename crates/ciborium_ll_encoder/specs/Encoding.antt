@@ -1,4 +1,5 @@
--- What a write does to a writer, by its answer. Bytes are spoken of where the writer tells them, room where it tells that.
+-- What a write does to a writer, by its answer. Bytes are spoken of where the writer tells them, room where it tells
+-- that.
 use Rattle.std.specs.Prelude.{◌≡◌, ℕ, ◌+◌, ◌<◌, List, length, Option, Result, Ok, Err, IfSome}
 use Rattle.std.specs.Io.KnownBytes.{Appends}
 use Rattle.ciborium_ll_io.specs.declared.io.Write.{Ghosts}
@@ -31,13 +32,15 @@ module _ {W F : Type 0} (sink : Ghosts W F) where
   WritesBytes old (Err fault) bytes new = WritesFront old bytes new
 
   -- the pieces of a value that is longer than the limit
-  pub record WritesPieces {T : Type 0} (kind : Kind) (limit : ℕ) (value : List ℕ) (old : W) (result : Result T F) (new : W) : Type 0 where
+  pub record WritesPieces {T : Type 0} (kind : Kind) (limit : ℕ) (value : List ℕ) (old : W) (result : Result T F)
+      (new : W) : Type 0 where
     pub members : List (List ℕ)
     pub are_pieces : ArePieces kind limit value members
     pub bytes : WritesBytes old result (spelling (pieces kind members)) new
 
   -- a value, in segments of at most as many bytes as are asked for
-  pub record WritesValue {T : Type 0} (kind : Kind) (segment : Option ℕ) (value : List ℕ) (old : W) (result : Result T F) (new : W) : Type 0 where
+  pub record WritesValue {T : Type 0} (kind : Kind) (segment : Option ℕ) (value : List ℕ) (old : W)
+      (result : Result T F) (new : W) : Type 0 where
     pub marks : List Mark
     pub written : IsWritten kind (value_limit kind segment value) value marks
     pub bytes : WritesBytes old result (spelling marks) new

@@ -2,7 +2,8 @@
 //!
 //! None of them is steady, and none tells its room: so nothing says of a call that it will succeed.
 
-ghost use Rattle.std.specs.Prelude.{false, ◌≡◌, ◌+◌, ◌/◌, ◌<◌, [], Some, None, IsTrue, IfSome, IsErrOf, OnOk, OnErr, length, take};
+ghost use Rattle.std.specs.Prelude.{false, ◌≡◌, ◌+◌, ◌/◌, ◌<◌, [], Some, None, IsTrue, IfSome};
+ghost use Rattle.std.specs.Prelude.{IsErrOf, OnOk, OnErr, length, take};
 ghost use Rattle.std.specs.Io.KnownBytes.{Appends, Consumes};
 ghost use Rattle.std.proofs.Common.{rules};
 ghost use Rattle.ciborium_ll.specs.Transfer.{AppendsFront, Shrinks};
@@ -197,7 +198,8 @@ impl<'a> Write for FailingWriter<'a> {
             → Appends (⟦<SliceWriter<'a> as Write>⟧.written self.old.within)
             (⟦<SliceWriter<'a> as Write>⟧.written self.new.within) (take (length «data».now / 2) «data».now) }
         ensures nothing { IsErrOf result DeviceFault.Short
-            → ⟦<SliceWriter<'a> as Write>⟧.written self.new.within ≡ ⟦<SliceWriter<'a> as Write>⟧.written self.old.within }
+            → ⟦<SliceWriter<'a> as Write>⟧.written self.new.within
+            ≡ ⟦<SliceWriter<'a> as Write>⟧.written self.old.within }
     {
         let is_planned = self.plan.fails(data.len());
         let taken = if is_planned {

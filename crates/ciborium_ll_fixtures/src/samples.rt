@@ -206,8 +206,8 @@ pub const COPIES: [(usize, &str); 24] = [
     (1, "7f626162ff"),
 ];
 
-/// The digits of all of these, each with how many elements a copy of it is asked for: those that it has, or those of its
-/// row. The error says that there is no memory.
+/// The digits of all of these, each with how many elements a copy of it is asked for: those that it has, or those of
+/// its row. The error says that there is no memory.
 pub fn all(alloc: Global) -> Result<Vec<(usize, &'static str)>, AllocError> {
     let mut all = vec![in alloc; (26, TWENTY_FIVE), (27, TWENTY_FIVE_AND_BREAK)]?;
     for (hex, _) in VECTORS {

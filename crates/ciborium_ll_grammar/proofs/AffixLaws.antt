@@ -1,5 +1,6 @@
 -- Titles by their first byte: how many bytes follow it, and that any bytes of that number make a title.
-use Rattle.std.proofs.Common.{◌≡◌, ℕ, zero, suc, ◌-◌, ◌/◌, ◌%◌, ◌<◌, ◌≤◌, ◌⊎◌, List, [], ◌∷◌, ◌++◌, length, take, Some, None, refl, sym, ap, subst, ◌∙◌, arith, inl, inr}
+use Rattle.std.proofs.Common.{◌≡◌, ℕ, zero, suc, ◌-◌, ◌/◌, ◌%◌, ◌<◌, ◌≤◌, ◌⊎◌, List, [], ◌∷◌, ◌++◌, length, take}
+use Rattle.std.proofs.Common.{Some, None, refl, sym, ap, subst, ◌∙◌, arith, inl, inr}
 use Rattle.std.specs.Int.{w16, w32, w64, from_be_bytes}
 use Rattle.std.proofs.Math.ListN.{replicate}
 use Rattle.std.proofs.lemmas.Bool.{cases_lt, ne_eqb}
@@ -7,7 +8,10 @@ use Rattle.std.proofs.lemmas.List.{append-nil, length-append, length-replicate}
 use Rattle.std.proofs.lemmas.Nat.{be_bytes_2, be_bytes_4, be_bytes_8}
 use Rattle.ciborium_ll_grammar.specs.declared.hdr.Header.{Header}
 use Rattle.ciborium_ll_grammar.specs.declared.hdr.Header.TheVariants as h
-use Rattle.ciborium_ll_grammar.specs.Title.{Major, Unsigned, Negative, ByteString, TextString, Array, Map, Tag, Other, major_code, first_byte, Size, Small, One, Two, Four, Eight, size_limit, minor_of, affix_of, numbered_header, open_header, IsTitle, numbered, alone, IsRefused, BeginsRefused, affix_len, IsCutTitle, AreBytes}
+use Rattle.ciborium_ll_grammar.specs.Title.{Major, Unsigned, Negative, ByteString, TextString, Array, Map, Tag, Other}
+use Rattle.ciborium_ll_grammar.specs.Title.{major_code, first_byte, Size, Small, One, Two, Four, Eight, size_limit}
+use Rattle.ciborium_ll_grammar.specs.Title.{minor_of, affix_of, numbered_header, open_header, IsTitle, numbered}
+use Rattle.ciborium_ll_grammar.specs.Title.{alone, IsRefused, BeginsRefused, affix_len, IsCutTitle, AreBytes}
 use Rattle.ciborium_ll_grammar.proofs.TitleLaws.{minor_below, title_refused}
 
 -- ---- a title has as many bytes behind the first one as that announces
@@ -50,12 +54,19 @@ announced w x (numbered m s n p) = record {
   is = refl;
   long = affix_length s n p ∙ ap affix_len (minor_back m (minor_of s n) (let b = minor_below s n p in omega arith));
 }
-announced w x (alone m y o) = record { byte = first_byte m 31; affix = []; is = refl; long = ap affix_len (minor_back m 31 (omega arith)) }
+announced w x (alone m y o) = record {
+  byte = first_byte m 31;
+  affix = [];
+  is = refl;
+  long =
+      ap affix_len (minor_back m 31 (omega arith));
+}
 
 -- ---- titles that are cut
 
 -- a list that goes on into an affix is cut
-cut_of_length : (s : List ℕ) (b : ℕ) (more : List ℕ) (a : ℕ) (v : List ℕ) → s ++ b ∷ more ≡ a ∷ v → length v ≡ affix_len (a % 32)
+cut_of_length : (s : List ℕ) (b : ℕ) (more : List ℕ) (a : ℕ) (v : List ℕ) → s ++ b ∷ more ≡ a ∷ v → length v
+    ≡ affix_len (a % 32)
     → IsCutTitle s
 cut_of_length [] b more a v e l = tt
 cut_of_length (c ∷ s) b more a v e l =
@@ -76,7 +87,8 @@ longer_not_cut b v r l c = omega (arith, l, c, length-append v r)
 -- a list in front of which a title stands isn't cut
 pub title_not_cut : (t r : List ℕ) (x : Header) → IsTitle t x → IsCutTitle (t ++ r) → ⊥
 title_not_cut t r x p c =
-    let a = announced t x p in longer_not_cut a.byte a.affix r a.long (subst (λ (z : List ℕ). IsCutTitle (z ++ r)) a.is c)
+    let a = announced t x p in longer_not_cut a.byte a.affix r a.long
+    (subst (λ (z : List ℕ). IsCutTitle (z ++ r)) a.is c)
 
 -- ---- bytes that make a title
 
@@ -102,13 +114,19 @@ record Spelled (s : Size) (bytes : List ℕ) : Type 0 where
 spelled_one : (bytes : List ℕ) → AreBytes bytes → length bytes ≡ 1 → Spelled One bytes
 spelled_one [] f l = absurd (omega arith)
 spelled_one (b ∷ []) f l =
-    let p : b < 256 = f 0 in let e : b % 256 ≡ b = omega arith in record { number = b; below = p; is = ap (λ (z : ℕ). z ∷ []) e }
+    let p : b < 256 = f 0 in let e : b % 256 ≡ b = omega arith in
+    record { number = b; below = p; is = ap (λ (z : ℕ). z ∷ []) e }
 spelled_one (b ∷ c ∷ bytes) f l = absurd (omega arith)
 
 -- two bytes are a number
 spelled_two : (bytes : List ℕ) → AreBytes bytes → length bytes ≡ 2 → Spelled Two bytes
 spelled_two bytes f l =
-    record { number = from_be_bytes w16 bytes; below = omega (arith, f 0, f 1); is = be_bytes_2 bytes (from_be_bytes w16 bytes) l f refl }
+    record {
+      number = from_be_bytes w16 bytes;
+      below = omega (arith, f 0, f 1);
+      is =
+          be_bytes_2 bytes (from_be_bytes w16 bytes) l f refl;
+    }
 
 -- four bytes are a number
 spelled_four : (bytes : List ℕ) → AreBytes bytes → length bytes ≡ 4 → Spelled Four bytes
@@ -135,7 +153,8 @@ abbrev pub Titled : ℕ → List ℕ → Type 0
 Titled b bytes = (x : Header) × IsTitle (b ∷ bytes) x
 
 -- a number behind its first byte makes a title
-by_number : (b : ℕ) (bytes : List ℕ) (m : Major) (s : Size) (v : Spelled s bytes) → first_byte m (minor_of s v.number) ≡ b → Titled b bytes
+by_number : (b : ℕ) (bytes : List ℕ) (m : Major) (s : Size) (v : Spelled s bytes)
+    → first_byte m (minor_of s v.number) ≡ b → Titled b bytes
 by_number b bytes m s v e = (
   numbered_header m s v.number,
   subst (λ (z : ℕ). IsTitle (z ∷ bytes) (numbered_header m s v.number)) e
@@ -171,7 +190,8 @@ title_or_refused b bytes lt f l =
     let mc = m.1 in
     elim (cases_lt (b % 32) 24) [
       | inl p ↦ inr (by_number b bytes m.0 Small
-          (record { number = b % 32; below = p; is = sym (no_bytes bytes (l ∙ no_affix (b % 32) (inl p))) }) (omega arith))
+          (record { number = b % 32; below = p; is = sym (no_bytes bytes (l ∙ no_affix (b % 32) (inl p))) })
+          (omega arith))
       | inr p ↦ elim (cases_lt (b % 32) 25) [
         | inl q ↦ (let e : b % 32 ≡ 24 = omega arith in let v = spelled_one bytes f (l ∙ ap affix_len e) in inr
             (by_number b bytes m.0 One v (omega arith)))
@@ -229,12 +249,20 @@ pub record Begun (s : List ℕ) : Type 0 where
 
 -- bytes that are a cut title go on to a title
 pub cut_begins : (s : List ℕ) → AreBytes s → IsCutTitle s → Begun s
-cut_begins [] f c = record { byte = 0; more = []; header = h.Positive 0; title = numbered Unsigned Small 0 (omega arith) }
+cut_begins [] f c = record {
+  byte = 0;
+  more = [];
+  header = h.Positive 0;
+  title =
+      numbered Unsigned Small 0 (omega arith);
+}
 cut_begins (b ∷ s) f c =
     let k = affix_len (b % 32) - length s - 1 in
     let whole = s ++ replicate (suc k) 0 in
-    let long : length whole ≡ affix_len (b % 32) = omega (arith, length-append s (replicate (suc k) 0), length-replicate {A = ℕ} k 0, c) in
-    elim (title_or_refused b whole (f 0) (AreBytes-append s (replicate (suc k) 0) (λ i. f (suc i)) (AreBytes-zeros (suc k))) long) [
+    let long : length whole ≡ affix_len (b % 32) = omega
+    (arith, length-append s (replicate (suc k) 0), length-replicate {A = ℕ} k 0, c) in
+    elim (title_or_refused b whole (f 0) (AreBytes-append s (replicate (suc k) 0) (λ i. f (suc i))
+    (AreBytes-zeros (suc k))) long) [
       | inl r ↦ absurd (omega (arith, refused_affix b r, c))
       | inr t ↦ record { byte = 0; more = replicate k 0; header = t.0; title = t.1 }
     ]

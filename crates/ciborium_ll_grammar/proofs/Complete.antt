@@ -1,15 +1,21 @@
 -- Either n elements stand in front, or a fault stops them.
-use Rattle.std.proofs.Common.{◌≡◌, ℕ, zero, suc, ◌+◌, ◌-◌, ◌%◌, ◌<◌, ◌≤◌, ◌⊎◌, min, List, [], ◌∷◌, ◌++◌, length, take, drop, Some, None, refl, sym, ap, subst, ◌∙◌, append_assoc, arith, inl, inr}
+use Rattle.std.proofs.Common.{◌≡◌, ℕ, zero, suc, ◌+◌, ◌-◌, ◌%◌, ◌<◌, ◌≤◌, ◌⊎◌, min, List, [], ◌∷◌, ◌++◌, length, take}
+use Rattle.std.proofs.Common.{drop, Some, None, refl, sym, ap, subst, ◌∙◌, append_assoc, arith, inl, inr}
 use Rattle.std.proofs.lemmas.Bool.{cases_lt}
 use Rattle.std.proofs.lemmas.List.{append-nil, length-append, take-append-drop, length-take, length-take-le}
 use Rattle.ciborium_ll_grammar.specs.declared.hdr.Header.{Header}
 use Rattle.ciborium_ll_grammar.specs.declared.hdr.Header.TheVariants as h
-use Rattle.ciborium_ll_grammar.specs.Title.{Major, Other, first_byte, Size, Small, numbered_header, open_header, IsTitle, numbered, alone, affix_len, IsCutTitle, BeginsRefused, AreBytes, title_len, shortest_title}
+use Rattle.ciborium_ll_grammar.specs.Title.{Major, Other, first_byte, Size, Small, numbered_header, open_header}
+use Rattle.ciborium_ll_grammar.specs.Title.{IsTitle, numbered, alone, affix_len, IsCutTitle, BeginsRefused, AreBytes}
+use Rattle.ciborium_ll_grammar.specs.Title.{title_len, shortest_title}
 use Rattle.ciborium_ll_grammar.specs.Strings.{Kind, Bytes, Text, kind_header, none, IsMisplaced, IsWritable}
 use Rattle.ciborium_ll_grammar.specs.Strings.IsString.{definite as definite_str}
 use Rattle.ciborium_ll_text.specs.Text.{IsCharacters}
-use Rattle.ciborium_ll_grammar.specs.Elements.{IsSound, Mark, Plain, Whole, Open, Close, pieces, spelling, IsPlain, plain, definite, IsRun, done}
-use Rattle.ciborium_ll_grammar.specs.Faults.{Due, In, Body, Reaches, due, inside, body, body_inside, CutTitle, NoTitle, OtherTitle, DamagedText, CutBody, RunInFront, HasFault, Short, Syntax}
+use Rattle.ciborium_ll_grammar.specs.Elements.{IsSound, Mark, Plain, Whole, Open, Close, pieces, spelling, IsPlain}
+use Rattle.ciborium_ll_grammar.specs.Elements.{plain, definite, IsRun, done}
+use Rattle.ciborium_ll_grammar.specs.Faults.{Due, In, Body, Reaches, due, inside, body, body_inside, CutTitle}
+use Rattle.ciborium_ll_grammar.specs.Faults.{NoTitle, OtherTitle, DamagedText, CutBody, RunInFront, HasFault, Short}
+use Rattle.ciborium_ll_grammar.specs.Faults.{Syntax}
 use Rattle.ciborium_ll_grammar.proofs.OpenStrings.{IsInsideAt, one_open}
 use Rattle.ciborium_ll_grammar.proofs.AffixLaws.{AreBytes-take, title_or_refused}
 use Rattle.ciborium_ll_grammar.proofs.ElementLaws.{IsSound-append}
@@ -41,7 +47,8 @@ sight (b ∷ y) f =
 -- n elements are under way, and u is taken
 data Going (n : ℕ) : List ℕ → Type 0 where
   between : {u : List ℕ} (i left : ℕ) (ms : List Mark) → i + left ≡ n → IsRun i u ms → Going n u
-  within : {u v : List ℕ} (i left j : ℕ) (ms : List Mark) (bs : List (List ℕ)) (k : Kind) → i + suc left ≡ n → IsRun i u ms
+  within : {u v : List ℕ} (i left j : ℕ) (ms : List Mark) (bs : List (List ℕ)) (k : Kind) → i + suc left ≡ n
+      → IsRun i u ms
       → IsInsideAt k (suc j) v bs → IsSound k bs → Going n (u ++ v)
 
 -- what one step over a title comes to: a run, a fault, or fewer bytes ahead
@@ -133,7 +140,8 @@ body_faulty n v s ms k l p r lt = record {
 }
 
 -- a body of a text is no text
-text_faulty : (n : ℕ) (v s : List ℕ) (ms : List Mark) (k : Kind) (l p : ℕ) → Reaches n v ms (Body k l p) → k ≡ Text → l ≤ length s
+text_faulty : (n : ℕ) (v s : List ℕ) (ms : List Mark) (k : Kind) (l p : ℕ) → Reaches n v ms (Body k l p) → k ≡ Text
+    → l ≤ length s
     → (IsCharacters (take l s) → ⊥) → HasFault n (v ++ s)
 text_faulty n v s ms k l p r e le un = record {
   before = v;
@@ -195,14 +203,16 @@ due_step n i left u s ms e r (titled t rest x p q) =
       | is_plain o ↦ goes (u ++ t) rest (between (suc i) left (ms ++ Plain x ∷ []) (omega arith)
           (add_element i u ms r t (Plain x ∷ []) (plain x p o))) (shift u t s rest q) (less t rest s x p q)
       | is_open k o ↦ goes (u ++ t) rest (within i left 0 ms [] k e r
-          (subst (λ (z : List ℕ). IsInsideAt k (suc zero) z []) (append-nil t) (one_open (subst (IsTitle t) o p) none)) (no_bodies k))
+          (subst (λ (z : List ℕ). IsInsideAt k (suc zero) z []) (append-nil t)
+          (one_open (subst (IsTitle t) o p) none)) (no_bodies k))
           (shift u t s rest q) (less t rest s x p q)
       | is_definite k l o ↦
           (let pt = subst (IsTitle t) o p in
           let reach : Reaches n (u ++ t) ms (Body k l (length (u ++ t) - title_len (kind_header k (Some l)))) = body k
           (due (omega arith) r) pt in
           elim (bodied k l rest) [
-            | too_few a ↦ fails (moved n (u ++ s) ((u ++ t) ++ rest) (shift u t s rest q) (body_faulty n (u ++ t) rest ms k l _ reach a))
+            | too_few a ↦ fails (moved n (u ++ s) ((u ++ t) ++ rest) (shift u t s rest q)
+                (body_faulty n (u ++ t) rest ms k l _ reach a))
             | is_bad kt le un ↦ fails (moved n (u ++ s) ((u ++ t) ++ rest) (shift u t s rest q)
                 (text_faulty n (u ++ t) rest ms k l _ reach kt le un))
             | is_good b more is len ok ↦
@@ -234,18 +244,22 @@ break_is t x (numbered m s n p) e = absurd (not_break_number m s n e)
 break_is t x (alone m y o) e = break_alone m y o e
 
 -- the step over a break
-break_step : (n i left j : ℕ) (u v s rest : List ℕ) (ms : List Mark) (bs : List (List ℕ)) (k : Kind) → i + suc left ≡ n → IsRun i u ms
+break_step : (n i left j : ℕ) (u v s rest : List ℕ) (ms : List Mark) (bs : List (List ℕ)) (k : Kind) → i + suc left
+    ≡ n → IsRun i u ms
     → IsInsideAt k (suc j) v bs → IsSound k bs → s ≡ 0xff ∷ rest → Step n (u ++ v) s
 break_step n i left zero u v s rest ms bs k e r ia ok q =
     goes (u ++ (v ++ 0xff ∷ [])) rest (between (suc i) left (ms ++ (Open k ∷ (pieces k bs ++ Close ∷ []))) (omega arith)
     (add_element i u ms r (v ++ 0xff ∷ []) (Open k ∷ (pieces k bs ++ Close ∷ [])) (close_last k v bs ia ok)))
-    (shift (u ++ v) (0xff ∷ []) s rest q ∙ ap (λ (z : List ℕ). z ++ rest) (append_assoc u v (0xff ∷ []))) (omega (arith, ap length q))
+    (shift (u ++ v) (0xff ∷ []) s rest q ∙ ap (λ (z : List ℕ). z ++ rest) (append_assoc u v (0xff ∷ [])))
+    (omega (arith, ap length q))
 break_step n i left (suc j) u v s rest ms bs k e r ia ok q =
     goes (u ++ (v ++ 0xff ∷ [])) rest (within i left j ms bs k e r (close_inner k j v bs ia) ok)
-    (shift (u ++ v) (0xff ∷ []) s rest q ∙ ap (λ (z : List ℕ). z ++ rest) (append_assoc u v (0xff ∷ []))) (omega (arith, ap length q))
+    (shift (u ++ v) (0xff ∷ []) s rest q ∙ ap (λ (z : List ℕ). z ++ rest) (append_assoc u v (0xff ∷ [])))
+    (omega (arith, ap length q))
 
 -- the step within a string
-in_step : (n i left j : ℕ) (u v s : List ℕ) (ms : List Mark) (bs : List (List ℕ)) (k : Kind) → i + suc left ≡ n → IsRun i u ms
+in_step : (n i left j : ℕ) (u v s : List ℕ) (ms : List Mark) (bs : List (List ℕ)) (k : Kind) → i + suc left ≡ n
+    → IsRun i u ms
     → IsInsideAt k (suc j) v bs → IsSound k bs → Sight s → Step n (u ++ v) s
 in_step n i left j u v s ms bs k e r ia ok (ends c) =
     fails (record {
@@ -279,7 +293,8 @@ in_step n i left j u v s ms bs k e r ia ok (refuses c) =
       fault = NoTitle tt c;
     })
 in_step n i left j u v s ms bs k e r ia ok (titled t rest x p q) =
-    let reach : Reaches n (u ++ v) (ms ++ Open k ∷ pieces k bs) (In k) = inside (omega arith) r (counted k (suc j) v bs ia) ok in
+    let reach : Reaches n (u ++ v) (ms ++ Open k ∷ pieces k bs) (In k) =
+    inside (omega arith) r (counted k (suc j) v bs ia) ok in
     elim (view_in k x) [
       | in_misplaced f ↦ fails (record {
         before = u ++ v;
@@ -295,12 +310,15 @@ in_step n i left j u v s ms bs k e r ia ok (titled t rest x p q) =
         is = refl;
         fault = OtherTitle x rest p f q;
       })
-      | in_break o ↦ break_step n i left j u v s rest ms bs k e r ia ok (q ∙ ap (λ (z : List ℕ). z ++ rest) (break_is t x p o))
-      | in_open o ↦ goes (u ++ (v ++ t)) rest (within i left (suc j) ms bs k e r (add_open k (suc j) v t bs ia (subst (IsTitle t) o p)) ok)
+      | in_break o ↦ break_step n i left j u v s rest ms bs k e r ia ok
+          (q ∙ ap (λ (z : List ℕ). z ++ rest) (break_is t x p o))
+      | in_open o ↦ goes (u ++ (v ++ t)) rest (within i left (suc j) ms bs k e r
+          (add_open k (suc j) v t bs ia (subst (IsTitle t) o p)) ok)
           (shift (u ++ v) t s rest q ∙ ap (λ (z : List ℕ). z ++ rest) (append_assoc u v t)) (less t rest s x p q)
       | in_definite l o ↦
           (let pt = subst (IsTitle t) o p in
-          let deep : Reaches n ((u ++ v) ++ t) (ms ++ Open k ∷ pieces k bs) (Body k l (length (u ++ v))) = body_inside reach pt in
+          let deep : Reaches n ((u ++ v) ++ t) (ms ++ Open k ∷ pieces k bs) (Body k l (length (u ++ v))) =
+          body_inside reach pt in
           elim (bodied k l rest) [
             | too_few a ↦ fails (moved n ((u ++ v) ++ s) (((u ++ v) ++ t) ++ rest) (shift (u ++ v) t s rest q)
                 (body_faulty n ((u ++ v) ++ t) rest (ms ++ Open k ∷ pieces k bs) k l (length (u ++ v)) deep a))
@@ -311,7 +329,8 @@ in_step n i left j u v s ms bs k e r ia ok (titled t rest x p q) =
                 (add_string k (suc j) v (t ++ b) bs (b ∷ []) ia
                 (definite_str (subst (λ (z : ℕ). IsTitle t (kind_header k (Some z))) (sym len) pt)))
                 (IsSound-append k bs (b ∷ []) ok good))
-                (shift (u ++ v) (t ++ b) s more (q ∙ shift t b rest more is) ∙ ap (λ (z : List ℕ). z ++ more) (append_assoc u v (t ++ b)))
+                (shift (u ++ v) (t ++ b) s more (q ∙ shift t b rest more is)
+                ∙ ap (λ (z : List ℕ). z ++ more) (append_assoc u v (t ++ b)))
                 (omega (arith, less t rest s x p q, ap length is, length-append b more))
           ])
     ]
@@ -337,7 +356,8 @@ IsBytes-rest [] b f = f
 IsBytes-rest (x ∷ a) b f = IsBytes-rest a b (λ i. f (suc i))
 
 -- all steps, by the bytes that are ahead
-all_steps : (fuel n : ℕ) (u s : List ℕ) → length s < fuel → Going n u → AreBytes (u ++ s) → RunInFront n (u ++ s) ⊎ HasFault n (u ++ s)
+all_steps : (fuel n : ℕ) (u s : List ℕ) → length s < fuel → Going n u → AreBytes (u ++ s)
+    → RunInFront n (u ++ s) ⊎ HasFault n (u ++ s)
 all_steps zero n u s l g f = absurd (omega arith)
 all_steps (suc fuel) n u s l g f =
     elim (step n u g s (IsBytes-rest u s f)) [

@@ -1,11 +1,14 @@
 -- Elements begin no other one; their spelling is an element again, and no longer.
-use Rattle.std.proofs.Common.{◌≡◌, ℕ, suc, ◌≤◌, List, [], ◌∷◌, ◌++◌, length, Option, Some, None, refl, sym, ap, subst, ◌∙◌, append_assoc, arith}
+use Rattle.std.proofs.Common.{◌≡◌, ℕ, suc, ◌≤◌, List, [], ◌∷◌, ◌++◌, length, Option, Some, None, refl, sym, ap, subst}
+use Rattle.std.proofs.Common.{◌∙◌, append_assoc, arith}
 use Rattle.std.proofs.lemmas.List.{append-nil, length-append}
 use Rattle.ciborium_ll_grammar.specs.declared.hdr.Header.{Header}
 use Rattle.ciborium_ll_grammar.specs.Title.{IsTitle, shortest_title}
 use Rattle.ciborium_ll_grammar.specs.Strings.{Kind, Bytes, Text, kind_header, IsString, AreStrings, none, more}
 use Rattle.ciborium_ll_grammar.specs.Strings.IsString.{definite as definite_str, indefinite as indefinite_str}
-use Rattle.ciborium_ll_grammar.specs.Elements.{IsSound, Mark, Plain, Whole, Open, Piece, Close, IsPlain, mark_spelling, spelling, pieces, IsElement, plain, definite, indefinite, IsRun, done, next}
+use Rattle.ciborium_ll_grammar.specs.Elements.{IsSound, Mark, Plain, Whole, Open, Piece, Close, IsPlain}
+use Rattle.ciborium_ll_grammar.specs.Elements.{mark_spelling, spelling, pieces, IsElement, plain, definite}
+use Rattle.ciborium_ll_grammar.specs.Elements.{indefinite, IsRun, done, next}
 use Rattle.ciborium_ll_text.proofs.Lists.{same_front}
 use Rattle.ciborium_ll_grammar.proofs.TitleLaws.{one_title, title_in_range, IsTitle-shortest, shortest_no_longer}
 use Rattle.ciborium_ll_grammar.proofs.StringLaws.{some_is, mixed, fronts, one_strings_then}
@@ -20,7 +23,8 @@ not_plain Bytes o p = p
 not_plain Text o p = p
 
 -- a title of a plain header is none of a string
-plain_string : (w t u v : List ℕ) (x : Header) (k : Kind) (o : Option ℕ) → IsTitle w x → IsPlain x → IsTitle t (kind_header k o)
+plain_string : (w t u v : List ℕ) (x : Header) (k : Kind) (o : Option ℕ) → IsTitle w x → IsPlain x
+    → IsTitle t (kind_header k o)
     → w ++ v ≡ t ++ u → ⊥
 plain_string w t u v x k o p q r e =
     let s = one_title w t v u x (kind_header k o) p r e in
@@ -34,7 +38,8 @@ kind_is Text Bytes o o' e = absurd cc
 kind_is Text Text o o' e = refl
 
 -- two titles of strings
-pub string_fronts : (k k' : Kind) (t t' u u' : List ℕ) (o o' : Option ℕ) → IsTitle t (kind_header k o) → IsTitle t' (kind_header k' o')
+pub string_fronts : (k k' : Kind) (t t' u u' : List ℕ) (o o' : Option ℕ) → IsTitle t (kind_header k o)
+    → IsTitle t' (kind_header k' o')
     → t ++ u ≡ t' ++ u' → (k ≡ k') × (t ≡ t') × (o ≡ o') × (u ≡ u')
 string_fronts k k' t t' u u' o o' p p' e =
     let r = one_title t t' u u' (kind_header k o) (kind_header k' o') p p' e in
@@ -65,11 +70,13 @@ one_element w w' v v' ms ms' (definite {title = t} {body = b} k p s) (definite {
     let tt' : t ≡ t' = r.1 in
     let bb : b ≡ b' = f.0 in
     (rw (tt', bb) refl, rw (kk, bb) refl, f.1)
-one_element w w' v v' ms ms' (definite {title = t} {body = b} k p s) (indefinite {title = t'} {strings = y} k' p' q' s') e =
+one_element w w' v v' ms ms' (definite {title = t} {body = b} k p s)
+    (indefinite {title = t'} {strings = y} k' p' q' s') e =
     let r = string_fronts k k' t t' (b ++ v) ((y ++ 0xff ∷ []) ++ v') (Some (length b)) None p p'
     (sym (append_assoc t b v) ∙ (e ∙ append_assoc t' (y ++ 0xff ∷ []) v')) in
     absurd (mixed (length b) r.2)
-one_element w w' v v' ms ms' (indefinite {title = t} {strings = y} k p q s) (definite {title = t'} {body = b'} k' p' s') e =
+one_element w w' v v' ms ms' (indefinite {title = t} {strings = y} k p q s)
+    (definite {title = t'} {body = b'} k' p' s') e =
     let r = string_fronts k k' t t' ((y ++ 0xff ∷ []) ++ v) (b' ++ v') None (Some (length b')) p p'
     (sym (append_assoc t (y ++ 0xff ∷ []) v) ∙ (e ∙ append_assoc t' b' v')) in
     absurd (mixed (length b') (sym r.2))
@@ -86,7 +93,8 @@ one_element w w' v v' ms ms' (indefinite {title = t} {strings = y} {bodies = bs}
     (rw (tt', yy) refl, rw (kk, bb) refl, f.2)
 
 -- of runs of as many elements none begins another one, nor has two lists of marks
-pub one_run : (n : ℕ) (w : List ℕ) (ms : List Mark) → IsRun n w ms → (w' v v' : List ℕ) (ms' : List Mark) → IsRun n w' ms'
+pub one_run : (n : ℕ) (w : List ℕ) (ms : List Mark) → IsRun n w ms → (w' v v' : List ℕ) (ms' : List Mark)
+    → IsRun n w' ms'
     → w ++ v ≡ w' ++ v' → SameElement w w' ms ms' v v'
 one_run n w ms done w' v v' ms' done e = (refl, refl, e)
 one_run n w ms (next {first = x} {rest = y} {marks = ns} {others = os} a r) w' v v' ms'
@@ -129,7 +137,8 @@ IsTitle-shortest_of w x t = IsTitle-shortest x (title_in_range w x t)
 pub spelling-append : (ms ns : List Mark) → spelling (ms ++ ns) ≡ spelling ms ++ spelling ns
 spelling-append [] ns = refl
 spelling-append (m ∷ ms) ns =
-    ap (λ y. mark_spelling m ++ y) (spelling-append ms ns) ∙ sym (append_assoc (mark_spelling m) (spelling ms) (spelling ns))
+    ap (λ y. mark_spelling m ++ y) (spelling-append ms ns) ∙ sym
+    (append_assoc (mark_spelling m) (spelling ms) (spelling ns))
 
 -- what the pieces of strings spell
 pub record Respelled (k : Kind) (w : List ℕ) (bs : List (List ℕ)) : Type 0 where
@@ -143,7 +152,8 @@ pieces-append k [] cs = refl
 pieces-append k (b ∷ bs) cs = ap (λ y. Piece k b ∷ y) (pieces-append k bs cs)
 
 -- strings joined are strings
-pub AreStrings-append : (k : Kind) (w : List ℕ) (bs : List (List ℕ)) → AreStrings k w bs → (v : List ℕ) (cs : List (List ℕ))
+pub AreStrings-append : (k : Kind) (w : List ℕ) (bs : List (List ℕ)) → AreStrings k w bs
+    → (v : List ℕ) (cs : List (List ℕ))
     → AreStrings k v cs → AreStrings k (w ++ v) (bs ++ cs)
 AreStrings-append k w bs none v cs r = r
 AreStrings-append k w bs (more {first = x} {rest = y} {bodies = ds} {others = es} s ss) v cs r =
@@ -172,7 +182,8 @@ mutual
   respell_all k w bs (more {first = x} {rest = y} {bodies = ds} {others = es} s ss) =
       let a = respell_one k x ds s in
       let b = respell_all k y es ss in
-      let e : spelling (pieces k (ds ++ es)) ≡ spelling (pieces k ds) ++ spelling (pieces k es) = ap spelling (pieces-append k ds es)
+      let e : spelling (pieces k (ds ++ es)) ≡ spelling (pieces k ds) ++ spelling (pieces k es) =
+      ap spelling (pieces-append k ds es)
       ∙ spelling-append (pieces k ds) (pieces k es) in
       record {
         strings = subst (λ (z : List ℕ). AreStrings k z (ds ++ es)) (sym e)
@@ -183,7 +194,8 @@ mutual
 
 -- the spelling of a string of indefinite length: its open, its pieces and a break
 pub open_spelled : (k : Kind) (bs : List (List ℕ))
-    → spelling (Open k ∷ (pieces k bs ++ Close ∷ [])) ≡ shortest_title (kind_header k None) ++ (spelling (pieces k bs) ++ 0xff ∷ [])
+    → spelling (Open k ∷ (pieces k bs ++ Close ∷ [])) ≡ shortest_title (kind_header k None) ++
+    (spelling (pieces k bs) ++ 0xff ∷ [])
 open_spelled k bs = ap (λ y. shortest_title (kind_header k None) ++ y) (spelling-append (pieces k bs) (Close ∷ []))
 
 -- the spelling of marks is an element with the same marks, and no longer than the bytes

@@ -2,9 +2,13 @@
 use Rattle.std.proofs.Common.{◌≡◌, ℕ, ◌<◌, List, ◌++◌, length, refl, sym, ◌∙◌, append_assoc, arith, inl, inr}
 use Rattle.ciborium_ll_grammar.specs.Strings.{Kind, Bytes, Text}
 use Rattle.ciborium_ll_grammar.specs.Elements.{Mark, IsElement, IsRun, done, next}
-use Rattle.ciborium_ll_grammar.specs.Faults.{Place, Due, In, Body, Reaches, due, inside, body, body_inside, Answer, FirstFault, RunInFront, HasFault, CutTitle, NoTitle, OtherTitle, DamagedText, CutBody, CutDamagedText}
+use Rattle.ciborium_ll_grammar.specs.Faults.{Place, Due, In, Body, Reaches, due, inside, body, body_inside, Answer}
+use Rattle.ciborium_ll_grammar.specs.Faults.{FirstFault, RunInFront, HasFault, CutTitle, NoTitle, OtherTitle}
+use Rattle.ciborium_ll_grammar.specs.Faults.{DamagedText, CutBody, CutDamagedText}
 use Rattle.ciborium_ll_grammar.proofs.ElementLaws.{one_element}
-use Rattle.ciborium_ll_grammar.proofs.HaltLaws.{IsBad, Halt, halt_cut, halt_refused, halt_misplaced, halt_bad, opens_of, Stop, stop_cut, stop_refused, stop_bad, element_stops, element_inside}
+use Rattle.ciborium_ll_grammar.proofs.HaltLaws.{IsBad, Halt, halt_cut, halt_refused, halt_misplaced, halt_bad}
+use Rattle.ciborium_ll_grammar.proofs.HaltLaws.{opens_of, Stop, stop_cut, stop_refused, stop_bad, element_stops}
+use Rattle.ciborium_ll_grammar.proofs.HaltLaws.{element_inside}
 
 -- the next element of a longer run stands behind a shorter one
 pub record Follows (x : List ℕ) : Type 0 where
@@ -15,7 +19,8 @@ pub record Follows (x : List ℕ) : Type 0 where
   pub is : x ≡ word ++ rest
 
 -- of two runs in front of one list the longer goes on with an element
-pub follows : (i : ℕ) (u : List ℕ) (ms : List Mark) → IsRun i u ms → (n : ℕ) (w : List ℕ) (ns : List Mark) → IsRun n w ns → i < n
+pub follows : (i : ℕ) (u : List ℕ) (ms : List Mark) → IsRun i u ms → (n : ℕ) (w : List ℕ) (ns : List Mark)
+    → IsRun n w ns → i < n
     → (x v : List ℕ) → u ++ x ≡ w ++ v → Follows x
 follows i u ms done n w ns done l x v e = absurd (omega arith)
 follows i u ms done n w ns (next {first = a} {rest = b} {marks = os} p r) l x v e =
@@ -53,7 +58,8 @@ too_short Bytes l s f = f
 too_short Text l s f = inl f
 
 -- at a fault what is due cannot come
-pub stuck : (u : List ℕ) (ms : List Mark) (at : Place) (s : List ℕ) (a : Answer) (out : List ℕ) (c : ℕ) → FirstFault u ms at s a out c
+pub stuck : (u : List ℕ) (ms : List Mark) (at : Place) (s : List ℕ) (a : Answer) (out : List ℕ) (c : ℕ)
+    → FirstFault u ms at s a out c
     → Stuck at s
 stuck u ms at s a out c (CutTitle {place = Due} d f) = stop (stop_cut f)
 stuck u ms at s a out c (CutTitle {place = In k} d f) = halt k (halt_cut f)
@@ -69,5 +75,6 @@ stuck u ms at s a out c (CutDamagedText b r f g e p m) = bad_body (inl f)
 -- where a run of n elements stands in front, there is no fault
 pub no_fault : (n : ℕ) (x : List ℕ) → RunInFront n x → HasFault n x → ⊥
 no_fault n x r f =
-    reach_stuck n f.before f.marks f.place f.reach f.ahead (stuck f.before f.marks f.place f.ahead f.answer f.written f.consumed f.fault)
+    reach_stuck n f.before f.marks f.place f.reach f.ahead
+    (stuck f.before f.marks f.place f.ahead f.answer f.written f.consumed f.fault)
     r.elements r.rest r.marks r.run (sym f.is ∙ r.is)

@@ -1,17 +1,20 @@
 -- Places where no string and no element goes on.
-use Rattle.std.proofs.Common.{◌≡◌, ℕ, ◌<◌, ◌⊎◌, List, [], ◌∷◌, ◌++◌, length, take, Option, Some, None, refl, sym, ap, subst, ◌∙◌, append_assoc, arith, inl, inr}
+use Rattle.std.proofs.Common.{◌≡◌, ℕ, ◌<◌, ◌⊎◌, List, [], ◌∷◌, ◌++◌, length, take, Option, Some, None, refl, sym, ap}
+use Rattle.std.proofs.Common.{subst, ◌∙◌, append_assoc, arith, inl, inr}
 use Rattle.std.proofs.lemmas.List.{length-append, take_at}
 use Rattle.ciborium_ll_grammar.specs.declared.hdr.Header.{Header}
 use Rattle.ciborium_ll_grammar.specs.declared.hdr.Header.TheVariants as h
 use Rattle.ciborium_ll_grammar.specs.Title.{IsTitle, IsCutTitle, BeginsRefused}
-use Rattle.ciborium_ll_grammar.specs.Strings.{Kind, Bytes, Text, kind_header, IsString, AreStrings, none, more, IsMisplaced}
+use Rattle.ciborium_ll_grammar.specs.Strings.{Kind, Bytes, Text, kind_header, IsString, AreStrings, none, more}
+use Rattle.ciborium_ll_grammar.specs.Strings.{IsMisplaced}
 use Rattle.ciborium_ll_grammar.specs.Strings.IsString.{definite as definite_str, indefinite as indefinite_str}
 use Rattle.ciborium_ll_text.specs.Text.{IsCharacters}
 use Rattle.ciborium_ll_grammar.specs.Elements.{IsSound, Mark, IsElement, plain, definite, indefinite, IsPlain}
 use Rattle.ciborium_ll_grammar.specs.Faults.{IsInside, opened, deeper}
 use Rattle.ciborium_ll_grammar.proofs.TitleLaws.{one_title, title_refused}
 use Rattle.ciborium_ll_grammar.proofs.AffixLaws.{title_not_cut}
-use Rattle.ciborium_ll_grammar.proofs.StringLaws.{some_is, mixed, fronts, not_break, break_title, string_not_break, one_string}
+use Rattle.ciborium_ll_grammar.proofs.StringLaws.{some_is, mixed, fronts, not_break, break_title, string_not_break}
+use Rattle.ciborium_ll_grammar.proofs.StringLaws.{one_string}
 use Rattle.ciborium_ll_grammar.proofs.ElementLaws.{not_plain, string_fronts, IsSound-left, IsSound-right}
 
 -- ---- where strings of the kind can't go on
@@ -26,7 +29,8 @@ pub data Halt (k : Kind) : List ℕ → Type 0 where
   halt_cut : {y : List ℕ} → IsCutTitle y → Halt k y
   halt_refused : {y : List ℕ} → BeginsRefused y → Halt k y
   halt_misplaced : {y t : List ℕ} (s : List ℕ) (x : Header) → IsTitle t x → IsMisplaced k x → y ≡ t ++ s → Halt k y
-  halt_bad : {y t : List ℕ} (s : List ℕ) (l : ℕ) → IsTitle t (kind_header k (Some l)) → IsBad k l s → y ≡ t ++ s → Halt k y
+  halt_bad : {y t : List ℕ} (s : List ℕ) (l : ℕ) → IsTitle t (kind_header k (Some l)) → IsBad k l s → y ≡ t ++ s
+      → Halt k y
 
 -- a header of the kind may stand within its strings
 pub kind_not_misplaced : (k : Kind) (o : Option ℕ) → IsMisplaced k (kind_header k o) → ⊥
@@ -48,10 +52,13 @@ good_body Text b v l e s un =
     ]
 
 -- no title that goes on stands there
-definite_halts : (k : Kind) (t b v : List ℕ) (y : List ℕ) → Halt k y → IsTitle t (kind_header k (Some (length b))) → IsSound k (b ∷ [])
+definite_halts : (k : Kind) (t b v : List ℕ) (y : List ℕ) → Halt k y → IsTitle t (kind_header k (Some (length b)))
+    → IsSound k (b ∷ [])
     → y ≡ t ++ (b ++ v) → ⊥
-definite_halts k t b v y (halt_cut c) p s e = title_not_cut t (b ++ v) (kind_header k (Some (length b))) p (subst IsCutTitle e c)
-definite_halts k t b v y (halt_refused r) p s e = title_refused t (b ++ v) (kind_header k (Some (length b))) p (subst BeginsRefused e r)
+definite_halts k t b v y (halt_cut c) p s e = title_not_cut t (b ++ v) (kind_header k (Some (length b))) p
+    (subst IsCutTitle e c)
+definite_halts k t b v y (halt_refused r) p s e = title_refused t (b ++ v) (kind_header k (Some (length b))) p
+    (subst BeginsRefused e r)
 definite_halts k t b v y (halt_misplaced {t = t'} r x q f z) p s e =
     let o = one_title t' t r (b ++ v) x (kind_header k (Some (length b))) q p (sym z ∙ e) in
     kind_not_misplaced k (Some (length b)) (subst (IsMisplaced k) o.1 f)
@@ -90,7 +97,8 @@ pub data Opens (k : Kind) : List ℕ → List (List ℕ) → Type 0 where
       → Opens k ((t ++ w) ++ u) (bs ++ cs)
 
 -- opens behind opens
-opens-append : (k : Kind) (u : List ℕ) (bs : List (List ℕ)) → Opens k u bs → (v : List ℕ) (cs : List (List ℕ)) → Opens k v cs
+opens-append : (k : Kind) (u : List ℕ) (bs : List (List ℕ)) → Opens k u bs → (v : List ℕ) (cs : List (List ℕ))
+    → Opens k v cs
     → Opens k (u ++ v) (bs ++ cs)
 opens-append k u bs (last p s) v cs c = link p s c
 opens-append k u bs (link {t} {w} {u = x} {bs = ds} {cs = es} p s d) v cs c =
@@ -111,25 +119,30 @@ record Goes (k : Kind) (x v : List ℕ) : Type 0 where
   is : x ≡ strings ++ 0xff ∷ v
 
 -- strings in front of more strings and a break leave strings and a break
-goes_on : (k : Kind) (w : List ℕ) (bs : List (List ℕ)) → AreStrings k w bs → (w' x v : List ℕ) (bs' : List (List ℕ)) → AreStrings k w' bs'
+goes_on : (k : Kind) (w : List ℕ) (bs : List (List ℕ)) → AreStrings k w bs → (w' x v : List ℕ) (bs' : List (List ℕ))
+    → AreStrings k w' bs'
     → IsSound k bs' → w ++ x ≡ w' ++ 0xff ∷ v → Goes k x v
 goes_on k w bs none w' x v bs' s' ok e = record { strings = w'; bodies = bs'; ok = s'; sound = ok; is = e }
 goes_on k w bs (more {first = a} {rest = y} {bodies = cs} {others = ds} s ss) w' x v bs' none ok e =
     absurd (string_not_break k a (y ++ x) v cs s (sym (append_assoc a y x) ∙ e))
 goes_on k w bs (more {first = a} {rest = y} {bodies = cs} {others = ds} s ss) w' x v bs'
     (more {first = a'} {rest = y'} {bodies = cs'} {others = ds'} s' ss') ok e =
-    let o = one_string k a a' (y ++ x) (y' ++ 0xff ∷ v) cs cs' s s' (sym (append_assoc a y x) ∙ (e ∙ append_assoc a' y' (0xff ∷ v))) in
+    let o = one_string k a a' (y ++ x) (y' ++ 0xff ∷ v) cs cs' s s'
+    (sym (append_assoc a y x) ∙ (e ∙ append_assoc a' y' (0xff ∷ v))) in
     goes_on k y ds ss y' x v ds' ss' (IsSound-right k cs' ds' ok) o.2
 
 -- no string comes
-pub string_halts : (k : Kind) (w : List ℕ) (bs : List (List ℕ)) → IsString k w bs → IsSound k bs → (v y : List ℕ) → Halt k y → y ≡ w ++ v
+pub string_halts : (k : Kind) (w : List ℕ) (bs : List (List ℕ)) → IsString k w bs → IsSound k bs → (v y : List ℕ)
+    → Halt k y → y ≡ w ++ v
     → ⊥
-string_halts k w bs (definite_str {title = t} {body = b} p) s v y f e = definite_halts k t b v y f p s (e ∙ append_assoc t b v)
+string_halts k w bs (definite_str {title = t} {body = b} p) s v y f e =
+    definite_halts k t b v y f p s (e ∙ append_assoc t b v)
 string_halts k w bs (indefinite_str {title = t} {strings = x} p q) s v y f e =
     open_halts k t ((x ++ 0xff ∷ []) ++ v) y f p (e ∙ append_assoc t (x ++ 0xff ∷ []) v)
 
 -- no strings and a break come
-goes_halts : (k : Kind) (w : List ℕ) (bs : List (List ℕ)) → AreStrings k w bs → IsSound k bs → (v y : List ℕ) → Halt k y → y ≡ w ++ 0xff ∷ v
+goes_halts : (k : Kind) (w : List ℕ) (bs : List (List ℕ)) → AreStrings k w bs → IsSound k bs → (v y : List ℕ)
+    → Halt k y → y ≡ w ++ 0xff ∷ v
     → ⊥
 goes_halts k w bs none s v y f e = break_halts k v y f e
 goes_halts k w bs (more {first = a} {rest = b} {bodies = cs} {others = ds} p q) s v y f e =
@@ -160,7 +173,8 @@ opens_string k u c y rec a bs (definite_str {title = t} {body = b} p) ok v e =
     (sym (append_assoc z.0 z.1 y) ∙ (ap (λ (x : List ℕ). x ++ y) (sym z.3) ∙ (e ∙ append_assoc t b v))) in
     mixed (length b) (sym o.1)
 opens_string k u c y rec a bs (indefinite_str {title = t} {strings = x} {bodies = cs} p q) ok v e =
-    rec t x v cs p q ok (e ∙ (append_assoc t (x ++ 0xff ∷ []) v ∙ ap (λ (z : List ℕ). t ++ z) (append_assoc x (0xff ∷ []) v)))
+    rec t x v cs p q ok (e ∙ (append_assoc t (x ++ 0xff ∷ []) v ∙ ap (λ (z : List ℕ). t ++ z)
+    (append_assoc x (0xff ∷ []) v)))
 
 -- no sound strings and a break come behind opens that halt
 opens_strings : (k : Kind) (u : List ℕ) {os : List (List ℕ)} → Opens k u os → (y : List ℕ)
@@ -183,7 +197,8 @@ opens_halt k u (last {t = t0} {w = w0} {bs = b0} p s) y f t w v bs q r ok e =
     goes_halts k g.strings g.bodies g.ok g.sound v y f g.is
 opens_halt k u (link {t = t0} {w = w0} {u = x} {bs = b0} p s c) y f t w v bs q r ok e =
     let g = behind k t0 w0 (x ++ y) b0 p s t w v bs q r ok (sym (append_assoc (t0 ++ w0) x y) ∙ e) in
-    opens_strings k x c y (λ t w v bs q r ok e. opens_halt k x c y f t w v bs q r ok e) g.strings g.bodies g.ok g.sound v g.is
+    opens_strings k x c y (λ t w v bs q r ok e. opens_halt k x c y f t w v bs q r ok e) g.strings g.bodies g.ok
+    g.sound v g.is
 
 -- ---- elements
 
@@ -191,7 +206,8 @@ opens_halt k u (link {t = t0} {w = w0} {u = x} {bs = b0} p s c) y f t w v bs q r
 pub data Stop : List ℕ → Type 0 where
   stop_cut : {y : List ℕ} → IsCutTitle y → Stop y
   stop_refused : {y : List ℕ} → BeginsRefused y → Stop y
-  stop_bad : {y t : List ℕ} (s : List ℕ) (k : Kind) (l : ℕ) → IsTitle t (kind_header k (Some l)) → IsBad k l s → y ≡ t ++ s → Stop y
+  stop_bad : {y t : List ℕ} (s : List ℕ) (k : Kind) (l : ℕ) → IsTitle t (kind_header k (Some l)) → IsBad k l s → y
+      ≡ t ++ s → Stop y
 
 -- where no string goes on, the same without a kind
 pub halt_of : (y : List ℕ) → Stop y → (k : Kind)
@@ -200,10 +216,12 @@ halt_of y (stop_cut c) k same = halt_cut c
 halt_of y (stop_refused r) k same = halt_refused r
 halt_of y (stop_bad {t} s j l p b e) k same =
     let jk = same t s j l p e in
-    halt_bad s l (subst (λ (z : Kind). IsTitle t (kind_header z (Some l))) jk p) (subst (λ (z : Kind). IsBad z l s) jk b) e
+    halt_bad s l (subst (λ (z : Kind). IsTitle t (kind_header z (Some l))) jk p)
+    (subst (λ (z : Kind). IsBad z l s) jk b) e
 
 -- two titles of strings in front of the same bytes are of one kind
-pub same_kind : (k : Kind) (t u y : List ℕ) (o : Option ℕ) → IsTitle t (kind_header k o) → y ≡ t ++ u → (t' s : List ℕ) (j : Kind) (l : ℕ)
+pub same_kind : (k : Kind) (t u y : List ℕ) (o : Option ℕ) → IsTitle t (kind_header k o) → y ≡ t ++ u
+    → (t' s : List ℕ) (j : Kind) (l : ℕ)
     → IsTitle t' (kind_header j (Some l)) → y ≡ t' ++ s → j ≡ k
 same_kind k t u y o p e t' s j l q e' = (string_fronts j k t' t s u (Some l) o q p (sym e' ∙ e)).0
 
@@ -222,7 +240,8 @@ element_stops w ms (plain x p q) v y (stop_bad {t} s k l r b z) e =
     not_plain k (Some l) (subst IsPlain o.1 q)
 
 -- no element begins with opens that halt
-pub element_inside : (w : List ℕ) (ms : List Mark) → IsElement w ms → (k : Kind) (u y v : List ℕ) {os : List (List ℕ)} → Opens k u os
+pub element_inside : (w : List ℕ) (ms : List Mark) → IsElement w ms
+    → (k : Kind) (u y v : List ℕ) {os : List (List ℕ)} → Opens k u os
     → Halt k y → u ++ y ≡ w ++ v → ⊥
 element_inside w ms (plain x p q) k u y v c f e =
     let z = opens_title k u c in
@@ -240,5 +259,6 @@ element_inside w ms (indefinite {title = t} {strings = x} {bodies = bs} j p q s)
     let o = string_fronts j k t z.0 (x ++ 0xff ∷ v) (z.1 ++ y) None None p z.2
     (sym e2 ∙ (ap (λ (r : List ℕ). r ++ y) z.3 ∙ append_assoc z.0 z.1 y)) in
     let jk = o.0 in
-    opens_halt k u c y f t x v bs (subst (λ (r : Kind). IsTitle t (kind_header r None)) jk p) (subst (λ (r : Kind). AreStrings r x bs) jk q)
+    opens_halt k u c y f t x v bs (subst (λ (r : Kind). IsTitle t (kind_header r None)) jk p)
+    (subst (λ (r : Kind). AreStrings r x bs) jk q)
     (subst (λ (r : Kind). IsSound r bs) jk s) e2

@@ -4,7 +4,9 @@ use Rattle.ciborium_ll_grammar.specs.declared.hdr.Header.{Header}
 use Rattle.ciborium_ll_grammar.specs.declared.hdr.Header.TheVariants as h
 use Rattle.ciborium_ll_grammar.specs.Title.{IsTitle}
 use Rattle.ciborium_ll_grammar.specs.Strings.{Bytes, Text}
-use Rattle.ciborium_ll_grammar.specs.Items.{Completes, positive, negative, float, simple, byte_string, text_string, open_bytes, open_text, tag, array, pairs, open_array, open_pairs, AreItems, no_items, more_items, IsItem}
+use Rattle.ciborium_ll_grammar.specs.Items.{Completes, positive, negative, float, simple, byte_string, text_string}
+use Rattle.ciborium_ll_grammar.specs.Items.{open_bytes, open_text, tag, array, pairs, open_array, open_pairs}
+use Rattle.ciborium_ll_grammar.specs.Items.{AreItems, no_items, more_items, IsItem}
 use Rattle.ciborium_ll_text.proofs.Lists.{same_front}
 use Rattle.ciborium_ll_grammar.proofs.TitleLaws.{one_title}
 use Rattle.ciborium_ll_grammar.proofs.StringLaws.{one_strings_then, break_title}
@@ -29,7 +31,8 @@ title_break e t r u v x p c z =
 
 mutual
   -- of what completes items of one header none begins another
-  one_completion : (e : ℕ) (x : Header) (r : List ℕ) → Completes e x r → (e' : ℕ) (r' v v' : List ℕ) → Completes e' x r' → r ++ v ≡ r' ++ v'
+  one_completion : (e : ℕ) (x : Header) (r : List ℕ) → Completes e x r → (e' : ℕ) (r' v v' : List ℕ)
+      → Completes e' x r' → r ++ v ≡ r' ++ v'
       → Same r r' v v'
   one_completion e x r positive e' r' v v' positive z = (refl, z)
   one_completion e x r negative e' r' v v' negative z = (refl, z)
@@ -37,21 +40,32 @@ mutual
   one_completion e x r simple e' r' v v' simple z = (refl, z)
   one_completion e x r (byte_string l) e' r' v v' (byte_string l') z = same_front r r' v v' (l ∙ sym l') z
   one_completion e x r (text_string l s) e' r' v v' (text_string l' s') z = same_front r r' v v' (l ∙ sym l') z
-  one_completion e x r (open_bytes {strings = w} {bodies = bs} s) e' r' v v' (open_bytes {strings = w'} {bodies = bs'} s') z =
-      let o = one_strings_then Bytes w w' v v' bs bs' s s' (closed w w' v v' z) in (ap (λ (y : List ℕ). y ++ 0xff ∷ []) o.0, o.2)
-  one_completion e x r (open_text {strings = w} {bodies = bs} s k) e' r' v v' (open_text {strings = w'} {bodies = bs'} s' k') z =
-      let o = one_strings_then Text w w' v v' bs bs' s s' (closed w w' v v' z) in (ap (λ (y : List ℕ). y ++ 0xff ∷ []) o.0, o.2)
-  one_completion e x r (tag {depth = d} i) e' r' v v' (tag {depth = d'} i') z = same_items d (suc zero) r i d' r' v v' i' z
-  one_completion e x r (array {depth = d} {count = n} i) e' r' v v' (array {depth = d'} i') z = same_items d n r i d' r' v v' i' z
-  one_completion e x r (pairs {depth = d} {count = n} i) e' r' v v' (pairs {depth = d'} i') z = same_items d (2 * n) r i d' r' v v' i' z
+  one_completion e x r (open_bytes {strings = w} {bodies = bs} s) e' r' v v'
+      (open_bytes {strings = w'} {bodies = bs'} s') z =
+      let o = one_strings_then Bytes w w' v v' bs bs' s s' (closed w w' v v' z) in
+      (ap (λ (y : List ℕ). y ++ 0xff ∷ []) o.0, o.2)
+  one_completion e x r (open_text {strings = w} {bodies = bs} s k) e' r' v v'
+      (open_text {strings = w'} {bodies = bs'} s' k') z =
+      let o = one_strings_then Text w w' v v' bs bs' s s' (closed w w' v v' z) in
+      (ap (λ (y : List ℕ). y ++ 0xff ∷ []) o.0, o.2)
+  one_completion e x r (tag {depth = d} i) e' r' v v' (tag {depth = d'} i') z =
+      same_items d (suc zero) r i d' r' v v' i' z
+  one_completion e x r (array {depth = d} {count = n} i) e' r' v v' (array {depth = d'} i') z =
+      same_items d n r i d' r' v v' i' z
+  one_completion e x r (pairs {depth = d} {count = n} i) e' r' v v' (pairs {depth = d'} i') z =
+      same_items d (2 * n) r i d' r' v v' i' z
   one_completion e x r (open_array {depth = d} {count = j} {items = w} i) e' r' v v'
       (open_array {depth = d'} {count = j'} {items = w'} i') z =
-      let o = ended_items d j w i d' j' w' v v' i' (closed w w' v v' z) in (ap (λ (y : List ℕ). y ++ 0xff ∷ []) o.0, o.1)
-  one_completion e x r (open_pairs {depth = d} {items = w} j i) e' r' v v' (open_pairs {depth = d'} {items = w'} j' i') z =
-      let o = ended_items d (2 * j) w i d' (2 * j') w' v v' i' (closed w w' v v' z) in (ap (λ (y : List ℕ). y ++ 0xff ∷ []) o.0, o.1)
+      let o = ended_items d j w i d' j' w' v v' i' (closed w w' v v' z) in
+      (ap (λ (y : List ℕ). y ++ 0xff ∷ []) o.0, o.1)
+  one_completion e x r (open_pairs {depth = d} {items = w} j i) e' r' v v'
+      (open_pairs {depth = d'} {items = w'} j' i') z =
+      let o = ended_items d (2 * j) w i d' (2 * j') w' v v' i' (closed w w' v v' z) in
+      (ap (λ (y : List ℕ). y ++ 0xff ∷ []) o.0, o.1)
 
   -- of as many items none begins another
-  same_items : (e n : ℕ) (w : List ℕ) → AreItems e n w → (e' : ℕ) (w' v v' : List ℕ) → AreItems e' n w' → w ++ v ≡ w' ++ v' → Same w w' v v'
+  same_items : (e n : ℕ) (w : List ℕ) → AreItems e n w → (e' : ℕ) (w' v v' : List ℕ) → AreItems e' n w' → w ++ v
+      ≡ w' ++ v' → Same w w' v v'
   same_items e n w no_items e' w' v v' no_items z = (refl, z)
   same_items e n w (more_items {count = m} {title = t} {rest = r} {others = a} {header = x} p c i) e' w' v v'
       (more_items {title = t'} {rest = r'} {others = a'} {header = x'} p' c' i') z =
@@ -69,15 +83,18 @@ mutual
   ended_items : (e n : ℕ) (w : List ℕ) → AreItems e n w → (e' n' : ℕ) (w' v v' : List ℕ) → AreItems e' n' w'
       → w ++ 0xff ∷ v ≡ w' ++ 0xff ∷ v' → Same w w' v v'
   ended_items e n w no_items e' n' w' v v' no_items z = (refl, cc)
-  ended_items e n w no_items e' n' w' v v' (more_items {title = t'} {rest = r'} {others = a'} {header = x'} p' c' i') z =
-      absurd (title_break e' t' r' ((r' ++ a') ++ 0xff ∷ v') v x' p' c' (sym (append_assoc t' (r' ++ a') (0xff ∷ v')) ∙ sym z))
+  ended_items e n w no_items e' n' w' v v' (more_items {title = t'} {rest = r'} {others = a'} {header = x'} p' c'
+      i') z =
+      absurd (title_break e' t' r' ((r' ++ a') ++ 0xff ∷ v') v x' p' c'
+      (sym (append_assoc t' (r' ++ a') (0xff ∷ v')) ∙ sym z))
   ended_items e n w (more_items {title = t} {rest = r} {others = a} {header = x} p c i) e' n' w' v v' no_items z =
       absurd (title_break e t r ((r ++ a) ++ 0xff ∷ v) v' x p c (sym (append_assoc t (r ++ a) (0xff ∷ v)) ∙ z))
   ended_items e n w (more_items {count = m} {title = t} {rest = r} {others = a} {header = x} p c i) e' n' w' v v'
       (more_items {count = m'} {title = t'} {rest = r'} {others = a'} {header = x'} p' c' i') z =
       let o = one_title t t' ((r ++ a) ++ 0xff ∷ v) ((r' ++ a') ++ 0xff ∷ v') x x' p p'
       (sym (append_assoc t (r ++ a) (0xff ∷ v)) ∙ (z ∙ append_assoc t' (r' ++ a') (0xff ∷ v'))) in
-      let g = one_completion e x r c e' r' (a ++ 0xff ∷ v) (a' ++ 0xff ∷ v') (subst (λ (y : Header). Completes e' y r') (sym o.1) c')
+      let g = one_completion e x r c e' r' (a ++ 0xff ∷ v) (a' ++ 0xff ∷ v')
+      (subst (λ (y : Header). Completes e' y r') (sym o.1) c')
       (sym (append_assoc r a (0xff ∷ v)) ∙ (o.2 ∙ append_assoc r' a' (0xff ∷ v'))) in
       let k = ended_items e m a i e' m' a' v v' i' g.1 in
       let tt' : t ≡ t' = o.0 in

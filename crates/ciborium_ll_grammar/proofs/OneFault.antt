@@ -1,17 +1,23 @@
 -- The faults in one list of bytes are all at one place.
-use Rattle.std.proofs.Common.{arith, [], ◌≡◌, ℕ, ◌-◌, ◌<◌, ◌⊎◌, List, ◌∷◌, ◌++◌, length, Some, None, refl, sym, ap, subst, ◌∙◌, append_assoc, inl, inr}
+use Rattle.std.proofs.Common.{arith, [], ◌≡◌, ℕ, ◌-◌, ◌<◌, ◌⊎◌, List, ◌∷◌, ◌++◌, length, Some, None, refl, sym, ap}
+use Rattle.std.proofs.Common.{subst, ◌∙◌, append_assoc, inl, inr}
 use Rattle.std.proofs.lemmas.Bool.{cases_order}
 use Rattle.ciborium_ll_grammar.specs.declared.hdr.Header.{Header}
 use Rattle.ciborium_ll_grammar.specs.Title.{IsTitle, IsCutTitle, BeginsRefused, title_len}
 use Rattle.ciborium_ll_grammar.specs.Strings.{Kind, kind_header, IsString, AreStrings, none, more, IsMisplaced}
 use Rattle.ciborium_ll_grammar.specs.Elements.{IsSound, Mark, Open, pieces, IsElement, IsRun}
-use Rattle.ciborium_ll_grammar.specs.Faults.{IsInside, Place, Due, In, Body, Reaches, due, inside, body, body_inside, Answer, FirstFault, HasFault, CutTitle, NoTitle, OtherTitle, DamagedText, CutBody, CutDamagedText}
+use Rattle.ciborium_ll_grammar.specs.Faults.{IsInside, Place, Due, In, Body, Reaches, due, inside, body, body_inside}
+use Rattle.ciborium_ll_grammar.specs.Faults.{Answer, FirstFault, HasFault, CutTitle, NoTitle, OtherTitle, DamagedText}
+use Rattle.ciborium_ll_grammar.specs.Faults.{CutBody, CutDamagedText}
 use Rattle.ciborium_ll_text.specs.Text.{BeginsNoText}
 use Rattle.ciborium_ll_grammar.proofs.TitleLaws.{one_title, title_refused}
 use Rattle.ciborium_ll_grammar.proofs.AffixLaws.{title_not_cut, refused_affix}
 use Rattle.ciborium_ll_grammar.proofs.StringLaws.{some_is, fronts, one_string, SameString}
 use Rattle.ciborium_ll_grammar.proofs.ElementLaws.{one_run, string_fronts, IsSound-left, IsSound-right}
-use Rattle.ciborium_ll_grammar.proofs.HaltLaws.{IsBad, Halt, halt_cut, halt_refused, halt_misplaced, halt_bad, Opens, last, link, opens_of, opens_title, opens_string, opens_halt, string_halts, open_halts, Stop, stop_cut, stop_refused, stop_bad, halt_of, same_kind, element_stops, element_inside, kind_not_misplaced}
+use Rattle.ciborium_ll_grammar.proofs.HaltLaws.{IsBad, Halt, halt_cut, halt_refused, halt_misplaced, halt_bad, Opens}
+use Rattle.ciborium_ll_grammar.proofs.HaltLaws.{last, link, opens_of, opens_title, opens_string, opens_halt}
+use Rattle.ciborium_ll_grammar.proofs.HaltLaws.{string_halts, open_halts, Stop, stop_cut, stop_refused, stop_bad}
+use Rattle.ciborium_ll_grammar.proofs.HaltLaws.{halt_of, same_kind, element_stops, element_inside, kind_not_misplaced}
 use Rattle.ciborium_ll_grammar.proofs.FaultLaws.{follows, too_short}
 
 -- a string in front
@@ -24,16 +30,34 @@ record Ahead (k : Kind) (x : List ℕ) : Type 0 where
   is : x ≡ word ++ rest
 
 -- of strings in front of one list either both are the same, or a string comes behind one
-compare : (k : Kind) (w : List ℕ) (bs : List (List ℕ)) → AreStrings k w bs → (w' x x' : List ℕ) (bs' : List (List ℕ)) → AreStrings k w' bs'
+compare : (k : Kind) (w : List ℕ) (bs : List (List ℕ)) → AreStrings k w bs
+    → (w' x x' : List ℕ) (bs' : List (List ℕ)) → AreStrings k w' bs'
     → IsSound k bs → IsSound k bs' → w ++ x ≡ w' ++ x' → SameString w w' bs bs' x x' ⊎ (Ahead k x ⊎ Ahead k x')
 compare k w bs none w' x x' bs' none ok ok' e = inl (refl, refl, e)
 compare k w bs none w' x x' bs' (more {first = a} {rest = b} {bodies = cs} {others = ds} p q) ok ok' e =
-    inr (inl (record { word = a; bodies = cs; ok = p; sound = IsSound-left k cs ds ok'; rest = b ++ x'; is = e ∙ append_assoc a b x' }))
+    inr (inl (record {
+      word = a;
+      bodies = cs;
+      ok = p;
+      sound = IsSound-left k cs ds ok';
+      rest = b ++ x';
+      is = e
+          ∙ append_assoc a b x';
+    }))
 compare k w bs (more {first = a} {rest = b} {bodies = cs} {others = ds} p q) w' x x' bs' none ok ok' e =
-    inr (inr (record { word = a; bodies = cs; ok = p; sound = IsSound-left k cs ds ok; rest = b ++ x; is = sym e ∙ append_assoc a b x }))
+    inr (inr (record {
+      word = a;
+      bodies = cs;
+      ok = p;
+      sound = IsSound-left k cs ds ok;
+      rest = b ++ x;
+      is = sym e
+          ∙ append_assoc a b x;
+    }))
 compare k w bs (more {first = a} {rest = b} {bodies = cs} {others = ds} p q) w' x x' bs'
     (more {first = a'} {rest = b'} {bodies = cs'} {others = ds'} p' q') ok ok' e =
-    let o = one_string k a a' (b ++ x) (b' ++ x') cs cs' p p' (sym (append_assoc a b x) ∙ (e ∙ append_assoc a' b' x')) in
+    let o = one_string k a a' (b ++ x) (b' ++ x') cs cs' p p'
+    (sym (append_assoc a b x) ∙ (e ∙ append_assoc a' b' x')) in
     let aa : a ≡ a' = o.0 in
     let ccs : cs ≡ cs' = o.1 in
     elim (compare k b ds q b' x x' ds' q' (IsSound-right k cs ds ok) (IsSound-right k cs' ds' ok') o.2) [
@@ -48,16 +72,19 @@ ahead_halts k y f a = string_halts k a.word a.bodies a.ok a.sound a.rest y f a.i
 -- no string is ahead where opens halt
 ahead_opens : (k : Kind) (u y : List ℕ) {os : List (List ℕ)} → Opens k u os → Halt k y → Ahead k (u ++ y) → ⊥
 ahead_opens k u y c f a =
-    opens_string k u c y (λ t w v bs q r ok e. opens_halt k u c y f t w v bs q r ok e) a.word a.bodies a.ok a.sound a.rest a.is
+    opens_string k u c y (λ t w v bs q r ok e. opens_halt k u c y f t w v bs q r ok e) a.word a.bodies a.ok a.sound
+    a.rest a.is
 
 -- no opens are ahead where none comes
 open_ahead : (k : Kind) (u y z : List ℕ) {os : List (List ℕ)} → Opens k u os → Halt k y → y ≡ u ++ z → ⊥
 open_ahead k u y z c f e =
-    let t = opens_title k u c in open_halts k t.0 (t.1 ++ z) y f t.2 (e ∙ (ap (λ (x : List ℕ). x ++ z) t.3 ∙ append_assoc t.0 t.1 z))
+    let t = opens_title k u c in open_halts k t.0 (t.1 ++ z) y f t.2
+    (e ∙ (ap (λ (x : List ℕ). x ++ z) t.3 ∙ append_assoc t.0 t.1 z))
 
 -- two lists of opens that halt are the same
 opens_same : (k : Kind) (u : List ℕ) (bs : List (List ℕ)) → Opens k u bs → (y : List ℕ) → Halt k y → IsSound k bs
-    → (u' y' : List ℕ) (bs' : List (List ℕ)) → Opens k u' bs' → Halt k y' → IsSound k bs' → u ++ y ≡ u' ++ y' → SameString u u' bs bs' y y'
+    → (u' y' : List ℕ) (bs' : List (List ℕ)) → Opens k u' bs' → Halt k y' → IsSound k bs' → u ++ y ≡ u' ++ y'
+    → SameString u u' bs bs' y y'
 opens_same k u bs (last {t} {w} p s) y f ok u' y' bs' (last {t = t'} {w = w'} p' s') f' ok' e =
     let o = fronts k t t' (w ++ y) (w' ++ y') None None p p' (sym (append_assoc t w y) ∙ (e ∙ append_assoc t' w' y')) in
     let tt' : t ≡ t' = o.0 in
@@ -65,7 +92,8 @@ opens_same k u bs (last {t} {w} p s) y f ok u' y' bs' (last {t = t'} {w = w'} p'
       | inl r ↦ (let ww : w ≡ w' = r.0 in (rw (tt', ww) refl, r.1, r.2))
       | inr r ↦ elim r [ inl a ↦ absurd (ahead_halts k y f a) | inr a ↦ absurd (ahead_halts k y' f' a) ]
     ]
-opens_same k u bs (last {t} {w} p s) y f ok u' y' bs' (link {t = t'} {w = w'} {u = x'} {bs = cs'} {cs = ds'} p' s' d') f' ok' e =
+opens_same k u bs (last {t} {w} p s) y f ok u' y' bs'
+    (link {t = t'} {w = w'} {u = x'} {bs = cs'} {cs = ds'} p' s' d') f' ok' e =
     let o = fronts k t t' (w ++ y) (w' ++ (x' ++ y')) None None p p'
     (sym (append_assoc t w y) ∙ (e ∙ (append_assoc (t' ++ w') x' y' ∙ append_assoc t' w' (x' ++ y')))) in
     let c' = d' in
@@ -73,7 +101,8 @@ opens_same k u bs (last {t} {w} p s) y f ok u' y' bs' (link {t = t'} {w = w'} {u
       | inl r ↦ absurd (open_ahead k x' y y' c' f r.2)
       | inr r ↦ elim r [ inl a ↦ absurd (ahead_halts k y f a) | inr a ↦ absurd (ahead_opens k x' y' c' f' a) ]
     ]
-opens_same k u bs (link {t} {w} {u = x} {bs = cs} {cs = ds} p s d) y f ok u' y' bs' (last {t = t'} {w = w'} p' s') f' ok' e =
+opens_same k u bs (link {t} {w} {u = x} {bs = cs} {cs = ds} p s d) y f ok u' y' bs' (last {t = t'} {w = w'} p' s')
+    f' ok' e =
     let o = fronts k t t' (w ++ (x ++ y)) (w' ++ y') None None p p'
     (sym (append_assoc (t ++ w) x y ∙ append_assoc t w (x ++ y)) ∙ (e ∙ append_assoc t' w' y')) in
     let c = d in
@@ -89,7 +118,8 @@ opens_same k u bs (link {t} {w} {u = x} {bs = cs} {cs = ds} p s d) y f ok u' y' 
     let tt' : t ≡ t' = o.0 in
     elim (compare k w cs s w' (x ++ y) (x' ++ y') cs' s' (IsSound-left k cs ds ok) (IsSound-left k cs' ds' ok') o.2) [
       | inl r ↦
-          (let g = opens_same k x ds d y f (IsSound-right k cs ds ok) x' y' ds' d' f' (IsSound-right k cs' ds' ok') r.2 in
+          (let g = opens_same k x ds d y f (IsSound-right k cs ds ok) x' y' ds' d' f' (IsSound-right k cs' ds' ok')
+          r.2 in
           let ww : w ≡ w' = r.0 in let ccs : cs ≡ cs' = r.1 in let xx : x ≡ x' = g.0 in let dd : ds ≡ ds' = g.1 in
           (rw (tt', ww, xx) refl, rw (ccs, dd) refl, g.2))
       | inr r ↦ elim r [ inl a ↦ absurd (ahead_opens k x y d f a) | inr a ↦ absurd (ahead_opens k x' y' d' f' a) ]
@@ -100,7 +130,8 @@ abbrev NoElement : List ℕ → Type 0
 NoElement y = (w : List ℕ) (ms : List Mark) → IsElement w ms → (v : List ℕ) → y ≡ w ++ v → ⊥
 
 -- two runs in front of places where no element comes are the same
-same_run : (i i' : ℕ) (u u' y y' : List ℕ) (ms ms' : List Mark) → IsRun i u ms → IsRun i' u' ms' → NoElement y → NoElement y'
+same_run : (i i' : ℕ) (u u' y y' : List ℕ) (ms ms' : List Mark) → IsRun i u ms → IsRun i' u' ms' → NoElement y
+    → NoElement y'
     → u ++ y ≡ u' ++ y' → (u ≡ u') × (ms ≡ ms') × (y ≡ y')
 same_run i i' u u' y y' ms ms' r r' f f' e =
     elim (cases_order i i') [
@@ -114,7 +145,8 @@ same_run i i' u u' y y' ms ms' r r' f f' e =
 -- a place where a title is due, and can't come
 data Base (n : ℕ) : List ℕ → List Mark → Place → List ℕ → Type 0 where
   at_due : {i : ℕ} {u y : List ℕ} {ms : List Mark} → i < n → IsRun i u ms → Stop y → Base n u ms Due y
-  at_in : {i : ℕ} {u v y : List ℕ} {ms : List Mark} {bs : List (List ℕ)} {k : Kind} → i < n → IsRun i u ms → IsInside k v bs → IsSound k bs
+  at_in : {i : ℕ} {u v y : List ℕ} {ms : List Mark} {bs : List (List ℕ)} {k : Kind} → i < n → IsRun i u ms
+      → IsInside k v bs → IsSound k bs
       → Halt k y → Base n (u ++ v) (ms ++ Open k ∷ pieces k bs) (In k) y
 
 -- the same bytes before, marks, place and bytes ahead
@@ -143,13 +175,17 @@ one_base : (n : ℕ) (u : List ℕ) (ms : List Mark) (at : Place) (y : List ℕ)
 one_base n u ms at y (at_due {i} l r f) u' ms' at' y' (at_due {i = i'} l' r' f') e =
     let o = same_run i i' u u' y y' ms ms' r r' (no_at_stop y f) (no_at_stop y' f') e in
     (o.0, o.1, refl, o.2)
-one_base n u ms at y (at_due {i} l r f) u' ms' at' y' (at_in {i = i'} {u = a'} {v = b'} {ms = os'} {bs = bs'} {k = k'} l' r' q' ok' f') e =
+one_base n u ms at y (at_due {i} l r f) u' ms' at' y'
+    (at_in {i = i'} {u = a'} {v = b'} {ms = os'} {bs = bs'} {k = k'} l' r' q' ok' f') e =
     let c = opens_of k' b' bs' q' in
-    let o = same_run i i' u a' y (b' ++ y') ms os' r r' (no_at_stop y f) (no_at_halt k' b' y' c f') (e ∙ append_assoc a' b' y') in
+    let o = same_run i i' u a' y (b' ++ y') ms os' r r' (no_at_stop y f) (no_at_halt k' b' y' c f')
+    (e ∙ append_assoc a' b' y') in
     absurd (open_stops k' b' y y' c f o.2)
-one_base n u ms at y (at_in {i} {u = a} {v = b} {ms = os} {bs} {k} l r q ok f) u' ms' at' y' (at_due {i = i'} l' r' f') e =
+one_base n u ms at y (at_in {i} {u = a} {v = b} {ms = os} {bs} {k} l r q ok f) u' ms' at' y'
+    (at_due {i = i'} l' r' f') e =
     let c = opens_of k b bs q in
-    let o = same_run i i' a u' (b ++ y) y' os ms' r r' (no_at_halt k b y c f) (no_at_stop y' f') (sym (append_assoc a b y) ∙ e) in
+    let o = same_run i i' a u' (b ++ y) y' os ms' r r' (no_at_halt k b y c f) (no_at_stop y' f')
+    (sym (append_assoc a b y) ∙ e) in
     absurd (open_stops k b y' y c f' (sym o.2))
 one_base n u ms at y (at_in {i} {u = a} {v = b} {ms = os} {bs} {k} l r q ok f) u' ms' at' y'
     (at_in {i = i'} {u = a'} {v = b'} {ms = os'} {bs = bs'} {k = k'} l' r' q' ok' f') e =
@@ -162,7 +198,8 @@ one_base n u ms at y (at_in {i} {u = a} {v = b} {ms = os} {bs} {k} l r q ok f) u
     let kk = (string_fronts k k' z.0 z'.0 (z.1 ++ y) (z'.1 ++ y') None None z.2 z'.2
     (sym (append_assoc z.0 z.1 y) ∙ (ap (λ (x : List ℕ). x ++ y) (sym z.3)
     ∙ (o.2 ∙ (ap (λ (x : List ℕ). x ++ y') z'.3 ∙ append_assoc z'.0 z'.1 y'))))).0 in
-    let g = opens_same k b bs (opens_of k b bs q) y f ok b' y' bs' (subst (λ (j : Kind). Opens j b' bs') (sym kk) (opens_of k' b' bs' q'))
+    let g = opens_same k b bs (opens_of k b bs q) y f ok b' y' bs'
+    (subst (λ (j : Kind). Opens j b' bs') (sym kk) (opens_of k' b' bs' q'))
     (subst (λ (j : Kind). Halt j y') (sym kk) f') (subst (λ (j : Kind). IsSound j bs') (sym kk) ok') o.2 in
     let aa : a ≡ a' = o.0 in
     let oo : os ≡ os' = o.1 in
@@ -175,7 +212,8 @@ one_base n u ms at y (at_in {i} {u = a} {v = b} {ms = os} {bs} {k} l r q ok f) u
 data Flat : Place → List ℕ → Type 0 where
   flat_cut : {at : Place} {y : List ℕ} → IsCutTitle y → Flat at y
   flat_refused : {at : Place} {y : List ℕ} → BeginsRefused y → Flat at y
-  flat_foreign : {k : Kind} {y t : List ℕ} (r : List ℕ) (x : Header) → IsTitle t x → IsMisplaced k x → y ≡ t ++ r → Flat (In k) y
+  flat_foreign : {k : Kind} {y t : List ℕ} (r : List ℕ) (x : Header) → IsTitle t x → IsMisplaced k x → y ≡ t ++ r
+      → Flat (In k) y
 
 -- a body of the kind may be due behind the place
 abbrev IsOf : Place → Kind → Type 0
@@ -184,7 +222,8 @@ IsOf (In j) k = j ≡ k
 IsOf (Body j l p) k = ⊥
 
 -- no title of a string of the kind stands where none can come
-flat_deep : (at : Place) (y : List ℕ) → Flat at y → (t s : List ℕ) (k : Kind) (l : ℕ) → IsOf at k → IsTitle t (kind_header k (Some l))
+flat_deep : (at : Place) (y : List ℕ) → Flat at y → (t s : List ℕ) (k : Kind) (l : ℕ) → IsOf at k
+    → IsTitle t (kind_header k (Some l))
     → y ≡ t ++ s → ⊥
 flat_deep at y (flat_cut c) t s k l o p e = title_not_cut t s (kind_header k (Some l)) p (subst IsCutTitle e c)
 flat_deep at y (flat_refused c) t s k l o p e = title_refused t s (kind_header k (Some l)) p (subst BeginsRefused e c)
@@ -199,7 +238,8 @@ place_of (In j) k l u t = Body k l (length u)
 place_of (Body j m p) k l u t = Due
 
 -- the body at fault is bad
-bad_of : (k : Kind) (l p : ℕ) (s u : List ℕ) (ms : List Mark) (a : Answer) (out : List ℕ) (c : ℕ) → FirstFault u ms (Body k l p) s a out c
+bad_of : (k : Kind) (l p : ℕ) (s u : List ℕ) (ms : List Mark) (a : Answer) (out : List ℕ) (c : ℕ)
+    → FirstFault u ms (Body k l p) s a out c
     → IsBad k l s
 bad_of k l p s u ms a out c (CutTitle d f) = absurd d
 bad_of k l p s u ms a out c (NoTitle d f) = absurd d
@@ -214,12 +254,15 @@ data Seen (n : ℕ) : List ℕ → List Mark → Place → List ℕ → Type 0 w
       → IsTitle t (kind_header k (Some l)) → Seen n (u ++ t) ms (place_of at k l u t) s
 
 -- each fault is at a place where a title was due
-seen : (n : ℕ) (u : List ℕ) (ms : List Mark) (at : Place) → Reaches n u ms at → (s : List ℕ) (a : Answer) (out : List ℕ) (c : ℕ)
+seen : (n : ℕ) (u : List ℕ) (ms : List Mark) (at : Place) → Reaches n u ms at
+    → (s : List ℕ) (a : Answer) (out : List ℕ) (c : ℕ)
     → FirstFault u ms at s a out c → Seen n u ms at s
 seen n u ms at (due l r) s a out c (CutTitle d f) = seen_flat (at_due l r (stop_cut f)) (flat_cut f)
 seen n u ms at (due l r) s a out c (NoTitle d f) = seen_flat (at_due l r (stop_refused f)) (flat_refused f)
-seen n u ms at (inside {kind = k} l r q ok) s a out c (CutTitle d f) = seen_flat (at_in l r q ok (halt_cut f)) (flat_cut f)
-seen n u ms at (inside {kind = k} l r q ok) s a out c (NoTitle d f) = seen_flat (at_in l r q ok (halt_refused f)) (flat_refused f)
+seen n u ms at (inside {kind = k} l r q ok) s a out c (CutTitle d f) =
+    seen_flat (at_in l r q ok (halt_cut f)) (flat_cut f)
+seen n u ms at (inside {kind = k} l r q ok) s a out c (NoTitle d f) =
+    seen_flat (at_in l r q ok (halt_refused f)) (flat_refused f)
 seen n u ms at (inside {kind = k} l r q ok) s a out c (OtherTitle x z p f e) =
     seen_flat (at_in l r q ok (halt_misplaced z x p f e)) (flat_foreign z x p f e)
 seen n u ms at (body {bytes = b} {title = t} {len = m} k (due l r) p) s a out c f =
@@ -238,8 +281,10 @@ one_seen n u ms at s (seen_flat b f) u' ms' at' s' (seen_deep {u = v'} {t = t'} 
 one_seen n u ms at s (seen_deep {u = v} {t} {at = p} k l b o q) u' ms' at' s' (seen_flat b' f') e =
     let z = one_base n v ms p (t ++ s) b u' ms' at' s' b' (sym (append_assoc v t s) ∙ e) in
     absurd (flat_deep at' s' f' t s k l (subst (λ (i : Place). IsOf i k) z.2 o) q (sym z.3))
-one_seen n u ms at s (seen_deep {u = v} {t} {at = p} k l b o q) u' ms' at' s' (seen_deep {u = v'} {t = t'} {at = p'} k' l' b' o' q') e =
-    let z = one_base n v ms p (t ++ s) b v' ms' p' (t' ++ s') b' (sym (append_assoc v t s) ∙ (e ∙ append_assoc v' t' s')) in
+one_seen n u ms at s (seen_deep {u = v} {t} {at = p} k l b o q) u' ms' at' s'
+    (seen_deep {u = v'} {t = t'} {at = p'} k' l' b' o' q') e =
+    let z = one_base n v ms p (t ++ s) b v' ms' p' (t' ++ s') b'
+    (sym (append_assoc v t s) ∙ (e ∙ append_assoc v' t' s')) in
     let g = string_fronts k k' t t' s s' (Some l) (Some l') q q' z.3 in
     let vv : v ≡ v' = z.0 in
     let tt' : t ≡ t' = g.1 in
@@ -249,10 +294,13 @@ one_seen n u ms at s (seen_deep {u = v} {t} {at = p} k l b o q) u' ms' at' s' (s
     (rw (vv, tt') refl, z.1, rw (pp, kk, ll, vv, tt') refl, g.3)
 
 -- all faults of one list are at one place
-pub one_fault : (n : ℕ) (x : List ℕ) (f g : HasFault n x) → SameBase f.before g.before f.marks g.marks f.place g.place f.ahead g.ahead
+pub one_fault : (n : ℕ) (x : List ℕ) (f g : HasFault n x) → SameBase f.before g.before f.marks g.marks f.place
+    g.place f.ahead g.ahead
 one_fault n x f g =
-    one_seen n f.before f.marks f.place f.ahead (seen n f.before f.marks f.place f.reach f.ahead f.answer f.written f.consumed f.fault)
-    g.before g.marks g.place g.ahead (seen n g.before g.marks g.place g.reach g.ahead g.answer g.written g.consumed g.fault)
+    one_seen n f.before f.marks f.place f.ahead (seen n f.before f.marks f.place f.reach f.ahead f.answer f.written
+    f.consumed f.fault)
+    g.before g.marks g.place g.ahead (seen n g.before g.marks g.place g.reach g.ahead g.answer g.written g.consumed
+    g.fault)
     (sym f.is ∙ g.is)
 
 -- ---- its answer
@@ -263,7 +311,8 @@ cut_not_refused [] c r = r
 cut_not_refused (b ∷ s) c r = omega (arith, refused_affix b r, c)
 
 -- faults at one place have one answer, unless the bytes end within a text that is none
-same_answer : (u : List ℕ) (ms : List Mark) (at : Place) (s : List ℕ) (a : Answer) (out : List ℕ) (c : ℕ) → FirstFault u ms at s a out c
+same_answer : (u : List ℕ) (ms : List Mark) (at : Place) (s : List ℕ) (a : Answer) (out : List ℕ) (c : ℕ)
+    → FirstFault u ms at s a out c
     → (a' : Answer) (out' : List ℕ) (c' : ℕ) → FirstFault u ms at s a' out' c' → (a ≡ a') ⊎ BeginsNoText s
 same_answer u ms at s a out c (CutTitle d f) a' out' c' (CutTitle d' f') = inl refl
 same_answer u ms at s a out c (CutTitle d f) a' out' c' (NoTitle d' f') = absurd (cut_not_refused s f f')
@@ -285,11 +334,13 @@ same_answer u ms at s a out c (OtherTitle x r p m e) a' out' c' (OtherTitle x' r
 same_answer u ms at s a out c (DamagedText b r l n e z m) a' out' c' (CutTitle d' f') = absurd d'
 same_answer u ms at s a out c (DamagedText b r l n e z m) a' out' c' (NoTitle d' f') = absurd d'
 same_answer u ms at s a out c (DamagedText b r l n e z m) a' out' c' (DamagedText b' r' l' n' e' z' m') = inl refl
-same_answer u ms at s a out c (DamagedText b r l n e z m) a' out' c' (CutBody b' r' l' e' z' m' m2 m3) = absurd (omega (arith, l, l'))
+same_answer u ms at s a out c (DamagedText b r l n e z m) a' out' c' (CutBody b' r' l' e' z' m' m2 m3) =
+    absurd (omega (arith, l, l'))
 same_answer u ms at s a out c (DamagedText b r l n e z m) a' out' c' (CutDamagedText b' r' l' n' e' z' m') = inl refl
 same_answer u ms at s a out c (CutBody b r l e z m m2 m3) a' out' c' (CutTitle d' f') = absurd d'
 same_answer u ms at s a out c (CutBody b r l e z m m2 m3) a' out' c' (NoTitle d' f') = absurd d'
-same_answer u ms at s a out c (CutBody b r l e z m m2 m3) a' out' c' (DamagedText b' r' l' n' e' z' m') = absurd (omega (arith, l, l'))
+same_answer u ms at s a out c (CutBody b r l e z m m2 m3) a' out' c' (DamagedText b' r' l' n' e' z' m') =
+    absurd (omega (arith, l, l'))
 same_answer u ms at s a out c (CutBody b r l e z m m2 m3) a' out' c' (CutBody b' r' l' e' z' m' m2' m3') = inl refl
 same_answer u ms at s a out c (CutBody b r l e z m m2 m3) a' out' c' (CutDamagedText b' r' l' n' e' z' m') = inr n'
 same_answer u ms at s a out c (CutDamagedText b r l n e z m) a' out' c' (CutTitle d' f') = absurd d'
@@ -312,4 +363,5 @@ same_place u u' ms ms' at at' s s' a out c e f =
 pub one_answer : (n : ℕ) (x : List ℕ) (f g : HasFault n x) → (f.answer ≡ g.answer) ⊎ BeginsNoText f.ahead
 one_answer n x f g =
     same_answer f.before f.marks f.place f.ahead f.answer f.written f.consumed f.fault g.answer g.written g.consumed
-    (same_place f.before g.before f.marks g.marks f.place g.place f.ahead g.ahead g.answer g.written g.consumed (one_fault n x f g) g.fault)
+    (same_place f.before g.before f.marks g.marks f.place g.place f.ahead g.ahead g.answer g.written g.consumed
+    (one_fault n x f g) g.fault)

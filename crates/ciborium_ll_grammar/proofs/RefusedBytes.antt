@@ -1,5 +1,6 @@
 -- The refused bytes are the 27 of the list.
-use Rattle.std.proofs.Common.{◌≡◌, ℕ, zero, suc, ◌+◌, ◌-◌, ◌*◌, ◌/◌, ◌%◌, ◌<◌, ◌↔◌, List, [], ◌∷◌, length, get_or, refl, subst, arith, inl, inr, rules}
+use Rattle.std.proofs.Common.{◌≡◌, ℕ, zero, suc, ◌+◌, ◌-◌, ◌*◌, ◌/◌, ◌%◌, ◌<◌, ◌↔◌, List, [], ◌∷◌, length, get_or}
+use Rattle.std.proofs.Common.{refl, subst, arith, inl, inr, rules}
 use Rattle.std.specs.List.{AllByRecursion, Contains}
 use Rattle.std.specs.List.Sorted.{IsStrictlyIncreasing}
 use native.Mathlib.Numerals.{unary_clauses}
@@ -94,7 +95,8 @@ all_refused = (
 )
 
 -- each reserved minor, and 31 where it is never open, stands in the list
-at_minor : (major rest : ℕ) → major < 8 → rest < 4 → (rest ≡ 3 → IsNeverOpen major) → Contains refused_bytes (32 * major + (28 + rest))
+at_minor : (major rest : ℕ) → major < 8 → rest < 4 → (rest ≡ 3 → IsNeverOpen major)
+    → Contains refused_bytes (32 * major + (28 + rest))
 at_minor zero zero p q f = (0, omega arith, refl)
 at_minor zero (suc zero) p q f = (1, omega arith, refl)
 at_minor zero (suc (suc zero)) p q f = (2, omega arith, refl)
@@ -144,7 +146,8 @@ refused_listed b lt = (λ r. to r, λ c. of_all IsRefused refused_bytes b c.0 al
     to : IsRefused b → Contains refused_bytes b
     to r =
         let e : 32 * (b / 32) + (28 + (b % 32 - 28)) ≡ b = omega (arith, r) in
-        subst (Contains refused_bytes) e (at_minor (b / 32) (b % 32 - 28) (omega arith) (omega (arith, r)) (λ l. open_at r l))
+        subst (Contains refused_bytes) e (at_minor (b / 32) (b % 32 - 28) (omega arith) (omega (arith, r))
+        (λ l. open_at r l))
       where
         open_at : IsRefused b → b % 32 - 28 ≡ 3 → IsNeverOpen (b / 32)
         open_at (inl p) l = absurd (omega (arith, p, l))

@@ -10,7 +10,8 @@ use Rattle.ciborium_ll_grammar.proofs.OpenStrings.{IsInsideAt, one_open, more_op
 use Rattle.ciborium_ll_grammar.proofs.ElementLaws.{AreStrings-append}
 
 -- a string behind strings
-AreStrings-add : (k : Kind) (w v : List ℕ) (bs cs : List (List ℕ)) → AreStrings k w bs → IsString k v cs → AreStrings k (w ++ v) (bs ++ cs)
+AreStrings-add : (k : Kind) (w v : List ℕ) (bs cs : List (List ℕ)) → AreStrings k w bs → IsString k v cs
+    → AreStrings k (w ++ v) (bs ++ cs)
 AreStrings-add k w v bs cs s p =
     subst (λ (z : List (List ℕ)). AreStrings k (w ++ v) (bs ++ z)) (append-nil cs)
     (subst (λ (z : List ℕ). AreStrings k (w ++ z) (bs ++ (cs ++ []))) (append-nil v)
@@ -24,12 +25,15 @@ counted k j u bs (more_open {outer = x} {bodies = ds} q p s) = deeper (counted k
 -- a string within a string
 pub add_string : (k : Kind) (j : ℕ) (u w : List ℕ) (bs cs : List (List ℕ)) → IsInsideAt k j u bs → IsString k w cs
     → IsInsideAt k j (u ++ w) (bs ++ cs)
-add_string k j u w bs cs (one_open {title = t} {strings = x} p s) q = rw (append_assoc t x w) (one_open p (AreStrings-add k x w bs cs s q))
+add_string k j u w bs cs (one_open {title = t} {strings = x} p s) q =
+    rw (append_assoc t x w) (one_open p (AreStrings-add k x w bs cs s q))
 add_string k j u w bs cs (more_open {outer = y} {title = t} {strings = x} {bodies = ds} {others = es} i p s) q =
-    rw (append_assoc y (t ++ x) w, append_assoc t x w, append_assoc ds es cs) (more_open i p (AreStrings-add k x w es cs s q))
+    rw (append_assoc y (t ++ x) w, append_assoc t x w, append_assoc ds es cs)
+    (more_open i p (AreStrings-add k x w es cs s q))
 
 -- an open within a string
-pub add_open : (k : Kind) (j : ℕ) (u t : List ℕ) (bs : List (List ℕ)) → IsInsideAt k j u bs → IsTitle t (kind_header k None)
+pub add_open : (k : Kind) (j : ℕ) (u t : List ℕ) (bs : List (List ℕ)) → IsInsideAt k j u bs
+    → IsTitle t (kind_header k None)
     → IsInsideAt k (suc j) (u ++ t) bs
 add_open k j u t bs i p =
     subst (λ (z : List (List ℕ)). IsInsideAt k (suc j) (u ++ t) z) (append-nil bs)
@@ -49,7 +53,8 @@ close_inner k j u bs (more_open {outer = y} {title = t} {strings = x} {bodies = 
 -- the last break makes an element
 pub close_last : (k : Kind) (u : List ℕ) (bs : List (List ℕ)) → IsInsideAt k (suc zero) u bs → IsSound k bs
     → IsElement (u ++ 0xff ∷ []) (Open k ∷ (pieces k bs ++ Close ∷ []))
-close_last k u bs (one_open {title = t} {strings = x} p s) ok = rw (append_assoc t x (0xff ∷ [])) (open_element k p s ok)
+close_last k u bs (one_open {title = t} {strings = x} p s) ok =
+    rw (append_assoc t x (0xff ∷ [])) (open_element k p s ok)
 close_last k u bs (more_open {outer = y} {bodies = ds} i p s) ok = absurd (never k y ds i)
 
 -- an element behind a run

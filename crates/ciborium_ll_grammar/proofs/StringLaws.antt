@@ -2,7 +2,8 @@
 use Rattle.std.proofs.Common.{◌≡◌, ℕ, List, [], ◌∷◌, ◌++◌, length, Option, Some, None, refl, sym, ◌∙◌, append_assoc}
 use Rattle.ciborium_ll_grammar.specs.declared.hdr.Header.TheVariants as h
 use Rattle.ciborium_ll_grammar.specs.Title.{IsTitle, Other, alone}
-use Rattle.ciborium_ll_grammar.specs.Strings.{Kind, Bytes, Text, kind_header, IsString, definite, indefinite, AreStrings, none, more}
+use Rattle.ciborium_ll_grammar.specs.Strings.{Kind, Bytes, Text, kind_header, IsString, definite, indefinite}
+use Rattle.ciborium_ll_grammar.specs.Strings.{AreStrings, none, more}
 use Rattle.ciborium_ll_text.proofs.Lists.{same_front}
 use Rattle.ciborium_ll_grammar.proofs.TitleLaws.{one_title}
 
@@ -29,7 +30,8 @@ pub break_title : IsTitle (0xff ∷ []) h.Break
 break_title = alone Other h.Break refl
 
 -- titles with bytes behind them, of which one begins the other
-pub fronts : (k : Kind) (t t' u u' : List ℕ) (o o' : Option ℕ) → IsTitle t (kind_header k o) → IsTitle t' (kind_header k o')
+pub fronts : (k : Kind) (t t' u u' : List ℕ) (o o' : Option ℕ) → IsTitle t (kind_header k o)
+    → IsTitle t' (kind_header k o')
     → t ++ u ≡ t' ++ u' → (t ≡ t') × (o ≡ o') × (u ≡ u')
 fronts k t t' u u' o o' p p' e =
     let r = one_title t t' u u' (kind_header k o) (kind_header k o') p p' e in
@@ -66,7 +68,8 @@ definites k t b t' b' v v' p p' e =
 
 mutual
   -- no string begins another one
-  one_str : (k : Kind) (w : List ℕ) (bs : List (List ℕ)) → IsString k w bs → (w' : List ℕ) (bs' : List (List ℕ)) → IsString k w' bs'
+  one_str : (k : Kind) (w : List ℕ) (bs : List (List ℕ)) → IsString k w bs → (w' : List ℕ) (bs' : List (List ℕ))
+      → IsString k w' bs'
       → (v v' : List ℕ) → w ++ v ≡ w' ++ v' → SameString w w' bs bs' v v'
   one_str k w bs (definite {title = t} {body = b} p) w' bs' (definite {title = t'} {body = b'} p') v v' e =
       definites k t b t' b' v v' p p' e
@@ -80,14 +83,16 @@ mutual
       (indefinite {title = t'} {strings = x'} {bodies = cs'} p' q') v v' e =
       let r = fronts k t t' ((x ++ 0xff ∷ []) ++ v) ((x' ++ 0xff ∷ []) ++ v') None None p p'
       (sym (append_assoc t (x ++ 0xff ∷ []) v) ∙ (e ∙ append_assoc t' (x' ++ 0xff ∷ []) v')) in
-      let tails : x ++ 0xff ∷ v ≡ x' ++ 0xff ∷ v' = sym (append_assoc x (0xff ∷ []) v) ∙ (r.2 ∙ append_assoc x' (0xff ∷ []) v') in
+      let tails : x ++ 0xff ∷ v ≡ x' ++ 0xff ∷ v' = sym (append_assoc x (0xff ∷ []) v)
+      ∙ (r.2 ∙ append_assoc x' (0xff ∷ []) v') in
       let s = one_strs k x cs q x' cs' q' v v' tails in
       let tt' : t ≡ t' = r.0 in
       let xx' : x ≡ x' = s.0 in
       (rw (tt', xx') refl, s.1, s.2)
 
   -- of strings in front of a break none begin others
-  one_strs : (k : Kind) (w : List ℕ) (bs : List (List ℕ)) → AreStrings k w bs → (w' : List ℕ) (bs' : List (List ℕ)) → AreStrings k w' bs'
+  one_strs : (k : Kind) (w : List ℕ) (bs : List (List ℕ)) → AreStrings k w bs → (w' : List ℕ) (bs' : List (List ℕ))
+      → AreStrings k w' bs'
       → (v v' : List ℕ) → w ++ 0xff ∷ v ≡ w' ++ 0xff ∷ v' → SameString w w' bs bs' v v'
   one_strs k w bs none w' bs' none v v' e = (refl, refl, cc)
   one_strs k w bs none w' bs' (more {first = x'} {rest = y'} {bodies = cs'} s' ss') v v' e =
@@ -106,11 +111,13 @@ mutual
       (rw (xx', yy') refl, rw (cc', dd') refl, b.2)
 
 -- no string begins another one, and each has one list of bodies
-pub one_string : (k : Kind) (w w' v v' : List ℕ) (bs bs' : List (List ℕ)) → IsString k w bs → IsString k w' bs' → w ++ v ≡ w' ++ v'
+pub one_string : (k : Kind) (w w' v v' : List ℕ) (bs bs' : List (List ℕ)) → IsString k w bs → IsString k w' bs'
+    → w ++ v ≡ w' ++ v'
     → SameString w w' bs bs' v v'
 one_string k w w' v v' bs bs' p p' e = one_str k w bs p w' bs' p' v v' e
 
 -- strings in front of a break are the only ones, with one list of bodies
-pub one_strings_then : (k : Kind) (w w' v v' : List ℕ) (bs bs' : List (List ℕ)) → AreStrings k w bs → AreStrings k w' bs'
+pub one_strings_then : (k : Kind) (w w' v v' : List ℕ) (bs bs' : List (List ℕ)) → AreStrings k w bs
+    → AreStrings k w' bs'
     → w ++ 0xff ∷ v ≡ w' ++ 0xff ∷ v' → SameString w w' bs bs' v v'
 one_strings_then k w w' v v' bs bs' p p' e = one_strs k w bs p w' bs' p' v v' e

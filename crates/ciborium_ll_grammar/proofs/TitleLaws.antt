@@ -1,5 +1,6 @@
 -- No title begins another one, and the shortest is strictly shorter.
-use Rattle.std.proofs.Common.{◌≡◌, ℕ, zero, suc, ◌%◌, ◌<◌, ◌≤◌, ◌^◌, ◌⊎◌, inl, inr, List, [], ◌∷◌, ◌++◌, length, get_or, drop, Some, None, refl, sym, ap, subst, ◌∙◌, arith}
+use Rattle.std.proofs.Common.{◌≡◌, ℕ, zero, suc, ◌%◌, ◌<◌, ◌≤◌, ◌^◌, ◌⊎◌, inl, inr, List, [], ◌∷◌, ◌++◌, length}
+use Rattle.std.proofs.Common.{get_or, drop, Some, None, refl, sym, ap, subst, ◌∙◌, arith}
 use Rattle.std.specs.Prelude.{if◌then◌else◌, nat_lt, ◌==◌}
 use Rattle.std.specs.Int.{w8, w16, w32, w64, to_be_bytes, from_be_bytes}
 use Rattle.std.proofs.lemmas.Nat.{from_be_bytes-to_be_bytes_2, from_be_bytes-to_be_bytes_4, from_be_bytes-to_be_bytes_8}
@@ -8,7 +9,11 @@ use Rattle.ciborium_ll_grammar.specs.declared.hdr.Header.{Header}
 use Rattle.ciborium_ll_grammar.specs.declared.hdr.Header.TheVariants as h
 use Rattle.ciborium_ll_grammar.specs.declared.hdr.Float.{Float}
 use Rattle.ciborium_ll_grammar.specs.declared.hdr.Float.TheVariants as f
-use Rattle.ciborium_ll_grammar.specs.Title.{Major, Unsigned, Negative, ByteString, TextString, Array, Map, Tag, Other, major_code, first_byte, Size, Small, One, Two, Four, Eight, size_limit, minor_of, affix_of, numbered_title, numbered_header, open_header, IsTitle, numbered, alone, least_size, shortest_numbered, float_title, shortest_title, IsFloatInRange, IsInRange, IsRefused, BeginsRefused}
+use Rattle.ciborium_ll_grammar.specs.Title.{Major, Unsigned, Negative, ByteString, TextString, Array, Map, Tag, Other}
+use Rattle.ciborium_ll_grammar.specs.Title.{major_code, first_byte, Size, Small, One, Two, Four, Eight, size_limit}
+use Rattle.ciborium_ll_grammar.specs.Title.{minor_of, affix_of, numbered_title, numbered_header, open_header, IsTitle}
+use Rattle.ciborium_ll_grammar.specs.Title.{numbered, alone, least_size, shortest_numbered, float_title}
+use Rattle.ciborium_ll_grammar.specs.Title.{shortest_title, IsFloatInRange, IsInRange, IsRefused, BeginsRefused}
 use Rattle.ciborium_ll_text.proofs.Lists.{same_front}
 
 -- ---- first bytes
@@ -41,7 +46,8 @@ same_major m m' e = sym (major_back m) ∙ (ap major_of e ∙ major_back m')
 
 -- the size that a minor tells
 abbrev size_of : ℕ → Size
-size_of k = if nat_lt k 24 then Small else (if k == 24 then One else (if k == 25 then Two else (if k == 26 then Four else Eight)))
+size_of k = if nat_lt k 24 then Small else (if k == 24 then One else
+    (if k == 25 then Two else (if k == 26 then Four else Eight)))
 
 -- a size is read off its minor
 size_back : (s : Size) (n : ℕ) → n < size_limit s → size_of (minor_of s n) ≡ s
@@ -100,7 +106,8 @@ same_number m m' s s' n n' v v' p p' e =
     let tails : affix_of s n ++ v ≡ affix_of s' n' ++ v' = ap (drop 1) e in
     let g = same_first m m' (minor_of s n) (minor_of s' n') (omega arith) (omega arith) heads in
     let ss : s ≡ s' = sym (size_back s n p) ∙ (ap size_of g.1 ∙ size_back s' n' p') in
-    let P : Size → Type 0 = λ z. n' < size_limit z → minor_of s n ≡ minor_of z n' → affix_of s n ++ v ≡ affix_of z n' ++ v'
+    let P : Size → Type 0 = λ z. n' < size_limit z → minor_of s n ≡ minor_of z n' → affix_of s n ++ v
+    ≡ affix_of z n' ++ v'
     → (n ≡ n') × (v ≡ v') in
     let r = (subst P ss (λ q mm t. same_affix s n n' v v' p q mm t)) p' g.1 tails in
     let mm : m ≡ m' = g.0 in
@@ -110,7 +117,8 @@ same_number m m' s s' n n' v v' p p' e =
     (words, heads2, r.1)
 
 -- a title of a number begins as none of the minor 31
-not_alone : (m m' : Major) (s : Size) (n : ℕ) (v v' : List ℕ) → n < size_limit s → numbered_title m s n ++ v ≡ first_byte m' 31 ∷ v' → ⊥
+not_alone : (m m' : Major) (s : Size) (n : ℕ) (v v' : List ℕ) → n < size_limit s → numbered_title m s n ++ v
+    ≡ first_byte m' 31 ∷ v' → ⊥
 not_alone m m' s n v v' p e =
     let b : minor_of s n < 28 = minor_below s n p in
     let heads : first_byte m (minor_of s n) ≡ first_byte m' 31 = ap (λ xs. get_or xs 0 0) e in
@@ -128,7 +136,8 @@ same_alone m m' h h' v v' p p' e =
     (cc heads, cc hh, cc)
 
 -- no title begins another one, and each is of one header
-pub one_title : (w w' v v' : List ℕ) (h h' : Header) → IsTitle w h → IsTitle w' h' → w ++ v ≡ w' ++ v' → Same w w' h h' v v'
+pub one_title : (w w' v v' : List ℕ) (h h' : Header) → IsTitle w h → IsTitle w' h' → w ++ v ≡ w' ++ v'
+    → Same w w' h h' v v'
 one_title w w' v v' h h' (numbered m s n p) (numbered m' s' n' p') e = same_number m m' s s' n n' v v' p p' e
 one_title w w' v v' h h' (numbered m s n p) (alone m' x' o') e = absurd (not_alone m m' s n v v' p e)
 one_title w w' v v' h h' (alone m x o) (numbered m' s' n' p') e = absurd (not_alone m' m s' n' v' v p' (sym e))
@@ -154,7 +163,8 @@ least_fits n p =
     ]
 
 -- the least size gives a title of a number
-pub least_is_title : (m : Major) (n : ℕ) (header : Header) → n < 2 ^ 64 → ((s : Size) → n < size_limit s → numbered_header m s n ≡ header)
+pub least_is_title : (m : Major) (n : ℕ) (header : Header) → n < 2 ^ 64
+    → ((s : Size) → n < size_limit s → numbered_header m s n ≡ header)
     → IsTitle (shortest_numbered m n) header
 least_is_title m n header p f =
     let q = least_fits n p in
@@ -192,7 +202,8 @@ IsTitle-shortest (h.Map None) p = alone Map (h.Map None) refl
 IsTitle-shortest (h.Map (Some n)) p = least_is_title Map n (h.Map (Some n)) p (λ s q. refl)
 
 -- a size is the least one, or its affix is longer
-least_or : (s : Size) (n : ℕ) → n < size_limit s → (s ≡ least_size n) ⊎ (length (affix_of (least_size n) n) < length (affix_of s n))
+least_or : (s : Size) (n : ℕ) → n < size_limit s → (s ≡ least_size n) ⊎
+    (length (affix_of (least_size n) n) < length (affix_of s n))
 least_or Small n p = inl (rw (lt-ltb n 24 p) refl)
 least_or One n p =
     elim (cases_lt n 24) [
@@ -238,7 +249,8 @@ abbrev pub LeastOr : List ℕ → List ℕ → Type 0
 LeastOr w w' = (w ≡ w') ⊎ (length w' < length w)
 
 -- a title of a number is the shortest one, or longer
-least_shortest : (m : Major) (s : Size) (n : ℕ) → n < size_limit s → LeastOr (numbered_title m s n) (shortest_numbered m n)
+least_shortest : (m : Major) (s : Size) (n : ℕ) → n < size_limit s
+    → LeastOr (numbered_title m s n) (shortest_numbered m n)
 least_shortest m s n p =
     elim (least_or s n p) [
       | inl e ↦ inl (ap (λ z. numbered_title m z n) e)
@@ -271,7 +283,8 @@ shortest_or_longer header w (alone m x o) = alone_shortest m x o
 
 -- no title of a header is shorter than that
 pub shortest_no_longer : (t : List ℕ) (h : Header) → IsTitle t h → length (shortest_title h) ≤ length t
-shortest_no_longer t h p = elim (shortest_or_longer h t p) [ inl e ↦ let l = ap length e in omega (arith, l) | inr l ↦ omega (arith, l) ]
+shortest_no_longer t h p = elim (shortest_or_longer h t p)
+    [ inl e ↦ let l = ap length e in omega (arith, l) | inr l ↦ omega (arith, l) ]
 
 -- the shortest title has a first byte
 pub shortest_some : (h : Header) → 0 < length (shortest_title h)

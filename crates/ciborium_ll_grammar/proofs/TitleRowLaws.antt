@@ -1,5 +1,6 @@
 -- The table says of each first byte what the definition of titles says.
-use Rattle.std.proofs.Common.{◌≡◌, ℕ, ◌/◌, ◌%◌, ◌<◌, Bool, true, not, ◌&&◌, ◌||◌, eqb, ltb, leb, get_or, refl, inl, inr, eqb-true, ltb-true, leb-true, eq-eqb}
+use Rattle.std.proofs.Common.{◌≡◌, ℕ, ◌/◌, ◌%◌, ◌<◌, Bool, true, not, ◌&&◌, ◌||◌, eqb, ltb, leb, get_or, refl, inl}
+use Rattle.std.proofs.Common.{inr, eqb-true, ltb-true, leb-true, eq-eqb}
 use Rattle.std.proofs.lemmas.Bool.{agree_below_at, and_parts, or_cases, or_right, le-leb, not-true, both_ways}
 use Rattle.ciborium_ll_grammar.specs.declared.hdr.table.Row.{Row}
 use Rattle.ciborium_ll_grammar.specs.declared.hdr.table.Kind.{Kind}
@@ -50,7 +51,8 @@ row_test first row = kind_test row.kind (first / 32) (first % 32) && affix_test 
 -- each test tells its definition
 
 reserved_tells : (minor : ℕ) → reserved_test minor ≡ true → IsReserved minor
-reserved_tells minor e = let parts = and_parts (leb 28 minor) (leb minor 30) e in (leb-true 28 minor parts.0, leb-true minor 30 parts.1)
+reserved_tells minor e = let parts = and_parts (leb 28 minor) (leb minor 30) e in
+    (leb-true 28 minor parts.0, leb-true minor 30 parts.1)
 
 never_open_tells : (major : ℕ) → never_open_test major ≡ true → IsNeverOpen major
 never_open_tells major e =
@@ -97,7 +99,8 @@ title_tells : (code major minor : ℕ) → title_test code major minor ≡ true 
 title_tells code major minor e =
     let parts = and_parts (eqb major code) (not (no_title_test major minor)) e in (
       eqb-true major code parts.0,
-      λ none. both_ways (no_title_test major minor) (not-true (no_title_test major minor) parts.1) (no_title_told major minor none),
+      λ none. both_ways (no_title_test major minor) (not-true (no_title_test major minor) parts.1)
+          (no_title_told major minor none),
     )
 
 kind_tells : (kind : Kind) (major minor : ℕ) → kind_test kind major minor ≡ true → IsKind kind major minor
@@ -123,4 +126,5 @@ row_tells first row e =
 -- each of the 256 rows passes it
 pub row_says : (first : ℕ) → first < 256 → IsRow first (get_or ROWS first POSITIVE)
 row_says first l =
-    row_tells first (get_or ROWS first POSITIVE) (agree_below_at (λ (b : ℕ). row_test b (get_or ROWS b POSITIVE)) (λ (b : ℕ). true) 256 first refl l)
+    row_tells first (get_or ROWS first POSITIVE) (agree_below_at (λ (b : ℕ). row_test b (get_or ROWS b POSITIVE))
+    (λ (b : ℕ). true) 256 first refl l)

@@ -1,5 +1,6 @@
 -- Each value has pieces under a limit, and what is written of it is one element.
-use Rattle.std.proofs.Common.{◌≡◌, ℕ, zero, suc, ◌^◌, ◌<◌, ◌≤◌, List, [], ◌∷◌, ◌++◌, length, take, drop, Some, None, refl, sym, ap, ◌∙◌, subst, inl, inr, arith}
+use Rattle.std.proofs.Common.{◌≡◌, ℕ, zero, suc, ◌^◌, ◌<◌, ◌≤◌, List, [], ◌∷◌, ◌++◌, length, take, drop, Some, None}
+use Rattle.std.proofs.Common.{refl, sym, ap, ◌∙◌, subst, inl, inr, arith}
 use Rattle.std.proofs.lemmas.Bool.{cases_lt}
 use Rattle.std.proofs.lemmas.List.{append-nil, length-append, take-append-drop, length-take-le, length-drop}
 use Rattle.std.specs.List.{AllByRecursion}
@@ -8,9 +9,11 @@ use Rattle.ciborium_ll_grammar.specs.Title.{IsTitle, shortest_title}
 use Rattle.ciborium_ll_grammar.specs.Strings.{Kind, Bytes, Text, kind_header, AreStrings, none, more}
 use Rattle.ciborium_ll_grammar.specs.Strings.IsString.{definite as definite_str}
 use Rattle.ciborium_ll_text.specs.Text.{joined, IsCharacters}
-use Rattle.ciborium_ll_grammar.specs.Elements.{IsSound, Mark, Whole, Close, spelling, pieces, open_marks, IsElement, definite, indefinite}
+use Rattle.ciborium_ll_grammar.specs.Elements.{IsSound, Mark, Whole, Close, spelling, pieces, open_marks, IsElement}
+use Rattle.ciborium_ll_grammar.specs.Elements.{definite, indefinite}
 use Rattle.ciborium_ll_text.specs.Cuts.{IsMember, IsNonempty, IsCut}
-use Rattle.ciborium_ll_grammar.specs.Values.{least_limit, AreChunks, AreBytePieces, ArePieces, IsWritten, in_one, in_pieces, segments, HasFewestSegments}
+use Rattle.ciborium_ll_grammar.specs.Values.{least_limit, AreChunks, AreBytePieces, ArePieces, IsWritten, in_one}
+use Rattle.ciborium_ll_grammar.specs.Values.{in_pieces, segments, HasFewestSegments}
 use Rattle.ciborium_ll_text.proofs.Lists.{same_front}
 use Rattle.ciborium_ll_grammar.proofs.TitleLaws.{IsTitle-shortest}
 use Rattle.ciborium_ll_grammar.proofs.ElementLaws.{open_spelled}
@@ -20,7 +23,8 @@ use Rattle.ciborium_ll_text.proofs.FullCutLaws.{full_cut}
 -- ---- bytes
 
 -- a piece as long as the limit, in front of pieces
-pub chunk_first : (limit : ℕ) (piece : List ℕ) (members : List (List ℕ)) → length piece ≡ limit → AreChunks limit members
+pub chunk_first : (limit : ℕ) (piece : List ℕ) (members : List (List ℕ)) → length piece ≡ limit
+    → AreChunks limit members
     → AreChunks limit (piece ∷ members)
 chunk_first limit piece [] l c = absurd c
 chunk_first limit piece (following ∷ others) l c = (l, c)
@@ -33,7 +37,8 @@ chunks_of (suc fuel) limit value l some one =
     elim (cases_lt limit (length value)) [
       | inl longer ↦
           (let rest = drop limit value in
-          let c = chunks_of fuel limit rest (omega (arith, length-drop limit value)) (omega (arith, length-drop limit value)) one in
+          let c = chunks_of fuel limit rest (omega (arith, length-drop limit value))
+          (omega (arith, length-drop limit value)) one in
           let all = c.1 in (
             take limit value ∷ c.0,
             (
@@ -55,10 +60,12 @@ byte_pieces value limit some one = chunks_of (suc (length value)) limit value (o
 chunk_some : (limit : ℕ) (piece : List ℕ) (members : List (List ℕ)) → AreChunks limit (piece ∷ members)
     → 0 < length (joined (piece ∷ members))
 chunk_some limit piece [] c = let l = c.0 in omega (arith, length-append piece [])
-chunk_some limit piece (x ∷ xs) c = let l = chunk_some limit x xs c.1 in omega (arith, length-append piece (joined (x ∷ xs)))
+chunk_some limit piece (x ∷ xs) c = let l = chunk_some limit x xs c.1 in
+    omega (arith, length-append piece (joined (x ∷ xs)))
 
 -- bytes have one list of pieces
-same_chunks : (limit : ℕ) (cs ds : List (List ℕ)) → AreChunks limit cs → AreChunks limit ds → joined cs ≡ joined ds → cs ≡ ds
+same_chunks : (limit : ℕ) (cs ds : List (List ℕ)) → AreChunks limit cs → AreChunks limit ds → joined cs ≡ joined ds
+    → cs ≡ ds
 same_chunks limit [] ds a b e = absurd a
 same_chunks limit (c ∷ []) [] a b e = absurd b
 same_chunks limit (c ∷ []) (d ∷ []) a b e =
@@ -78,7 +85,8 @@ same_chunks limit (c ∷ y ∷ cs) (d ∷ x ∷ ds) a b e =
     cc (heads, tails)
 
 -- a value has one list of pieces
-same_pieces : (k : Kind) (limit : ℕ) (value : List ℕ) (cs ds : List (List ℕ)) → ArePieces k limit value cs → ArePieces k limit value ds
+same_pieces : (k : Kind) (limit : ℕ) (value : List ℕ) (cs ds : List (List ℕ)) → ArePieces k limit value cs
+    → ArePieces k limit value ds
     → cs ≡ ds
 same_pieces Bytes limit value cs ds p q = same_chunks limit cs ds p.1 q.1 (sym p.0 ∙ q.0)
 same_pieces Text limit value cs ds p q = one_full value limit cs ds p q
@@ -86,15 +94,18 @@ same_pieces Text limit value cs ds p q = one_full value limit cs ds p q
 -- ---- what is written
 
 -- a value is written in one way
-pub one_writing : (k : Kind) (limit : ℕ) (value : List ℕ) (ms ns : List Mark) → IsWritten k limit value ms → IsWritten k limit value ns
+pub one_writing : (k : Kind) (limit : ℕ) (value : List ℕ) (ms ns : List Mark) → IsWritten k limit value ms
+    → IsWritten k limit value ns
     → ms ≡ ns
 one_writing k limit value ms ns (in_one l) (in_one m) = refl
 one_writing k limit value ms ns (in_one l) (in_pieces ds m q) = absurd (omega arith)
 one_writing k limit value ms ns (in_pieces cs l p) (in_one m) = absurd (omega arith)
-one_writing k limit value ms ns (in_pieces cs l p) (in_pieces ds m q) = ap (open_marks k) (same_pieces k limit value cs ds p q)
+one_writing k limit value ms ns (in_pieces cs l p) (in_pieces ds m q) =
+    ap (open_marks k) (same_pieces k limit value cs ds p q)
 
 -- a value longer than the limit has pieces
-pub pieces_exist : (k : Kind) (limit : ℕ) (value : List ℕ) → least_limit k ≤ limit → IsSound k (value ∷ []) → limit < length value
+pub pieces_exist : (k : Kind) (limit : ℕ) (value : List ℕ) → least_limit k ≤ limit → IsSound k (value ∷ [])
+    → limit < length value
     → (members : List (List ℕ)) × ArePieces k limit value members
 pieces_exist Bytes limit value l s m = byte_pieces value limit (omega arith) l
 pieces_exist Text limit value l s m = full_cut value limit s.0 l
@@ -111,7 +122,8 @@ some_writing k limit value l s =
 -- ---- it is an element
 
 -- the shortest title of a string of a length is a title
-title_of_length : (k : Kind) (n : ℕ) → n < 2 ^ 64 → IsTitle (shortest_title (kind_header k (Some n))) (kind_header k (Some n))
+title_of_length : (k : Kind) (n : ℕ) → n < 2 ^ 64 → IsTitle (shortest_title (kind_header k (Some n)))
+    (kind_header k (Some n))
 title_of_length Bytes n p = IsTitle-shortest (h.Bytes (Some n)) p
 title_of_length Text n p = IsTitle-shortest (h.Text (Some n)) p
 
@@ -121,14 +133,16 @@ open_title Bytes = IsTitle-shortest (h.Bytes None) tt
 open_title Text = IsTitle-shortest (h.Text None) tt
 
 -- the spelling of pieces are strings with these bodies
-piece_strings : (k : Kind) (members : List (List ℕ)) → length (joined members) < 2 ^ 64 → AreStrings k (spelling (pieces k members)) members
+piece_strings : (k : Kind) (members : List (List ℕ)) → length (joined members) < 2 ^ 64
+    → AreStrings k (spelling (pieces k members)) members
 piece_strings k [] l = none
 piece_strings k (x ∷ xs) l =
     let n = length-append x (joined xs) in
     more (definite_str (title_of_length k (length x) (omega arith))) (piece_strings k xs (omega arith))
 
 -- members are texts
-text_members : (limit : ℕ) (members : List (List ℕ)) → AllByRecursion (IsMember limit) members → AllByRecursion IsCharacters members
+text_members : (limit : ℕ) (members : List (List ℕ)) → AllByRecursion (IsMember limit) members
+    → AllByRecursion IsCharacters members
 text_members limit [] all = tt
 text_members limit (x ∷ xs) all = (all.0.0, text_members limit xs all.1)
 
@@ -139,7 +153,8 @@ sound_pieces Bytes limit value members p = (p.0, tt)
 sound_pieces Text limit value members p = (p.cut.whole, text_members limit members p.cut.each)
 
 -- what is written is one element
-pub written_element : (k : Kind) (limit : ℕ) (value : List ℕ) (ms : List Mark) → IsWritten k limit value ms → IsSound k (value ∷ [])
+pub written_element : (k : Kind) (limit : ℕ) (value : List ℕ) (ms : List Mark) → IsWritten k limit value ms
+    → IsSound k (value ∷ [])
     → length value < 2 ^ 64 → IsElement (spelling ms) ms
 written_element k limit value ms (in_one l) s n =
     let x = shortest_title (kind_header k (Some (length value))) in
@@ -164,7 +179,8 @@ some_members text [] some e = absurd (omega (arith, ap length e))
 some_members text (x ∷ xs) some e = omega arith
 
 -- the segments of a text are texts, and no cut has fewer members
-pub fewest_segments : (limit : ℕ) (text : List ℕ) (ms : List Mark) → IsWritten Text limit text ms → IsCharacters text → 0 < length text
+pub fewest_segments : (limit : ℕ) (text : List ℕ) (ms : List Mark) → IsWritten Text limit text ms
+    → IsCharacters text → 0 < length text
     → HasFewestSegments limit text ms
 fewest_segments limit text ms (in_one l) u some =
     record {
@@ -177,5 +193,6 @@ fewest_segments limit text ms (in_pieces members l p) u some =
     record {
       cut = subst (IsCut text limit) same p.cut;
       nonempty = subst (AllByRecursion IsNonempty) same p.nonempty;
-      fewest = λ others c. subst (λ (z : List (List ℕ)). length z ≤ length others) same (fewest text limit members others p c);
+      fewest = λ others c. subst (λ (z : List (List ℕ)). length z ≤ length others) same
+          (fewest text limit members others p c);
     }

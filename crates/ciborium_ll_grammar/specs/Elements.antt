@@ -56,11 +56,14 @@ open_marks kind bodies = Open kind ∷ (pieces kind bodies ++ Close ∷ [])
 -- the bytes are an element, and leave these marks: a title that begins no string, or a sound string (RFC 7049, 2.1 and
 -- 2.2.2). Opens inside a string leave no mark
 pub data IsElement : List ℕ → List Mark → Type 0 where
-  plain : {title : List ℕ} (header : Header) → IsTitle title header → IsPlain header → IsElement title (Plain header ∷ [])
-  definite : {title body : List ℕ} (kind : Kind) → IsTitle title (kind_header kind (Some (length body))) → IsSound kind (body ∷ [])
+  plain : {title : List ℕ} (header : Header) → IsTitle title header → IsPlain header
+      → IsElement title (Plain header ∷ [])
+  definite : {title body : List ℕ} (kind : Kind) → IsTitle title (kind_header kind (Some (length body)))
+      → IsSound kind (body ∷ [])
       → IsElement (title ++ body) (Whole kind body ∷ [])
   indefinite : {title strings : List ℕ} {bodies : List (List ℕ)} (kind : Kind) → IsTitle title (kind_header kind None)
-      → AreStrings kind strings bodies → IsSound kind bodies → IsElement (title ++ (strings ++ 0xff ∷ [])) (open_marks kind bodies)
+      → AreStrings kind strings bodies → IsSound kind bodies → IsElement (title ++ (strings ++ 0xff ∷ []))
+      (open_marks kind bodies)
 
 -- the bytes are this many elements, joined, with these marks
 pub data IsRun : ℕ → List ℕ → List Mark → Type 0 where

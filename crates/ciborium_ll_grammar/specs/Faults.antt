@@ -1,5 +1,6 @@
 -- How far a copy of elements comes in bytes, what is due there, and the first fault, which stops it.
-use Rattle.std.specs.Prelude.{◌≡◌, ℕ, ◌+◌, ◌-◌, ◌<◌, ◌≤◌, ◌⊎◌, Bool, true, min, List, ◌∷◌, ◌++◌, length, take, Some, None}
+use Rattle.std.specs.Prelude.{◌≡◌, ℕ, ◌+◌, ◌-◌, ◌<◌, ◌≤◌, ◌⊎◌, Bool, true, min, List, ◌∷◌, ◌++◌, length, take, Some}
+use Rattle.std.specs.Prelude.{None}
 use Rattle.ciborium_ll_grammar.specs.declared.hdr.Header.{Header}
 use Rattle.ciborium_ll_grammar.specs.Title.{IsTitle, shortest_title, title_len, IsCutTitle, BeginsRefused}
 use Rattle.ciborium_ll_grammar.specs.Strings.{Kind, Text, kind_header, AreStrings, IsMisplaced, IsWritable, most_kept}
@@ -11,9 +12,11 @@ use Rattle.ciborium_ll_grammar.specs.Elements.{IsSound, Mark, Open, pieces, spel
 -- The bytes are within a string that isn't closed: opens of the kind, each with strings behind it, and none closed.
 -- The bodies are those so far (RFC 7049, 2.2.2)
 pub data IsInside (kind : Kind) : List ℕ → List (List ℕ) → Type 0 where
-  opened : {title strings : List ℕ} {bodies : List (List ℕ)} → IsTitle title (kind_header kind None) → AreStrings kind strings bodies
+  opened : {title strings : List ℕ} {bodies : List (List ℕ)} → IsTitle title (kind_header kind None)
+      → AreStrings kind strings bodies
       → IsInside kind (title ++ strings) bodies
-  deeper : {outer inner : List ℕ} {bodies others : List (List ℕ)} → IsInside kind outer bodies → IsInside kind inner others
+  deeper : {outer inner : List ℕ} {bodies others : List (List ℕ)} → IsInside kind outer bodies
+      → IsInside kind inner others
       → IsInside kind (outer ++ inner) (bodies ++ others)
 
 -- what is due: an element; within a string of the kind a further one or its end; or a body of so many bytes, to whose
@@ -26,16 +29,20 @@ pub data Place : Type 0 where
 -- `Reaches count bytes marks place`: the bytes are a part of so many elements, which left the marks, and what is due
 -- behind them is the place
 pub data Reaches (count : ℕ) : List ℕ → List Mark → Place → Type 0 where
-  due : {before : ℕ} {bytes : List ℕ} {marks : List Mark} → before < count → IsRun before bytes marks → Reaches count bytes marks Due
-  inside : {before : ℕ} {bytes opens : List ℕ} {marks : List Mark} {bodies : List (List ℕ)} {kind : Kind} → before < count
+  due : {before : ℕ} {bytes : List ℕ} {marks : List Mark} → before < count → IsRun before bytes marks
+      → Reaches count bytes marks Due
+  inside : {before : ℕ} {bytes opens : List ℕ} {marks : List Mark} {bodies : List (List ℕ)} {kind : Kind}
+      → before < count
       → IsRun before bytes marks → IsInside kind opens bodies → IsSound kind bodies
       → Reaches count (bytes ++ opens) (marks ++ Open kind ∷ pieces kind bodies) (In kind)
   -- the offset is the end of the title less the length of the shortest one: late, where the title is a longer one
   body : {bytes title : List ℕ} {marks : List Mark} {len : ℕ} (kind : Kind) → Reaches count bytes marks Due
       → IsTitle title (kind_header kind (Some len))
-      → Reaches count (bytes ++ title) marks (Body kind len (length (bytes ++ title) - title_len (kind_header kind (Some len))))
+      → Reaches count (bytes ++ title) marks (Body kind len
+      (length (bytes ++ title) - title_len (kind_header kind (Some len))))
   body_inside : {bytes title : List ℕ} {marks : List Mark} {len : ℕ} {kind : Kind} → Reaches count bytes marks (In kind)
-      → IsTitle title (kind_header kind (Some len)) → Reaches count (bytes ++ title) marks (Body kind len (length bytes))
+      → IsTitle title (kind_header kind (Some len)) → Reaches count (bytes ++ title) marks
+      (Body kind len (length bytes))
 
 -- ---- the first fault
 
@@ -58,7 +65,8 @@ pub data Answer : Type 0 where
 abbrev pub with_front : List Mark → Kind → ℕ → List ℕ → List ℕ
 with_front marks kind len front = spelling marks ++ (shortest_title (kind_header kind (Some len)) ++ front)
 
--- `FirstFault before marks place ahead answer written consumed`: behind the bytes before, which left the marks, the bytes
+-- `FirstFault before marks place ahead answer written consumed`: behind the bytes before, which left the marks, the
+-- bytes
 -- ahead are at fault where the place is due. The answer, what is written in all, and how many bytes ahead are consumed
 pub data FirstFault (before : List ℕ) (marks : List Mark) : Place → List ℕ → Answer → List ℕ → ℕ → Type 0 where
   -- a title is due, and the bytes end before it or within it
@@ -68,18 +76,24 @@ pub data FirstFault (before : List ℕ) (marks : List Mark) : Place → List ℕ
   NoTitle : {place : Place} {ahead : List ℕ} → IsAtTitle place → BeginsRefused ahead
       → FirstFault before marks place ahead (Syntax (length before)) (spelling marks) 1
   -- within a string a title comes that may not stand there
-  OtherTitle : {kind : Kind} {title ahead : List ℕ} (header : Header) (rest : List ℕ) → IsTitle title header → IsMisplaced kind header
-      → ahead ≡ title ++ rest → FirstFault before marks (In kind) ahead (Syntax (length before)) (spelling marks) (length title)
+  OtherTitle : {kind : Kind} {title ahead : List ℕ} (header : Header) (rest : List ℕ) → IsTitle title header
+      → IsMisplaced kind header
+      → ahead ≡ title ++ rest → FirstFault before marks (In kind) ahead (Syntax (length before)) (spelling marks)
+      (length title)
   -- the whole body of a text is no text
-  DamagedText : {len start consumed : ℕ} {ahead : List ℕ} (front rest : List ℕ) → len ≤ length ahead → (IsCharacters (take len ahead) → ⊥)
+  DamagedText : {len start consumed : ℕ} {ahead : List ℕ} (front rest : List ℕ) → len ≤ length ahead
+      → (IsCharacters (take len ahead) → ⊥)
       → take len ahead ≡ front ++ rest → IsCharacters front → consumed ≤ len
       → FirstFault before marks (Body Text len start) ahead (Syntax start) (with_front marks Text len front) consumed
   -- the bytes end within a body
-  CutBody : {kind : Kind} {len start consumed : ℕ} {ahead : List ℕ} (front rest : List ℕ) → length ahead < len → ahead ≡ front ++ rest
-      → IsWritable kind front → length front ≤ consumed → consumed ≤ length front + most_kept kind → consumed ≤ length ahead
+  CutBody : {kind : Kind} {len start consumed : ℕ} {ahead : List ℕ} (front rest : List ℕ) → length ahead < len
+      → ahead ≡ front ++ rest
+      → IsWritable kind front → length front ≤ consumed → consumed ≤ length front + most_kept kind → consumed
+      ≤ length ahead
       → FirstFault before marks (Body kind len start) ahead Short (with_front marks kind len front) consumed
   -- the bytes end within the body of a text, and no text begins as they do
-  CutDamagedText : {len start consumed : ℕ} {ahead : List ℕ} (front rest : List ℕ) → length ahead < len → BeginsNoText ahead
+  CutDamagedText : {len start consumed : ℕ} {ahead : List ℕ} (front rest : List ℕ) → length ahead < len
+      → BeginsNoText ahead
       → ahead ≡ front ++ rest → IsCharacters front → consumed ≤ length ahead
       → FirstFault before marks (Body Text len start) ahead (Syntax start) (with_front marks Text len front) consumed
 

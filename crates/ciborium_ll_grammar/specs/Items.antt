@@ -16,21 +16,28 @@ mutual
     float : {depth : ℕ} {value : Float} → Completes depth (h.Float value) []
     simple : {depth number : ℕ} → Completes depth (h.Simple number) []
     byte_string : {depth len : ℕ} {body : List ℕ} → length body ≡ len → Completes depth (h.Bytes (Some len)) body
-    text_string : {depth len : ℕ} {body : List ℕ} → length body ≡ len → IsSound Text (body ∷ []) → Completes depth (h.Text (Some len)) body
+    text_string : {depth len : ℕ} {body : List ℕ} → length body ≡ len → IsSound Text (body ∷ [])
+        → Completes depth (h.Text (Some len)) body
     open_bytes : {depth : ℕ} {strings : List ℕ} {bodies : List (List ℕ)} → AreStrings Bytes strings bodies
         → Completes depth (h.Bytes None) (strings ++ 0xff ∷ [])
-    open_text : {depth : ℕ} {strings : List ℕ} {bodies : List (List ℕ)} → AreStrings Text strings bodies → IsSound Text bodies
+    open_text : {depth : ℕ} {strings : List ℕ} {bodies : List (List ℕ)} → AreStrings Text strings bodies
+        → IsSound Text bodies
         → Completes depth (h.Text None) (strings ++ 0xff ∷ [])
-    tag : {depth number : ℕ} {item : List ℕ} → AreItems depth (suc zero) item → Completes (suc depth) (h.Tag number) item
-    array : {depth count : ℕ} {items : List ℕ} → AreItems depth count items → Completes (suc depth) (h.Array (Some count)) items
-    pairs : {depth count : ℕ} {items : List ℕ} → AreItems depth (2 * count) items → Completes (suc depth) (h.Map (Some count)) items
-    open_array : {depth count : ℕ} {items : List ℕ} → AreItems depth count items → Completes (suc depth) (h.Array None) (items ++ 0xff ∷ [])
+    tag : {depth number : ℕ} {item : List ℕ} → AreItems depth (suc zero) item
+        → Completes (suc depth) (h.Tag number) item
+    array : {depth count : ℕ} {items : List ℕ} → AreItems depth count items
+        → Completes (suc depth) (h.Array (Some count)) items
+    pairs : {depth count : ℕ} {items : List ℕ} → AreItems depth (2 * count) items
+        → Completes (suc depth) (h.Map (Some count)) items
+    open_array : {depth count : ℕ} {items : List ℕ} → AreItems depth count items
+        → Completes (suc depth) (h.Array None) (items ++ 0xff ∷ [])
     open_pairs : {depth : ℕ} {items : List ℕ} (count : ℕ) → AreItems depth (2 * count) items
         → Completes (suc depth) (h.Map None) (items ++ 0xff ∷ [])
 
   pub data AreItems : ℕ → ℕ → List ℕ → Type 0 where
     no_items : {depth : ℕ} → AreItems depth zero []
-    more_items : {depth count : ℕ} {title rest others : List ℕ} {header : Header} → IsTitle title header → Completes depth header rest
+    more_items : {depth count : ℕ} {title rest others : List ℕ} {header : Header} → IsTitle title header
+        → Completes depth header rest
         → AreItems depth count others → AreItems depth (suc count) (title ++ (rest ++ others))
 
 -- the bytes are one item

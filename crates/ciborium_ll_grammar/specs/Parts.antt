@@ -1,5 +1,6 @@
 -- A title in the parts in which the code handles it.
-use Rattle.std.specs.Prelude.{ℕ, ◌+◌, ◌*◌, ◌<◌, ◌^◌, List, [], ◌∷◌, Option, Some, None, Bool, false, if◌then◌else◌, nat_lt, ◌==◌}
+use Rattle.std.specs.Prelude.{ℕ, ◌+◌, ◌*◌, ◌<◌, ◌^◌, List, [], ◌∷◌, Option, Some, None, Bool, false, if◌then◌else◌}
+use Rattle.std.specs.Prelude.{nat_lt, ◌==◌}
 use Rattle.std.specs.Int.{to_be_bytes, w8, w16, w32, w64}
 use Rattle.ciborium_ll_grammar.specs.declared.hdr.Minor.{Minor}
 use Rattle.ciborium_ll_grammar.specs.declared.hdr.Minor.TheVariants as m

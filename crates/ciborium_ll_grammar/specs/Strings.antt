@@ -15,17 +15,21 @@ abbrev pub kind_header : Kind → Option ℕ → Header
 kind_header Bytes len = h.Bytes len
 kind_header Text len = h.Text len
 
--- `IsString kind bytes bodies`: the bytes are a title and as many bytes as it says, the one body; or an open, strings of
+-- `IsString kind bytes bodies`: the bytes are a title and as many bytes as it says, the one body; or an open, strings
+-- of
 -- the same kind and a break (RFC 7049, 2.2.2), and their bodies in order. `AreStrings`: any number of strings, joined
 mutual
   pub data IsString (kind : Kind) : List ℕ → List (List ℕ) → Type 0 where
-    definite : {title body : List ℕ} → IsTitle title (kind_header kind (Some (length body))) → IsString kind (title ++ body) (body ∷ [])
-    indefinite : {title strings : List ℕ} {bodies : List (List ℕ)} → IsTitle title (kind_header kind None) → AreStrings kind strings bodies
+    definite : {title body : List ℕ} → IsTitle title (kind_header kind (Some (length body)))
+        → IsString kind (title ++ body) (body ∷ [])
+    indefinite : {title strings : List ℕ} {bodies : List (List ℕ)} → IsTitle title (kind_header kind None)
+        → AreStrings kind strings bodies
         → IsString kind (title ++ (strings ++ 0xff ∷ [])) bodies
 
   pub data AreStrings (kind : Kind) : List ℕ → List (List ℕ) → Type 0 where
     none : AreStrings kind [] []
-    more : {first rest : List ℕ} {bodies others : List (List ℕ)} → IsString kind first bodies → AreStrings kind rest others
+    more : {first rest : List ℕ} {bodies others : List (List ℕ)} → IsString kind first bodies
+        → AreStrings kind rest others
         → AreStrings kind (first ++ rest) (bodies ++ others)
 
 -- a header that may not stand within a string of the kind (RFC 7049, 2.2.2): neither of the kind nor a break

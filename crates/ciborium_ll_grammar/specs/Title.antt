@@ -1,7 +1,8 @@
 -- Titles: the first byte of an item and the number behind it (RFC 7049, 2.1 to 2.3), and the headers that they mean.
 --
 -- A number here has no range. `IsInRange header` says that a header's numbers are those of its Rust type.
-use Rattle.std.specs.Prelude.{◌≡◌, ℕ, ◌+◌, ◌*◌, ◌/◌, ◌%◌, ◌<◌, ◌≤◌, ◌^◌, ◌⊎◌, List, [], ◌∷◌, length, Option, Some, None, IfSome, if◌then◌else◌, nat_lt, ◌==◌, slice_index}
+use Rattle.std.specs.Prelude.{◌≡◌, ℕ, ◌+◌, ◌*◌, ◌/◌, ◌%◌, ◌<◌, ◌≤◌, ◌^◌, ◌⊎◌, List, [], ◌∷◌, length, Option, Some}
+use Rattle.std.specs.Prelude.{None, IfSome, if◌then◌else◌, nat_lt, ◌==◌, slice_index}
 use Rattle.std.specs.Int.{to_be_bytes, w8, w16, w32, w64}
 use Rattle.ciborium_ll_grammar.specs.declared.hdr.Header.{Header}
 use Rattle.ciborium_ll_grammar.specs.declared.hdr.Header.TheVariants as h
@@ -92,15 +93,18 @@ open_header Other = Some h.Break
 -- the bytes are a title of the header: a first byte with its number, or a first byte of minor 31 alone (RFC 7049, 2.1
 -- and 2.2)
 pub data IsTitle : List ℕ → Header → Type 0 where
-  numbered : (major : Major) (size : Size) (n : ℕ) → n < size_limit size → IsTitle (numbered_title major size n) (numbered_header major size n)
-  alone : (major : Major) (header : Header) → open_header major ≡ Some header → IsTitle (first_byte major 31 ∷ []) header
+  numbered : (major : Major) (size : Size) (n : ℕ) → n < size_limit size
+      → IsTitle (numbered_title major size n) (numbered_header major size n)
+  alone : (major : Major) (header : Header) → open_header major ≡ Some header
+      → IsTitle (first_byte major 31 ∷ []) header
 
 -- ---- the shortest title
 
 -- the smallest size that holds the number (RFC 7049, 3.9)
 abbrev pub least_size : ℕ → Size
 least_size n =
-    if nat_lt n 24 then Small else (if nat_lt n (2 ^ 8) then One else (if nat_lt n (2 ^ 16) then Two else (if nat_lt n (2 ^ 32) then Four else Eight)))
+    if nat_lt n 24 then Small else (if nat_lt n (2 ^ 8) then One else
+    (if nat_lt n (2 ^ 16) then Two else (if nat_lt n (2 ^ 32) then Four else Eight)))
 
 -- a number under a major type, in the smallest size that holds it (RFC 7049, 3.9)
 abbrev pub shortest_numbered : Major → ℕ → List ℕ
@@ -191,7 +195,8 @@ BeginsRefused (byte ∷ rest) = IsRefused byte
 
 -- how many bytes of affix a minor announces (RFC 7049, 2.1)
 abbrev pub affix_len : ℕ → ℕ
-affix_len minor = if minor == 24 then 1 else (if minor == 25 then 2 else (if minor == 26 then 4 else (if minor == 27 then 8 else 0)))
+affix_len minor = if minor == 24 then 1 else (if minor == 25 then 2 else
+    (if minor == 26 then 4 else (if minor == 27 then 8 else 0)))
 
 -- The bytes end inside a title: they are none, or fewer follow the first byte than it announces. By the law
 -- `cut_titles` just these, of lists of bytes, are the proper beginnings of titles.
@@ -206,4 +211,5 @@ AreBytes bytes = (i : ℕ) → slice_index bytes i < 256
 -- the 27 refused bytes, in order
 abbrev pub refused_bytes : List ℕ
 refused_bytes =
-    0x1c ∷ 0x1d ∷ 0x1e ∷ 0x1f ∷ 0x3c ∷ 0x3d ∷ 0x3e ∷ 0x3f ∷ 0x5c ∷ 0x5d ∷ 0x5e ∷ 0x7c ∷ 0x7d ∷ 0x7e ∷ 0x9c ∷ 0x9d ∷ 0x9e ∷ 0xbc ∷ 0xbd ∷ 0xbe ∷ 0xdc ∷ 0xdd ∷ 0xde ∷ 0xdf ∷ 0xfc ∷ 0xfd ∷ 0xfe ∷ []
+    0x1c ∷ 0x1d ∷ 0x1e ∷ 0x1f ∷ 0x3c ∷ 0x3d ∷ 0x3e ∷ 0x3f ∷ 0x5c ∷ 0x5d ∷ 0x5e ∷ 0x7c ∷ 0x7d ∷ 0x7e ∷ 0x9c ∷ 0x9d ∷
+    0x9e ∷ 0xbc ∷ 0xbd ∷ 0xbe ∷ 0xdc ∷ 0xdd ∷ 0xde ∷ 0xdf ∷ 0xfc ∷ 0xfd ∷ 0xfe ∷ []

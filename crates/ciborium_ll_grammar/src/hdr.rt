@@ -1,8 +1,12 @@
 //! Headers, and the parts of a title.
 
 ghost use Rattle.std.specs.Prelude.{ℕ, Option, ◌≡◌, ◌+◌, ◌*◌, ◌<◌, length, IfSome, IfNone, [], ◌∷◌};
-ghost use Rattle.ciborium_ll_grammar.specs.Title.{IsInRange, IsTitle, IsNeverOpen, Major, least_size, minor_of, affix_of, shortest_title, title_len, shortest_with_length, major_code};
-ghost use Rattle.ciborium_ll_grammar.specs.Parts.{IsMinor, IsParts, minor_affix, minor_code, minor_number, longer_parts, parts_bytes, parts_first, title_bytes};
+ghost use Rattle.ciborium_ll_grammar.specs.Title.{IsInRange, IsTitle, IsNeverOpen, Major};
+ghost use Rattle.ciborium_ll_grammar.specs.Title.{least_size, minor_of, affix_of, shortest_title};
+ghost use Rattle.ciborium_ll_grammar.specs.Title.{title_len, shortest_with_length, major_code};
+ghost use Rattle.ciborium_ll_grammar.specs.Parts.{IsMinor, IsParts, minor_affix, minor_code};
+ghost use Rattle.ciborium_ll_grammar.specs.Parts.{minor_number, longer_parts, parts_bytes};
+ghost use Rattle.ciborium_ll_grammar.specs.Parts.{parts_first, title_bytes};
 ghost use Rattle.ciborium_ll_grammar.specs.Elements.{IsPlain};
 ghost use Rattle.ciborium_ll_grammar.specs.TitleRows.{IsKind};
 
@@ -248,7 +252,8 @@ impl Title {
         })
     }
 
-    /// What the title begins, which means this header. It is told by the parts alone, so a copy need not make the header.
+    /// What the title begins, which means this header. It is told by the parts alone, so a copy need not make the
+    /// header.
     #[inline(always)]
     pub fn element(self, header: Header) -> Element
         requires parts { IsParts self }
@@ -288,7 +293,8 @@ impl Title {
 /// What the minor 31 means in a title of this kind.
 #[inline(always)]
 fn open_header(kind: Kind) -> Option<Header>
-    ensures some { IfSome result (λ header. (major : ℕ) → IsKind kind major 31 → IsTitle ((32 * major + 31) ∷ []) header) }
+    ensures some { IfSome result (λ header. (major : ℕ) → IsKind kind major 31
+        → IsTitle ((32 * major + 31) ∷ []) header) }
     ensures none { IfNone result ((major : ℕ) → IsKind kind major 31 → IsNeverOpen major) }
 {
     match kind {

@@ -1,5 +1,7 @@
 -- Lemmas on the part of a slice that is held, and on what is told of it.
-use Rattle.std.proofs.Common.{◌≡◌, ℕ, ◌+◌, ◌-◌, ◌≤◌, ◌<◌, List, [], ◌++◌, None, Some, Result, Ok, Err, OnErr, length, length-take-le, take, drop, slice_range, refl, sym, ap, ◌∙◌, arith, append_assoc, append-nil, drop-drop}
+use Rattle.std.proofs.Common.{◌≡◌, ℕ, ◌+◌, ◌-◌, ◌≤◌, ◌<◌, List, [], ◌++◌, None, Some, Result, Ok, Err, OnErr, length}
+use Rattle.std.proofs.Common.{length-take-le, take, drop, slice_range, refl, sym, ap, ◌∙◌, arith, append_assoc}
+use Rattle.std.proofs.Common.{append-nil, drop-drop}
 use Rattle.std.proofs.lemmas.List.{drop-take, drop-append-le, take-take}
 use Rattle.std.proofs.lemmas.Slice.{take-put_mid, drop-put_mid}
 use Rattle.std.proofs.Math.Seq.{take-append-add}
@@ -10,7 +12,8 @@ use borrow.Rule.Slice.PartMut.{put_mid}
 use lib.Seq.{take-add}
 
 -- a part is its first n bytes, and then the others
-pub part_split : (xs : List ℕ) (start n end : ℕ) → start + n ≤ end → slice_range xs start end ≡ slice_range xs start (start + n) ++ slice_range xs (start + n) end
+pub part_split : (xs : List ℕ) (start n end : ℕ) → start + n ≤ end → slice_range xs start end
+    ≡ slice_range xs start (start + n) ++ slice_range xs (start + n) end
 part_split xs start n end within =
     let rest = drop start xs in
     let first : n ≡ start + n - start = omega arith in
@@ -45,21 +48,25 @@ behind_grown a n xs ys first within all behind =
     ∙ sym (drop-drop n a xs) ∙ ap (drop n) behind ∙ drop-drop n a first
 
 -- the front of what is held is consumed
-pub prepend_known-taken : (known : Option (List ℕ)) (old new front : List ℕ) → old ≡ front ++ new → Consumes (prepend_known old known) (prepend_known new known) front
+pub prepend_known-taken : (known : Option (List ℕ)) (old new front : List ℕ) → old ≡ front ++ new
+    → Consumes (prepend_known old known) (prepend_known new known) front
 prepend_known-taken None old new front e = tt
 prepend_known-taken (Some xs) old new front e = ap (λ l. l ++ xs) e ∙ append_assoc front new xs
 
 -- what was filled so far, and then the bytes of one more read
-pub filled_more : (a k n : ℕ) (xs ys : List ℕ) → a ≤ length xs → n ≤ length ys → take a xs ++ take n ys ≡ take (a + n) (put_mid a k xs ys)
+pub filled_more : (a k n : ℕ) (xs ys : List ℕ) → a ≤ length xs → n ≤ length ys → take a xs ++ take n ys
+    ≡ take (a + n) (put_mid a k xs ys)
 filled_more a k n xs ys within fits =
-    let whole : take (a + length ys) (put_mid a k xs ys) ≡ take a xs ++ ys = take-put_mid a k xs ys (a + length ys) refl within in
+    let whole : take (a + length ys) (put_mid a k xs ys) ≡ take a xs ++ ys =
+    take-put_mid a k xs ys (a + length ys) refl within in
     sym (take-append-add (take a xs) ys n)
     ∙ ap (λ m. take (m + n) (take a xs ++ ys)) (length-take-le a xs within)
     ∙ ap (take (a + n)) (sym whole)
     ∙ take-take (a + n) (a + length ys) (put_mid a k xs ys) (omega arith)
 
 -- with nothing held, the writer within takes bytes
-pub append_known-sent : (a b : Option (List ℕ)) (held bs : List ℕ) → held ≡ [] → Appends a b bs → Appends (append_known a held) (append_known b held) bs
+pub append_known-sent : (a b : Option (List ℕ)) (held bs : List ℕ) → held ≡ [] → Appends a b bs
+    → Appends (append_known a held) (append_known b held) bs
 append_known-sent None b held bs none p = tt
 append_known-sent (Some xs) None held bs none p = absurd p
 append_known-sent (Some xs) (Some ys) held bs none p =
@@ -73,11 +80,13 @@ kept_Appends (Some x) (Some y) None bs p q = absurd q
 kept_Appends (Some x) (Some y) (Some z) bs p q = q ∙ ap (λ l. l ++ bs) p
 
 -- a failed write appended a beginning of the bytes, and not all of them
-pub appended_part : {X E : Type 0} (r : Result X E) (a b : Option (List ℕ)) (bs : List ℕ) (count : ℕ) → Appends a b (take count bs) → count < length bs → OnErr r (AppendsPart a b bs)
+pub appended_part : {X E : Type 0} (r : Result X E) (a b : Option (List ℕ)) (bs : List ℕ) (count : ℕ)
+    → Appends a b (take count bs) → count < length bs → OnErr r (AppendsPart a b bs)
 appended_part (Ok x) a b bs count done within = tt
 appended_part (Err e) a b bs count done within = (count, done, within)
 
 -- what is a beginning and not all is a beginning
-pub part_front : {X E : Type 0} (r : Result X E) (a b : Option (List ℕ)) (bs : List ℕ) → OnErr r (AppendsPart a b bs) → OnErr r (AppendsFront a b None None bs)
+pub part_front : {X E : Type 0} (r : Result X E) (a b : Option (List ℕ)) (bs : List ℕ)
+    → OnErr r (AppendsPart a b bs) → OnErr r (AppendsFront a b None None bs)
 part_front (Ok x) a b bs part = tt
 part_front (Err e) a b bs part = (part.0, (part.1, tt, omega (arith, part.2)))

@@ -18,7 +18,8 @@ decimal-number word n is =
     rw is.value (decimal-digits_value digits word is.numeral.1 is.numeral.0 is.shortest (omega (arith, value, most)))
 
 -- a number holds no space
-pub number_has_no_space : (word : List ℕ) (n : ℕ) → IsNumber word n → (i : ℕ) → i < length word → get_or word i 0 ≢ space
+pub number_has_no_space : (word : List ℕ) (n : ℕ) → IsNumber word n → (i : ℕ) → i < length word
+    → get_or word i 0 ≢ space
 number_has_no_space word n is i within =
     not_in_digits digits word space is.numeral.1 (λ range. let low = range.0 in absurd (omega (arith, low))) i within
 
@@ -29,7 +30,8 @@ star_is_no_space i within =
     rw first (λ same. absurd (omega (arith, same)))
 
 -- nor a limit
-pub limit_has_no_space : (word : List ℕ) (limit : Option ℕ) → IsLimit word limit → (i : ℕ) → i < length word → get_or word i 0 ≢ space
+pub limit_has_no_space : (word : List ℕ) (limit : Option ℕ) → IsLimit word limit → (i : ℕ) → i < length word
+    → get_or word i 0 ≢ space
 limit_has_no_space word None is i within =
     let one : i < 1 = rw is at within in
     rw is (star_is_no_space i one)

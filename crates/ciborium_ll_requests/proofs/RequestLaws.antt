@@ -1,5 +1,7 @@
 -- A request is spelled in ASCII, and cut where its words end.
-use Rattle.std.proofs.Common.{◌≡◌, ◌≢◌, ◌<◌, ◌==◌, ℕ, suc, zero, List, [], ◌∷◌, ◌++◌, length, get_or, Option, Some, None, MatchOption, IfNone, IsSomeAnd, sym, ap, ◌∙◌, Result, Ok, Err, Bool, true, not, nat_lt, codes, refl, arith, IsUtf8, Bor}
+use Rattle.std.proofs.Common.{◌≡◌, ◌≢◌, ◌<◌, ◌==◌, ℕ, suc, zero, List, [], ◌∷◌, ◌++◌, length, get_or, Option, Some}
+use Rattle.std.proofs.Common.{None, MatchOption, IfNone, IsSomeAnd, sym, ap, ◌∙◌, Result, Ok, Err, Bool, true, not}
+use Rattle.std.proofs.Common.{nat_lt, codes, refl, arith, IsUtf8, Bor}
 use Rattle.std.specs.List.{AllPass, list_all}
 use Rattle.std.specs.Str.{IsAscii}
 use Rattle.std.proofs.lemmas.Str.{IsAscii-append, IsUtf8-from_ascii}
@@ -10,14 +12,16 @@ use Rattle.hex.specs.Hex.{decode_of, is_hex_digit}
 use Rattle.hex.specs.declared.error.FromHexError.{FromHexError}
 use Rattle.hex.proofs.HexLemmas.{decode_of-ok}
 use Rattle.ciborium_ll_requests.specs.Number.{IsDepth, IsLimit, IsNumber, IsSize}
-use Rattle.ciborium_ll_requests.specs.Request.{Asks, Spells, SpellsBuffered, SpellsCounted, SpellsLimited, SpellsNested, name_of, space}
+use Rattle.ciborium_ll_requests.specs.Request.{Asks, Spells, SpellsBuffered, SpellsCounted, SpellsLimited}
+use Rattle.ciborium_ll_requests.specs.Request.{SpellsNested, name_of, space}
 use Rattle.ciborium_ll_requests.specs.declared.request.Buffered.{Buffered}
 use Rattle.ciborium_ll_requests.specs.declared.request.Counted.{Counted}
 use Rattle.ciborium_ll_requests.specs.declared.request.Limited.{Limited}
 use Rattle.ciborium_ll_requests.specs.declared.request.Nested.{Nested}
 use Rattle.ciborium_ll_requests.specs.Word.{bytes_of_word, decoded}
 use Rattle.ciborium_ll_requests.specs.declared.request.Request.{Request}
-use Rattle.ciborium_ll_requests.specs.declared.request.Request.TheVariants.{Bytes, Chunks, Heads, Recode, Skip, Strict, Text}
+use Rattle.ciborium_ll_requests.specs.declared.request.Request.TheVariants.{Bytes, Chunks, Heads, Recode, Skip}
+use Rattle.ciborium_ll_requests.specs.declared.request.Request.TheVariants.{Strict, Text}
 use Rattle.ciborium_ll_requests.proofs.NumberLaws.{limit_has_no_space, number_has_no_space}
 
 -- what was decoded to bytes is Ok
@@ -76,7 +80,8 @@ IsAscii-words words (Recode asked) (first, word, parts, count, has) =
 IsAscii-words words (Strict asked) (first, word, parts, count, has) =
     rw parts (IsAscii-two first word (IsAscii-number first asked.count count) (IsAscii-word word asked.bytes.items has))
 IsAscii-words words (Skip asked) (first, word, parts, depth, has) =
-    rw parts (IsAscii-two first word (IsAscii-number first asked.depth depth.0) (IsAscii-word word asked.bytes.items has))
+    rw parts (IsAscii-two first word (IsAscii-number first asked.depth depth.0)
+    (IsAscii-word word asked.bytes.items has))
 
 -- the name of a request
 IsAscii-name : (request : Request) → IsAscii (name_of request)
@@ -91,7 +96,8 @@ IsAscii-name (Skip asked) = IsAscii-from_test (codes "skip") refl
 -- a request is UTF-8
 pub IsUtf8-request : (line : List ℕ) (request : Request) → Asks line request → IsUtf8 line
 IsUtf8-request line request (words, parts, spelled) =
-    rw parts (IsUtf8-from_ascii _ (IsAscii-two (name_of request) words (IsAscii-name request) (IsAscii-words words request spelled)))
+    rw parts (IsUtf8-from_ascii _ (IsAscii-two (name_of request) words (IsAscii-name request)
+    (IsAscii-words words request spelled)))
 
 -- ---- where a line is cut
 
@@ -116,11 +122,13 @@ name_has_no_space (Skip asked) = no_space_at (codes "skip") refl
 
 -- a request is cut behind its name
 pub cut_behind_name : (line : List ℕ) (r : Option (Bor (List ℕ) × Bor (List ℕ))) → IsSplitOnceResult space line r
-    → (request : Request) → Asks line request → MatchOption r ⊥ (λ x. (x.0.now ≡ name_of request) × Spells x.1.now request)
+    → (request : Request) → Asks line request → MatchOption r ⊥
+    (λ x. (x.0.now ≡ name_of request) × Spells x.1.now request)
 cut_behind_name line None cut request (words, parts, spelled) =
     split_after space line (name_of request) words None cut (omega arith) parts (name_has_no_space request)
 cut_behind_name line (Some x) cut request (words, parts, spelled) =
-    let same = split_after space line (name_of request) words (Some x) cut (omega arith) parts (name_has_no_space request) in
+    let same = split_after space line (name_of request) words (Some x) cut (omega arith) parts
+    (name_has_no_space request) in
     (same.0, rw same.1 spelled)
 
 -- a size and bytes are cut behind the size
@@ -130,7 +138,8 @@ pub cut_behind_size : (words : List ℕ) (r : Option (Bor (List ℕ) × Bor (Lis
 cut_behind_size words None cut asked (first, word, parts, size, has) =
     split_after space words first word None cut (omega arith) parts (number_has_no_space first asked.size size.0)
 cut_behind_size words (Some x) cut asked (first, word, parts, size, has) =
-    let same = split_after space words first word (Some x) cut (omega arith) parts (number_has_no_space first asked.size size.0) in
+    let same = split_after space words first word (Some x) cut (omega arith) parts
+    (number_has_no_space first asked.size size.0) in
     (rw same.0 size, rw same.1 has)
 
 -- a limit and bytes are cut behind the limit
@@ -140,7 +149,8 @@ pub cut_behind_limit : (words : List ℕ) (r : Option (Bor (List ℕ) × Bor (Li
 cut_behind_limit words None cut asked (first, word, parts, limit, has) =
     split_after space words first word None cut (omega arith) parts (limit_has_no_space first asked.limit limit)
 cut_behind_limit words (Some x) cut asked (first, word, parts, limit, has) =
-    let same = split_after space words first word (Some x) cut (omega arith) parts (limit_has_no_space first asked.limit limit) in
+    let same = split_after space words first word (Some x) cut (omega arith) parts
+    (limit_has_no_space first asked.limit limit) in
     (rw same.0 limit, rw same.1 has)
 
 -- a count and bytes are cut behind the count
@@ -150,7 +160,8 @@ pub cut_behind_count : (words : List ℕ) (r : Option (Bor (List ℕ) × Bor (Li
 cut_behind_count words None cut asked (first, word, parts, count, has) =
     split_after space words first word None cut (omega arith) parts (number_has_no_space first asked.count count)
 cut_behind_count words (Some x) cut asked (first, word, parts, count, has) =
-    let same = split_after space words first word (Some x) cut (omega arith) parts (number_has_no_space first asked.count count) in
+    let same = split_after space words first word (Some x) cut (omega arith) parts
+    (number_has_no_space first asked.count count) in
     (rw same.0 count, rw same.1 has)
 
 -- a depth and bytes are cut behind the depth
@@ -178,17 +189,25 @@ second (byte ∷ bytes) = initial bytes
 
 refuses_chunks : (name words : List ℕ) → name ≡ codes "chunks" → ((asked : Buffered) → SpellsBuffered words asked → ⊥)
     → (request : Request) → name ≡ name_of request → Spells words request → ⊥
-refuses_chunks name words is refused (Heads bytes) named spelled = let other : 99 ≡ 104 = ap initial (sym is ∙ named) in omega (arith, other)
+refuses_chunks name words is refused (Heads bytes) named spelled = let other : 99 ≡ 104 =
+    ap initial (sym is ∙ named) in omega (arith, other)
 refuses_chunks name words is refused (Chunks asked) named spelled = refused asked spelled
-refuses_chunks name words is refused (Bytes asked) named spelled = let other : 99 ≡ 98 = ap initial (sym is ∙ named) in omega (arith, other)
-refuses_chunks name words is refused (Text asked) named spelled = let other : 99 ≡ 116 = ap initial (sym is ∙ named) in omega (arith, other)
-refuses_chunks name words is refused (Recode asked) named spelled = let other : 99 ≡ 114 = ap initial (sym is ∙ named) in omega (arith, other)
-refuses_chunks name words is refused (Strict asked) named spelled = let other : 99 ≡ 115 = ap initial (sym is ∙ named) in omega (arith, other)
-refuses_chunks name words is refused (Skip asked) named spelled = let other : 99 ≡ 115 = ap initial (sym is ∙ named) in omega (arith, other)
+refuses_chunks name words is refused (Bytes asked) named spelled = let other : 99 ≡ 98 =
+    ap initial (sym is ∙ named) in omega (arith, other)
+refuses_chunks name words is refused (Text asked) named spelled = let other : 99 ≡ 116 =
+    ap initial (sym is ∙ named) in omega (arith, other)
+refuses_chunks name words is refused (Recode asked) named spelled = let other : 99 ≡ 114 =
+    ap initial (sym is ∙ named) in omega (arith, other)
+refuses_chunks name words is refused (Strict asked) named spelled = let other : 99 ≡ 115 =
+    ap initial (sym is ∙ named) in omega (arith, other)
+refuses_chunks name words is refused (Skip asked) named spelled = let other : 99 ≡ 115 =
+    ap initial (sym is ∙ named) in omega (arith, other)
 
 -- words that are refused behind the name are no request of it
-pub none_of_chunks : (name words : List ℕ) (found : Option Buffered) (result : Option Request) (P : Buffered → Request → Type 0)
-    → MatchOption found (result ≡ None) (λ x. IsSomeAnd result (P x)) → IfNone found ((asked : Buffered) → SpellsBuffered words asked → ⊥)
+pub none_of_chunks : (name words : List ℕ) (found : Option Buffered) (result : Option Request)
+    (P : Buffered → Request → Type 0)
+    → MatchOption found (result ≡ None) (λ x. IsSomeAnd result (P x))
+    → IfNone found ((asked : Buffered) → SpellsBuffered words asked → ⊥)
     → name ≡ codes "chunks" → IfNone result ((request : Request) → name ≡ name_of request → Spells words request → ⊥)
 none_of_chunks name words found (Some request) P cases refused is = _
 none_of_chunks name words (Some asked) None P cases refused is = absurd cases
@@ -196,17 +215,25 @@ none_of_chunks name words None None P cases refused is = refuses_chunks name wor
 
 refuses_bytes : (name words : List ℕ) → name ≡ codes "bytes" → ((asked : Limited) → SpellsLimited words asked → ⊥)
     → (request : Request) → name ≡ name_of request → Spells words request → ⊥
-refuses_bytes name words is refused (Heads bytes) named spelled = let other : 98 ≡ 104 = ap initial (sym is ∙ named) in omega (arith, other)
-refuses_bytes name words is refused (Chunks asked) named spelled = let other : 98 ≡ 99 = ap initial (sym is ∙ named) in omega (arith, other)
+refuses_bytes name words is refused (Heads bytes) named spelled = let other : 98 ≡ 104 =
+    ap initial (sym is ∙ named) in omega (arith, other)
+refuses_bytes name words is refused (Chunks asked) named spelled = let other : 98 ≡ 99 =
+    ap initial (sym is ∙ named) in omega (arith, other)
 refuses_bytes name words is refused (Bytes asked) named spelled = refused asked spelled
-refuses_bytes name words is refused (Text asked) named spelled = let other : 98 ≡ 116 = ap initial (sym is ∙ named) in omega (arith, other)
-refuses_bytes name words is refused (Recode asked) named spelled = let other : 98 ≡ 114 = ap initial (sym is ∙ named) in omega (arith, other)
-refuses_bytes name words is refused (Strict asked) named spelled = let other : 98 ≡ 115 = ap initial (sym is ∙ named) in omega (arith, other)
-refuses_bytes name words is refused (Skip asked) named spelled = let other : 98 ≡ 115 = ap initial (sym is ∙ named) in omega (arith, other)
+refuses_bytes name words is refused (Text asked) named spelled = let other : 98 ≡ 116 =
+    ap initial (sym is ∙ named) in omega (arith, other)
+refuses_bytes name words is refused (Recode asked) named spelled = let other : 98 ≡ 114 =
+    ap initial (sym is ∙ named) in omega (arith, other)
+refuses_bytes name words is refused (Strict asked) named spelled = let other : 98 ≡ 115 =
+    ap initial (sym is ∙ named) in omega (arith, other)
+refuses_bytes name words is refused (Skip asked) named spelled = let other : 98 ≡ 115 =
+    ap initial (sym is ∙ named) in omega (arith, other)
 
 -- words that are refused behind the name are no request of it
-pub none_of_bytes : (name words : List ℕ) (found : Option Limited) (result : Option Request) (P : Limited → Request → Type 0)
-    → MatchOption found (result ≡ None) (λ x. IsSomeAnd result (P x)) → IfNone found ((asked : Limited) → SpellsLimited words asked → ⊥)
+pub none_of_bytes : (name words : List ℕ) (found : Option Limited) (result : Option Request)
+    (P : Limited → Request → Type 0)
+    → MatchOption found (result ≡ None) (λ x. IsSomeAnd result (P x))
+    → IfNone found ((asked : Limited) → SpellsLimited words asked → ⊥)
     → name ≡ codes "bytes" → IfNone result ((request : Request) → name ≡ name_of request → Spells words request → ⊥)
 none_of_bytes name words found (Some request) P cases refused is = _
 none_of_bytes name words (Some asked) None P cases refused is = absurd cases
@@ -214,17 +241,25 @@ none_of_bytes name words None None P cases refused is = refuses_bytes name words
 
 refuses_text : (name words : List ℕ) → name ≡ codes "text" → ((asked : Limited) → SpellsLimited words asked → ⊥)
     → (request : Request) → name ≡ name_of request → Spells words request → ⊥
-refuses_text name words is refused (Heads bytes) named spelled = let other : 116 ≡ 104 = ap initial (sym is ∙ named) in omega (arith, other)
-refuses_text name words is refused (Chunks asked) named spelled = let other : 116 ≡ 99 = ap initial (sym is ∙ named) in omega (arith, other)
-refuses_text name words is refused (Bytes asked) named spelled = let other : 116 ≡ 98 = ap initial (sym is ∙ named) in omega (arith, other)
+refuses_text name words is refused (Heads bytes) named spelled = let other : 116 ≡ 104 =
+    ap initial (sym is ∙ named) in omega (arith, other)
+refuses_text name words is refused (Chunks asked) named spelled = let other : 116 ≡ 99 =
+    ap initial (sym is ∙ named) in omega (arith, other)
+refuses_text name words is refused (Bytes asked) named spelled = let other : 116 ≡ 98 =
+    ap initial (sym is ∙ named) in omega (arith, other)
 refuses_text name words is refused (Text asked) named spelled = refused asked spelled
-refuses_text name words is refused (Recode asked) named spelled = let other : 116 ≡ 114 = ap initial (sym is ∙ named) in omega (arith, other)
-refuses_text name words is refused (Strict asked) named spelled = let other : 116 ≡ 115 = ap initial (sym is ∙ named) in omega (arith, other)
-refuses_text name words is refused (Skip asked) named spelled = let other : 116 ≡ 115 = ap initial (sym is ∙ named) in omega (arith, other)
+refuses_text name words is refused (Recode asked) named spelled = let other : 116 ≡ 114 =
+    ap initial (sym is ∙ named) in omega (arith, other)
+refuses_text name words is refused (Strict asked) named spelled = let other : 116 ≡ 115 =
+    ap initial (sym is ∙ named) in omega (arith, other)
+refuses_text name words is refused (Skip asked) named spelled = let other : 116 ≡ 115 =
+    ap initial (sym is ∙ named) in omega (arith, other)
 
 -- words that are refused behind the name are no request of it
-pub none_of_text : (name words : List ℕ) (found : Option Limited) (result : Option Request) (P : Limited → Request → Type 0)
-    → MatchOption found (result ≡ None) (λ x. IsSomeAnd result (P x)) → IfNone found ((asked : Limited) → SpellsLimited words asked → ⊥)
+pub none_of_text : (name words : List ℕ) (found : Option Limited) (result : Option Request)
+    (P : Limited → Request → Type 0)
+    → MatchOption found (result ≡ None) (λ x. IsSomeAnd result (P x))
+    → IfNone found ((asked : Limited) → SpellsLimited words asked → ⊥)
     → name ≡ codes "text" → IfNone result ((request : Request) → name ≡ name_of request → Spells words request → ⊥)
 none_of_text name words found (Some request) P cases refused is = _
 none_of_text name words (Some asked) None P cases refused is = absurd cases
@@ -232,17 +267,25 @@ none_of_text name words None None P cases refused is = refuses_text name words i
 
 refuses_recode : (name words : List ℕ) → name ≡ codes "recode" → ((asked : Counted) → SpellsCounted words asked → ⊥)
     → (request : Request) → name ≡ name_of request → Spells words request → ⊥
-refuses_recode name words is refused (Heads bytes) named spelled = let other : 114 ≡ 104 = ap initial (sym is ∙ named) in omega (arith, other)
-refuses_recode name words is refused (Chunks asked) named spelled = let other : 114 ≡ 99 = ap initial (sym is ∙ named) in omega (arith, other)
-refuses_recode name words is refused (Bytes asked) named spelled = let other : 114 ≡ 98 = ap initial (sym is ∙ named) in omega (arith, other)
-refuses_recode name words is refused (Text asked) named spelled = let other : 114 ≡ 116 = ap initial (sym is ∙ named) in omega (arith, other)
+refuses_recode name words is refused (Heads bytes) named spelled = let other : 114 ≡ 104 =
+    ap initial (sym is ∙ named) in omega (arith, other)
+refuses_recode name words is refused (Chunks asked) named spelled = let other : 114 ≡ 99 =
+    ap initial (sym is ∙ named) in omega (arith, other)
+refuses_recode name words is refused (Bytes asked) named spelled = let other : 114 ≡ 98 =
+    ap initial (sym is ∙ named) in omega (arith, other)
+refuses_recode name words is refused (Text asked) named spelled = let other : 114 ≡ 116 =
+    ap initial (sym is ∙ named) in omega (arith, other)
 refuses_recode name words is refused (Recode asked) named spelled = refused asked spelled
-refuses_recode name words is refused (Strict asked) named spelled = let other : 114 ≡ 115 = ap initial (sym is ∙ named) in omega (arith, other)
-refuses_recode name words is refused (Skip asked) named spelled = let other : 114 ≡ 115 = ap initial (sym is ∙ named) in omega (arith, other)
+refuses_recode name words is refused (Strict asked) named spelled = let other : 114 ≡ 115 =
+    ap initial (sym is ∙ named) in omega (arith, other)
+refuses_recode name words is refused (Skip asked) named spelled = let other : 114 ≡ 115 =
+    ap initial (sym is ∙ named) in omega (arith, other)
 
 -- words that are refused behind the name are no request of it
-pub none_of_recode : (name words : List ℕ) (found : Option Counted) (result : Option Request) (P : Counted → Request → Type 0)
-    → MatchOption found (result ≡ None) (λ x. IsSomeAnd result (P x)) → IfNone found ((asked : Counted) → SpellsCounted words asked → ⊥)
+pub none_of_recode : (name words : List ℕ) (found : Option Counted) (result : Option Request)
+    (P : Counted → Request → Type 0)
+    → MatchOption found (result ≡ None) (λ x. IsSomeAnd result (P x))
+    → IfNone found ((asked : Counted) → SpellsCounted words asked → ⊥)
     → name ≡ codes "recode" → IfNone result ((request : Request) → name ≡ name_of request → Spells words request → ⊥)
 none_of_recode name words found (Some request) P cases refused is = _
 none_of_recode name words (Some asked) None P cases refused is = absurd cases
@@ -250,17 +293,25 @@ none_of_recode name words None None P cases refused is = refuses_recode name wor
 
 refuses_strict : (name words : List ℕ) → name ≡ codes "strict" → ((asked : Counted) → SpellsCounted words asked → ⊥)
     → (request : Request) → name ≡ name_of request → Spells words request → ⊥
-refuses_strict name words is refused (Heads bytes) named spelled = let other : 115 ≡ 104 = ap initial (sym is ∙ named) in omega (arith, other)
-refuses_strict name words is refused (Chunks asked) named spelled = let other : 115 ≡ 99 = ap initial (sym is ∙ named) in omega (arith, other)
-refuses_strict name words is refused (Bytes asked) named spelled = let other : 115 ≡ 98 = ap initial (sym is ∙ named) in omega (arith, other)
-refuses_strict name words is refused (Text asked) named spelled = let other : 115 ≡ 116 = ap initial (sym is ∙ named) in omega (arith, other)
-refuses_strict name words is refused (Recode asked) named spelled = let other : 115 ≡ 114 = ap initial (sym is ∙ named) in omega (arith, other)
+refuses_strict name words is refused (Heads bytes) named spelled = let other : 115 ≡ 104 =
+    ap initial (sym is ∙ named) in omega (arith, other)
+refuses_strict name words is refused (Chunks asked) named spelled = let other : 115 ≡ 99 =
+    ap initial (sym is ∙ named) in omega (arith, other)
+refuses_strict name words is refused (Bytes asked) named spelled = let other : 115 ≡ 98 =
+    ap initial (sym is ∙ named) in omega (arith, other)
+refuses_strict name words is refused (Text asked) named spelled = let other : 115 ≡ 116 =
+    ap initial (sym is ∙ named) in omega (arith, other)
+refuses_strict name words is refused (Recode asked) named spelled = let other : 115 ≡ 114 =
+    ap initial (sym is ∙ named) in omega (arith, other)
 refuses_strict name words is refused (Strict asked) named spelled = refused asked spelled
-refuses_strict name words is refused (Skip asked) named spelled = let other : 116 ≡ 107 = ap second (sym is ∙ named) in omega (arith, other)
+refuses_strict name words is refused (Skip asked) named spelled = let other : 116 ≡ 107 =
+    ap second (sym is ∙ named) in omega (arith, other)
 
 -- words that are refused behind the name are no request of it
-pub none_of_strict : (name words : List ℕ) (found : Option Counted) (result : Option Request) (P : Counted → Request → Type 0)
-    → MatchOption found (result ≡ None) (λ x. IsSomeAnd result (P x)) → IfNone found ((asked : Counted) → SpellsCounted words asked → ⊥)
+pub none_of_strict : (name words : List ℕ) (found : Option Counted) (result : Option Request)
+    (P : Counted → Request → Type 0)
+    → MatchOption found (result ≡ None) (λ x. IsSomeAnd result (P x))
+    → IfNone found ((asked : Counted) → SpellsCounted words asked → ⊥)
     → name ≡ codes "strict" → IfNone result ((request : Request) → name ≡ name_of request → Spells words request → ⊥)
 none_of_strict name words found (Some request) P cases refused is = _
 none_of_strict name words (Some asked) None P cases refused is = absurd cases
@@ -268,17 +319,25 @@ none_of_strict name words None None P cases refused is = refuses_strict name wor
 
 refuses_skip : (name words : List ℕ) → name ≡ codes "skip" → ((asked : Nested) → SpellsNested words asked → ⊥)
     → (request : Request) → name ≡ name_of request → Spells words request → ⊥
-refuses_skip name words is refused (Heads bytes) named spelled = let other : 115 ≡ 104 = ap initial (sym is ∙ named) in omega (arith, other)
-refuses_skip name words is refused (Chunks asked) named spelled = let other : 115 ≡ 99 = ap initial (sym is ∙ named) in omega (arith, other)
-refuses_skip name words is refused (Bytes asked) named spelled = let other : 115 ≡ 98 = ap initial (sym is ∙ named) in omega (arith, other)
-refuses_skip name words is refused (Text asked) named spelled = let other : 115 ≡ 116 = ap initial (sym is ∙ named) in omega (arith, other)
-refuses_skip name words is refused (Recode asked) named spelled = let other : 115 ≡ 114 = ap initial (sym is ∙ named) in omega (arith, other)
-refuses_skip name words is refused (Strict asked) named spelled = let other : 107 ≡ 116 = ap second (sym is ∙ named) in omega (arith, other)
+refuses_skip name words is refused (Heads bytes) named spelled = let other : 115 ≡ 104 =
+    ap initial (sym is ∙ named) in omega (arith, other)
+refuses_skip name words is refused (Chunks asked) named spelled = let other : 115 ≡ 99 =
+    ap initial (sym is ∙ named) in omega (arith, other)
+refuses_skip name words is refused (Bytes asked) named spelled = let other : 115 ≡ 98 =
+    ap initial (sym is ∙ named) in omega (arith, other)
+refuses_skip name words is refused (Text asked) named spelled = let other : 115 ≡ 116 =
+    ap initial (sym is ∙ named) in omega (arith, other)
+refuses_skip name words is refused (Recode asked) named spelled = let other : 115 ≡ 114 =
+    ap initial (sym is ∙ named) in omega (arith, other)
+refuses_skip name words is refused (Strict asked) named spelled = let other : 107 ≡ 116 =
+    ap second (sym is ∙ named) in omega (arith, other)
 refuses_skip name words is refused (Skip asked) named spelled = refused asked spelled
 
 -- words that are refused behind the name are no request of it
-pub none_of_skip : (name words : List ℕ) (found : Option Nested) (result : Option Request) (P : Nested → Request → Type 0)
-    → MatchOption found (result ≡ None) (λ x. IsSomeAnd result (P x)) → IfNone found ((asked : Nested) → SpellsNested words asked → ⊥)
+pub none_of_skip : (name words : List ℕ) (found : Option Nested) (result : Option Request)
+    (P : Nested → Request → Type 0)
+    → MatchOption found (result ≡ None) (λ x. IsSomeAnd result (P x))
+    → IfNone found ((asked : Nested) → SpellsNested words asked → ⊥)
     → name ≡ codes "skip" → IfNone result ((request : Request) → name ≡ name_of request → Spells words request → ⊥)
 none_of_skip name words found (Some request) P cases refused is = _
 none_of_skip name words (Some asked) None P cases refused is = absurd cases

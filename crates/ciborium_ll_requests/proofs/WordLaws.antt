@@ -1,5 +1,6 @@
 -- When a word has bytes, and that the word of some bytes has them.
-use Rattle.std.proofs.Common.{◌≡◌, ◌≢◌, refl, false, ◌==◌, ℕ, List, [], ◌∷◌, length, Some, None, Ok, Err, inl, inr, sym, ap, ◌∙◌, arith}
+use Rattle.std.proofs.Common.{◌≡◌, ◌≢◌, refl, false, ◌==◌, ℕ, List, [], ◌∷◌, length, Some, None, Ok, Err, inl, inr}
+use Rattle.std.proofs.Common.{sym, ap, ◌∙◌, arith}
 use Rattle.hex.specs.Hex.{IsBytes, decode_of, encode_lower, lower_digits}
 use Rattle.hex.specs.declared.error.FromHexError.{FromHexError}
 use Rattle.hex.proofs.HexLemmas.{decode_of-digits, decode_of-encode_lower, decode_of-ok, length-encode_with}
@@ -13,7 +14,8 @@ bytes_of_word-some (digit ∷ []) bytes some h =
 bytes_of_word-some (high ∷ low ∷ rest) bytes some h = ap decoded h
 
 -- another word than `-` has no bytes where its digits don't decode
-pub bytes_of_word-none : (word : List ℕ) (e : FromHexError) → word ≢ no_bytes → decode_of word ≡ Err e → bytes_of_word word ≡ None
+pub bytes_of_word-none : (word : List ℕ) (e : FromHexError) → word ≢ no_bytes → decode_of word ≡ Err e
+    → bytes_of_word word ≡ None
 bytes_of_word-none [] e other h = refl
 bytes_of_word-none (digit ∷ []) e other h =
     let no : (digit ≡ 45 → ⊥) = λ same. other (ap (λ d. d ∷ []) same) in grind (arith)
@@ -27,7 +29,8 @@ IsHexWord-decoded (digit ∷ rest) bytes some h =
     inr (omega arith, ok.0, ok.1)
 
 -- another word than `-` is none of digits where it doesn't decode
-pub IsHexWord-refused : (word : List ℕ) (e : FromHexError) → word ≢ no_bytes → decode_of word ≡ Err e → IsHexWord word → ⊥
+pub IsHexWord-refused : (word : List ℕ) (e : FromHexError) → word ≢ no_bytes → decode_of word ≡ Err e
+    → IsHexWord word → ⊥
 IsHexWord-refused word e other h hex =
     elim hex [
       | inl same ↦ other same
@@ -41,7 +44,8 @@ IsFilled [] h none = cc h
 IsFilled (x ∷ rest) h none = let zero = ap length none in omega (arith, zero)
 
 -- the digits of some bytes have them
-pub bytes_of_word-encode_lower : (bytes : List ℕ) → false ≡ (length bytes == 0) → IsBytes bytes → bytes_of_word (encode_lower bytes) ≡ Some bytes
+pub bytes_of_word-encode_lower : (bytes : List ℕ) → false ≡ (length bytes == 0) → IsBytes bytes
+    → bytes_of_word (encode_lower bytes) ≡ Some bytes
 bytes_of_word-encode_lower [] some h = cc some
 bytes_of_word-encode_lower (first ∷ rest) some h =
     let size = length-encode_with lower_digits (first ∷ rest) in

@@ -4,7 +4,8 @@ use Rattle.ciborium_ll_requests.specs.Number.{IsDepth, IsLimit, IsNumber, IsSize
 use Rattle.ciborium_ll_requests.specs.Word.{bytes_of_word}
 use Rattle.ciborium_ll_requests.specs.declared.request.Limited.{Limited}
 use Rattle.ciborium_ll_requests.specs.declared.request.Request.{Request}
-use Rattle.ciborium_ll_requests.specs.declared.request.Request.TheVariants.{Bytes, Chunks, Heads, Recode, Skip, Strict, Text}
+use Rattle.ciborium_ll_requests.specs.declared.request.Request.TheVariants.{Bytes, Chunks, Heads, Recode, Skip}
+use Rattle.ciborium_ll_requests.specs.declared.request.Request.TheVariants.{Strict, Text}
 use Rattle.ciborium_ll_requests.specs.declared.request.Buffered.{Buffered}
 use Rattle.ciborium_ll_requests.specs.declared.request.Counted.{Counted}
 use Rattle.ciborium_ll_requests.specs.declared.request.Nested.{Nested}

@@ -1,5 +1,6 @@
 -- A copy between a reader and a writer of std, from the copy of elements and the flush behind it.
-use Rattle.std.proofs.Common.{◌≡◌, ℕ, false, ◌+◌, ◌≤◌, ◌^◌, ◌⊎◌, List, [], ◌++◌, length, Option, Some, None, Result, Ok, Err, OnOk, refl, sym, ap, ◌∙◌, inl, inr, arith}
+use Rattle.std.proofs.Common.{◌≡◌, ℕ, false, ◌+◌, ◌≤◌, ◌^◌, ◌⊎◌, List, [], ◌++◌, length, Option, Some, None, Result}
+use Rattle.std.proofs.Common.{Ok, Err, OnOk, refl, sym, ap, ◌∙◌, inl, inr, arith}
 use Rattle.std.specs.Io.KnownBytes.{Keeps, append_known}
 use Rattle.std.proofs.lemmas.List.{append-nil}
 use Rattle.ciborium_ll.specs.Types.Read.{Ghosts as Reader}
@@ -27,46 +28,70 @@ kept_known (Some xs) None bytes keeps known = absurd keeps
 kept_known (Some xs) (Some ys) bytes keeps known = ap Some keeps ∙ known
 
 -- known bytes, of which these are held back
-pub front_known : (known : Option (List ℕ)) (held bytes : List ℕ) → append_known known held ≡ Some bytes → (front : List ℕ) × (lost : List ℕ) × (known ≡ Some front) × (bytes ≡ front ++ lost)
+pub front_known : (known : Option (List ℕ)) (held bytes : List ℕ) → append_known known held ≡ Some bytes
+    → (front : List ℕ) × (lost : List ℕ) × (known ≡ Some front) × (bytes ≡ front ++ lost)
 front_known None held bytes told = absurd cc
 front_known (Some xs) held bytes told = (xs, held, refl, cc)
 
-pub whole_known : (known : Option (List ℕ)) (held bytes : List ℕ) → held ≡ [] → append_known known held ≡ Some bytes → known ≡ Some bytes
+pub whole_known : (known : Option (List ℕ)) (held bytes : List ℕ) → held ≡ [] → append_known known held ≡ Some bytes
+    → known ≡ Some bytes
 whole_known None held bytes none told = absurd cc
-whole_known (Some xs) held bytes none told = ap Some (sym (append-nil xs) ∙ ap (λ (z : List ℕ). xs ++ z) (sym none)) ∙ told
+whole_known (Some xs) held bytes none told = ap Some (sym (append-nil xs) ∙ ap (λ (z : List ℕ). xs ++ z) (sym none))
+    ∙ told
 
 -- what holds of a copy holds with the faults of std in their places
-pub restored_copies : {R W : Type 0} (left : R → List ℕ → Type 0) (got : W → List ℕ → Type 0) (count : ℕ) (due written : List ℕ) (reader : R) (writer : W)
-    (read : Option ReadFault) (write : Option WriteFault) (error : RecodeError FaultKept FaultKept) (error' : RecodeError ReadFault WriteFault) → Restores read write error error' → CopiesRaw left got count due written (Err error) reader writer
+pub restored_copies : {R W : Type 0} (left : R → List ℕ → Type 0) (got : W → List ℕ → Type 0) (count : ℕ)
+    (due written : List ℕ) (reader : R) (writer : W)
+    (read : Option ReadFault) (write : Option WriteFault) (error : RecodeError FaultKept FaultKept)
+    (error' : RecodeError ReadFault WriteFault) → Restores read write error error'
+    → CopiesRaw left got count due written (Err error) reader writer
     → CopiesRaw left got count due written (Err error') reader writer
-restored_copies left got count due written reader writer read write (r.Read (e.Io failed)) error' is copies = rw is.1 copies
-restored_copies left got count due written reader writer read write (r.Read (e.Syntax place)) error' is copies = rw is copies
+restored_copies left got count due written reader writer read write (r.Read (e.Io failed)) error' is copies =
+    rw is.1 copies
+restored_copies left got count due written reader writer read write (r.Read (e.Syntax place)) error' is copies =
+    rw is copies
 restored_copies left got count due written reader writer read write (r.Read e.TooLong) error' is copies = rw is copies
 restored_copies left got count due written reader writer read write (r.Read e.Waiting) error' is copies = absurd copies
 restored_copies left got count due written reader writer read write (r.Write failed) error' is copies = rw is.1 copies
 
 -- the same of the outcome of a copy
-pub restored_outcome : {R W : Type 0} (left : R → List ℕ → Type 0) (got : W → List ℕ → Type 0) (count : ℕ) (due written : List ℕ) (reader : R) (writer : W)
-    (read : Option ReadFault) (write : Option WriteFault) (outcome : Result (Unit {0}) (RecodeError FaultKept FaultKept)) (outcome' : Result (Unit {0}) (RecodeError ReadFault WriteFault))
-    → RestoresCopy read write outcome outcome' → CopiesRaw left got count due written outcome reader writer → CopiesRaw left got count due written outcome' reader writer
+pub restored_outcome : {R W : Type 0} (left : R → List ℕ → Type 0) (got : W → List ℕ → Type 0) (count : ℕ)
+    (due written : List ℕ) (reader : R) (writer : W)
+    (read : Option ReadFault) (write : Option WriteFault)
+    (outcome : Result (Unit {0}) (RecodeError FaultKept FaultKept))
+    (outcome' : Result (Unit {0}) (RecodeError ReadFault WriteFault))
+    → RestoresCopy read write outcome outcome' → CopiesRaw left got count due written outcome reader writer
+    → CopiesRaw left got count due written outcome' reader writer
 restored_outcome left got count due written reader writer read write (Ok done) outcome' is copies = rw is copies
 restored_outcome left got count due written reader writer read write (Err error) outcome' is copies =
     rw is.1 (restored_copies left got count due written reader writer read write error is.0 is.2 copies)
 
 -- what a writer within has behind a flush, of which the bytes that it could not pass on are held back
-pub flushed_known : {W : Type 0} (contents : W → Option (List ℕ)) (write : Option WriteFault) (outcome : Result (Unit {0}) FaultKept) (outcome' : Result (Unit {0}) WriteFault) (writer : W)
-    (held bytes : List ℕ) → RestoresFlush write outcome outcome' → OnOk outcome (held ≡ []) → append_known (contents writer) held ≡ Some bytes → TellsFlushed contents outcome' writer bytes
-flushed_known contents write (Ok done) outcome' writer held bytes is sent told = rw is (whole_known (contents writer) held bytes sent told)
-flushed_known contents write (Err failed) outcome' writer held bytes is sent told = rw is.1 (front_known (contents writer) held bytes told)
+pub flushed_known : {W : Type 0} (contents : W → Option (List ℕ)) (write : Option WriteFault)
+    (outcome : Result (Unit {0}) FaultKept) (outcome' : Result (Unit {0}) WriteFault) (writer : W)
+    (held bytes : List ℕ) → RestoresFlush write outcome outcome' → OnOk outcome (held ≡ [])
+    → append_known (contents writer) held ≡ Some bytes → TellsFlushed contents outcome' writer bytes
+flushed_known contents write (Ok done) outcome' writer held bytes is sent told =
+    rw is (whole_known (contents writer) held bytes sent told)
+flushed_known contents write (Err failed) outcome' writer held bytes is sent told =
+    rw is.1 (front_known (contents writer) held bytes told)
 
 module _ {D S E F : Type 0} (source : Reader D E) (sink : Writer S F) where
   -- where no header waits, what is due is what the reader has ahead
-  pub told_ahead : (old : Decoder D) (writer : S) (due written : List ℕ) → old.strict ≡ false → old.waiting ≡ None → source.ahead old.reader ≡ Some due → sink.written writer ≡ Some written
+  pub told_ahead : (old : Decoder D) (writer : S) (due written : List ℕ) → old.strict ≡ false → old.waiting ≡ None
+      → source.ahead old.reader ≡ Some due → sink.written writer ≡ Some written
       → IsTold source sink old writer due written
-  told_ahead old writer due written lenient none ahead output = record { mode = lenient; due-told = view_none old.waiting (source.ahead old.reader) none ∙ ahead; written-told = output }
+  told_ahead old writer due written lenient none ahead output =
+      record {
+        mode = lenient;
+        due-told = view_none old.waiting (source.ahead old.reader) none
+            ∙ ahead;
+        written-told = output;
+      }
 
   -- where no header waited, none waits behind calls that all succeeded
-  still_none : (old new : Decoder D) (bytes : List ℕ) → Passes source old bytes new → old.waiting ≡ None → new.waiting ≡ None
+  still_none : (old new : Decoder D) (bytes : List ℕ) → Passes source old bytes new → old.waiting ≡ None
+      → new.waiting ≡ None
   still_none old new bytes passed none =
       elim passed.waiting [
         | inl same ↦ ap (λ (d : Decoder D). d.waiting) same.1 ∙ none
@@ -74,15 +99,20 @@ module _ {D S E F : Type 0} (source : Reader D E) (sink : Writer S F) where
       ]
 
   -- behind a copy that met a syntax no header waits
-  none_behind : (count room place : ℕ) (old new : Decoder D) (writer writer' : S) → CopiesElements source sink count room old writer (Err (r.Read (e.Syntax place))) new writer'
+  none_behind : (count room place : ℕ) (old new : Decoder D) (writer writer' : S)
+      → CopiesElements source sink count room old writer (Err (r.Read (e.Syntax place))) new writer'
       → old.waiting ≡ None → new.waiting ≡ None
-  none_behind count room place old new writer writer' (inl stops) none = elim stops.fails [ inl refused ↦ refused.none_waits | inr longer ↦ longer.none_waits ]
+  none_behind count room place old new writer writer' (inl stops) none =
+      elim stops.fails [ inl refused ↦ refused.none_waits | inr longer ↦ longer.none_waits ]
   none_behind count room place old new writer writer' (inr (inl stops)) none = stops.pulled.none_waits
   none_behind count room place old new writer writer' (inr (inr stops)) none =
-      still_none stops.between new stops.stopped.1.read stops.stopped.1.passed (still_none old stops.between stops.bytes stops.copied.passed none)
+      still_none stops.between new stops.stopped.1.read stops.stopped.1.passed
+      (still_none old stops.between stops.bytes stops.copied.passed none)
 
-  module _ {R W : Type 0} (left : R → List ℕ → Type 0) (got : W → List ℕ → Type 0) (count : ℕ) (due written : List ℕ) (old new : Decoder D) (writer writer' : S)
-      (reader : R) (flushed : W) (start : old.offset ≡ 0) (none-waits : old.waiting ≡ None) (leaves : (bytes : List ℕ) → source.ahead new.reader ≡ Some bytes → left reader bytes)
+  module _ {R W : Type 0} (left : R → List ℕ → Type 0) (got : W → List ℕ → Type 0) (count : ℕ)
+      (due written : List ℕ) (old new : Decoder D) (writer writer' : S)
+      (reader : R) (flushed : W) (start : old.offset ≡ 0) (none-waits : old.waiting ≡ None)
+      (leaves : (bytes : List ℕ) → source.ahead new.reader ≡ Some bytes → left reader bytes)
       (gets : (bytes : List ℕ) → sink.written writer' ≡ Some bytes → got flushed bytes) where
     -- what is due where no header waits is what the reader has ahead
     leaves_due : (bytes : List ℕ) → new.waiting ≡ None → view source new ≡ Some bytes → left reader bytes
@@ -95,7 +125,8 @@ module _ {D S E F : Type 0} (source : Reader D E) (sink : Writer S F) where
     near offset consumed same full = omega (arith, same, full)
 
     -- all was written, and the flush behind it failed
-    pub raw_unflushed : RecodesAnyhow source sink count 64 due written old (Ok (tt {0})) new writer' → WritesShort got count due written flushed
+    pub raw_unflushed : RecodesAnyhow source sink count 64 due written old (Ok (tt {0})) new writer'
+        → WritesShort got count due written flushed
     raw_unflushed told = record {
       stop = record {
         before = told.front.elements;
@@ -112,7 +143,8 @@ module _ {D S E F : Type 0} (source : Reader D E) (sink : Writer S F) where
     }
 
     -- all was written, and the flush behind it succeeded
-    pub raw_all : CopiesElements source sink count 64 old writer (Ok (tt {0})) new writer' → RecodesAnyhow source sink count 64 due written old (Ok (tt {0})) new writer'
+    pub raw_all : CopiesElements source sink count 64 old writer (Ok (tt {0})) new writer'
+        → RecodesAnyhow source sink count 64 due written old (Ok (tt {0})) new writer'
         → CopiesRaw {E = E} {F = F} left got count due written (Ok (tt {0})) reader flushed
     raw_all copied told = record {
       front = told.front;
@@ -121,7 +153,8 @@ module _ {D S E F : Type 0} (source : Reader D E) (sink : Writer S F) where
     }
 
     -- the copy stopped: its answer stands, whatever the flush behind it does
-    pub raw_stopped : (error : RecodeError E F) → CopiesElements source sink count 64 old writer (Err error) new writer' → RecodesAnyhow source sink count 64 due written old (Err error) new writer'
+    pub raw_stopped : (error : RecodeError E F) → CopiesElements source sink count 64 old writer (Err error) new
+        writer' → RecodesAnyhow source sink count 64 due written old (Err error) new writer'
         → CopiesRaw left got count due written (Err error) reader flushed
     raw_stopped (r.Read (e.Io fault)) copied told = short told
     raw_stopped (r.Read (e.Syntax place)) copied told =
@@ -134,12 +167,18 @@ module _ {D S E F : Type 0} (source : Reader D E) (sink : Writer S F) where
           rest = leaves_due _ (none_behind count 64 place old new writer writer' copied none-waits) met.left;
         }
     raw_stopped (r.Read e.TooLong) copied told =
-        let stop = told.0.stop in (short told.0, near new.offset (length stop.before + stop.consumed) (omega (arith, start, told.0.offset)) told.1)
+        let stop = told.0.stop in (
+          short told.0,
+          near new.offset (length stop.before + stop.consumed)
+              (omega (arith, start, told.0.offset)) told.1,
+        )
     raw_stopped (r.Read e.Waiting) copied told = absurd told
     raw_stopped (r.Write fault) copied told = record { stop = told.stop; output = gets _ told.output }
 
     -- whatever the copy answered
-    pub raw_any : (outcome : Result (Unit {0}) (RecodeError E F)) → CopiesElements source sink count 64 old writer outcome new writer' → RecodesAnyhow source sink count 64 due written old outcome new writer'
+    pub raw_any : (outcome : Result (Unit {0}) (RecodeError E F))
+        → CopiesElements source sink count 64 old writer outcome new writer'
+        → RecodesAnyhow source sink count 64 due written old outcome new writer'
         → CopiesRaw left got count due written outcome reader flushed
     raw_any (Ok done) copied told = raw_all copied told
     raw_any (Err error) copied told = raw_stopped error copied told

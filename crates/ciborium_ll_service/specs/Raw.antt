@@ -1,6 +1,7 @@
 -- What a copy of elements between a reader and a writer of std does, where both tell their bytes.
 --
--- `got writer bytes` says what the writer has where the copy stopped, and `left reader bytes` what the reader has still.
+-- `got writer bytes` says what the writer has where the copy stopped, and `left reader bytes` what the reader has
+-- still.
 use Rattle.std.specs.Prelude.{◌≡◌, ℕ, ◌+◌, ◌≤◌, List, ◌++◌, length, drop, Option, Some, Result, Ok, Err}
 use Rattle.ciborium_ll.specs.Types.Error.TheVariants as e
 use Rattle.ciborium_ll.specs.Types.RecodeError.{RecodeError}
@@ -57,8 +58,10 @@ module _ {R W E F : Type 0} (left : R → List ℕ → Type 0) (got : W → List
   abbrev pub CopiesRaw : ℕ → List ℕ → List ℕ → Result (Unit {0}) (RecodeError E F) → R → W → Type 0
   CopiesRaw count due written (Ok done) reader writer = CopiesCount left got count due written reader writer
   CopiesRaw count due written (Err (r.Read (e.Io fault))) reader writer = ReadsShort got count due written writer
-  CopiesRaw count due written (Err (r.Read (e.Syntax place))) reader writer = MeetsSyntax left got count place due written reader writer
+  CopiesRaw count due written (Err (r.Read (e.Syntax place))) reader writer =
+      MeetsSyntax left got count place due written reader writer
   CopiesRaw count due written (Err (r.Read e.TooLong)) reader writer =
-      (short : ReadsShort got count due written writer) × (offset_limit ≤ length short.stop.before + short.stop.consumed + 64)
+      (short : ReadsShort got count due written writer) ×
+      (offset_limit ≤ length short.stop.before + short.stop.consumed + 64)
   CopiesRaw count due written (Err (r.Read e.Waiting)) reader writer = ⊥
   CopiesRaw count due written (Err (r.Write fault)) reader writer = WritesShort got count due written writer

@@ -10,16 +10,21 @@ use Rattle.ciborium_ll.proofs.BodyLaws.{view_none}
 
 module _ {D S E F : Type 0} (source : Reader D E) (sink : Writer S F) where
   -- all that the reader has ahead is due
-  due_ahead : (reader : D) (decoder : Decoder D) (due : List ℕ) → IsFresh reader 0 decoder → source.ahead reader ≡ Some due → view source decoder ≡ Some due
+  due_ahead : (reader : D) (decoder : Decoder D) (due : List ℕ) → IsFresh reader 0 decoder → source.ahead reader
+      ≡ Some due → view source decoder ≡ Some due
   due_ahead reader decoder due fresh ahead =
       view_none decoder.waiting (source.ahead decoder.reader) fresh.none_waits ∙ ap source.ahead fresh.reader ∙ ahead
 
-  still_steady : (reader : D) (decoder : Decoder D) → IsFresh reader 0 decoder → IsTrue (source.steady reader) → IsTrue (source.steady decoder.reader)
+  still_steady : (reader : D) (decoder : Decoder D) → IsFresh reader 0 decoder → IsTrue (source.steady reader)
+      → IsTrue (source.steady decoder.reader)
   still_steady reader decoder fresh steady = subst (λ (r : D). IsTrue (source.steady r)) (sym fresh.reader) steady
 
-  pub ready_for_elements : (count size room : ℕ) (reader : D) (decoder : Decoder D) (writer : S) (due written : List ℕ) → IsFresh reader 0 decoder → IsTrue (source.steady reader)
-      → source.ahead reader ≡ Some due → sink.written writer ≡ Some written → sink.room writer ≡ Some room → length due ≤ room
-      → length due + 8 < offset_limit → length due + size < offset_limit → IsReady source sink count size decoder writer due written
+  pub ready_for_elements : (count size room : ℕ) (reader : D) (decoder : Decoder D) (writer : S)
+      (due written : List ℕ) → IsFresh reader 0 decoder → IsTrue (source.steady reader)
+      → source.ahead reader ≡ Some due → sink.written writer ≡ Some written → sink.room writer ≡ Some room
+      → length due ≤ room
+      → length due + 8 < offset_limit → length due + size < offset_limit
+      → IsReady source sink count size decoder writer due written
   ready_for_elements count size room reader decoder writer due written fresh steady ahead output space enough title chunk = record {
     steady = still_steady reader decoder fresh steady;
     told = record { mode = fresh.mode; due-told = due_ahead reader decoder due fresh ahead; written-told = output };
@@ -30,8 +35,10 @@ module _ {D S E F : Type 0} (source : Reader D E) (sink : Writer S F) where
     fits-chunk = omega (arith, fresh.offset, chunk);
   }
 
-  pub ready_for_titles : (room : ℕ) (reader : D) (decoder : Decoder D) (writer : S) (due written : List ℕ) → IsFresh reader 0 decoder → IsTrue (source.steady reader)
-      → source.ahead reader ≡ Some due → sink.written writer ≡ Some written → sink.room writer ≡ Some room → length due ≤ room
+  pub ready_for_titles : (room : ℕ) (reader : D) (decoder : Decoder D) (writer : S) (due written : List ℕ)
+      → IsFresh reader 0 decoder → IsTrue (source.steady reader)
+      → source.ahead reader ≡ Some due → sink.written writer ≡ Some written → sink.room writer ≡ Some room
+      → length due ≤ room
       → length due + 8 < offset_limit → IsReadyForTitles source sink decoder writer due written
   ready_for_titles room reader decoder writer due written fresh steady ahead output space enough title = record {
     lenient = fresh.mode;

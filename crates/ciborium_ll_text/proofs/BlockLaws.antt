@@ -1,8 +1,12 @@
 -- Sixteen lanes, lane by lane.
-use Rattle.std.proofs.Common.{◌≡◌, ℕ, zero, suc, ◌+◌, ◌-◌, ◌*◌, ◌/◌, ◌%◌, ◌^◌, ◌<◌, ◌≤◌, Bool, true, false, not, cond, eqb, List, [], ◌∷◌, map, length, get_or, replicate, bit_and, bit_or, bit_xor, refl, sym, ap, ◌∙◌, arith, w8, Fits, subst, eqb-true}
+use Rattle.std.proofs.Common.{◌≡◌, ℕ, zero, suc, ◌+◌, ◌-◌, ◌*◌, ◌/◌, ◌%◌, ◌^◌, ◌<◌, ◌≤◌, Bool, true, false, not, cond}
+use Rattle.std.proofs.Common.{eqb, List, [], ◌∷◌, map, length, get_or, replicate, bit_and, bit_or, bit_xor, refl, sym}
+use Rattle.std.proofs.Common.{ap, ◌∙◌, arith, w8, Fits, subst, eqb-true}
 use Rattle.std.proofs.lemmas.List.{get_or-map, ext_get_or, length-map}
 use Rattle.std.proofs.lemmas.Nat.{and_le_r}
-use Rattle.std.proofs.lemmas.Simd.{Each1-all, Each1-weaker, Each1-zip2, Each2-splat, below_from_Fits, length-zip2, get_or-zip2, get_or-replicate, get_or-chunk, mask_l-mod, swz_l, SwzOk, SwzOk-from_below, length-swz_l, get_or-swz_l_below}
+use Rattle.std.proofs.lemmas.Simd.{Each1-all, Each1-weaker, Each1-zip2, Each2-splat, below_from_Fits, length-zip2}
+use Rattle.std.proofs.lemmas.Simd.{get_or-zip2, get_or-replicate, get_or-chunk, mask_l-mod, swz_l, SwzOk}
+use Rattle.std.proofs.lemmas.Simd.{SwzOk-from_below, length-swz_l, get_or-swz_l_below}
 use lib.Lanes.{zip2, chunk, mask_l, top, Each1}
 use Rattle.simdutf8.specs.Classes.{IsClass}
 use Rattle.simdutf8.specs.Steps.{Step}

@@ -1,5 +1,6 @@
 -- A full cut has the fewest members, and is the only one.
-use Rattle.std.proofs.Common.{◌≡◌, ℕ, ◌+◌, ◌<◌, ◌≤◌, List, [], ◌∷◌, ◌++◌, length, refl, sym, ap, ◌∙◌, subst, inl, inr, arith, append_assoc}
+use Rattle.std.proofs.Common.{◌≡◌, ℕ, ◌+◌, ◌<◌, ◌≤◌, List, [], ◌∷◌, ◌++◌, length, refl, sym, ap, ◌∙◌, subst, inl, inr}
+use Rattle.std.proofs.Common.{arith, append_assoc}
 use Rattle.std.proofs.lemmas.Bool.{cases_lt}
 use Rattle.std.proofs.lemmas.List.{length-append}
 use Rattle.std.proofs.lemmas.Str.{encode_same}
@@ -16,7 +17,8 @@ pub one_character : (x y r s : List ℕ) → IsCharacter x → IsCharacter y →
 one_character x y r s p q e =
     let a = written x p in
     let b = written y q in
-    let same : encode a.char ++ r ≡ encode b.char ++ s = ap (λ (z : List ℕ). z ++ r) a.is ∙ (e ∙ ap (λ (z : List ℕ). z ++ s) (sym b.is)) in
+    let same : encode a.char ++ r ≡ encode b.char ++ s = ap (λ (z : List ℕ). z ++ r) a.is
+    ∙ (e ∙ ap (λ (z : List ℕ). z ++ s) (sym b.is)) in
     sym a.is ∙ (ap encode ((encode_same a.char b.char r s same).0) ∙ b.is)
 
 -- a text that isn't empty begins with a character
@@ -36,7 +38,8 @@ pub starts : (t : List ℕ) → IsCharacters t → 0 < length t → Starts t
 starts t u l = starts_at t u.characters u.each u.whole l
 
 -- what goes past the end of a full member is too long
-passes : (m : ℕ) (c q rest : List ℕ) (cs : List (List ℕ)) → AllByRecursion (IsMember m) cs → AllByRecursion IsNonempty cs
+passes : (m : ℕ) (c q rest : List ℕ) (cs : List (List ℕ)) → AllByRecursion (IsMember m) cs
+    → AllByRecursion IsNonempty cs
     → AreFilled m (c ∷ cs) → IsCharacters q → 0 < length q → joined cs ≡ q ++ rest → m < length c + length q
 passes m c q rest [] each full filled u l e = absurd (omega (arith, ap length e, length-append q rest))
 passes m c q rest (d ∷ cs) each full filled u l e =
@@ -44,7 +47,8 @@ passes m c q rest (d ∷ cs) each full filled u l e =
     let b = starts q u l in
     let same = one_character a.char b.char (a.rest ++ joined cs) (b.rest ++ rest) a.ok b.ok
     (sym (append_assoc a.char a.rest (joined cs))
-    ∙ (ap (λ (z : List ℕ). z ++ joined cs) (sym a.is) ∙ (e ∙ (ap (λ (z : List ℕ). z ++ rest) b.is ∙ append_assoc b.char b.rest rest))))
+    ∙ (ap (λ (z : List ℕ). z ++ joined cs) (sym a.is) ∙
+    (e ∙ (ap (λ (z : List ℕ). z ++ rest) b.is ∙ append_assoc b.char b.rest rest))))
     in
     let room = filled.0 a.char a.rest a.ok a.is in
     omega (arith, ap length same, ap length b.is, length-append b.char b.rest)
@@ -56,7 +60,8 @@ AreFilled-rest m c (d ∷ cs) f = f.1
 
 -- ds has the text that cs has, behind some text r
 fewest_behind : (m : ℕ) (cs ds : List (List ℕ)) (r : List ℕ) → IsCharacters r → AllByRecursion (IsMember m) cs
-    → AllByRecursion IsNonempty cs → AreFilled m cs → AllByRecursion (IsMember m) ds → r ++ joined cs ≡ joined ds → length cs ≤ length ds
+    → AllByRecursion IsNonempty cs → AreFilled m cs → AllByRecursion (IsMember m) ds → r ++ joined cs ≡ joined ds
+    → length cs ≤ length ds
 fewest_behind m [] ds r u each full filled each' e = omega arith
 fewest_behind m (c ∷ cs) [] r u each full filled each' e =
     let l = full.0 in absurd (omega (arith, ap length e, length-append r (c ++ joined cs), length-append c (joined cs)))
@@ -69,7 +74,8 @@ fewest_behind m (c ∷ cs) (d ∷ ds) r u each full filled each' e =
           (let q = front_of_front (r ++ c) d (joined cs) (joined ds) whole (omega arith) in
           let uq = IsCharacters-rest (r ++ c) q.0 rc (subst IsCharacters q.1 each'.0.0) in
           let n = ap length q.1 in
-          let past = passes m c q.0 (joined ds) cs each.1 full.1 filled uq (omega (arith, n, length-append (r ++ c) q.0)) q.2 in
+          let past = passes m c q.0 (joined ds) cs each.1 full.1 filled uq
+          (omega (arith, n, length-append (r ++ c) q.0)) q.2 in
           absurd (omega (arith, n, past, length-append (r ++ c) q.0, length-append r c)))
       | inr l ↦
           (let q = front_of_front d (r ++ c) (joined ds) (joined cs) (sym whole) l in
@@ -80,26 +86,33 @@ fewest_behind m (c ∷ cs) (d ∷ ds) r u each full filled each' e =
 
 -- no cut has fewer members than a full one
 pub fewest : (t : List ℕ) (m : ℕ) (cs ds : List (List ℕ)) → IsFullCut t m cs → IsCut t m ds → length cs ≤ length ds
-fewest t m cs ds f c = fewest_behind m cs ds [] IsCharacters-nil f.cut.each f.nonempty f.filled c.each (sym f.cut.whole ∙ c.whole)
+fewest t m cs ds f c = fewest_behind m cs ds [] IsCharacters-nil f.cut.each f.nonempty f.filled c.each
+    (sym f.cut.whole ∙ c.whole)
 
 -- ---- there is one
 
 -- members that are filled are the only ones of their text
-same_members : (m : ℕ) (cs ds : List (List ℕ)) → AllByRecursion (IsMember m) cs → AllByRecursion IsNonempty cs → AreFilled m cs
+same_members : (m : ℕ) (cs ds : List (List ℕ)) → AllByRecursion (IsMember m) cs → AllByRecursion IsNonempty cs
+    → AreFilled m cs
     → AllByRecursion (IsMember m) ds → AllByRecursion IsNonempty ds → AreFilled m ds → joined cs ≡ joined ds → cs ≡ ds
 same_members m [] [] a b f a' b' f' e = refl
-same_members m [] (d ∷ ds) a b f a' b' f' e = let l = b'.0 in absurd (omega (arith, ap length e, length-append d (joined ds)))
-same_members m (c ∷ cs) [] a b f a' b' f' e = let l = b.0 in absurd (omega (arith, ap length e, length-append c (joined cs)))
+same_members m [] (d ∷ ds) a b f a' b' f' e = let l = b'.0 in
+    absurd (omega (arith, ap length e, length-append d (joined ds)))
+same_members m (c ∷ cs) [] a b f a' b' f' e = let l = b.0 in
+    absurd (omega (arith, ap length e, length-append c (joined cs)))
 same_members m (c ∷ cs) (d ∷ ds) a b f a' b' f' e =
     let none_longer : length d ≤ length c = not_longer m c cs d (joined ds) a.0.0 a.1 b.1 f a'.0 e in
     let none_longer' : length c ≤ length d = not_longer m d ds c (joined cs) a'.0.0 a'.1 b'.1 f' a.0 (sym e) in
     let h = same_front c d (joined cs) (joined ds) (omega arith) e in
     let heads : c ≡ d = h.0 in
-    let tails : cs ≡ ds = same_members m cs ds a.1 b.1 (AreFilled-rest m c cs f) a'.1 b'.1 (AreFilled-rest m d ds f') h.1 in
+    let tails : cs ≡ ds = same_members m cs ds a.1 b.1 (AreFilled-rest m c cs f) a'.1 b'.1
+    (AreFilled-rest m d ds f') h.1 in
     cc (heads, tails)
   where
-    not_longer : (m : ℕ) (c : List ℕ) (cs : List (List ℕ)) (d y : List ℕ) → IsCharacters c → AllByRecursion (IsMember m) cs
-        → AllByRecursion IsNonempty cs → AreFilled m (c ∷ cs) → IsMember m d → c ++ joined cs ≡ d ++ y → length d ≤ length c
+    not_longer : (m : ℕ) (c : List ℕ) (cs : List (List ℕ)) (d y : List ℕ) → IsCharacters c
+        → AllByRecursion (IsMember m) cs
+        → AllByRecursion IsNonempty cs → AreFilled m (c ∷ cs) → IsMember m d → c ++ joined cs ≡ d ++ y → length d
+        ≤ length c
     not_longer m c cs d y u a b f md e =
         elim (cases_lt (length c) (length d)) [
           | inl l ↦
@@ -114,4 +127,5 @@ same_members m (c ∷ cs) (d ∷ ds) a b f a' b' f' e =
 
 -- a text has one full cut at most
 pub one_full : (t : List ℕ) (m : ℕ) (cs ds : List (List ℕ)) → IsFullCut t m cs → IsFullCut t m ds → cs ≡ ds
-one_full t m cs ds f g = same_members m cs ds f.cut.each f.nonempty f.filled g.cut.each g.nonempty g.filled (sym f.cut.whole ∙ g.cut.whole)
+one_full t m cs ds f g = same_members m cs ds f.cut.each f.nonempty f.filled g.cut.each g.nonempty g.filled
+    (sym f.cut.whole ∙ g.cut.whole)

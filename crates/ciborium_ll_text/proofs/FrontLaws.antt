@@ -1,7 +1,8 @@
 -- Longest fronts that are text, and what is stuck behind them.
 use Rattle.std.specs.Prelude.{IsUtf8}
 use Rattle.std.specs.Str.{IsValidUpTo}
-use Rattle.std.proofs.Common.{◌≡◌, ℕ, ◌≤◌, List, [], ◌∷◌, ◌++◌, length, take, drop, refl, sym, ap, subst, ◌∙◌, arith, append_assoc, append-nil, length-append, length-take-le}
+use Rattle.std.proofs.Common.{◌≡◌, ℕ, ◌≤◌, List, [], ◌∷◌, ◌++◌, length, take, drop, refl, sym, ap, subst, ◌∙◌, arith}
+use Rattle.std.proofs.Common.{append_assoc, append-nil, length-append, length-take-le}
 use Rattle.std.proofs.Math.Seq.{drop-length}
 use Rattle.ciborium_ll_text.specs.Text.{IsCharacters, IsFront, IsStuck, BeginsNoText}
 use Rattle.ciborium_ll_text.proofs.Lists.{length_zero}
@@ -16,7 +17,8 @@ IsStuck-nil (byte ∷ front) rest e text = cc
 -- what is behind the longest front is stuck
 pub IsStuck-rest : (bytes front rest : List ℕ) → IsFront bytes front rest → IsStuck rest
 IsStuck-rest bytes front rest f other more e text =
-    let longer : bytes ≡ (front ++ other) ++ more = f.parts ∙ ap (λ (z : List ℕ). front ++ z) e ∙ sym (append_assoc front other more) in
+    let longer : bytes ≡ (front ++ other) ++ more = f.parts ∙ ap (λ (z : List ℕ). front ++ z) e
+    ∙ sym (append_assoc front other more) in
     let least = f.longest (front ++ other) more longer (IsCharacters-append front other f.text text) in
     length_zero other (omega (arith, least, length-append front other))
 
@@ -26,21 +28,26 @@ IsFront-stuck bytes stuck =
     record {
       parts = append-nil bytes;
       text = IsCharacters-nil;
-      longest = λ other more e text. let none = stuck other more (sym (append-nil bytes) ∙ e) text in let l = ap length none in omega (arith, l);
+      longest = λ other more e text. let none = stuck other more (sym (append-nil bytes) ∙ e) text in let l =
+          ap length none in omega (arith, l);
     }
 
 -- text is its own front
 pub IsFront-text : (bytes text : List ℕ) → text ≡ bytes → IsUtf8 bytes → IsFront bytes text (drop (length text) bytes)
 IsFront-text bytes text e utf8 =
     subst (λ (z : List ℕ). IsFront bytes z (drop (length z) bytes)) (sym e)
-    (subst (λ (z : List ℕ). IsFront bytes bytes z) (sym (drop-length bytes)) (front_of_text bytes (from_std bytes utf8)))
+    (subst (λ (z : List ℕ). IsFront bytes bytes z) (sym (drop-length bytes))
+    (front_of_text bytes (from_std bytes utf8)))
 
 -- the front that std finds
-pub IsFront-valid : (bytes text : List ℕ) (n : ℕ) → text ≡ take n bytes → n ≤ length bytes → IsValidUpTo bytes n → IsFront bytes text (drop (length text) bytes)
+pub IsFront-valid : (bytes text : List ℕ) (n : ℕ) → text ≡ take n bytes → n ≤ length bytes → IsValidUpTo bytes n
+    → IsFront bytes text (drop (length text) bytes)
 IsFront-valid bytes text n e within valid =
     let counted : length text ≡ n = ap length e ∙ length-take-le n bytes within in
-    subst (λ (z : List ℕ). IsFront bytes z (drop (length text) bytes)) (sym e) (subst (λ (k : ℕ). IsFront bytes (take n bytes) (drop k bytes)) (sym counted) (front_of_valid bytes n valid))
+    subst (λ (z : List ℕ). IsFront bytes z (drop (length text) bytes)) (sym e)
+    (subst (λ (k : ℕ). IsFront bytes (take n bytes) (drop k bytes)) (sym counted) (front_of_valid bytes n valid))
 
 -- bytes that begin no text begin none with more behind them
 pub no_text_behind : (read more : List ℕ) → BeginsNoText read → BeginsNoText (read ++ more)
-no_text_behind read more none = λ others text. none (more ++ others) (subst IsCharacters (append_assoc read more others) text)
+no_text_behind read more none = λ others text. none (more ++ others)
+    (subst IsCharacters (append_assoc read more others) text)

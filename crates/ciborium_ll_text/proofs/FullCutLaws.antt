@@ -1,5 +1,6 @@
 -- A text has a full cut for each limit that the longest character fits.
-use Rattle.std.proofs.Common.{◌≡◌, ℕ, ◌+◌, ◌<◌, ◌≤◌, List, [], ◌∷◌, ◌++◌, length, refl, sym, ap, ◌∙◌, subst, inl, inr, arith, append_assoc}
+use Rattle.std.proofs.Common.{◌≡◌, ℕ, ◌+◌, ◌<◌, ◌≤◌, List, [], ◌∷◌, ◌++◌, length, refl, sym, ap, ◌∙◌, subst, inl, inr}
+use Rattle.std.proofs.Common.{arith, append_assoc}
 use Rattle.std.proofs.lemmas.Bool.{cases_lt}
 use Rattle.std.proofs.lemmas.List.{append-nil, length-append}
 use Rattle.std.specs.List.{AllByRecursion}
@@ -77,11 +78,19 @@ full_cut_of : (limit : ℕ) → 4 ≤ limit → (cs : List (List ℕ)) → AllBy
 full_cut_of limit four [] all = ([], record { cut = record { whole = refl; each = tt }; nonempty = tt; filled = tt })
 full_cut_of limit four (c ∷ cs) all =
     let n = character_length c all.0 in
-    let f = filling limit four c (character_is_text c all.0, omega arith) (omega arith) cs all.1 in
-    (f.first ∷ f.others, record { cut = record { whole = f.whole; each = f.each }; nonempty = f.nonempty; filled = f.filled })
+    let f = filling limit four c (character_is_text c all.0, omega arith) (omega arith) cs all.1 in (
+      f.first ∷ f.others,
+      record {
+        cut = record { whole = f.whole; each = f.each };
+        nonempty = f.nonempty;
+        filled =
+            f.filled;
+      },
+    )
 
 -- a text has a full cut for each limit that the longest character fits
-pub full_cut : (text : List ℕ) (limit : ℕ) → IsCharacters text → 4 ≤ limit → (members : List (List ℕ)) × IsFullCut text limit members
+pub full_cut : (text : List ℕ) (limit : ℕ) → IsCharacters text → 4 ≤ limit → (members : List (List ℕ))
+    × IsFullCut text limit members
 full_cut text limit u four =
     let f = full_cut_of limit four u.characters u.each in
     (f.0, subst (λ (z : List ℕ). IsFullCut z limit f.0) (sym u.whole) f.1)

@@ -1,5 +1,6 @@
 -- Where the last character of some bytes ends: behind the longest front that is text, and at most three bytes back.
-use Rattle.std.proofs.Common.{◌≡◌, ℕ, zero, suc, ◌+◌, ◌-◌, ◌<◌, ◌≤◌, ◌⊎◌, List, length, take, drop, get_or, refl, sym, ap, ◌∙◌, subst, inl, inr, arith}
+use Rattle.std.proofs.Common.{◌≡◌, ℕ, zero, suc, ◌+◌, ◌-◌, ◌<◌, ◌≤◌, ◌⊎◌, List, length, take, drop, get_or, refl, sym}
+use Rattle.std.proofs.Common.{ap, ◌∙◌, subst, inl, inr, arith}
 use Rattle.std.proofs.lemmas.Bool.{cases_lt}
 use Rattle.std.proofs.lemmas.List.{take_all, take-take, take-append-drop, length-take-le}
 use Rattle.ciborium_ll_text.specs.declared.state.State.{State}
@@ -7,7 +8,9 @@ use Rattle.ciborium_ll_text.specs.declared.state.State.TheVariants as s
 use Rattle.ciborium_ll_text.specs.States.{after_first, after_next, after_byte, after, IsLastEnd}
 use Rattle.ciborium_ll_text.specs.Text.{IsStuck, IsFront}
 use Rattle.ciborium_ll_text.proofs.TextLaws.{front_at}
-use Rattle.ciborium_ll_text.proofs.StateLaws.{First, ascii, two, e0, three_low, ed, three_high, f0, four, f4, none, first_view, Next, inside, outside, next_view, after-run, after-rest, text_ends, text_from}
+use Rattle.ciborium_ll_text.proofs.StateLaws.{First, ascii, two, e0, three_low, ed, three_high, f0, four, f4, none}
+use Rattle.ciborium_ll_text.proofs.StateLaws.{first_view, Next, inside, outside, next_view, after-run, after-rest}
+use Rattle.ciborium_ll_text.proofs.StateLaws.{text_ends, text_from}
 
 -- ---- where the last character ends
 

@@ -1,5 +1,6 @@
 -- Fronts and rests of lists, and empty ones.
-use Rattle.std.proofs.Common.{◌≡◌, ℕ, ◌+◌, ◌-◌, ◌≤◌, min, List, [], ◌∷◌, ◌++◌, length, take, drop, refl, sym, ap, ◌∙◌, arith}
+use Rattle.std.proofs.Common.{◌≡◌, ℕ, ◌+◌, ◌-◌, ◌≤◌, min, List, [], ◌∷◌, ◌++◌, length, take, drop, refl, sym, ap, ◌∙◌}
+use Rattle.std.proofs.Common.{arith}
 use Rattle.std.proofs.Math.Seq.{take-append_seam, take-append-add}
 
 -- two fronts of a list that are as long as each other are the same, and so are the rests
@@ -15,7 +16,8 @@ same_front (x ∷ a) (y ∷ b) v v' l e =
     (cc (heads, ab), h.1)
 
 -- the shorter of two fronts of a list begins the longer
-pub front_of_front : (a b r s : List ℕ) → a ++ r ≡ b ++ s → length a ≤ length b → (m : List ℕ) × (b ≡ a ++ m) × (r ≡ m ++ s)
+pub front_of_front : (a b r s : List ℕ) → a ++ r ≡ b ++ s → length a ≤ length b → (m : List ℕ) × (b ≡ a ++ m)
+    × (r ≡ m ++ s)
 front_of_front [] b r s e l = (b, refl, e)
 front_of_front (x ∷ a) [] r s e l = absurd (omega arith)
 front_of_front (x ∷ a) (y ∷ b) r s e l =
@@ -33,14 +35,17 @@ length_zero (byte ∷ bytes) e = absurd (omega arith)
 -- a first byte is counted where there is one
 pub first_counted : (rest : List ℕ) → drop (min 1 (length rest)) rest ≡ drop 1 rest
 first_counted [] = refl
-first_counted (b ∷ rest) = let one : min 1 (length (b ∷ rest)) ≡ 1 = omega arith in ap (λ (n : ℕ). drop n (b ∷ rest)) one
+first_counted (b ∷ rest) = let one : min 1 (length (b ∷ rest)) ≡ 1 = omega arith in
+    ap (λ (n : ℕ). drop n (b ∷ rest)) one
 
 -- a list as long as the front asked for is that front
 pub front_of : (len : ℕ) (rest read more : List ℕ) → rest ≡ read ++ more → length read ≡ len → take len rest ≡ read
-front_of len rest read more e l = ap (take len) e ∙ ap (λ (n : ℕ). take n (read ++ more)) (sym l) ∙ take-append_seam read more
+front_of len rest read more e l = ap (take len) e ∙ ap (λ (n : ℕ). take n (read ++ more)) (sym l)
+    ∙ take-append_seam read more
 
 -- a front that goes on behind what was read
-pub front_behind : (len : ℕ) (rest read more : List ℕ) → rest ≡ read ++ more → length read ≤ len → take len rest ≡ read ++ take (len - length read) more
+pub front_behind : (len : ℕ) (rest read more : List ℕ) → rest ≡ read ++ more → length read ≤ len → take len rest
+    ≡ read ++ take (len - length read) more
 front_behind len rest read more e l =
     let sum : len ≡ length read + (len - length read) = omega (arith, l) in
     ap (take len) e ∙ ap (λ (n : ℕ). take n (read ++ more)) sum ∙ take-append-add read more (len - length read)

@@ -1,5 +1,6 @@
 -- The states of a text: the state behind each byte, and that a list is text just where it ends between two characters.
-use Rattle.std.proofs.Common.{◌≡◌, ℕ, zero, suc, ◌+◌, ◌-◌, ◌<◌, ◌≤◌, ◌⊎◌, true, false, List, [], ◌∷◌, ◌++◌, length, take, drop, get_or, refl, sym, ap, ◌∙◌, subst, inl, inr, arith, le-leb}
+use Rattle.std.proofs.Common.{◌≡◌, ℕ, zero, suc, ◌+◌, ◌-◌, ◌<◌, ◌≤◌, ◌⊎◌, true, false, List, [], ◌∷◌, ◌++◌, length}
+use Rattle.std.proofs.Common.{take, drop, get_or, refl, sym, ap, ◌∙◌, subst, inl, inr, arith, le-leb}
 use Rattle.std.proofs.lemmas.Bool.{cases_lt, lt-leb}
 use Rattle.std.proofs.lemmas.List.{take_more, take-append-drop, take_rest}
 use Rattle.std.proofs.lemmas.Str.{IsUtf8-from_ascii}
@@ -8,7 +9,8 @@ use Rattle.std.specs.List.{AllByRecursion}
 use Rattle.ciborium_ll_text.specs.declared.state.State.{State}
 use Rattle.ciborium_ll_text.specs.declared.state.State.TheVariants as s
 use Rattle.ciborium_ll_text.specs.States.{is_from, after_first, after_next, after_byte, after}
-use Rattle.ciborium_ll_text.specs.Text.{IsFrom, IsTail, IsCharacter, row1, row2, row3, row4, row5, row6, row7, row8, row9, joined, IsCharacters}
+use Rattle.ciborium_ll_text.specs.Text.{IsFrom, IsTail, IsCharacter, row1, row2, row3, row4, row5, row6, row7, row8}
+use Rattle.ciborium_ll_text.specs.Text.{row9, joined, IsCharacters}
 use Rattle.ciborium_ll_text.proofs.Utf8Laws.{from_std}
 use Rattle.ciborium_ll_text.proofs.TextLaws.{IsCharacters-append, IsCharacters-nil, character_is_text}
 
@@ -62,10 +64,12 @@ first_view a =
             ) (none {a = a} (inl q))
             | inr q ↦ (
                 elim (cases_lt a 0xe0) [
-                  | inl q1 ↦ rw (from_in 0xc2 0xdf a (omega arith, omega arith)) (two {a = a} (omega arith, omega arith))
+                  | inl q1 ↦ rw (from_in 0xc2 0xdf a (omega arith, omega arith))
+                      (two {a = a} (omega arith, omega arith))
                   | inr q1 ↦ rw (from_out 0xc2 0xdf a (inr (omega arith))) (
                       elim (cases_lt a 0xe1) [
-                        | inl q2 ↦ rw (from_in 0xe0 0xe0 a (omega arith, omega arith)) (e0 {a = a} (omega arith, omega arith))
+                        | inl q2 ↦ rw (from_in 0xe0 0xe0 a (omega arith, omega arith))
+                            (e0 {a = a} (omega arith, omega arith))
                         | inr q2 ↦ rw (from_out 0xe0 0xe0 a (inr (omega arith))) (
                             elim (cases_lt a 0xed) [
                               | inl q3 ↦ rw (from_in 0xe1 0xec a (omega arith, omega arith))
@@ -88,7 +92,11 @@ first_view a =
                                                           (four {a = a} (omega arith, omega arith))
                                                       | inr q7 ↦ rw (from_out 0xf1 0xf3 a (inr (omega arith))) (
                                                           elim (cases_lt a 0xf5) [
-                                                            | inl q8 ↦ rw (from_in 0xf4 0xf4 a (omega arith, omega arith))
+                                                            | inl q8 ↦ rw (from_in 0xf4 0xf4 a (
+                                                              omega arith,
+                                                              omega
+                                                                  arith,
+                                                            ))
                                                                 (f4 {a = a} (omega arith, omega arith))
                                                             | inr q8 ↦ rw (from_out 0xf4 0xf4 a (inr (omega arith)))
                                                                 (none {a = a} (inr (omega arith)))

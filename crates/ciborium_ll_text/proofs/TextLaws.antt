@@ -1,12 +1,14 @@
 -- Texts joined and parted, and the longest beginning of a list that is text.
-use Rattle.std.proofs.Common.{◌≡◌, ℕ, zero, suc, ◌<◌, ◌≤◌, List, [], ◌∷◌, ◌++◌, length, take, drop, refl, sym, ap, ◌∙◌, subst, inl, inr, arith, append_assoc}
+use Rattle.std.proofs.Common.{◌≡◌, ℕ, zero, suc, ◌<◌, ◌≤◌, List, [], ◌∷◌, ◌++◌, length, take, drop, refl, sym, ap}
+use Rattle.std.proofs.Common.{◌∙◌, subst, inl, inr, arith, append_assoc}
 use Rattle.std.proofs.lemmas.Bool.{cases_lt}
 use Rattle.std.proofs.lemmas.Str.{IsUtf8-append, IsUtf8-past_char}
 use Rattle.std.proofs.lemmas.List.{append-nil, length-append, take-append-drop, length-take, take_at}
 use Rattle.std.specs.Str.{IsUtf8, IsValidUpTo}
 use Rattle.std.specs.List.{AllByRecursion}
 use Rattle.std.proofs.Math.Utf8.{encode, encodes}
-use Rattle.ciborium_ll_text.specs.Text.{IsCharacter, row1, row2, row3, row4, row5, row6, row7, row8, row9, joined, IsCharacters, IsFront}
+use Rattle.ciborium_ll_text.specs.Text.{IsCharacter, row1, row2, row3, row4, row5, row6, row7, row8, row9, joined}
+use Rattle.ciborium_ll_text.specs.Text.{IsCharacters, IsFront}
 use Rattle.ciborium_ll_text.proofs.Lists.{same_front, front_of_front}
 use Rattle.ciborium_ll_text.proofs.Utf8Laws.{to_std, from_std, text_or_none}
 
@@ -17,7 +19,8 @@ IsCharacters-append a b p q = from_std (a ++ b) (IsUtf8-append a b (to_std a p) 
 -- what follows whole characters of std in a text is a text
 past : (cs : List ℕ) (b : List ℕ) → IsUtf8 (encodes cs ++ b) → IsUtf8 b
 past [] b u = u
-past (c ∷ cs) b u = past cs b (IsUtf8-past_char (encodes (c ∷ cs) ++ b) (encodes cs ++ b) c u (append_assoc (encode c) (encodes cs) b))
+past (c ∷ cs) b u = past cs b (IsUtf8-past_char (encodes (c ∷ cs) ++ b) (encodes cs ++ b) c u
+    (append_assoc (encode c) (encodes cs) b))
 
 -- what follows a text in a text is a text
 pub IsCharacters-rest : (a b : List ℕ) → IsCharacters a → IsCharacters (a ++ b) → IsCharacters b
@@ -55,7 +58,8 @@ pub character_is_text : (c : List ℕ) → IsCharacter c → IsCharacters c
 character_is_text c p = record { characters = c ∷ []; each = (p, tt); whole = sym (append-nil c) }
 
 -- more bytes than three behind a front are no beginning of a text
-damned : (x a r y : List ℕ) (cs : List (List ℕ)) → IsFront x a r → 3 < length r → AllByRecursion IsCharacter cs → r ++ y ≡ joined cs → ⊥
+damned : (x a r y : List ℕ) (cs : List (List ℕ)) → IsFront x a r → 3 < length r → AllByRecursion IsCharacter cs
+    → r ++ y ≡ joined cs → ⊥
 damned x a r y [] f l all e = let n = ap length e in omega (arith, length-append r y)
 damned x a r y (c ∷ cs) f l all e =
     let k = character_length c all.0 in
@@ -67,12 +71,14 @@ damned x a r y (c ∷ cs) f l all e =
 -- more than three bytes that no character begins: no text begins with the list
 pub no_text_begins : (x a r y : List ℕ) → IsFront x a r → 3 < length r → IsCharacters (x ++ y) → ⊥
 no_text_begins x a r y f l u =
-    let whole : IsCharacters (a ++ (r ++ y)) = subst IsCharacters (ap (λ (z : List ℕ). z ++ y) f.parts ∙ append_assoc a r y) u in
+    let whole : IsCharacters (a ++ (r ++ y)) = subst IsCharacters
+    (ap (λ (z : List ℕ). z ++ y) f.parts ∙ append_assoc a r y) u in
     let rest = IsCharacters-rest a (r ++ y) f.text whole in
     damned x a r y rest.characters f l rest.each rest.whole
 
 -- a text that none of those longer goes on from is the front
-pub front_at : (x : List ℕ) (n : ℕ) → n ≤ length x → IsCharacters (take n x) → ((m : ℕ) → n < m → m ≤ length x → IsCharacters (take m x) → ⊥)
+pub front_at : (x : List ℕ) (n : ℕ) → n ≤ length x → IsCharacters (take n x)
+    → ((m : ℕ) → n < m → m ≤ length x → IsCharacters (take m x) → ⊥)
     → IsFront x (take n x) (drop n x)
 front_at x n l u none =
     record {
@@ -110,7 +116,12 @@ some_front x = front_from (length x) x (omega arith) (λ m k r u. absurd (omega 
 
 -- the front of a text is the whole
 pub front_of_text : (x : List ℕ) → IsCharacters x → IsFront x x []
-front_of_text x u = record { parts = sym (append-nil x); text = u; longest = λ b s e h. omega (arith, length-append b s, ap length e) }
+front_of_text x u = record {
+  parts = sym (append-nil x);
+  text = u;
+  longest =
+      λ b s e h. omega (arith, length-append b s, ap length e);
+}
 
 -- what is kept at a text's end says that it is no text
 pub no_rest_of_text : (x a r : List ℕ) → IsFront x a r → IsCharacters x → r ≡ []

@@ -1,11 +1,13 @@
 -- The texts of Table 3-7 are those of std: a row is what std writes for a character.
-use Rattle.std.proofs.Common.{◌≡◌, ℕ, ◌+◌, ◌-◌, ◌*◌, ◌/◌, ◌<◌, ◌≤◌, ◌⊎◌, true, List, [], ◌∷◌, ◌++◌, refl, sym, ap, ◌∙◌, subst, inl, inr, arith, lt-ltb, le-ltb, le-leb, Bool, false}
+use Rattle.std.proofs.Common.{◌≡◌, ℕ, ◌+◌, ◌-◌, ◌*◌, ◌/◌, ◌<◌, ◌≤◌, ◌⊎◌, true, List, [], ◌∷◌, ◌++◌, refl, sym, ap}
+use Rattle.std.proofs.Common.{◌∙◌, subst, inl, inr, arith, lt-ltb, le-ltb, le-leb, Bool, false}
 use Rattle.std.proofs.lemmas.Bool.{cases_lt, and_parts}
 use Rattle.std.proofs.Math.Utf8.{scalar, scalars, encode, encodes, next, low_scalar, scalar_cases}
 use Rattle.std.specs.Str.{IsUtf8, is_utf8}
 use Rattle.std.proofs.lemmas.Str.{IsUtf8-from_is_utf8, is_utf8-from_IsUtf8}
 use Rattle.std.specs.List.{AllByRecursion}
-use Rattle.ciborium_ll_text.specs.Text.{IsFrom, IsTail, IsCharacter, row1, row2, row3, row4, row5, row6, row7, row8, row9, joined, IsCharacters}
+use Rattle.ciborium_ll_text.specs.Text.{IsFrom, IsTail, IsCharacter, row1, row2, row3, row4, row5, row6, row7, row8}
+use Rattle.ciborium_ll_text.specs.Text.{row9, joined, IsCharacters}
 
 -- ---- what std writes for a character
 
@@ -66,16 +68,19 @@ abbrev four : ℕ → ℕ → ℕ → ℕ → ℕ
 four a b c d = (a - 240) * 262144 + ((b - 128) * 4096 + ((c - 128) * 64 + (d - 128)))
 
 -- three bytes are what is written for their number
-written_3 : (a b c : ℕ) → IsFrom 0xe0 0xef a → IsTail b → IsTail c → 2048 ≤ three a b c → encode (three a b c) ≡ a ∷ b ∷ c ∷ []
+written_3 : (a b c : ℕ) → IsFrom 0xe0 0xef a → IsTail b → IsTail c → 2048 ≤ three a b c → encode (three a b c)
+    ≡ a ∷ b ∷ c ∷ []
 written_3 a b c p q r l =
-    encode_3 (three a b c) l (omega arith) ∙ same_3 (224 + three a b c / 4096) (next (three a b c / 64)) (next (three a b c)) a b c
+    encode_3 (three a b c) l (omega arith) ∙ same_3 (224 + three a b c / 4096) (next (three a b c / 64))
+    (next (three a b c)) a b c
     (omega arith) (omega arith) (omega arith)
 
 -- four bytes are what is written for their number
 written_4 : (a b c d : ℕ) → IsFrom 0xf0 0xf4 a → IsTail b → IsTail c → IsTail d → 65536 ≤ four a b c d
     → encode (four a b c d) ≡ a ∷ b ∷ c ∷ d ∷ []
 written_4 a b c d p q r s l =
-    encode_4 (four a b c d) l ∙ same_4 (240 + four a b c d / 262144) (next (four a b c d / 4096)) (next (four a b c d / 64))
+    encode_4 (four a b c d) l ∙ same_4 (240 + four a b c d / 262144) (next (four a b c d / 4096))
+    (next (four a b c d / 64))
     (next (four a b c d)) a b c d (omega arith) (omega arith) (omega arith) (omega arith)
 
 -- each row is written for a character
@@ -84,7 +89,8 @@ written bytes (row1 {a} p) = record { char = a; ok = low_scalar a (omega arith);
 written bytes (row2 {a} {b} p q) = record {
   char = two a b;
   ok = low_scalar (two a b) (omega arith);
-  is = encode_2 (two a b) (omega arith) (omega arith) ∙ same_2 (192 + two a b / 64) (next (two a b)) a b (omega arith) (omega arith);
+  is = encode_2 (two a b) (omega arith) (omega arith) ∙ same_2 (192 + two a b / 64) (next (two a b)) a b
+      (omega arith) (omega arith);
 }
 written bytes (row3 {a} {b} {c} p q r) =
     record {
@@ -147,7 +153,8 @@ is_2 : (c : ℕ) → 128 ≤ c → c < 2048 → IsCharacter ((192 + c / 64) ∷ 
 is_2 c p q = row2 (omega arith, omega arith) (tail_of c)
 
 -- three bytes are a character of the third to the sixth row
-is_3 : (c : ℕ) → 2048 ≤ c → c < 65536 → (c < 55296) ⊎ (57344 ≤ c) → IsCharacter ((224 + c / 4096) ∷ next (c / 64) ∷ next c ∷ [])
+is_3 : (c : ℕ) → 2048 ≤ c → c < 65536 → (c < 55296) ⊎ (57344 ≤ c)
+    → IsCharacter ((224 + c / 4096) ∷ next (c / 64) ∷ next c ∷ [])
 is_3 c p q s =
     elim (cases_lt c 4096) [
       | inl l ↦ row3 (omega arith, omega arith) (omega arith, omega arith) (tail_of c)
@@ -161,7 +168,8 @@ is_3 c p q s =
     ]
 
 -- four bytes are a character of the seventh to the ninth row
-is_4 : (c : ℕ) → 65536 ≤ c → c < 1114112 → IsCharacter ((240 + c / 262144) ∷ next (c / 4096) ∷ next (c / 64) ∷ next c ∷ [])
+is_4 : (c : ℕ) → 65536 ≤ c → c < 1114112 → IsCharacter
+    ((240 + c / 262144) ∷ next (c / 4096) ∷ next (c / 64) ∷ next c ∷ [])
 is_4 c p q =
     elim (cases_lt c 262144) [
       | inl l ↦ row7 (omega arith, omega arith) (omega arith, omega arith) (tail_of (c / 64)) (tail_of c)
@@ -200,7 +208,8 @@ all_written (x ∷ xs) each =
     let w = written x each.0 in
     let u = all_written xs each.1 in
     let ok : scalars (w.char ∷ u.0) ≡ true = rw (w.ok, u.1.0) refl in
-    let is : encodes (w.char ∷ u.0) ≡ x ++ joined xs = ap (λ (z : List ℕ). z ++ encodes u.0) w.is ∙ ap (λ (z : List ℕ). x ++ z) u.1.1 in
+    let is : encodes (w.char ∷ u.0) ≡ x ++ joined xs = ap (λ (z : List ℕ). z ++ encodes u.0) w.is
+    ∙ ap (λ (z : List ℕ). x ++ z) u.1.1 in
     (w.char ∷ u.0, (ok, is))
 
 -- what std writes for characters are characters, joined
@@ -209,7 +218,12 @@ all_characters [] s = record { characters = []; each = tt; whole = refl }
 all_characters (c ∷ cs) s =
     let p = and_parts (scalar c) (scalars cs) s in
     let u = all_characters cs p.1 in
-    record { characters = encode c ∷ u.characters; each = (is_character c p.0, u.each); whole = ap (λ (z : List ℕ). encode c ++ z) u.whole }
+    record {
+      characters = encode c ∷ u.characters;
+      each = (is_character c p.0, u.each);
+      whole =
+          ap (λ (z : List ℕ). encode c ++ z) u.whole;
+    }
 
 -- a text is UTF-8 for std
 pub to_std : (t : List ℕ) → IsCharacters t → IsUtf8 t

@@ -1,5 +1,6 @@
 -- A text by windows: each byte may follow the three before it.
-use Rattle.std.proofs.Common.{◌≡◌, ℕ, zero, suc, ◌+◌, ◌-◌, ◌<◌, ◌≤◌, ◌⊎◌, List, length, take, get_or, refl, sym, ap, ◌∙◌, subst, inl, inr, arith, lt-ltb, le-ltb, le-leb, ne_eqb}
+use Rattle.std.proofs.Common.{◌≡◌, ℕ, zero, suc, ◌+◌, ◌-◌, ◌<◌, ◌≤◌, ◌⊎◌, List, length, take, get_or, refl, sym, ap}
+use Rattle.std.proofs.Common.{◌∙◌, subst, inl, inr, arith, lt-ltb, le-ltb, le-leb, ne_eqb}
 use Rattle.std.proofs.lemmas.Bool.{cases_lt, lt-leb}
 use Rattle.std.proofs.lemmas.List.{take_all}
 use Rattle.simdutf8.specs.Steps.{Step, first, second, later, least_after, most_after}
@@ -7,7 +8,8 @@ use Rattle.ciborium_ll_text.specs.declared.state.State.{State}
 use Rattle.ciborium_ll_text.specs.declared.state.State.TheVariants as s
 use Rattle.ciborium_ll_text.specs.States.{after_first, after_byte, after}
 use Rattle.ciborium_ll_text.specs.Windows.{MayFollow, after_window}
-use Rattle.ciborium_ll_text.proofs.StateLaws.{First, ascii, two, e0, three_low, ed, three_high, f0, four, f4, none, first_view, first_is, next_in, after-run}
+use Rattle.ciborium_ll_text.proofs.StateLaws.{First, ascii, two, e0, three_low, ed, three_high, f0, four, f4, none}
+use Rattle.ciborium_ll_text.proofs.StateLaws.{first_view, first_is, next_in, after-run}
 
 -- ---- the state behind a window, by cases
 

@@ -26,7 +26,8 @@ after_first byte =
 unfoldable pub after_next : ℕ → ℕ → State → ℕ → State
 after_next lowest highest state byte = if is_from lowest highest byte then state else s.Damaged
 
--- the state behind one more byte, by the further columns of the table: only the second byte's range depends on the first
+-- the state behind one more byte, by the further columns of the table: only the second byte's range depends on the
+-- first
 abbrev pub after_byte : State → ℕ → State
 after_byte s.Between byte = after_first byte
 after_byte s.OneDue byte = after_next 0x80 0xbf s.Between byte

@@ -18,9 +18,11 @@ pub data IsCharacter : List ℕ → Type 0 where
   row4 : {a b c : ℕ} → IsFrom 0xe1 0xec a → IsTail b → IsTail c → IsCharacter (a ∷ b ∷ c ∷ [])
   row5 : {a b c : ℕ} → IsFrom 0xed 0xed a → IsFrom 0x80 0x9f b → IsTail c → IsCharacter (a ∷ b ∷ c ∷ [])
   row6 : {a b c : ℕ} → IsFrom 0xee 0xef a → IsTail b → IsTail c → IsCharacter (a ∷ b ∷ c ∷ [])
-  row7 : {a b c d : ℕ} → IsFrom 0xf0 0xf0 a → IsFrom 0x90 0xbf b → IsTail c → IsTail d → IsCharacter (a ∷ b ∷ c ∷ d ∷ [])
+  row7 : {a b c d : ℕ} → IsFrom 0xf0 0xf0 a → IsFrom 0x90 0xbf b → IsTail c → IsTail d
+      → IsCharacter (a ∷ b ∷ c ∷ d ∷ [])
   row8 : {a b c d : ℕ} → IsFrom 0xf1 0xf3 a → IsTail b → IsTail c → IsTail d → IsCharacter (a ∷ b ∷ c ∷ d ∷ [])
-  row9 : {a b c d : ℕ} → IsFrom 0xf4 0xf4 a → IsFrom 0x80 0x8f b → IsTail c → IsTail d → IsCharacter (a ∷ b ∷ c ∷ d ∷ [])
+  row9 : {a b c d : ℕ} → IsFrom 0xf4 0xf4 a → IsFrom 0x80 0x8f b → IsTail c → IsTail d
+      → IsCharacter (a ∷ b ∷ c ∷ d ∷ [])
 
 -- the lists joined
 abbrev pub joined : List (List ℕ) → List ℕ

@@ -1,8 +1,8 @@
 //! Sixteen bytes at once: whether each may follow the three before it as in a text (Unicode, Table 3-7).
 //!
 //! Three tables of sixteen tell by the halves of a byte and of the one before it which faults the two may have: a fault
-//! has one bit, and the two have it where all three tables have its bit. The highest bit is of no fault alone: it is set
-//! where a byte from 80 to bf follows another one, and has to be set just where a third or fourth byte is due.
+//! has one bit, and the two have it where all three tables have its bit. The highest bit is of no fault alone: it is
+//! set where a byte from 80 to bf follows another one, and has to be set just where a third or fourth byte is due.
 
 ghost use Rattle.std.specs.Prelude.{◌≡◌, ℕ, ◌+◌, ◌-◌, ◌<◌, ◌≤◌, IsTrue, length, map, slice_index};
 ghost use Rattle.simdutf8.specs.Tables.{first_high, first_low, second_high};

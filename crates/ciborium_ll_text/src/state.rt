@@ -70,8 +70,8 @@ impl State {
         behind_window(bytes[len - 3], bytes[len - 2], bytes[len - 1])
     }
 
-    /// Where the last character of the bytes ends. `behind` is the state behind them, and this one that behind the first
-    /// `kept` of them, in which no character ends.
+    /// Where the last character of the bytes ends. `behind` is the state behind them, and this one that behind the
+    /// first `kept` of them, in which no character ends.
     #[inline(always)]
     fn front_len(self, bytes: &[u8], kept: usize, behind: State) -> usize
         requires within { kept ≤ length bytes.now }
@@ -125,8 +125,8 @@ impl State {
     }
 }
 
-/// The state behind the last three bytes of some that follow one another as in a text: the last of the three that begins
-/// a character tells it.
+/// The state behind the last three bytes of some that follow one another as in a text: the last of the three that
+/// begins a character tells it.
 #[inline(always)]
 #[tactic(auto, unfolding(crate::specs::Windows::after_window))]
 fn behind_window(x: u8, y: u8, z: u8) -> State

@@ -1,5 +1,6 @@
 -- A map written pair by pair.
-use Rattle.std.proofs.Common.{◌≡◌, ℕ, List, [], ◌∷◌, length, Option, Some, None, Result, Ok, IsErr, refl, sym, subst, arith, append-nil}
+use Rattle.std.proofs.Common.{◌≡◌, ℕ, List, [], ◌∷◌, length, Option, Some, None, Result, Ok, IsErr, refl, sym, subst}
+use Rattle.std.proofs.Common.{arith, append-nil}
 use Rattle.std.proofs.KnownBytes.{Appends-nil}
 use Rattle.ciborium_ll.specs.Types.Write.{Ghosts}
 use Rattle.ciborium_ll.specs.Types.Header.TheVariants as h
@@ -40,7 +41,8 @@ module _ {W F : Type 0} (sink : Ghosts W F) where
       → WritesAll sink old (shortest_title (h.Map (Some (length entries)))) now → Midway entries entries old now
   midway_first entries old now wrote = record {
     goes_on = λ result new w.
-        WritesBytes-then sink old now new result (shortest_title (h.Map (Some (length entries)))) (entries_bytes entries)
+        WritesBytes-then sink old now new result (shortest_title (h.Map (Some (length entries))))
+        (entries_bytes entries)
         wrote w;
   }
 
@@ -72,4 +74,5 @@ module _ {W F : Type 0} (sink : Ghosts W F) where
         room = Shrinks-nothing (sink.room now);
         failures = refl;
       } in
-      m.goes_on (Ok (tt {0})) now (subst (λ (z : List Entry). WritesAll sink now (entries_bytes z) now) (sym none) nothing)
+      m.goes_on (Ok (tt {0})) now (subst (λ (z : List Entry). WritesAll sink now (entries_bytes z) now) (sym none)
+      nothing)

@@ -1,9 +1,11 @@
 -- An item in its shortest spelling, element by element.
-use Rattle.std.proofs.Common.{◌≡◌, ℕ, suc, ◌<◌, List, [], ◌∷◌, ◌++◌, length, take, drop, ◌-◌, None, Some, refl, sym, ap, subst, ◌∙◌, arith, append_assoc, append-nil, length-append, length-drop}
+use Rattle.std.proofs.Common.{◌≡◌, ℕ, suc, ◌<◌, List, [], ◌∷◌, ◌++◌, length, take, drop, ◌-◌, None, Some, refl, sym}
+use Rattle.std.proofs.Common.{ap, subst, ◌∙◌, arith, append_assoc, append-nil, length-append, length-drop}
 use Rattle.std.proofs.lemmas.List.{length-take, take-append-drop}
 use Rattle.std.proofs.Math.Seq.{take-append_seam, take-length}
 use Rattle.std.specs.List.{AllByRecursion}
-use Rattle.ciborium_ll.specs.Elements.{Mark, IsElement, plain, definite, indefinite, IsRun, done, next, IsMeant, spelling}
+use Rattle.ciborium_ll.specs.Elements.{Mark, IsElement, plain, definite, indefinite, IsRun, done, next, IsMeant}
+use Rattle.ciborium_ll.specs.Elements.{spelling}
 use Rattle.ciborium_ll.specs.StrictRecoding.{IsStrictRun, StrictRunInFront}
 use Rattle.ciborium_ll.proofs.ElementLaws.{element_again, one_element, spelling-append}
 use Rattle.ciborium_ll.proofs.ItemLaws.{one_item}
@@ -24,7 +26,8 @@ all_right : {X : Type 0} (P : X → Type 0) (xs ys : List X) → AllByRecursion 
 all_right P [] ys all = all
 all_right P (x ∷ xs) ys all = all_right P xs ys all.1
 
-all_both : {X : Type 0} (P : X → Type 0) (xs ys : List X) → AllByRecursion P xs → AllByRecursion P ys → AllByRecursion P (xs ++ ys)
+all_both : {X : Type 0} (P : X → Type 0) (xs ys : List X) → AllByRecursion P xs → AllByRecursion P ys
+    → AllByRecursion P (xs ++ ys)
 all_both P [] ys first second = second
 all_both P (x ∷ xs) ys first second = (first.0, all_both P xs ys first.1 second)
 
@@ -41,14 +44,17 @@ record IsOne (bytes : List ℕ) (marks : List Mark) : Type 0 where
 
 of_one : (bytes : List ℕ) (marks : List Mark) → IsRun 1 bytes marks → IsElement bytes marks
 of_one bytes marks (next {first = x} {marks = ns} e done) =
-    subst (λ (z : List Mark). IsElement (x ++ []) z) (sym (append-nil ns)) (subst (λ (z : List ℕ). IsElement z ns) (sym (append-nil x)) e)
+    subst (λ (z : List Mark). IsElement (x ++ []) z) (sym (append-nil ns))
+    (subst (λ (z : List ℕ). IsElement z ns) (sym (append-nil x)) e)
 
 -- one element more
-pub strict_more : (count : ℕ) (run element : List ℕ) (marks others : List Mark) → IsStrictRun count run marks → IsStrictRun 1 element others
+pub strict_more : (count : ℕ) (run element : List ℕ) (marks others : List Mark) → IsStrictRun count run marks
+    → IsStrictRun 1 element others
     → IsStrictRun (suc count) (run ++ element) (marks ++ others)
 strict_more count run element marks others first second = record {
   run = add_element count run marks first.run element others (of_one element others second.run);
-  same = ap (λ (z : List ℕ). z ++ element) first.same ∙ ap (λ (z : List ℕ). spelling marks ++ z) second.same ∙ sym (spelling-append marks others);
+  same = ap (λ (z : List ℕ). z ++ element) first.same ∙ ap (λ (z : List ℕ). spelling marks ++ z) second.same
+      ∙ sym (spelling-append marks others);
   meant = all_both IsMeant marks others first.meant second.meant;
 }
 
@@ -63,7 +69,8 @@ record Parts (bytes : List ℕ) : Type 0 where
   pub behind : IsStrictRun count rest others
   pub whole : bytes ≡ element ++ rest
 
-parts : (count : ℕ) (bytes : List ℕ) (marks : List Mark) → IsRun count bytes marks → bytes ≡ spelling marks → AllByRecursion IsMeant marks
+parts : (count : ℕ) (bytes : List ℕ) (marks : List Mark) → IsRun count bytes marks → bytes ≡ spelling marks
+    → AllByRecursion IsMeant marks
     → 0 < length bytes → Parts bytes
 parts count bytes marks done same meant some = absurd (omega (arith, some))
 parts count bytes marks (next {count = n} {first = x} {rest = y} {marks = ns} {others = os} e run) same meant some =
@@ -81,15 +88,18 @@ parts count bytes marks (next {count = n} {first = x} {rest = y} {marks = ns} {o
     }
 
 -- behind elements in front of a strict run, one of it is next
-pub strict_behind : (front : List ℕ) (marks : List Mark) (seen : ℕ) → IsRun seen front marks → (count : ℕ) (bytes : List ℕ) (all : List Mark)
+pub strict_behind : (front : List ℕ) (marks : List Mark) (seen : ℕ) → IsRun seen front marks
+    → (count : ℕ) (bytes : List ℕ) (all : List Mark)
     → IsStrictRun count bytes all → (rest : List ℕ) → bytes ≡ front ++ rest → 0 < length rest → StrictRunInFront 1 rest
 strict_behind front marks seen done count bytes all strict rest whole some =
     let p = parts count bytes all strict.run strict.same strict.meant (omega (arith, some, ap length whole)) in
     record { elements = p.element; marks = p.marks; rest = p.rest; run = p.strict; is = sym whole ∙ p.whole }
-strict_behind front marks seen (next {count = n} {first = x} {rest = y} {marks = ns} {others = os} e run) count bytes all strict rest whole some =
+strict_behind front marks seen (next {count = n} {first = x} {rest = y} {marks = ns} {others = os} e run) count
+    bytes all strict rest whole some =
     let longer : 0 < length bytes = omega (arith, some, ap length whole, length-append (x ++ y) rest) in
     let p = parts count bytes all strict.run strict.same strict.meant longer in
-    let one = one_element p.element x p.rest (y ++ rest) p.marks ns (of_one p.element p.marks p.strict.run) e (sym p.whole ∙ whole ∙ append_assoc x y rest) in
+    let one = one_element p.element x p.rest (y ++ rest) p.marks ns (of_one p.element p.marks p.strict.run) e
+    (sym p.whole ∙ whole ∙ append_assoc x y rest) in
     strict_behind y os n run p.count p.rest p.others p.behind rest one.2 some
 
 -- ---- the loop
@@ -103,9 +113,17 @@ pub record Spelled (all rest : List ℕ) : Type 0 where
   pub whole : all ≡ front ++ rest
 
 pub spelled_none : (all : List ℕ) → Spelled all all
-spelled_none all = record { front = []; count = 0; marks = []; strict = record { run = done; same = refl; meant = tt }; whole = refl }
+spelled_none all = record {
+  front = [];
+  count = 0;
+  marks = [];
+  strict =
+      record { run = done; same = refl; meant = tt };
+  whole = refl;
+}
 
-pub spelled_more : (all rest element others : List ℕ) (marks : List Mark) → Spelled all rest → IsStrictRun 1 element marks → rest ≡ element ++ others
+pub spelled_more : (all rest element others : List ℕ) (marks : List Mark) → Spelled all rest
+    → IsStrictRun 1 element marks → rest ≡ element ++ others
     → Spelled all others
 spelled_more all rest element others marks so_far one split = record {
   front = so_far.front ++ element;
@@ -118,15 +136,18 @@ spelled_more all rest element others marks so_far one split = record {
 -- the item in front, by the offset behind it
 pub taken : (bytes item behind : List ℕ) (len : ℕ) → bytes ≡ item ++ behind → len ≡ length item → take len bytes ≡ item
 taken bytes item behind len split counted =
-    ap (λ (z : List ℕ). take len z) split ∙ ap (λ (n : ℕ). take n (item ++ behind)) counted ∙ take-append_seam item behind
+    ap (λ (z : List ℕ). take len z) split ∙ ap (λ (n : ℕ). take n (item ++ behind)) counted
+    ∙ take-append_seam item behind
 
 -- all of the item was read
-pub shortest_in_front : (depth : ℕ) (bytes rest : List ℕ) (len : ℕ) (front : ItemInFront depth bytes) → len ≡ length front.item
+pub shortest_in_front : (depth : ℕ) (bytes rest : List ℕ) (len : ℕ) (front : ItemInFront depth bytes) → len
+    ≡ length front.item
     → Spelled (take len bytes) rest → length rest ≡ 0 → ShortestInFront depth bytes len
 shortest_in_front depth bytes rest len front counted so_far none =
     let empty : rest ≡ [] = length_zero rest none in
     let item = taken bytes front.item front.rest len front.is counted in
-    let same : front.item ≡ so_far.front = sym item ∙ so_far.whole ∙ ap (λ (z : List ℕ). so_far.front ++ z) empty ∙ append-nil so_far.front in
+    let same : front.item ≡ so_far.front = sym item ∙ so_far.whole ∙ ap (λ (z : List ℕ). so_far.front ++ z) empty
+    ∙ append-nil so_far.front in
     record {
       item = front.item;
       rest = front.rest;
@@ -141,13 +162,17 @@ shortest_in_front depth bytes rest len front counted so_far none =
     }
 
 -- no element in its shortest spelling is next
-pub no_shortest : (depth : ℕ) (bytes rest : List ℕ) (len : ℕ) (front : ItemInFront depth bytes) → len ≡ length front.item
-    → Spelled (take len bytes) rest → 0 < length rest → (StrictRunInFront 1 rest → ⊥) → (other : ℕ) → ShortestInFront depth bytes other → ⊥
+pub no_shortest : (depth : ℕ) (bytes rest : List ℕ) (len : ℕ) (front : ItemInFront depth bytes) → len
+    ≡ length front.item
+    → Spelled (take len bytes) rest → 0 < length rest → (StrictRunInFront 1 rest → ⊥) → (other : ℕ)
+    → ShortestInFront depth bytes other → ⊥
 no_shortest depth bytes rest len front counted so_far some none other shortest =
     let item = shortest.is_shortest in
-    let same = one_item depth depth shortest.item front.item shortest.rest front.rest item.is_item front.is_item (sym shortest.is ∙ front.is) in
+    let same = one_item depth depth shortest.item front.item shortest.rest front.rest item.is_item front.is_item
+    (sym shortest.is ∙ front.is) in
     let whole = same.0 ∙ sym (taken bytes front.item front.rest len front.is counted) ∙ so_far.whole in
-    none (strict_behind so_far.front so_far.marks so_far.count so_far.strict.run item.count shortest.item item.marks item.strict rest whole some)
+    none (strict_behind so_far.front so_far.marks so_far.count so_far.strict.run item.count shortest.item item.marks
+    item.strict rest whole some)
 
 element_some : (bytes : List ℕ) (marks : List Mark) → IsElement bytes marks → 0 < length bytes
 element_some bytes marks (plain {title = t} header title p) = title_some t header title

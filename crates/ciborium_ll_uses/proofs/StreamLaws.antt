@@ -1,5 +1,6 @@
 -- A copy of a stream, and the flush behind it.
-use Rattle.std.proofs.Common.{◌≡◌, ℕ, zero, suc, ◌+◌, ◌<◌, ◌≤◌, ◌^◌, IsOk, IsTrue, List, length, MatchResult, None, Some, Result, Ok, Err, refl, sym, ap, subst, ◌∙◌, inr, arith}
+use Rattle.std.proofs.Common.{◌≡◌, ℕ, zero, suc, ◌+◌, ◌<◌, ◌≤◌, ◌^◌, IsOk, IsTrue, List, length, MatchResult, None}
+use Rattle.std.proofs.Common.{Some, Result, Ok, Err, refl, sym, ap, subst, ◌∙◌, inr, arith}
 use Rattle.ciborium_ll.specs.Types.Read.{Ghosts as Reader}
 use Rattle.ciborium_ll.specs.Types.Write.{Ghosts as Writer}
 use Rattle.ciborium_ll.specs.Types.Decoder.{Decoder}
@@ -17,7 +18,8 @@ module _ {R E W F : Type 0} (source : Reader R E) (sink : Writer W F) where
       → IsTold source sink decoder writer' due written
   told reader writer writer' decoder due written fresh same ahead output = record {
     mode = fresh.mode;
-    due-told = ap (λ w. behind_waiting w (source.ahead decoder.reader)) fresh.none_waits ∙ ap source.ahead fresh.reader ∙ ahead;
+    due-told = ap (λ w. behind_waiting w (source.ahead decoder.reader)) fresh.none_waits
+        ∙ ap source.ahead fresh.reader ∙ ahead;
     written-told = ap sink.written same ∙ output;
   }
 
@@ -62,7 +64,8 @@ module _ {R E W F : Type 0} (source : Reader R E) (sink : Writer W F) where
       → (sink.flushed writer' last → Normalises source sink count due written reader' last) → RunInFront count due
       → IsNormalised source sink count due written result reader' last
   flushed_answer count due written reader' writer' last (Ok done) answer all front = all answer
-  flushed_answer count due written reader' writer' last (Err (r.Read error)) answer all front = absurd (let e = answer.1 in cc)
+  flushed_answer count due written reader' writer' last (Err (r.Read error)) answer all front =
+      absurd (let e = answer.1 in cc)
   flushed_answer count due written reader' writer' last (Err (r.Write fault)) answer all front = front
 
   pub flushed_ok : (count : ℕ) (due written : List ℕ) (reader' : R) (writer' last : W)

@@ -25,15 +25,21 @@ module _ {R E : Type 0} (source : Ghosts R E) where
   }
 
   -- a title takes a byte
-  pub adds_rises : (total sum : ℤ) (old new : Decoder R) → AddsInteger source total old sum new → old.offset < new.offset
+  pub adds_rises : (total sum : ℤ) (old new : Decoder R) → AddsInteger source total old sum new
+      → old.offset < new.offset
   adds_rises total sum old new adds =
       omega (arith, adds.pulled.offset, title_some adds.pulled.title adds.header adds.pulled.is_title)
 
   -- what is said of the integers is said of the array
   pub opens_array : (len : Option ℕ) (old opened new : Decoder R) (result : Result ℤ (SumError E))
-      → PullsTitle source old (h.Array len) opened → SumsBehind source (h.Array len) opened result new → SumsArray source old result new
-  opens_array len old opened new (Ok total) pulled sums = record { len = len; opened = opened; pulled = pulled; sums = sums }
-  opens_array len old opened new (Err (s.Read error)) pulled sums = inr (record { len = len; opened = opened; pulled = pulled; sums = sums })
+      → PullsTitle source old (h.Array len) opened → SumsBehind source (h.Array len) opened result new
+      → SumsArray source old result new
+  opens_array len old opened new (Ok total) pulled sums = record
+      { len = len; opened = opened; pulled = pulled; sums = sums }
+  opens_array len old opened new (Err (s.Read error)) pulled sums =
+      inr (record { len = len; opened = opened; pulled = pulled; sums = sums })
   opens_array len old opened new (Err (s.NoArray at)) pulled sums = absurd sums.stops
-  opens_array len old opened new (Err (s.NoNumber at)) pulled sums = record { len = len; opened = opened; pulled = pulled; sums = sums }
-  opens_array len old opened new (Err (s.OutOfRange at)) pulled sums = record { len = len; opened = opened; pulled = pulled; sums = sums }
+  opens_array len old opened new (Err (s.NoNumber at)) pulled sums =
+      record { len = len; opened = opened; pulled = pulled; sums = sums }
+  opens_array len old opened new (Err (s.OutOfRange at)) pulled sums =
+      record { len = len; opened = opened; pulled = pulled; sums = sums }

@@ -1,5 +1,6 @@
 -- Bodies that are read into a text.
-use Rattle.std.proofs.Common.{◌≡◌, ℕ, List, [], ◌++◌, Option, None, Some, Result, Ok, Err, IfOk, refl, ap, subst, sym, ◌∙◌, arith, append-nil}
+use Rattle.std.proofs.Common.{◌≡◌, ℕ, List, [], ◌++◌, Option, None, Some, Result, Ok, Err, IfOk, refl, ap, subst, sym}
+use Rattle.std.proofs.Common.{◌∙◌, arith, append-nil}
 use Rattle.ciborium_ll.specs.Types.Read.{Ghosts as Reader}
 use Rattle.ciborium_ll.specs.Types.Write.{Ghosts as Writer}
 use Rattle.ciborium_ll.specs.Types.Decoder.{Decoder}
@@ -17,7 +18,14 @@ use Rattle.ciborium_ll_uses.specs.Texts.{AppendsBody, Gathers, none, GathersAll,
 
 -- a text as a writer that takes all
 abbrev pub onto_text : Writer (List ℕ) (Unit {0})
-onto_text = record { written = λ text. Some text; room = λ text. None; failures = λ text. 0; flushed = λ old new. Unit {0}; target = λ text. None }
+onto_text = record {
+  written = λ text. Some text;
+  room = λ text. None;
+  failures = λ text. 0;
+  flushed =
+      λ old new. Unit {0};
+  target = λ text. None;
+}
 
 pub pushes : (text chunk text' : List ℕ) → text' ≡ text ++ chunk → WritesAll onto_text text chunk text'
 pushes text chunk text' same = record { appended = same; room = tt; failures = refl }
@@ -25,7 +33,8 @@ pushes text chunk text' same = record { appended = same; room = tt; failures = r
 module _ {R E P : Type 0} {parser : Parser P} (source : Reader R E) where
   -- a body was read to its end
   pub body_read : (len place : ℕ) (old : Decoder R) (text : List ℕ) (segment new : Segment R P parser) (text' : List ℕ)
-      → parser.kind ≡ Text → BodySoFar source onto_text len place old text segment text' → SegmentEnds source segment new
+      → parser.kind ≡ Text → BodySoFar source onto_text len place old text segment text'
+      → SegmentEnds source segment new
       → AppendsBody source len old text new.decoder.now text'
   body_read len place old text segment new text' kind so_far ends =
       let same : so_far.read ≡ so_far.front =
@@ -45,8 +54,10 @@ module _ {R E : Type 0} (source : Reader R E) where
   gathers_none progress text empty = subst (λ (z : List ℕ). Gathers source progress z progress) (sym empty) none
 
   -- what the segments are, the text is
-  pub reads_text : {T X : Type 0} (bytes_of : T → List ℕ) (result : Result T X) (len : Option ℕ) (old titled new : Decoder R)
-      → PullsTitle source old (h.Text len) titled → IfOk result (λ text. GathersAll source (p.Open 0) (bytes_of text) new)
+  pub reads_text : {T X : Type 0} (bytes_of : T → List ℕ) (result : Result T X) (len : Option ℕ)
+      (old titled new : Decoder R)
+      → PullsTitle source old (h.Text len) titled → IfOk result
+      (λ text. GathersAll source (p.Open 0) (bytes_of text) new)
       → IfOk result (λ text. ReadsText source old (bytes_of text) new)
   reads_text bytes_of (Ok text) len old titled new pulled gathers =
       record { len = len; titled = titled; pulled = pulled; segments = gathers }

@@ -10,12 +10,18 @@ use Rattle.ciborium_ll.proofs.NestLaws.{title_some}
 use Rattle.cbor_skip.specs.Due.{IsNest}
 use Rattle.cbor_skip.specs.Remaining.{is_done, closes}
 use Rattle.cbor_skip.specs.Skipping.{ReadsItem}
-use Rattle.cbor_skip.proofs.ItemSteps.{reads_plain, reads_string, reads_nest, stops_here, pull_stops, stops_nest, none_read, one_more, stops_within, ended, closed}
-use Rattle.cbor_skip.proofs.+skip_within.Goals.{in-Positive, in-Bytes+in_default, in-Text+in_default-skip_text, in-Tag+else-depth-eq0+in_ok-skip_within-in-Tag}
+use Rattle.cbor_skip.proofs.ItemSteps.{reads_plain, reads_string, reads_nest, stops_here, pull_stops, stops_nest}
+use Rattle.cbor_skip.proofs.ItemSteps.{none_read, one_more, stops_within, ended, closed}
+use Rattle.cbor_skip.proofs.+skip_within.Goals.{in-Positive, in-Bytes+in_default, in-Text+in_default-skip_text}
+use Rattle.cbor_skip.proofs.+skip_within.Goals.{in-Tag+else-depth-eq0+in_ok-skip_within-in-Tag}
 use Rattle.cbor_skip.proofs.+skip_within.Goals as goal
 
 pub items-init : goal.items-init
-items-init g t c = record { so_far = none_read g.R.Read c.behind-remaining.ensures; moves_on = MovesOn-none g.R.Read c.args.decoder.now }
+items-init g t c = record {
+  so_far = none_read g.R.Read c.behind-remaining.ensures;
+  moves_on =
+      MovesOn-none g.R.Read c.args.decoder.now;
+}
 
 -- ---- the ends
 
@@ -137,8 +143,10 @@ items-preserved g t c =
     let still : MovesOn g.R.Read c.items.decoder c.match-next.decoder = elim c.match-next.branch [
       | in-Positive w ↦ rw w.decoder-is first
       | in-Bytes+in_default w ↦ rw w.decoder-is (MovesOn-then g.R.Read _ _ _ first w.skip_bytes.ensures.moves_on)
-      | in-Text+in_default-skip_text w ↦ rw w.decoder-is (MovesOn-then g.R.Read _ _ _ first w.skip_text.ensures.moves_on)
-      | in-Tag+else-depth-eq0+in_ok-skip_within-in-Tag w ↦ rw w.decoder-is (MovesOn-then g.R.Read _ _ _ first w.skip_within.ensures.moves_on)
+      | in-Text+in_default-skip_text w ↦ rw w.decoder-is
+          (MovesOn-then g.R.Read _ _ _ first w.skip_text.ensures.moves_on)
+      | in-Tag+else-depth-eq0+in_ok-skip_within-in-Tag w ↦ rw w.decoder-is
+          (MovesOn-then g.R.Read _ _ _ first w.skip_within.ensures.moves_on)
     ] in
     let item : ReadsItem g.R.Read c.args.depth c.items.decoder c.match-next.decoder = elim c.match-next.branch [
       | in-Positive w ↦ (

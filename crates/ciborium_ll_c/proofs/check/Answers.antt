@@ -15,7 +15,8 @@ returns c =
           check_said _ _ c.args.count due old new c.recode-copied.new.encoder.writer copied c.say.new.self stop.result.0
           stop.result.1 c.offset.result
           (c.recode-copied.ensures.strictly due []
-          (ready_to_copy _ _ true c.args.count 1024 (length due) c.new.result old writer due c.strict-decoder.ensures refl
+          (ready_to_copy _ _ true c.args.count 1024 (length due) c.new.result old writer due
+          c.strict-decoder.ensures refl
           c.new.ensures.ahead (rw (sym c.from-encoder.ensures) at c.new-2.ensures.written)
           (rw (sym c.from-encoder.ensures) at c.new-2.ensures.room) (inr (omega arith)) (omega arith) (omega arith))
           c.strict-decoder.ensures.none_waits)
@@ -23,7 +24,8 @@ returns c =
       exactly =
           copy_exactly copied stop.result.0 stop.ensures.answer
           (c.recode-copied.ensures.strictly_exactly due []
-          (ready_to_copy _ _ true c.args.count 1024 (length due) c.new.result old writer due c.strict-decoder.ensures refl
+          (ready_to_copy _ _ true c.args.count 1024 (length due) c.new.result old writer due
+          c.strict-decoder.ensures refl
           c.new.ensures.ahead (rw (sym c.from-encoder.ensures) at c.new-2.ensures.written)
           (rw (sym c.from-encoder.ensures) at c.new-2.ensures.room) (inr (omega arith)) (omega arith) (omega arith))
           c.strict-decoder.ensures.none_waits);

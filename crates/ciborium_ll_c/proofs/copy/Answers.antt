@@ -1,5 +1,6 @@
 use Rattle.std.proofs.Common.{false, length, ap, ◌∙◌, [], refl, sym, arith}
-use Rattle.ciborium_ll_c.proofs.CopyLaws.{anyhow_said, copy_exactly, copy_said, ready_to_copy, stands_behind, told_to_copy}
+use Rattle.ciborium_ll_c.proofs.CopyLaws.{anyhow_said, copy_exactly, copy_said, ready_to_copy, stands_behind}
+use Rattle.ciborium_ll_c.proofs.CopyLaws.{told_to_copy}
 use Rattle.ciborium_ll.specs.Transfer.{Target}
 use Rattle.ciborium_ll_c.specs.Copying.{HasRoom}
 use Rattle.ciborium_ll_c.proofs.copy.Goals as goal
@@ -18,21 +19,27 @@ returns c =
     let target = c.copy_onto-copied.ensures.target in
     let loan = ap (λ (t : Target). t.loan) target in
     let ended = c.out-1.given.1.1 (sym c.new-writer.ensures.same_reference ∙ sym loan) in
-    let stands = stands_behind behind writer output_is c.args.out.now _ target c.new-writer.ensures.before c.written-written.ensures.slice ended in
+    let stands = stands_behind behind writer output_is c.args.out.now _ target c.new-writer.ensures.before
+    c.written-written.ensures.slice ended in
     let ready = λ (room : HasRoom c.args.count due (length c.args.out.now)).
-    ready_to_copy _ _ false c.args.count 1024 (length c.args.out.now) c.new.result old writer due c.from-decoder.ensures refl
+    ready_to_copy _ _ false c.args.count 1024 (length c.args.out.now) c.new.result old writer due
+    c.from-decoder.ensures refl
     c.new.ensures.ahead c.new-writer.ensures.written c.new-writer.ensures.room room (omega arith) (omega arith) in
     record {
       copied = λ room.
           copy_said _ _ c.args.count due old new behind copied c.say.new.self output_is c.args.out.now _
           stop.result.0 stop.result.1 c.offset.result (c.copy_onto-copied.ensures.told due [] (ready room))
-          c.from-decoder.ensures.offset output stop.ensures.answer stop.ensures.place c.offset.ensures.value c.say.ensures stands;
-      exactly = λ room. copy_exactly copied stop.result.0 stop.ensures.answer (c.copy_onto-copied.ensures.exactly due [] (ready room));
+          c.from-decoder.ensures.offset output stop.ensures.answer stop.ensures.place c.offset.ensures.value
+          c.say.ensures stands;
+      exactly = λ room. copy_exactly copied stop.result.0 stop.ensures.answer
+          (c.copy_onto-copied.ensures.exactly due [] (ready room));
       anyhow =
           anyhow_said _ _ c.args.count due old new behind copied c.say.new.self output_is c.args.out.now _
           stop.result.0 stop.result.1 c.offset.result
           (c.copy_onto-copied.ensures.anyhow due []
-          (told_to_copy _ _ false c.new.result old writer due c.from-decoder.ensures c.new.ensures.ahead c.new-writer.ensures.written))
-          (omega arith) c.from-decoder.ensures.offset output stop.ensures.answer stop.ensures.place c.offset.ensures.value
+          (told_to_copy _ _ false c.new.result old writer due c.from-decoder.ensures c.new.ensures.ahead
+          c.new-writer.ensures.written))
+          (omega arith) c.from-decoder.ensures.offset output stop.ensures.answer stop.ensures.place
+          c.offset.ensures.value
           c.say.ensures stands;
     }

@@ -57,7 +57,8 @@ impl<W: Write> Encoder<W> {
     pub fn text(&mut self, value: &str, segment: Option<usize>) -> Result<(), W::Error>
         ensures value { WritesValue W.Write Text segment value.now (writer_of self.old) result (writer_of self.new) }
         ensures fewest { OnOk result (0 < length value.now
-            → WritesFewest W.Write (value_limit Text segment value.now) value.now (writer_of self.old) (writer_of self.new)) }
+            → WritesFewest W.Write (value_limit Text segment value.now) value.now (writer_of self.old)
+            (writer_of self.new)) }
         ensures target { W.target (writer_of self.new) ≡ W.target (writer_of self.old) }
     {
         let limit = limit(segment, value.len(), 4);
@@ -71,7 +72,8 @@ impl<W: Write> Encoder<W> {
 
     /// Writes a body behind its title.
     fn string(&mut self, title: Header, body: &[u8]) -> Result<(), W::Error>
-        ensures bytes { WritesBytes W.Write (writer_of self.old) result (shortest_title title ++ body.now) (writer_of self.new) }
+        ensures bytes { WritesBytes W.Write (writer_of self.old) result (shortest_title title ++ body.now)
+            (writer_of self.new) }
         ensures target { W.target (writer_of self.new) ≡ W.target (writer_of self.old) }
     {
         self.push(title)?;

@@ -5,23 +5,28 @@ ghost use Rattle.ciborium_ll_grammar.specs.Elements.{Mark, IsElement, IsRun, spe
 
 /// No element begins another one, nor has two lists of marks.
 pub fn one_element()
-    ensures { (element other rest more : List ℕ) (marks others : List Mark) → IsElement element marks → IsElement other others
+    ensures { (element other rest more : List ℕ) (marks others : List Mark) → IsElement element marks
+        → IsElement other others
         → element ++ rest ≡ other ++ more → (element ≡ other) × (marks ≡ others) × (rest ≡ more) }
 {}
 
 /// At most one run of as many elements stands in front, with one list of marks.
 pub fn one_run()
-    ensures { (count : ℕ) (run other rest more : List ℕ) (marks others : List Mark) → IsRun count run marks → IsRun count other others
+    ensures { (count : ℕ) (run other rest more : List ℕ) (marks others : List Mark) → IsRun count run marks
+        → IsRun count other others
         → run ++ rest ≡ other ++ more → (run ≡ other) × (marks ≡ others) × (rest ≡ more) }
 {}
 
 /// The spelling of a run's marks is a run of the same marks, and is no longer.
 pub fn spelled_run()
-    ensures again { (count : ℕ) (run : List ℕ) (marks : List Mark) → IsRun count run marks → IsRun count (spelling marks) marks }
-    ensures no_longer { (count : ℕ) (run : List ℕ) (marks : List Mark) → IsRun count run marks → length (spelling marks) ≤ length run }
+    ensures again { (count : ℕ) (run : List ℕ) (marks : List Mark) → IsRun count run marks
+        → IsRun count (spelling marks) marks }
+    ensures no_longer { (count : ℕ) (run : List ℕ) (marks : List Mark) → IsRun count run marks
+        → length (spelling marks) ≤ length run }
 {}
 
 /// A run that is no longer than the spelling of its marks is that spelling.
 pub fn tight_run()
-    ensures { (count : ℕ) (run : List ℕ) (marks : List Mark) → IsRun count run marks → length run ≤ length (spelling marks) → run ≡ spelling marks }
+    ensures { (count : ℕ) (run : List ℕ) (marks : List Mark) → IsRun count run marks
+        → length run ≤ length (spelling marks) → run ≡ spelling marks }
 {}

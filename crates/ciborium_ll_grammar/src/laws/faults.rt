@@ -14,7 +14,8 @@ pub fn no_fault()
 /// which no text begins.
 pub fn one_fault()
     ensures place { (count : ℕ) (bytes : List ℕ) (fault other : HasFault count bytes)
-        → (fault.before ≡ other.before) × (fault.marks ≡ other.marks) × (fault.place ≡ other.place) × (fault.ahead ≡ other.ahead) }
+        → (fault.before ≡ other.before) × (fault.marks ≡ other.marks) × (fault.place ≡ other.place)
+        × (fault.ahead ≡ other.ahead) }
     ensures answer { (count : ℕ) (bytes : List ℕ) (fault other : HasFault count bytes)
         → (fault.answer ≡ other.answer) ⊎ BeginsNoText fault.ahead }
 {}

@@ -5,6 +5,8 @@ ghost use Rattle.ciborium_ll_grammar.specs.Strings.{Kind, IsString};
 
 /// No string begins another one of its kind, and each has one list of bodies.
 pub fn one_string()
-    ensures { (kind : Kind) (string other rest more : List ℕ) (bodies others : List (List ℕ)) → IsString kind string bodies
-        → IsString kind other others → string ++ rest ≡ other ++ more → (string ≡ other) × (bodies ≡ others) × (rest ≡ more) }
+    ensures { (kind : Kind) (string other rest more : List ℕ) (bodies others : List (List ℕ))
+        → IsString kind string bodies
+        → IsString kind other others → string ++ rest ≡ other ++ more → (string ≡ other) × (bodies ≡ others)
+        × (rest ≡ more) }
 {}

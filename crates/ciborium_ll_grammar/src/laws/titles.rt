@@ -4,7 +4,8 @@ ghost use Rattle.std.specs.Prelude.{◌≡◌, ◌≤◌, ℕ, ◌<◌, ◌⊎�
 ghost use Rattle.std.specs.List.{Contains};
 ghost use Rattle.std.specs.List.Sorted.{IsStrictlyIncreasing};
 ghost use Rattle.ciborium_ll_grammar.specs.declared.hdr.Header.{Header};
-ghost use Rattle.ciborium_ll_grammar.specs.Title.{IsTitle, shortest_title, IsInRange, IsRefused, IsCutTitle, AreBytes, refused_bytes};
+ghost use Rattle.ciborium_ll_grammar.specs.Title.{IsTitle, shortest_title, IsInRange, IsRefused};
+ghost use Rattle.ciborium_ll_grammar.specs.Title.{IsCutTitle, AreBytes, refused_bytes};
 
 /// No title begins another one, and each is of one header.
 pub fn one_title()

@@ -10,7 +10,8 @@ ghost use Rattle.ciborium_ll_grammar.specs.Values.{least_limit, IsWritten, HasFe
 pub fn written_values()
     ensures exists { (kind : Kind) (limit : ℕ) (value : List ℕ) → least_limit kind ≤ limit → IsSound kind (value ∷ [])
         → (marks : List Mark) × IsWritten kind limit value marks }
-    ensures one { (kind : Kind) (limit : ℕ) (value : List ℕ) (marks others : List Mark) → IsWritten kind limit value marks
+    ensures one { (kind : Kind) (limit : ℕ) (value : List ℕ) (marks others : List Mark)
+        → IsWritten kind limit value marks
         → IsWritten kind limit value others → marks ≡ others }
     ensures element { (kind : Kind) (limit : ℕ) (value : List ℕ) (marks : List Mark) → IsWritten kind limit value marks
         → IsSound kind (value ∷ []) → length value < 2 ^ 64 → IsElement (spelling marks) marks }

@@ -3,7 +3,8 @@
 //! An `io::Error` has many bytes, and each function that hands one on clears and copies them. So a fault is kept aside
 //! here, and the call answers only that there is one. What the lent slice holds is moved without a call of std.
 
-ghost use Rattle.std.specs.Prelude.{◌≡◌, ◌+◌, ◌≤◌, ◌<◌, None, Some, IsTrue, IsOk, IsErr, IsSome, IfSome, IfOk, OnOk, OnErr, [], length, take};
+ghost use Rattle.std.specs.Prelude.{◌≡◌, ◌+◌, ◌≤◌, ◌<◌, None, Some, IsTrue, IsOk, IsErr, IsSome};
+ghost use Rattle.std.specs.Prelude.{IfSome, IfOk, OnOk, OnErr, [], length, take};
 ghost use Rattle.std.specs.Io.KnownBytes.{Appends, Consumes, IsAtEnd, Keeps};
 ghost use Rattle.std.proofs.Common.{rules};
 ghost use Rattle.ciborium_ll_io.specs.Transfer.{AppendsFront, AppendsPart, ConsumesPart, Shrinks};
@@ -88,13 +89,16 @@ impl<'a, T: io::Read> BufferedReader<'a, T> {
     #[cold]
     #[inline(never)]
     fn read_on(&mut self, data: &mut [u8]) -> Result<(), FaultKept>
-        ensures bytes { OnOk result (Consumes (ahead_of T.remaining self.old) (ahead_of T.remaining self.new) «data».new) }
+        ensures bytes { OnOk result
+            (Consumes (ahead_of T.remaining self.old) (ahead_of T.remaining self.new) «data».new) }
         ensures ok { OnOk result (read_failures_of self.new ≡ read_failures_of self.old) }
         ensures err { OnErr result (read_failures_of self.new ≡ read_failures_of self.old + 1) }
-        ensures part { OnErr result (ConsumesPart (ahead_of T.remaining self.old) (ahead_of T.remaining self.new) «data».new) }
+        ensures part { OnErr result
+            (ConsumesPart (ahead_of T.remaining self.old) (ahead_of T.remaining self.new) «data».new) }
         ensures same { OnOk result (read_fault_of self.new ≡ read_fault_of self.old) }
         ensures fault { OnErr result (IsSome (read_fault_of self.new)) }
-        ensures end { OnErr result (read_fault_of self.new ≡ Some ReadFault.End → IsAtEnd (ahead_of T.remaining self.new)) }
+        ensures end { OnErr result (read_fault_of self.new ≡ Some ReadFault.End
+            → IsAtEnd (ahead_of T.remaining self.new)) }
     {
         let mut filled = 0;
         while filled < data.len() {
@@ -110,13 +114,15 @@ impl<'a, T: io::Read> BufferedReader<'a, T> {
     fn read_part(&mut self, data: &mut [u8]) -> Result<usize, FaultKept>
         requires { 0 < length «data».old }
         ensures bound { IfOk result (λ n. (0 < n) × (n ≤ length «data».new)) }
-        ensures bytes { IfOk result (λ n. Consumes (ahead_of T.remaining self.old) (ahead_of T.remaining self.new) (take n «data».new)) }
+        ensures bytes { IfOk result
+            (λ n. Consumes (ahead_of T.remaining self.old) (ahead_of T.remaining self.new) (take n «data».new)) }
         ensures ok { OnOk result (read_failures_of self.new ≡ read_failures_of self.old) }
         ensures err { OnErr result (read_failures_of self.new ≡ read_failures_of self.old + 1) }
         ensures keeps { OnErr result (Keeps (ahead_of T.remaining self.old) (ahead_of T.remaining self.new)) }
         ensures same { OnOk result (read_fault_of self.new ≡ read_fault_of self.old) }
         ensures fault { OnErr result (IsSome (read_fault_of self.new)) }
-        ensures end { OnErr result (read_fault_of self.new ≡ Some ReadFault.End → IsAtEnd (ahead_of T.remaining self.new)) }
+        ensures end { OnErr result (read_fault_of self.new ≡ Some ReadFault.End
+            → IsAtEnd (ahead_of T.remaining self.new)) }
     {
         if self.window.len() == 0 {
             if self.window.capacity() <= data.len() {
@@ -138,13 +144,15 @@ impl<'a, T: io::Read> BufferedReader<'a, T> {
         requires some { 0 < length «data».old }
         requires none_ahead { read_ahead_of self.old ≡ [] }
         ensures bound { IfOk result (λ n. (0 < n) × (n ≤ length «data».new)) }
-        ensures bytes { IfOk result (λ n. Consumes (ahead_of T.remaining self.old) (ahead_of T.remaining self.new) (take n «data».new)) }
+        ensures bytes { IfOk result
+            (λ n. Consumes (ahead_of T.remaining self.old) (ahead_of T.remaining self.new) (take n «data».new)) }
         ensures ok { OnOk result (read_failures_of self.new ≡ read_failures_of self.old) }
         ensures err { OnErr result (read_failures_of self.new ≡ read_failures_of self.old + 1) }
         ensures keeps { OnErr result (Keeps (ahead_of T.remaining self.old) (ahead_of T.remaining self.new)) }
         ensures same { OnOk result (read_fault_of self.new ≡ read_fault_of self.old) }
         ensures fault { OnErr result (IsSome (read_fault_of self.new)) }
-        ensures end { OnErr result (read_fault_of self.new ≡ Some ReadFault.End → IsAtEnd (ahead_of T.remaining self.new)) }
+        ensures end { OnErr result (read_fault_of self.new ≡ Some ReadFault.End
+            → IsAtEnd (ahead_of T.remaining self.new)) }
     {
         match self.source.read(data) {
             Ok(0) => self.failed(ReadFault::End),
@@ -167,7 +175,8 @@ impl<'a, T: io::Read> BufferedReader<'a, T> {
 }
 
 impl<'a, T: io::Read> Read for BufferedReader<'a, T> {
-    ghost use Rattle.ciborium_ll_io.specs.Buffers.{ahead_of, read_ahead_of, read_failures_of, read_fault_of, source_of, steady_of};
+    ghost use Rattle.ciborium_ll_io.specs.Buffers.{ahead_of, read_ahead_of, read_failures_of};
+    ghost use Rattle.ciborium_ll_io.specs.Buffers.{read_fault_of, source_of, steady_of};
 
     type Error = FaultKept;
 
@@ -186,21 +195,25 @@ impl<'a, T: io::Read> Read for BufferedReader<'a, T> {
     #[inline(always)]
     fn read_exact(&mut self, data: &mut [u8]) -> Result<(), FaultKept>
         // The trait's.
-        ensures bytes { OnOk result (Consumes (ahead_of T.remaining self.old) (ahead_of T.remaining self.new) «data».new) }
+        ensures bytes { OnOk result
+            (Consumes (ahead_of T.remaining self.old) (ahead_of T.remaining self.new) «data».new) }
         ensures ok { OnOk result (read_failures_of self.new ≡ read_failures_of self.old) }
         ensures err { OnErr result (read_failures_of self.new ≡ read_failures_of self.old + 1) }
         ensures stays_steady { IsTrue (steady_of self.old) → IsTrue (steady_of self.new) }
-        ensures kept { OnErr result (IsTrue (steady_of self.old) → ahead_of T.remaining self.new ≡ ahead_of T.remaining self.old) }
+        ensures kept { OnErr result (IsTrue (steady_of self.old)
+            → ahead_of T.remaining self.new ≡ ahead_of T.remaining self.old) }
         ensures missing { OnErr result (IsTrue (steady_of self.old)
             → IfSome (ahead_of T.remaining self.old) (λ bytes. length bytes < length «data».old)) }
 
         // The reader's own.
         ensures within { length «data».old ≤ length (read_ahead_of self.old)
             → IsOk result × (source_of self.new ≡ source_of self.old) }
-        ensures part { OnErr result (ConsumesPart (ahead_of T.remaining self.old) (ahead_of T.remaining self.new) «data».new) }
+        ensures part { OnErr result
+            (ConsumesPart (ahead_of T.remaining self.old) (ahead_of T.remaining self.new) «data».new) }
         ensures same { OnOk result (read_fault_of self.new ≡ read_fault_of self.old) }
         ensures fault { OnErr result (IsSome (read_fault_of self.new)) }
-        ensures end { OnErr result (read_fault_of self.new ≡ Some ReadFault.End → IsAtEnd (ahead_of T.remaining self.new)) }
+        ensures end { OnErr result (read_fault_of self.new ≡ Some ReadFault.End
+            → IsAtEnd (ahead_of T.remaining self.new)) }
     {
         if data.len() <= self.window.len() {
             self.window.take(data);
@@ -224,7 +237,8 @@ pub struct BufferedWriter<'a, T> {
 }
 
 impl<'a, T: io::Write> BufferedWriter<'a, T> {
-    ghost use Rattle.ciborium_ll_io.specs.Buffers.{kept_back_of, sink_of, write_failures_of, write_fault_of, written_of};
+    ghost use Rattle.ciborium_ll_io.specs.Buffers.{kept_back_of, sink_of, write_failures_of};
+    ghost use Rattle.ciborium_ll_io.specs.Buffers.{write_fault_of, written_of};
 
     /// A writer behind all that was written within. Nothing is kept back yet.
     pub fn new(sink: T, buffer: &'a mut [u8]) -> BufferedWriter<'a, T>
@@ -282,8 +296,10 @@ impl<'a, T: io::Write> BufferedWriter<'a, T> {
     #[inline(never)]
     fn write_on(&mut self, data: &[u8]) -> Result<(), FaultKept>
         requires { 0 < length «data».now }
-        ensures bytes { OnOk result (Appends (written_of T.contents self.old) (written_of T.contents self.new) «data».now) }
-        ensures part { OnErr result (AppendsPart (written_of T.contents self.old) (written_of T.contents self.new) «data».now) }
+        ensures bytes { OnOk result
+            (Appends (written_of T.contents self.old) (written_of T.contents self.new) «data».now) }
+        ensures part { OnErr result
+            (AppendsPart (written_of T.contents self.old) (written_of T.contents self.new) «data».now) }
         ensures ok { OnOk result (write_failures_of self.new ≡ write_failures_of self.old) }
         ensures err { OnErr result (write_failures_of self.new ≡ write_failures_of self.old + 1) }
         ensures same { OnOk result (write_fault_of self.new ≡ write_fault_of self.old) }
@@ -335,7 +351,8 @@ impl<'a, T: io::Write> BufferedWriter<'a, T> {
 }
 
 impl<'a, T: io::Write> Write for BufferedWriter<'a, T> {
-    ghost use Rattle.ciborium_ll_io.specs.Buffers.{kept_back_of, room_of, sink_of, write_failures_of, write_fault_of, written_of};
+    ghost use Rattle.ciborium_ll_io.specs.Buffers.{kept_back_of, room_of, sink_of};
+    ghost use Rattle.ciborium_ll_io.specs.Buffers.{write_failures_of, write_fault_of, written_of};
 
     type Error = FaultKept;
 
@@ -345,7 +362,8 @@ impl<'a, T: io::Write> Write for BufferedWriter<'a, T> {
 
     ghost failures = { λ w. write_failures_of w };
 
-    ghost flushed = { λ old new. Keeps (written_of T.contents old) (written_of T.contents new) × (kept_back_of new ≡ []) };
+    ghost flushed = { λ old new. Keeps (written_of T.contents old) (written_of T.contents new)
+        × (kept_back_of new ≡ []) };
 
     ghost target = { λ _. None };
 
@@ -357,7 +375,8 @@ impl<'a, T: io::Write> Write for BufferedWriter<'a, T> {
     #[inline(always)]
     fn write_all(&mut self, data: &[u8]) -> Result<(), FaultKept>
         // The trait's.
-        ensures bytes { OnOk result (Appends (written_of T.contents self.old) (written_of T.contents self.new) «data».now) }
+        ensures bytes { OnOk result
+            (Appends (written_of T.contents self.old) (written_of T.contents self.new) «data».now) }
         ensures fills { OnOk result (Shrinks (room_of self.old) (room_of self.new) (length «data».now)) }
         ensures front { OnErr result (AppendsFront (written_of T.contents self.old)
             (written_of T.contents self.new) (room_of self.old) (room_of self.new) «data».now) }
@@ -367,7 +386,8 @@ impl<'a, T: io::Write> Write for BufferedWriter<'a, T> {
 
         // The writer's own.
         ensures empty { length «data».now ≡ 0 → IsOk result × (sink_of self.new ≡ sink_of self.old) }
-        ensures part { OnErr result (AppendsPart (written_of T.contents self.old) (written_of T.contents self.new) «data».now) }
+        ensures part { OnErr result
+            (AppendsPart (written_of T.contents self.old) (written_of T.contents self.new) «data».now) }
         ensures same { OnOk result (write_fault_of self.new ≡ write_fault_of self.old) }
         ensures fault { OnErr result (IsSome (write_fault_of self.new)) }
     {

@@ -60,8 +60,8 @@ impl<'a> Read for SliceReader<'a> {
     }
 }
 
-/// Copies all bytes. The lengths that a title and its affix have go by themselves: where such a length is known when the
-/// program is built, what is left is one move, with no look at whether the two slices overlap.
+/// Copies all bytes. The lengths that a title and its affix have go by themselves: where such a length is known when
+/// the program is built, what is left is one move, with no look at whether the two slices overlap.
 #[inline(always)]
 fn copy(to: &mut [u8], from: &[u8])
     requires len { length to.old ≡ length from.now }

@@ -1,6 +1,7 @@
 //! Laws of text.
 
-ghost use Rattle.std.specs.Prelude.{◌≡◌, ℕ, ◌<◌, ◌++◌, List, length, ◌≢◌, ◌↔◌, IsOk, IfOk, IfErr, IsUtf8, [], take, drop};
+ghost use Rattle.std.specs.Prelude.{◌≡◌, ℕ, ◌<◌, ◌++◌, List, length, ◌≢◌, ◌↔◌, IsOk, IfOk, IfErr};
+ghost use Rattle.std.specs.Prelude.{IsUtf8, [], take, drop};
 ghost use Rattle.std.specs.Str.{IsValidUpTo};
 ghost use Rattle.ciborium_ll_text.specs.States.{after};
 ghost use Rattle.ciborium_ll_text.specs.Text.{IsCharacters, IsFront};

@@ -20,7 +20,8 @@ chunks-preserved g c =
     let wrote = c.in_default.ensures in
     record {
       same = search rules;
-      so_far = so_far_chunk g.R.Read g.W.Write _ _ _ _ _ _ kept.so_far _ _ c.chunk.new.segment _ gives pulled.moves_on.steady (record { appended = wrote.bytes; room = wrote.fills; failures = wrote.ok });
+      so_far = so_far_chunk g.R.Read g.W.Write _ _ _ _ _ _ kept.so_far _ _ c.chunk.new.segment _ gives
+          pulled.moves_on.steady (record { appended = wrote.bytes; room = wrote.fills; failures = wrote.ok });
       moves_on = MovesOn-then g.R.Read _ _ _ kept.moves_on pulled.moves_on;
       target = wrote.target ∙ kept.target;
     }
@@ -28,13 +29,16 @@ chunks-preserved g c =
 pub returns-in-Err-clause-copied : goal.returns-in-Err-clause-copied
 returns-in-Err-clause-copied g c =
     let pulled = c.in-Err.ensures in
-    let chunk = subst (λ (room : ℕ). PullsChunk g.R.Read room c.chunks.segment (Err c.in-Err.error) c.chunk.new.segment) c.chunks.auto.buffer pulled.chunk in
-    so_far_error g.R.Read g.W.Write _ _ _ _ c.chunks.segment _ c.chunks.invariant.so_far _ c.in-Err.error c.chunk.new.segment c.requires.room pulled.moves_on.steady chunk
+    let chunk = subst (λ (room : ℕ). PullsChunk g.R.Read room c.chunks.segment (Err c.in-Err.error)
+    c.chunk.new.segment) c.chunks.auto.buffer pulled.chunk in
+    so_far_error g.R.Read g.W.Write _ _ _ _ c.chunks.segment _ c.chunks.invariant.so_far _ c.in-Err.error
+    c.chunk.new.segment c.requires.room pulled.moves_on.steady chunk
 
 pub returns-in-Err-write_all-clause-copied : goal.returns-in-Err-write_all-clause-copied
 returns-in-Err-write_all-clause-copied g c =
     let pulled = c.in-Ok-Some.ensures in
     let gives = rw c.in-Ok-Some.field-0-is at pulled.chunk in
     let wrote = c.in-Err-write_all.ensures in
-    so_far_unwritten g.R.Read g.W.Write _ _ _ _ _ _ c.chunks.invariant.so_far _ _ c.chunk.new.segment _ gives pulled.moves_on.steady
+    so_far_unwritten g.R.Read g.W.Write _ _ _ _ _ _ c.chunks.invariant.so_far _ _ c.chunk.new.segment _ gives
+    pulled.moves_on.steady
     (record { front = wrote.front; full = wrote.full; failures = wrote.err })

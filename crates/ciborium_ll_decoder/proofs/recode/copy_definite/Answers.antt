@@ -14,8 +14,11 @@ returns-in_err-write_header-clause-copied g c = λ count before old writer title
     let r = p.2 in
     let same : c.from_residual.result ≡ Err c.in_err-write_header.field-0.0 = cc in
     let wrote = c.in_err-write_header.ensures.header in
-    rw same (header_error g.R.Read g.W.Write count (length c.args.buffer.now) old c.args.decoder.now writer _ _ _ c.in_err-write_header.field-0.0 (rw c.header.ensures at wrote) (λ fault stopped.
-    definite_unwritten g.R.Read g.W.Write count (length c.args.buffer.now) old writer before behind.bytes title behind.marks g.P.Parser.kind c.args.len _ _ _ fault behind.due t behind.run behind.passed behind.written stopped))
+    rw same (header_error g.R.Read g.W.Write count (length c.args.buffer.now) old c.args.decoder.now writer _ _ _
+    c.in_err-write_header.field-0.0 (rw c.header.ensures at wrote) (λ fault stopped.
+    definite_unwritten g.R.Read g.W.Write count (length c.args.buffer.now) old writer before behind.bytes title
+    behind.marks g.P.Parser.kind c.args.len _ _ _ fault behind.due t behind.run behind.passed behind.written
+    stopped))
 
 pub returns-clause-copied : goal.returns-clause-copied
 returns-clause-copied g c = λ count before old writer title t taken behind.
@@ -23,11 +26,20 @@ returns-clause-copied g c = λ count before old writer title t taken behind.
     let lent = c.args.decoder.now in
     let titled = rw c.header.ensures at c.in_ok-write_header.ensures.header in
     let start : c.new-segment.result.decoder.now ≡ lent = c.new-segment.ensures.lent ∙ c.offset.ensures.same in
-    let size : c.title_len.result ≡ title_len (kind_header k (Some c.args.len)) = c.title_len.ensures.value ∙ ap title_len c.header-2.ensures in
+    let size : c.title_len.result ≡ title_len (kind_header k (Some c.args.len)) = c.title_len.ensures.value
+    ∙ ap title_len c.header-2.ensures in
     let at : c.offset.result ≡ lent.offset = c.offset.ensures.value in
     let covered = c.requires.covered in
-    let copied = subst (λ (d : Decoder g.row.R.Denot). CopiesBody g.R.Read g.W.Write k c.args.len (length c.args.buffer.now) (c.offset.result - c.title_len.result) d c.write_header.new.encoder.writer c.copy_body.result c.copy_body.new.segment.decoder.now c.copy_body.new.encoder.writer) start c.copy_body.ensures.copied in
-    let placed : (c.offset.result - c.title_len.result) + title_len (kind_header k (Some c.args.len)) ≡ lent.offset = omega (arith, size, at, covered) in
-    let ended = c.decoder-1.given.1 (sym c.new-segment.ensures.same_reference ∙ sym c.copy_body.ensures.same_reference) in
-    subst (λ (d : Decoder g.row.R.Denot). GoesOn g.R.Read g.W.Write count before (length c.args.buffer.now) old writer c.copy_body.result d c.copy_body.new.encoder.writer) (sym ended)
-    (definite_goes_on g.R.Read g.W.Write count (length c.args.buffer.now) old writer before behind.bytes title behind.marks k c.args.len (c.offset.result - c.title_len.result) lent _ _ _ _ c.copy_body.result behind.due t behind.run behind.passed placed behind.written titled copied taken behind.strict)
+    let copied = subst (λ (d : Decoder g.row.R.Denot). CopiesBody g.R.Read g.W.Write k c.args.len
+    (length c.args.buffer.now) (c.offset.result - c.title_len.result) d c.write_header.new.encoder.writer
+    c.copy_body.result c.copy_body.new.segment.decoder.now c.copy_body.new.encoder.writer) start
+    c.copy_body.ensures.copied in
+    let placed : (c.offset.result - c.title_len.result) + title_len (kind_header k (Some c.args.len))
+    ≡ lent.offset = omega (arith, size, at, covered) in
+    let ended = c.decoder-1.given.1 (sym c.new-segment.ensures.same_reference
+    ∙ sym c.copy_body.ensures.same_reference) in
+    subst (λ (d : Decoder g.row.R.Denot). GoesOn g.R.Read g.W.Write count before (length c.args.buffer.now) old
+    writer c.copy_body.result d c.copy_body.new.encoder.writer) (sym ended)
+    (definite_goes_on g.R.Read g.W.Write count (length c.args.buffer.now) old writer before behind.bytes title
+    behind.marks k c.args.len (c.offset.result - c.title_len.result) lent _ _ _ _ c.copy_body.result behind.due
+    t behind.run behind.passed placed behind.written titled copied taken behind.strict)

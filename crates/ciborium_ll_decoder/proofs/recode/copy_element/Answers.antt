@@ -11,37 +11,48 @@ use Rattle.ciborium_ll_decoder.proofs.recode.copy_element.Goals as goal
 
 pub returns-in-Err-clause-copied : goal.returns-in-Err-clause-copied
 returns-in-Err-clause-copied g c = λ count before old writer behind.
-    pull_stops g.R.Read g.W.Write count before old writer c.args.decoder.now c.args.encoder.now.writer (length c.args.buffer.now) c.pull_title.new.self c.in-Err.error behind c.in-Err.ensures.header
+    pull_stops g.R.Read g.W.Write count before old writer c.args.decoder.now c.args.encoder.now.writer
+    (length c.args.buffer.now) c.pull_title.new.self c.in-Err.error behind c.in-Err.ensures.header
 
 pub copy_string-requires-clause-covered : goal.copy_string-requires-clause-covered
 copy_string-requires-clause-covered g c =
     let arm = c.in-Bytes in
     let is : c.in-Ok.pulled.0 ≡ h.Bytes arm.len = c.element.ensures.bytes arm.len arm.is in
-    subst (λ (x : Header). title_len x ≤ c.pull_title.new.self.offset) is (pulled_covers g.R.Read g.W.Write c.args.decoder.now c.pull_title.new.self c.in-Ok.pulled.0 c.in-Ok.ensures.header)
+    subst (λ (x : Header). title_len x ≤ c.pull_title.new.self.offset) is
+    (pulled_covers g.R.Read g.W.Write c.args.decoder.now c.pull_title.new.self c.in-Ok.pulled.0
+    c.in-Ok.ensures.header)
 
 pub copy_string-requires-in-Text-clause-covered : goal.copy_string-requires-in-Text-clause-covered
 copy_string-requires-in-Text-clause-covered g c =
     let arm = c.in-Text in
     let is : c.in-Ok.pulled.0 ≡ h.Text arm.len = c.element.ensures.text arm.len arm.is in
-    subst (λ (x : Header). title_len x ≤ c.pull_title.new.self.offset) is (pulled_covers g.R.Read g.W.Write c.args.decoder.now c.pull_title.new.self c.in-Ok.pulled.0 c.in-Ok.ensures.header)
+    subst (λ (x : Header). title_len x ≤ c.pull_title.new.self.offset) is
+    (pulled_covers g.R.Read g.W.Write c.args.decoder.now c.pull_title.new.self c.in-Ok.pulled.0
+    c.in-Ok.ensures.header)
 
 pub returns-in-Bytes-clause-copied : goal.returns-in-Bytes-clause-copied
 returns-in-Bytes-clause-copied g c = λ count before old writer behind.
     let arm = c.in-Bytes in
     let is : c.in-Ok.pulled.0 ≡ h.Bytes arm.len = c.element.ensures.bytes arm.len arm.is in
-    let pulled = subst (λ (x : Header). PullsTitle g.R.Read c.args.decoder.now x c.pull_title.new.self) is c.in-Ok.ensures.header in
+    let pulled = subst (λ (x : Header). PullsTitle g.R.Read c.args.decoder.now x c.pull_title.new.self) is
+    c.in-Ok.ensures.header in
     c.copy_string.ensures.copied count before old writer pulled.title pulled.is_title
-    (title_taken g.R.Read g.W.Write count before old writer c.args.decoder.now c.args.encoder.now.writer c.pull_title.new.self (h.Bytes arm.len) behind pulled)
-    (behind_pulled g.R.Read g.W.Write count before old writer c.args.decoder.now c.args.encoder.now.writer c.pull_title.new.self (h.Bytes arm.len) behind pulled c.pull_title.ensures.moves_on.steady)
+    (title_taken g.R.Read g.W.Write count before old writer c.args.decoder.now c.args.encoder.now.writer
+    c.pull_title.new.self (h.Bytes arm.len) behind pulled)
+    (behind_pulled g.R.Read g.W.Write count before old writer c.args.decoder.now c.args.encoder.now.writer
+    c.pull_title.new.self (h.Bytes arm.len) behind pulled c.pull_title.ensures.moves_on.steady)
 
 pub returns-in-Text-clause-copied : goal.returns-in-Text-clause-copied
 returns-in-Text-clause-copied g c = λ count before old writer behind.
     let arm = c.in-Text in
     let is : c.in-Ok.pulled.0 ≡ h.Text arm.len = c.element.ensures.text arm.len arm.is in
-    let pulled = subst (λ (x : Header). PullsTitle g.R.Read c.args.decoder.now x c.pull_title.new.self) is c.in-Ok.ensures.header in
+    let pulled = subst (λ (x : Header). PullsTitle g.R.Read c.args.decoder.now x c.pull_title.new.self) is
+    c.in-Ok.ensures.header in
     c.copy_string-in-Text.ensures.copied count before old writer pulled.title pulled.is_title
-    (title_taken g.R.Read g.W.Write count before old writer c.args.decoder.now c.args.encoder.now.writer c.pull_title.new.self (h.Text arm.len) behind pulled)
-    (behind_pulled g.R.Read g.W.Write count before old writer c.args.decoder.now c.args.encoder.now.writer c.pull_title.new.self (h.Text arm.len) behind pulled c.pull_title.ensures.moves_on.steady)
+    (title_taken g.R.Read g.W.Write count before old writer c.args.decoder.now c.args.encoder.now.writer
+    c.pull_title.new.self (h.Text arm.len) behind pulled)
+    (behind_pulled g.R.Read g.W.Write count before old writer c.args.decoder.now c.args.encoder.now.writer
+    c.pull_title.new.self (h.Text arm.len) behind pulled c.pull_title.ensures.moves_on.steady)
 
 pub returns-in-Ok-push_title : goal.returns-in-Ok-push_title
 returns-in-Ok-push_title g c =
@@ -49,10 +60,15 @@ returns-in-Ok-push_title g c =
       copied = λ count before old writer behind.
           let pulled = c.in-Ok.ensures.header in
           let plain : IsPlain c.in-Ok.pulled.0 = c.element.ensures.plain c.in-Plain.is in
-          let wrote = subst (λ (bytes : List ℕ). WritesAll g.W.Write c.args.encoder.now.writer bytes c.push_title.new.encoder.writer) c.shortest.ensures.bytes c.in-Ok-push_title.ensures.title in
-          plain_goes_on g.R.Read g.W.Write count before old writer c.pull_title.new.self c.args.encoder.now.writer (length c.args.buffer.now) c.in-Ok.pulled.0 pulled.title (Ok c.in-Ok-push_title.field-0) c.push_title.new.encoder.writer
-          plain pulled.is_title (title_taken g.R.Read g.W.Write count before old writer c.args.decoder.now c.args.encoder.now.writer c.pull_title.new.self c.in-Ok.pulled.0 behind pulled)
-          (behind_pulled g.R.Read g.W.Write count before old writer c.args.decoder.now c.args.encoder.now.writer c.pull_title.new.self c.in-Ok.pulled.0 behind pulled c.pull_title.ensures.moves_on.steady) wrote;
+          let wrote = subst (λ (bytes : List ℕ). WritesAll g.W.Write c.args.encoder.now.writer bytes
+          c.push_title.new.encoder.writer) c.shortest.ensures.bytes c.in-Ok-push_title.ensures.title in
+          plain_goes_on g.R.Read g.W.Write count before old writer c.pull_title.new.self c.args.encoder.now.writer
+          (length c.args.buffer.now) c.in-Ok.pulled.0 pulled.title (Ok c.in-Ok-push_title.field-0)
+          c.push_title.new.encoder.writer
+          plain pulled.is_title (title_taken g.R.Read g.W.Write count before old writer c.args.decoder.now
+          c.args.encoder.now.writer c.pull_title.new.self c.in-Ok.pulled.0 behind pulled)
+          (behind_pulled g.R.Read g.W.Write count before old writer c.args.decoder.now c.args.encoder.now.writer
+          c.pull_title.new.self c.in-Ok.pulled.0 behind pulled c.pull_title.ensures.moves_on.steady) wrote;
       moves_on = c.pull_title.ensures.moves_on;
       target = c.push_title.ensures.target;
     }
@@ -63,10 +79,15 @@ returns-in-Err-push_title g c =
       copied = λ count before old writer behind.
           let pulled = c.in-Ok.ensures.header in
           let plain : IsPlain c.in-Ok.pulled.0 = c.element.ensures.plain c.in-Plain.is in
-          let wrote = subst (λ (bytes : List ℕ). WritesFront g.W.Write c.args.encoder.now.writer bytes c.push_title.new.encoder.writer) c.shortest.ensures.bytes c.in-Err-push_title.ensures.title in
-          plain_goes_on g.R.Read g.W.Write count before old writer c.pull_title.new.self c.args.encoder.now.writer (length c.args.buffer.now) c.in-Ok.pulled.0 pulled.title (Err (r.Write c.in-Err-push_title.fault)) c.push_title.new.encoder.writer
-          plain pulled.is_title (title_taken g.R.Read g.W.Write count before old writer c.args.decoder.now c.args.encoder.now.writer c.pull_title.new.self c.in-Ok.pulled.0 behind pulled)
-          (behind_pulled g.R.Read g.W.Write count before old writer c.args.decoder.now c.args.encoder.now.writer c.pull_title.new.self c.in-Ok.pulled.0 behind pulled c.pull_title.ensures.moves_on.steady) wrote;
+          let wrote = subst (λ (bytes : List ℕ). WritesFront g.W.Write c.args.encoder.now.writer bytes
+          c.push_title.new.encoder.writer) c.shortest.ensures.bytes c.in-Err-push_title.ensures.title in
+          plain_goes_on g.R.Read g.W.Write count before old writer c.pull_title.new.self c.args.encoder.now.writer
+          (length c.args.buffer.now) c.in-Ok.pulled.0 pulled.title (Err (r.Write c.in-Err-push_title.fault))
+          c.push_title.new.encoder.writer
+          plain pulled.is_title (title_taken g.R.Read g.W.Write count before old writer c.args.decoder.now
+          c.args.encoder.now.writer c.pull_title.new.self c.in-Ok.pulled.0 behind pulled)
+          (behind_pulled g.R.Read g.W.Write count before old writer c.args.decoder.now c.args.encoder.now.writer
+          c.pull_title.new.self c.in-Ok.pulled.0 behind pulled c.pull_title.ensures.moves_on.steady) wrote;
       moves_on = c.pull_title.ensures.moves_on;
       target = c.push_title.ensures.target;
     }

@@ -6,7 +6,8 @@ use Rattle.ciborium_ll_decoder.proofs.recode.copy_segments.Given as goal
 abbrev pub invariant-segments : goal.invariant-segments
 invariant-segments g l = record {
   same : l.segments.decoder.ghost_name ≡ l.initial.segments.decoder.ghost_name;
-  so_far : StringSoFar g.R.Read g.W.Write g.P.Parser.kind l.fn.decoder l.fn.encoder.writer l.segments.progress l.segments.decoder.now l.encoder.writer;
+  so_far : StringSoFar g.R.Read g.W.Write g.P.Parser.kind l.fn.decoder l.fn.encoder.writer l.segments.progress
+      l.segments.decoder.now l.encoder.writer;
   moves_on : MovesOn g.R.Read l.fn.decoder l.segments.decoder.now;
   target : g.W.Write.target l.encoder.writer ≡ g.W.Write.target l.fn.encoder.writer;
 }

@@ -9,13 +9,17 @@ returns-in_err-write_all-clause-title g c =
     let affix = minor_affix c.args.title.minor in
     let whole = ap (λ byte. byte ∷ affix) c.first_byte.ensures in
     let written = c.in_err-write_all.ensures in
-    subst (λ (bytes : List ℕ). WritesBytes g.W.Write c.args.encoder.now.writer c.from_residual.result bytes c.write_all.new.self) whole
-    (WritesBytes-stopped g.W.Write _ _ _ (c.first_byte.result ∷ []) affix c.from_residual.ensures.0 (record { front = written.front; full = written.full; failures = written.err }))
+    subst (λ (bytes : List ℕ). WritesBytes g.W.Write c.args.encoder.now.writer c.from_residual.result bytes
+    c.write_all.new.self) whole
+    (WritesBytes-stopped g.W.Write _ _ _ (c.first_byte.result ∷ []) affix c.from_residual.ensures.0
+    (record { front = written.front; full = written.full; failures = written.err }))
 
 pub returns-clause-title : goal.returns-clause-title
 returns-clause-title g c =
     let affix = minor_affix c.args.title.minor in
     let whole = ap (λ byte. byte ∷ affix) c.first_byte.ensures in
     let written = c.in_ok-write_all.ensures in
-    subst (λ (bytes : List ℕ). WritesBytes g.W.Write c.args.encoder.now.writer c.affix.result bytes c.affix.new.self.writer) whole
-    (WritesBytes-then g.W.Write _ _ _ _ (c.first_byte.result ∷ []) affix (record { appended = written.bytes; room = written.fills; failures = written.ok }) c.affix.ensures.affix)
+    subst (λ (bytes : List ℕ). WritesBytes g.W.Write c.args.encoder.now.writer c.affix.result bytes
+    c.affix.new.self.writer) whole
+    (WritesBytes-then g.W.Write _ _ _ _ (c.first_byte.result ∷ []) affix
+    (record { appended = written.bytes; room = written.fills; failures = written.ok }) c.affix.ensures.affix)

@@ -7,7 +7,8 @@ use Rattle.ciborium_ll_grammar.specs.TitleRows.{IsKind}
 use Rattle.ciborium_ll_grammar.proofs.hdr.open_header.Goals as goal
 
 -- kinds with no indefinite form
-never_open : (kind : Kind) (major : ℕ) → (kind ≡ k.Positive) ⊎ ((kind ≡ k.Negative) ⊎ ((kind ≡ k.Tag) ⊎ (kind ≡ k.Refused))) → IsKind kind major 31
+never_open : (kind : Kind) (major : ℕ) → (kind ≡ k.Positive) ⊎
+    ((kind ≡ k.Negative) ⊎ ((kind ≡ k.Tag) ⊎ (kind ≡ k.Refused))) → IsKind kind major 31
     → IsNeverOpen major
 never_open kind major (inl e) is = let named = rw e at is in inl named.0
 never_open kind major (inr (inl e)) is = let named = rw e at is in inr (inl named.0)
@@ -20,13 +21,16 @@ never_open kind major (inr (inr (inr e))) is =
     ]
 
 pub returns-in-Bytes-clause-some : goal.returns-in-Bytes-clause-some
-returns-in-Bytes-clause-some c = λ major is. let named = rw c.in-Bytes.is at is in rw named.0 (alone ByteString (h.Bytes None) refl)
+returns-in-Bytes-clause-some c = λ major is. let named = rw c.in-Bytes.is at is in
+    rw named.0 (alone ByteString (h.Bytes None) refl)
 
 pub returns-in-Text-clause-some : goal.returns-in-Text-clause-some
-returns-in-Text-clause-some c = λ major is. let named = rw c.in-Text.is at is in rw named.0 (alone TextString (h.Text None) refl)
+returns-in-Text-clause-some c = λ major is. let named = rw c.in-Text.is at is in
+    rw named.0 (alone TextString (h.Text None) refl)
 
 pub returns-in-Array-clause-some : goal.returns-in-Array-clause-some
-returns-in-Array-clause-some c = λ major is. let named = rw c.in-Array.is at is in rw named.0 (alone Array (h.Array None) refl)
+returns-in-Array-clause-some c = λ major is. let named = rw c.in-Array.is at is in
+    rw named.0 (alone Array (h.Array None) refl)
 
 pub returns-in-Map-clause-some : goal.returns-in-Map-clause-some
 returns-in-Map-clause-some c = λ major is. let named = rw c.in-Map.is at is in rw named.0 (alone Map (h.Map None) refl)

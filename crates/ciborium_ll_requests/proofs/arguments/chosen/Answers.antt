@@ -11,7 +11,8 @@ returns-in-Some c =
     let number : IsNumber (string_bytes c.index-words-1.result) c.in-Some.count = search rules in (
       c.index-words-0.result,
       c.index-words-1.result,
-      two_in_all c.args.words.now c.index-words-0.result c.index-words-1.result two c.index-words-0.is c.index-words-1.is,
+      two_in_all c.args.words.now c.index-words-0.result c.index-words-1.result two c.index-words-0.is
+          c.index-words-1.is,
       named,
       number,
     )

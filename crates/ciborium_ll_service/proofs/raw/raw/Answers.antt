@@ -13,32 +13,44 @@ returns g c = λ due written told-due told-written.
     let contents = g.W.Write.contents in
     let old = c.from-decoder.result in
     let new = c.recode-copied.new.decoder in
-    let ahead = ap (λ (r : StdReader g.row.R.Denot). remaining r.source) c.from-decoder.ensures.reader ∙ ap remaining c.new.ensures.source ∙ told-due in
-    let output = ap (λ (w : StdWriter g.row.W.Denot). contents w.sink) c.from-encoder.ensures ∙ ap contents c.new-2.ensures.sink ∙ told-written in
-    let told = told_ahead _ _ old c.from-encoder.result.writer due written c.from-decoder.ensures.mode c.from-decoder.ensures.none_waits ahead output in
+    let ahead = ap (λ (r : StdReader g.row.R.Denot). remaining r.source) c.from-decoder.ensures.reader
+    ∙ ap remaining c.new.ensures.source ∙ told-due in
+    let output = ap (λ (w : StdWriter g.row.W.Denot). contents w.sink) c.from-encoder.ensures
+    ∙ ap contents c.new-2.ensures.sink ∙ told-written in
+    let told = told_ahead _ _ old c.from-encoder.result.writer due written c.from-decoder.ensures.mode
+    c.from-decoder.ensures.none_waits ahead output in
     let copied = c.recode-copied.ensures.copied in
     let anyhow = c.recode-copied.ensures.anyhow due written told in
-    let same = sym (ap remaining (c.into_inner-reader.ensures ∙ ap (λ (r : StdReader g.row.R.Denot). r.source) c.into_inner.ensures)) in
+    let same = sym (ap remaining (c.into_inner-reader.ensures ∙ ap (λ (r : StdReader g.row.R.Denot). r.source)
+    c.into_inner.ensures)) in
     let flushed = rw c.into_inner-writer.ensures at c.flush.ensures.keeps in
-    let keeps = subst (λ (w : g.row.W.Denot). Keeps (contents c.recode-copied.new.encoder.writer.sink) (contents w)) (sym c.into_inner-2.ensures) flushed in
+    let keeps = subst (λ (w : g.row.W.Denot). Keeps (contents c.recode-copied.new.encoder.writer.sink) (contents w))
+    (sym c.into_inner-2.ensures) flushed in
     let leaves = λ (bytes : List ℕ) (ahead : remaining new.reader.source ≡ Some bytes). sym same ∙ ahead in
-    let gets = λ (bytes : List ℕ) (output : contents c.recode-copied.new.encoder.writer.sink ≡ Some bytes). kept_known _ _ bytes keeps output in
+    let gets = λ (bytes : List ℕ) (output : contents c.recode-copied.new.encoder.writer.sink ≡ Some bytes).
+    kept_known _ _ bytes keeps output in
     elim c.match-copied.branch [
       | in-Ok-Ok w ↦ (
           let all = rw w.in-Ok-Ok.is-0 at copied in
           let succeeded = rw w.in-Ok-Ok.is-0 at anyhow in
-          rw w.outcome-is (raw_all _ _ (Tells remaining) (Tells contents) c.args.count due written old new c.from-encoder.result.writer c.recode-copied.new.encoder.writer c.into_inner-reader.result
-          c.into_inner-2.result c.from-decoder.ensures.offset c.from-decoder.ensures.none_waits leaves gets all succeeded)
+          rw w.outcome-is (raw_all _ _ (Tells remaining) (Tells contents) c.args.count due written old new
+          c.from-encoder.result.writer c.recode-copied.new.encoder.writer c.into_inner-reader.result
+          c.into_inner-2.result c.from-decoder.ensures.offset c.from-decoder.ensures.none_waits leaves gets all
+          succeeded)
           )
       | in-Ok-Err w ↦ (
           let succeeded = rw w.in-Ok-Err.is-0 at anyhow in
-          rw w.outcome-is (raw_unflushed _ _ (Tells remaining) (Tells contents) c.args.count due written old new c.from-encoder.result.writer c.recode-copied.new.encoder.writer
-          c.into_inner-reader.result c.into_inner-2.result c.from-decoder.ensures.offset c.from-decoder.ensures.none_waits leaves gets succeeded)
+          rw w.outcome-is (raw_unflushed _ _ (Tells remaining) (Tells contents) c.args.count due written old new
+          c.from-encoder.result.writer c.recode-copied.new.encoder.writer
+          c.into_inner-reader.result c.into_inner-2.result c.from-decoder.ensures.offset
+          c.from-decoder.ensures.none_waits leaves gets succeeded)
           )
       | in-Err-default w ↦ (
           let stops = rw w.in-Err-default.is-0 at copied in
           let stopped = rw w.in-Err-default.is-0 at anyhow in
-          rw w.outcome-is (raw_stopped _ _ (Tells remaining) (Tells contents) c.args.count due written old new c.from-encoder.result.writer c.recode-copied.new.encoder.writer
-          c.into_inner-reader.result c.into_inner-2.result c.from-decoder.ensures.offset c.from-decoder.ensures.none_waits leaves gets w.in-Err-default.error stops stopped)
+          rw w.outcome-is (raw_stopped _ _ (Tells remaining) (Tells contents) c.args.count due written old new
+          c.from-encoder.result.writer c.recode-copied.new.encoder.writer
+          c.into_inner-reader.result c.into_inner-2.result c.from-decoder.ensures.offset
+          c.from-decoder.ensures.none_waits leaves gets w.in-Err-default.error stops stopped)
           )
     ]

@@ -18,14 +18,19 @@ returns g c = λ due written told-due told-written.
     let got = TellsFlushed contents c.restored_flush.result in
     let ahead = ap (ahead_of remaining) c.from-decoder.ensures.reader ∙ c.new.ensures.ahead ∙ told-due in
     let output = ap (written_of contents) c.from-encoder.ensures ∙ c.new-2.ensures.written ∙ told-written in
-    let told = told_ahead _ _ old first due written c.from-decoder.ensures.mode c.from-decoder.ensures.none_waits ahead output in
+    let told = told_ahead _ _ old first due written c.from-decoder.ensures.mode c.from-decoder.ensures.none_waits
+    ahead output in
     let copied = c.recode-copied.ensures.copied in
     let anyhow = c.recode-copied.ensures.anyhow due written told in
     let leaves = λ (bytes : List ℕ) (is : ahead_of remaining new.reader ≡ Some bytes). tt {0} in
     let behind = λ (bytes : List ℕ) (is : written_of contents last ≡ Some bytes).
-    kept_known _ _ bytes c.flush-flushed.ensures.keeps (c.take_fault-write_fault.ensures.written ∙ ap (written_of contents) c.into_inner-writer.ensures ∙ is) in
+    kept_known _ _ bytes c.flush-flushed.ensures.keeps
+    (c.take_fault-write_fault.ensures.written ∙ ap (written_of contents) c.into_inner-writer.ensures ∙ is) in
     let gets = λ (bytes : List ℕ) (is : written_of contents last ≡ Some bytes).
-    subst (λ (w : g.row.W.Denot). got w bytes) (sym c.into_parts-writer.ensures.sink) (flushed_known contents _ c.flush-flushed.result c.restored_flush.result end.sink (kept_back_of end) bytes
+    subst (λ (w : g.row.W.Denot). got w bytes) (sym c.into_parts-writer.ensures.sink)
+    (flushed_known contents _ c.flush-flushed.result c.restored_flush.result end.sink (kept_back_of end) bytes
     c.restored_flush.ensures c.flush-flushed.ensures.sent (behind bytes is)) in
-    restored_outcome Untold got c.args.count due written reader writer _ _ c.recode-copied.result c.restored_copy.result c.restored_copy.ensures
-    (raw_any _ _ Untold got c.args.count due written old new first last reader writer c.from-decoder.ensures.offset c.from-decoder.ensures.none_waits leaves gets c.recode-copied.result copied anyhow)
+    restored_outcome Untold got c.args.count due written reader writer _ _ c.recode-copied.result
+    c.restored_copy.result c.restored_copy.ensures
+    (raw_any _ _ Untold got c.args.count due written old new first last reader writer c.from-decoder.ensures.offset
+    c.from-decoder.ensures.none_waits leaves gets c.recode-copied.result copied anyhow)

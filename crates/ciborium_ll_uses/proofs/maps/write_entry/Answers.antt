@@ -8,7 +8,8 @@ pub returns-in_err-text : goal.returns-in_err-text
 returns-in_err-text g c =
     let key = c.args.entry.now.key.now in
     let value = c.args.entry.now.value.now in
-    WritesBytes-stopped g.W.Write _ _ c.from_residual.result (body_spelling Text key) (body_spelling Text value) c.from_residual.ensures.0
+    WritesBytes-stopped g.W.Write _ _ c.from_residual.result (body_spelling Text key) (body_spelling Text value)
+    c.from_residual.ensures.0
     (text_bytes g.W.Write key _ _ _ c.in_err-text.ensures.value)
 
 pub returns : goal.returns

@@ -7,7 +7,8 @@ use Rattle.ciborium_ll_uses.proofs.maps.write_strings.Goals as goal
 
 pub returns-in_err-push : goal.returns-in_err-push
 returns-in_err-push g c =
-    WritesBytes-stopped g.W.Write _ _ c.from_residual.result _ (entries_bytes c.args.entries.now) c.from_residual.ensures.0
+    WritesBytes-stopped g.W.Write _ _ c.from_residual.result _ (entries_bytes c.args.entries.now)
+    c.from_residual.ensures.0
     c.in_err-push.ensures.title
 
 pub entries-init : goal.entries-init
@@ -16,7 +17,8 @@ entries-init g c = midway_first g.W.Write c.args.entries.now _ _ c.in_ok-push.en
 pub returns-in_err-write_entry : goal.returns-in_err-write_entry
 returns-in_err-write_entry g c =
     let all = c.args.entries.now in
-    midway_stops g.W.Write all _ _ _ _ _ _ c.from_residual-in_err-write_entry.result c.from_residual-in_err-write_entry.ensures.0
+    midway_stops g.W.Write all _ _ _ _ _ _ c.from_residual-in_err-write_entry.result
+    c.from_residual-in_err-write_entry.ensures.0
     (drop_more all c.entries.entry-index _ (omega arith)) c.entries.invariant c.in_err-write_entry.ensures
 
 pub entries-preserved : goal.entries-preserved

@@ -1,5 +1,6 @@
 use Rattle.std.proofs.Common.{rules, ℕ, length, ap, sym, arith, length-append, length-take-le}
-use Rattle.ciborium_ll_uses.proofs.ShortestLaws.{spelled_none, spelled_more, shortest_in_front, no_shortest, takes_some, split_rest}
+use Rattle.ciborium_ll_uses.proofs.ShortestLaws.{spelled_none, spelled_more, shortest_in_front, no_shortest}
+use Rattle.ciborium_ll_uses.proofs.ShortestLaws.{takes_some, split_rest}
 use Rattle.ciborium_ll_uses.proofs.shortest.shortest_item_len.Goals as goal
 
 pub elements-init : goal.elements-init
@@ -11,22 +12,32 @@ elements-smaller c =
     let rest = c.elements.rest.now in
     let one = c.in-Some.ensures.some in
     let some = takes_some len rest one.0 one.1 in
-    omega (arith, some, ap length (split_rest len rest), length-append {A = ℕ}, length-take-le len rest c.in-Some.ensures.within)
+    omega (
+      arith,
+      some,
+      ap length (split_rest len rest),
+      length-append {A = ℕ},
+      length-take-le len rest
+          c.in-Some.ensures.within,
+    )
 
 pub elements-preserved : goal.elements-preserved
 elements-preserved c =
     let one = c.in-Some.ensures.some in
-    spelled_more _ c.elements.rest.now _ _ one.0 c.elements.invariant one.1 (split_rest c.in-Some.element c.elements.rest.now)
+    spelled_more _ c.elements.rest.now _ _ one.0 c.elements.invariant one.1
+    (split_rest c.in-Some.element c.elements.rest.now)
 
 pub returns : goal.returns
 returns c =
     let front = c.skip_item.ensures.front c.args.bytes.now (search rules) (sym c.in_ok-ok.ensures.variant) in
     shortest_in_front _ c.args.bytes.now c.elements.rest.now c.offset-len.result front.front
-    (omega (arith, c.offset-len.ensures.value, front.offset, c.from-decoder.ensures.offset)) c.elements.invariant (search rules)
+    (omega (arith, c.offset-len.ensures.value, front.offset, c.from-decoder.ensures.offset)) c.elements.invariant
+    (search rules)
 
 pub returns-in_default : goal.returns-in_default
 returns-in_default c =
     let front = c.skip_item.ensures.front c.args.bytes.now (search rules) (sym c.in_ok-ok.ensures.variant) in
     no_shortest _ c.args.bytes.now c.elements.rest.now c.offset-len.result front.front
-    (omega (arith, c.offset-len.ensures.value, front.offset, c.from-decoder.ensures.offset)) c.elements.invariant (search rules)
+    (omega (arith, c.offset-len.ensures.value, front.offset, c.from-decoder.ensures.offset)) c.elements.invariant
+    (search rules)
     c.in_default.ensures.none

@@ -11,10 +11,13 @@ returns-clause-copied g c = λ due written ahead output ok.
     let new = c.recode-copied.new.decoder in
     elim c.match-copied.branch [
       | in-Ok w ↦ (
-          let anyhow = c.recode-copied.ensures.anyhow due written (told R W c.args.reader c.args.writer _ _ due written fresh c.from-encoder.ensures ahead output) in
+          let anyhow = c.recode-copied.ensures.anyhow due written
+          (told R W c.args.reader c.args.writer _ _ due written fresh c.from-encoder.ensures ahead output) in
           let copied = rw w.in-Ok.is at anyhow in
-          rw w.writer-is (flushed_ok R W c.args.count due written _ _ _ w.flushed-outcome.result (rw w.outcome-is at ok) w.flushed-outcome.ensures
-          (λ flushed. normalises R W c.args.count due written c.args.reader _ _ new _ _ fresh copied c.into_inner-reader.ensures
+          rw w.writer-is (flushed_ok R W c.args.count due written _ _ _ w.flushed-outcome.result
+          (rw w.outcome-is at ok) w.flushed-outcome.ensures
+          (λ flushed. normalises R W c.args.count due written c.args.reader _ _ new _ _ fresh copied
+          c.into_inner-reader.ensures
           (rw c.into_inner-writer.ensures at flushed)))
           )
       | in-Err w ↦ absurd (let failed = rw w.outcome-is at ok in cc)
@@ -26,14 +29,17 @@ returns-clause-exactly g c = λ due written room steady ahead output space enoug
     let W = g.W.Write in
     let fresh = c.from-decoder.ensures in
     let new = c.recode-copied.new.decoder in
-    let is_ready = ready R W c.args.count room c.args.reader c.args.writer _ _ due written fresh c.from-encoder.ensures steady ahead output space enough fits in
+    let is_ready = ready R W c.args.count room c.args.reader c.args.writer _ _ due written fresh
+    c.from-encoder.ensures steady ahead output space enough fits in
     let exact = c.recode-copied.ensures.exactly due written is_ready in
     let copy = c.recode-copied.ensures.told due written is_ready in
     elim c.match-copied.branch [
       | in-Ok w ↦ (
           let copied = rw w.in-Ok.is at copy in
-          rw (w.writer-is, w.outcome-is) (flushed_answer R W c.args.count due written _ _ _ w.flushed-outcome.result w.flushed-outcome.ensures
-          (λ flushed. normalises R W c.args.count due written c.args.reader _ _ new _ _ fresh copied c.into_inner-reader.ensures
+          rw (w.writer-is, w.outcome-is) (flushed_answer R W c.args.count due written _ _ _ w.flushed-outcome.result
+          w.flushed-outcome.ensures
+          (λ flushed. normalises R W c.args.count due written c.args.reader _ _ new _ _ fresh copied
+          c.into_inner-reader.ensures
           (rw c.into_inner-writer.ensures at flushed)) copied.front)
           )
       | in-Err w ↦ (

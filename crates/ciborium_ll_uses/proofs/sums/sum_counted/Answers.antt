@@ -53,7 +53,8 @@ numbers-preserved g c =
     let fits : SFits w64 c.in-Some.sum = search rules in
     simp (to_z-of_z, add-one)
     (reads_more g.R.Read c.args.decoder.now c.numbers.decoder c.next_sum.new.decoder c.numbers._read
-    (to_z w64 c.numbers.total-bits) c.in-Some.sum c.numbers.invariant adds (rw c.offset-place.ensures.same at c.in_ok-sum.ensures.steady))
+    (to_z w64 c.numbers.total-bits) c.in-Some.sum c.numbers.invariant adds
+    (rw c.offset-place.ensures.same at c.in_ok-sum.ensures.steady))
 
 pub returns : goal.returns
 returns g c = record {

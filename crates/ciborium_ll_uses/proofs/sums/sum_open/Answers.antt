@@ -12,7 +12,8 @@ numbers-init g c = (0, reads_none g.R.Read c.args.decoder.now)
 pub numbers-smaller : goal.numbers-smaller
 numbers-smaller g c =
     let adds = rw c.in-Some.is at c.in_ok-sum.ensures.adds in
-    let rises : c.numbers.decoder.offset < c.next_sum.new.decoder.offset = adds_rises g.R.Read (to_z w64 c.numbers.total-bits) c.in-Some.sum _ _ adds in
+    let rises : c.numbers.decoder.offset < c.next_sum.new.decoder.offset =
+    adds_rises g.R.Read (to_z w64 c.numbers.total-bits) c.in-Some.sum _ _ adds in
     search rules
 
 pub numbers-preserved : goal.numbers-preserved

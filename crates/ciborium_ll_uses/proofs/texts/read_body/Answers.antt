@@ -6,7 +6,8 @@ use Rattle.ciborium_ll_uses.proofs.texts.read_body.Goals as goal
 pub returns-clause-appends : goal.returns-clause-appends
 returns-clause-appends g c = λ body whole.
     let ends = rw c.in_default.is at c.in_ok-chunk.ensures.chunk in
-    body_read g.R.Read body.length body.place c.args.segment.now.decoder.now (string_bytes c.args.text.now) c.chunks.segment c.pull.new.self (string_bytes c.chunks.text) refl
+    body_read g.R.Read body.length body.place c.args.segment.now.decoder.now (string_bytes c.args.text.now)
+    c.chunks.segment c.pull.new.self (string_bytes c.chunks.text) refl
     (c.chunks.invariant.so_far body whole) ends
 
 pub chunks-preserved : goal.chunks-preserved
@@ -18,7 +19,9 @@ chunks-preserved g c =
     record {
       same = search rules;
       so_far = λ body whole.
-          so_far_chunk g.R.Read onto_text body.length body.place c.args.segment.now.decoder.now (string_bytes c.args.text.now) c.chunks.segment (string_bytes c.chunks.text) (kept.so_far body whole) _ _ c.pull.new.self _ gives pulled.moves_on.steady
+          so_far_chunk g.R.Read onto_text body.length body.place c.args.segment.now.decoder.now
+          (string_bytes c.args.text.now) c.chunks.segment (string_bytes c.chunks.text) (kept.so_far body whole)
+          _ _ c.pull.new.self _ gives pulled.moves_on.steady
           (pushes (string_bytes c.chunks.text) c.in-Some.chunk.now _ c.in-Ok.ensures.bytes);
       counted = omega (arith, left, kept.counted, c.in-Ok.ensures.len);
       steady = λ s. pulled.moves_on.steady (kept.steady s);

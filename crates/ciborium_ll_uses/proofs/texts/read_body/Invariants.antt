@@ -10,7 +10,8 @@ abbrev pub invariant-chunks : goal.invariant-chunks
 invariant-chunks g l = record {
   same : l.segment.decoder.ghost_name ≡ l.initial.segment.decoder.ghost_name;
   so_far : (body : Body) → IsWhole body l.initial.segment
-      → BodySoFar g.R.Read onto_text body.length body.place l.initial.segment.decoder.now (string_bytes l.initial.text) l.segment (string_bytes l.text);
+      → BodySoFar g.R.Read onto_text body.length body.place l.initial.segment.decoder.now
+      (string_bytes l.initial.text) l.segment (string_bytes l.text);
   counted : string_len l.text + left_of l.segment ≡ string_len l.initial.text + left_of l.initial.segment;
   steady : IsSteady g.R.Read l.initial.segment.decoder.now → IsSteady g.R.Read l.segment.decoder.now;
 }

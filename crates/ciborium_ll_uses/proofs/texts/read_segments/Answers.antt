@@ -30,6 +30,7 @@ segments-preserved g c =
     let grows = c.in_ok-read_body.ensures.grows body whole in
     record {
       same = search rules;
-      so_far = more body c.segments.segments.decoder.now c.advance.new.self.decoder.now c.read_body.new.segment.decoder.now c.segments.invariant.so_far advances appends;
+      so_far = more body c.segments.segments.decoder.now c.advance.new.self.decoder.now
+          c.read_body.new.segment.decoder.now c.segments.invariant.so_far advances appends;
       within = omega (arith, grows, c.if-body-limit.false, c.segments.invariant.within);
     }

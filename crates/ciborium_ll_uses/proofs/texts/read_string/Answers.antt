@@ -6,5 +6,7 @@ pub returns-clause-whole : goal.returns-clause-whole
 returns-clause-whole g c =
     let pulled = rw (c.offset-place.ensures.same, c.in-Text.is) at c.in_ok-len.ensures.header in
     let gathers = rw c.text-segments.ensures.fresh at c.read_segments.ensures.gathers in
-    let ended = c.decoder-1.given.1 (sym c.text-segments.ensures.same_reference ∙ sym c.read_segments.ensures.same_reference) in
-    rw ended (reads_text g.R.Read string_bytes c.read_segments.result c.in-Text.len c.args.decoder.now c.pull.new.self c.read_segments.new.segments.decoder.now pulled gathers)
+    let ended = c.decoder-1.given.1 (sym c.text-segments.ensures.same_reference
+    ∙ sym c.read_segments.ensures.same_reference) in
+    rw ended (reads_text g.R.Read string_bytes c.read_segments.result c.in-Text.len c.args.decoder.now
+    c.pull.new.self c.read_segments.new.segments.decoder.now pulled gathers)

@@ -7,7 +7,12 @@ use Rattle.ciborium_ll_decoder.proofs.CopyingTold.{told, exactly}
 use Rattle.ciborium_ll.proofs.laws.copy.copy_headers.Goals as goal
 
 pub headers-init : goal.headers-init
-headers-init g c = ([], refl, Copies-none g.R.Read g.W.Write c.args.decoder.now c.args.encoder.now.writer, MovesOn-none g.R.Read c.args.decoder.now)
+headers-init g c = (
+  [],
+  refl,
+  Copies-none g.R.Read g.W.Write c.args.decoder.now c.args.encoder.now.writer,
+  MovesOn-none g.R.Read c.args.decoder.now,
+)
 
 pub headers-preserved : goal.headers-preserved
 headers-preserved g c =
@@ -15,13 +20,15 @@ headers-preserved g c =
     let pulled = c.in-Ok.ensures in (
       headers ++ c.in-Ok.header ∷ [],
       omega (arith, c.headers.invariant.1, length-append headers (c.in-Ok.header ∷ [])),
-      Copies-push g.R.Read g.W.Write headers c.in-Ok.header _ _ _ _ _ _ c.headers.invariant.2 pulled.header pulled.moves_on.steady c.in_default.ensures.title,
+      Copies-push g.R.Read g.W.Write headers c.in-Ok.header _ _ _ _ _ _ c.headers.invariant.2 pulled.header
+          pulled.moves_on.steady c.in_default.ensures.title,
       MovesOn-then g.R.Read _ _ _ c.headers.invariant.3 pulled.moves_on,
     )
 
 pub returns-in-Err : goal.returns-in-Err
 returns-in-Err g c =
-    let copied : StopsAtPull g.R.Read g.W.Write c.args.count c.args.decoder.now c.args.encoder.now.writer c.in-Err.error c.pull.new.self c.headers.encoder.writer =
+    let copied : StopsAtPull g.R.Read g.W.Write c.args.count c.args.decoder.now c.args.encoder.now.writer
+    c.in-Err.error c.pull.new.self c.headers.encoder.writer =
     record {
       headers = c.headers.invariant.0;
       fewer = omega (arith, c.headers.invariant.1, c.headers-test.true);
@@ -31,14 +38,17 @@ returns-in-Err g c =
     } in
     record {
       copied = copied;
-      told = λ due written ready. told g.R.Read g.W.Write c.args.count _ _ _ _ due written (Err (r.Read c.in-Err.error)) ready copied;
-      exactly = λ due written ready. exactly g.R.Read g.W.Write c.args.count _ _ _ _ due written (Err (r.Read c.in-Err.error)) ready copied;
+      told = λ due written ready. told g.R.Read g.W.Write c.args.count _ _ _ _ due written
+          (Err (r.Read c.in-Err.error)) ready copied;
+      exactly = λ due written ready. exactly g.R.Read g.W.Write c.args.count _ _ _ _ due written
+          (Err (r.Read c.in-Err.error)) ready copied;
       moves_on = MovesOn-then g.R.Read _ _ _ c.headers.invariant.3 c.in-Err.ensures.moves_on;
     }
 
 pub returns-in-Err-push : goal.returns-in-Err-push
 returns-in-Err-push g c =
-    let copied : StopsAtPush g.R.Read g.W.Write c.args.count c.args.decoder.now c.args.encoder.now.writer c.pull.new.self c.push.new.self.writer =
+    let copied : StopsAtPush g.R.Read g.W.Write c.args.count c.args.decoder.now c.args.encoder.now.writer
+    c.pull.new.self c.push.new.self.writer =
     record {
       headers = c.headers.invariant.0;
       fewer = omega (arith, c.headers.invariant.1, c.headers-test.true);
@@ -51,14 +61,17 @@ returns-in-Err-push g c =
     } in
     record {
       copied = copied;
-      told = λ due written ready. told g.R.Read g.W.Write c.args.count _ _ _ _ due written (Err (r.Write c.in-Err-push.fault)) ready copied;
-      exactly = λ due written ready. exactly g.R.Read g.W.Write c.args.count _ _ _ _ due written (Err (r.Write c.in-Err-push.fault)) ready copied;
+      told = λ due written ready. told g.R.Read g.W.Write c.args.count _ _ _ _ due written
+          (Err (r.Write c.in-Err-push.fault)) ready copied;
+      exactly = λ due written ready. exactly g.R.Read g.W.Write c.args.count _ _ _ _ due written
+          (Err (r.Write c.in-Err-push.fault)) ready copied;
       moves_on = MovesOn-then g.R.Read _ _ _ c.headers.invariant.3 c.in-Ok.ensures.moves_on;
     }
 
 pub returns : goal.returns
 returns g c =
-    let copied : CopiesEach g.R.Read g.W.Write c.args.count c.args.decoder.now c.args.encoder.now.writer c.headers.decoder c.headers.encoder.writer =
+    let copied : CopiesEach g.R.Read g.W.Write c.args.count c.args.decoder.now c.args.encoder.now.writer
+    c.headers.decoder c.headers.encoder.writer =
     record {
       headers = c.headers.invariant.0;
       all = omega (arith, c.headers.invariant.1, c.headers-test.false, c.headers.auto._copied-end);
@@ -68,6 +81,7 @@ returns g c =
     record {
       copied = copied;
       told = λ due written ready. told g.R.Read g.W.Write c.args.count _ _ _ _ due written (Ok (tt {0})) ready copied;
-      exactly = λ due written ready. exactly g.R.Read g.W.Write c.args.count _ _ _ _ due written (Ok (tt {0})) ready copied;
+      exactly = λ due written ready. exactly g.R.Read g.W.Write c.args.count _ _ _ _ due written (Ok (tt {0})) ready
+          copied;
       moves_on = c.headers.invariant.3;
     }

@@ -5,4 +5,6 @@ use Rattle.ciborium_ll_decoder.specs.Copying.{Copies}
 use Rattle.ciborium_ll.proofs.laws.copy.copy_headers.Given as goal
 
 abbrev pub invariant-headers : goal.invariant-headers
-invariant-headers g l = (headers : List Header) × (length headers ≡ l._copied) × Copies g.R.Read g.W.Write headers l.initial.decoder l.initial.encoder.writer l.decoder l.encoder.writer × MovesOn g.R.Read l.initial.decoder l.decoder
+invariant-headers g l = (headers : List Header) × (length headers ≡ l._copied)
+    × Copies g.R.Read g.W.Write headers l.initial.decoder l.initial.encoder.writer l.decoder l.encoder.writer
+    × MovesOn g.R.Read l.initial.decoder l.decoder

@@ -30,14 +30,16 @@ returns-in-Err-clause-drains g c =
     let sizes = c.args.sizes.now in
     let size = get_or sizes c.sizes.index 0 in
     let fits = c.requires.fit c.sizes.index 0 c.sizes-test.true in
-    let room : length (take size c.sizes.buffer) ≡ size = length-take-le size c.sizes.buffer (omega (arith, fits, c.sizes.auto.buffer)) in
+    let room : length (take size c.sizes.buffer) ≡ size = length-take-le size c.sizes.buffer
+    (omega (arith, fits, c.sizes.auto.buffer)) in
     record {
       before = take c.sizes.index sizes;
       size = size;
       is_behind = behind_at sizes c.sizes.index 0 c.sizes-test.true;
       between = c.sizes.segment;
       some = c.sizes.invariant.some;
-      fails = subst (λ (n : ℕ). PullsChunk g.R.Read n c.sizes.segment (Err c.in-Err.error) c.chunk.new.segment) room c.in-Err.ensures.chunk;
+      fails = subst (λ (n : ℕ). PullsChunk g.R.Read n c.sizes.segment (Err c.in-Err.error) c.chunk.new.segment) room
+          c.in-Err.ensures.chunk;
     }
 
 pub returns-in-Err-write_all-clause-drains : goal.returns-in-Err-write_all-clause-drains
@@ -45,7 +47,8 @@ returns-in-Err-write_all-clause-drains g c =
     let sizes = c.args.sizes.now in
     let size = get_or sizes c.sizes.index 0 in
     let fits = c.requires.fit c.sizes.index 0 c.sizes-test.true in
-    let room : length (take size c.sizes.buffer) ≡ size = length-take-le size c.sizes.buffer (omega (arith, fits, c.sizes.auto.buffer)) in
+    let room : length (take size c.sizes.buffer) ≡ size = length-take-le size c.sizes.buffer
+    (omega (arith, fits, c.sizes.auto.buffer)) in
     let pulled = c.in-Ok-Some.ensures in
     let wrote = c.in-Err-write_all.ensures in
     record {
@@ -56,7 +59,8 @@ returns-in-Err-write_all-clause-drains g c =
       writer-between = c.sizes.sink.writer;
       some = c.sizes.invariant.some;
       chunk = c.in-Ok-Some.chunk.now;
-      gives = subst (λ (n : ℕ). GivesChunk g.R.Read n c.sizes.segment c.in-Ok-Some.chunk.now c.chunk.new.segment) room (rw c.in-Ok-Some.field-0-is at pulled.chunk);
+      gives = subst (λ (n : ℕ). GivesChunk g.R.Read n c.sizes.segment c.in-Ok-Some.chunk.now c.chunk.new.segment)
+          room (rw c.in-Ok-Some.field-0-is at pulled.chunk);
       stopped = record { front = wrote.front; full = wrote.full; failures = wrote.err };
     }
 
@@ -65,11 +69,14 @@ sizes-preserved g c =
     let sizes = c.args.sizes.now in
     let size = get_or sizes c.sizes.index 0 in
     let fits = c.requires.fit c.sizes.index 0 c.sizes-test.true in
-    let room : length (take size c.sizes.buffer) ≡ size = length-take-le size c.sizes.buffer (omega (arith, fits, c.sizes.auto.buffer)) in
+    let room : length (take size c.sizes.buffer) ≡ size = length-take-le size c.sizes.buffer
+    (omega (arith, fits, c.sizes.auto.buffer)) in
     let pulled = c.in-Ok-Some.ensures in
-    let gives = subst (λ (n : ℕ). GivesChunk g.R.Read n c.sizes.segment c.in-Ok-Some.chunk.now c.chunk.new.segment) room (rw c.in-Ok-Some.field-0-is at pulled.chunk) in
+    let gives = subst (λ (n : ℕ). GivesChunk g.R.Read n c.sizes.segment c.in-Ok-Some.chunk.now c.chunk.new.segment)
+    room (rw c.in-Ok-Some.field-0-is at pulled.chunk) in
     let wrote = c.in_default.ensures in
-    let more = drains_more g.R.Read g.W.Write (take c.sizes.index sizes) size _ _ c.sizes.segment _ c.sizes.invariant.some _ c.chunk.new.segment gives _ pulled.moves_on.steady
+    let more = drains_more g.R.Read g.W.Write (take c.sizes.index sizes) size _ _ c.sizes.segment _
+    c.sizes.invariant.some _ c.chunk.new.segment gives _ pulled.moves_on.steady
     (record { appended = wrote.bytes; room = wrote.fills; failures = wrote.ok }) in
     record {
       same = search rules;

@@ -3,4 +3,5 @@ use Rattle.ciborium_ll.proofs.laws.pieces.copy_spelled.Goals as goal
 
 pub returns : goal.returns
 returns g c = λ marks rest written run ready.
-    copied_same g.R.Read g.W.Write c.args.count marks rest written _ _ _ c.recode.result run (c.recode.ensures.exactly _ written ready) (c.recode.ensures.told _ written ready)
+    copied_same g.R.Read g.W.Write c.args.count marks rest written _ _ _ c.recode.result run
+    (c.recode.ensures.exactly _ written ready) (c.recode.ensures.told _ written ready)

@@ -9,7 +9,9 @@ returns-in-Header c =
     (spelled_header c.in-Header.header (subst IsPlainPiece c.in-Header.is c.requires) c.title_len-len.ensures.range)
 
 pub returns-in-Bytes : goal.returns-in-Bytes
-returns-in-Bytes c = subst IsSpelled (sym c.in-Bytes.is) (spelled_bytes c.in-Bytes.value c.in-Bytes.field-1 (c.marked_bytes.ensures c.in-Bytes.field-1))
+returns-in-Bytes c = subst IsSpelled (sym c.in-Bytes.is)
+    (spelled_bytes c.in-Bytes.value c.in-Bytes.field-1 (c.marked_bytes.ensures c.in-Bytes.field-1))
 
 pub returns-in-Text : goal.returns-in-Text
-returns-in-Text c = subst IsSpelled (sym c.in-Text.is) (spelled_text c.in-Text.value c.in-Text.field-1 (c.marked_text.ensures c.in-Text.field-1))
+returns-in-Text c = subst IsSpelled (sym c.in-Text.is)
+    (spelled_text c.in-Text.value c.in-Text.field-1 (c.marked_text.ensures c.in-Text.field-1))

@@ -6,15 +6,18 @@ use Rattle.ciborium_ll.proofs.laws.pieces.write_piece.Goals as goal
 
 pub returns-in-Header : goal.returns-in-Header
 returns-in-Header g c =
-    subst (λ (piece : Piece). WritesPiece g.W.Write piece c.args.encoder.now.writer c.push.result c.push.new.self.writer) (sym c.in-Header.is)
+    subst (λ (piece : Piece). WritesPiece g.W.Write piece c.args.encoder.now.writer c.push.result
+    c.push.new.self.writer) (sym c.in-Header.is)
     (writes_header g.W.Write c.in-Header.header _ _ c.push.result c.push.ensures.title)
 
 pub returns-in-Bytes : goal.returns-in-Bytes
 returns-in-Bytes g c =
-    subst (λ (piece : Piece). WritesPiece g.W.Write piece c.args.encoder.now.writer c.bytes.result c.bytes.new.self.writer) (sym c.in-Bytes.is)
+    subst (λ (piece : Piece). WritesPiece g.W.Write piece c.args.encoder.now.writer c.bytes.result
+    c.bytes.new.self.writer) (sym c.in-Bytes.is)
     (writes_bytes g.W.Write c.in-Bytes.value c.in-Bytes.segment _ _ c.bytes.result c.bytes.ensures.value)
 
 pub returns-in-Text : goal.returns-in-Text
 returns-in-Text g c =
-    subst (λ (piece : Piece). WritesPiece g.W.Write piece c.args.encoder.now.writer c.text.result c.text.new.self.writer) (sym c.in-Text.is)
+    subst (λ (piece : Piece). WritesPiece g.W.Write piece c.args.encoder.now.writer c.text.result
+    c.text.new.self.writer) (sym c.in-Text.is)
     (writes_text g.W.Write c.in-Text.value c.in-Text.segment _ _ c.text.result c.text.ensures.value)

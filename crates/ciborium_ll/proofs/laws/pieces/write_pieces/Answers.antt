@@ -17,7 +17,8 @@ pub pieces-preserved : goal.pieces-preserved
 pieces-preserved g c =
     let all = c.args.pieces.now in
     let wrote = c.in_ok-write_piece.ensures in
-    midway_more g.W.Write all _ _ _ _ _ _ wrote.marks (drop_more all c.pieces.piece-index _ (omega arith)) c.pieces.invariant wrote.is_piece wrote.bytes
+    midway_more g.W.Write all _ _ _ _ _ _ wrote.marks (drop_more all c.pieces.piece-index _ (omega arith))
+    c.pieces.invariant wrote.is_piece wrote.bytes
 
 pub returns : goal.returns
 returns g c = midway_last g.W.Write c.args.pieces.now _ _ _

@@ -13,16 +13,20 @@ returns-in_err-body-clause-skipped g c = λ opened len range settled back.
     let same : c.from_residual.result ≡ Err error = cc in
     let advances = rw c.in_err-body.was at c.advance.ensures.advances in
     let less : c.advance.new.self.decoder.now.offset < 2 ^ 64 = search rules in
-    rw same (skips_error g.R.Read g.P.Parser.kind len (length c.args.buffer.now) opened c.segments.segments.decoder.now c.advance.new.self.decoder.now c.segments.segments.progress c.advance.new.self.progress
+    rw same (skips_error g.R.Read g.P.Parser.kind len (length c.args.buffer.now) opened
+    c.segments.segments.decoder.now c.advance.new.self.decoder.now c.segments.segments.progress
+    c.advance.new.self.progress
     error less (c.segments.invariant.so_far opened len range settled back) c.advance.ensures.moves_on.steady advances)
 
 pub segments-smaller : goal.segments-smaller
 segments-smaller g c =
     let some = c.in-Some.is in
     let advances = rw (c.in_ok-body.was, some) at c.advance.ensures.advances in
-    let rises = found_rises g.R.Read g.P.Parser.kind c.segments.segments.progress c.advance.new.self.progress c.segments.segments.decoder.now c.advance.new.self.decoder.now c.in-Some.body advances in
+    let rises = found_rises g.R.Read g.P.Parser.kind c.segments.segments.progress c.advance.new.self.progress
+    c.segments.segments.decoder.now c.advance.new.self.decoder.now c.in-Some.body advances in
     let more = c.finish.ensures.moves_on.rises in
-    let risen : c.segments.segments.decoder.now.offset < c.finish.new.self.decoder.now.offset = omega (arith, rises, more) in
+    let risen : c.segments.segments.decoder.now.offset < c.finish.new.self.decoder.now.offset =
+    omega (arith, rises, more) in
     search rules
 
 pub segments-preserved : goal.segments-preserved
@@ -33,9 +37,13 @@ segments-preserved g c =
     record {
       same = search rules;
       so_far = λ opened len range settled back.
-          skips_body g.R.Read g.P.Parser.kind len (length c.segments.buffer) opened c.segments.segments.decoder.now c.advance.new.self.decoder.now c.finish.new.self.decoder.now c.segments.segments.progress
-          c.finish.new.self.progress c.in-Some.body (c.segments.invariant.so_far opened len range settled back) c.advance.ensures.moves_on.steady c.finish.ensures.moves_on.steady (rw (sym c.finish.ensures.progress) at advances) reads;
-      moves_on = MovesOn-then g.R.Read _ _ _ c.segments.invariant.moves_on (MovesOn-then g.R.Read _ _ _ c.advance.ensures.moves_on c.finish.ensures.moves_on);
+          skips_body g.R.Read g.P.Parser.kind len (length c.segments.buffer) opened c.segments.segments.decoder.now
+          c.advance.new.self.decoder.now c.finish.new.self.decoder.now c.segments.segments.progress
+          c.finish.new.self.progress c.in-Some.body (c.segments.invariant.so_far opened len range settled back)
+          c.advance.ensures.moves_on.steady c.finish.ensures.moves_on.steady
+          (rw (sym c.finish.ensures.progress) at advances) reads;
+      moves_on = MovesOn-then g.R.Read _ _ _ c.segments.invariant.moves_on
+          (MovesOn-then g.R.Read _ _ _ c.advance.ensures.moves_on c.finish.ensures.moves_on);
     }
 
 pub returns-in_err-finish-clause-skipped : goal.returns-in_err-finish-clause-skipped
@@ -48,12 +56,15 @@ returns-in_err-finish-clause-skipped g c = λ opened len range settled back.
     let some = c.in-Some.is in
     let advances = rw (c.in_ok-body.was, some) at c.advance.ensures.advances in
     let stops = rw c.in_err-finish.was at c.finish.ensures.finishes in
-    rw (same, sym c.segments.auto.buffer) (skips_stop g.R.Read g.P.Parser.kind len (length c.segments.buffer) opened c.segments.segments.decoder.now c.advance.new.self.decoder.now c.finish.new.self.decoder.now
-    c.segments.segments.progress c.advance.new.self.progress c.in-Some.body error (c.segments.invariant.so_far opened len range settled back) c.advance.ensures.moves_on.steady advances stops)
+    rw (same, sym c.segments.auto.buffer) (skips_stop g.R.Read g.P.Parser.kind len (length c.segments.buffer) opened
+    c.segments.segments.decoder.now c.advance.new.self.decoder.now c.finish.new.self.decoder.now
+    c.segments.segments.progress c.advance.new.self.progress c.in-Some.body error
+    (c.segments.invariant.so_far opened len range settled back) c.advance.ensures.moves_on.steady advances stops)
 
 pub returns-clause-skipped : goal.returns-clause-skipped
 returns-clause-skipped g c = λ opened len range settled back.
     let none : c.in_ok-body.field-0 ≡ None = search rules in
     let advances = rw (c.in_ok-body.was, none) at c.advance.ensures.advances in
-    skips_end g.R.Read g.P.Parser.kind len (length c.args.buffer.now) opened c.segments.segments.decoder.now c.advance.new.self.decoder.now c.segments.segments.progress c.advance.new.self.progress
+    skips_end g.R.Read g.P.Parser.kind len (length c.args.buffer.now) opened c.segments.segments.decoder.now
+    c.advance.new.self.decoder.now c.segments.segments.progress c.advance.new.self.progress
     (c.segments.invariant.so_far opened len range settled back) c.advance.ensures.moves_on.steady advances

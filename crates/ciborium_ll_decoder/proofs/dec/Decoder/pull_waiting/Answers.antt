@@ -22,4 +22,5 @@ returns-clause-header g c =
 pub returns-clause-title : goal.returns-clause-title
 returns-clause-title g c =
     let header = c.args.header in
-    subst (λ (bytes : List ℕ). IsTitle bytes header) (sym c.shortest.ensures.bytes) (IsTitle-shortest header c.shortest.ensures.range)
+    subst (λ (bytes : List ℕ). IsTitle bytes header) (sym c.shortest.ensures.bytes)
+    (IsTitle-shortest header c.shortest.ensures.range)

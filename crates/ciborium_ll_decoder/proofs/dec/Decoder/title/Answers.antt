@@ -1,7 +1,8 @@
 use Rattle.std.proofs.Common.{◌≡◌, ◌/◌, length, rules, sym, refl, subst, inl, inr, get_or, ◌<◌, ℕ}
 use Rattle.ciborium_ll_grammar.specs.Parts.{parts_bytes}
 use Rattle.ciborium_ll_grammar.specs.TitleRows.{IsKind}
-use Rattle.ciborium_ll_decoder.proofs.StrictLaws.{parts_header, parts_taken, parts_refused, first_parts, first_refused, title_read}
+use Rattle.ciborium_ll_decoder.proofs.StrictLaws.{parts_header, parts_taken, parts_refused, first_parts}
+use Rattle.ciborium_ll_decoder.proofs.StrictLaws.{first_refused, title_read}
 use Rattle.ciborium_ll_decoder.proofs.dec.Decoder.title.Goals as goal
 
 pub returns-in_default-clause-header : goal.returns-in_default-clause-header
@@ -12,12 +13,14 @@ returns-in_default-clause-header g c =
     let byte : get_or c.read.new.data 0 0 / 32 < 8 = search rules in
     let answer = rw c.in_default.is at c.in_ok-minor.ensures.minor in
     elim answer [
-      | inl reserved ↦ inl (first_refused g.R.Read c.args.self.now _ c.read.new.self c.minor.new.self c.read.new.data none refl refl first one reserved.1 reserved.0)
+      | inl reserved ↦ inl (first_refused g.R.Read c.args.self.now _ c.read.new.self c.minor.new.self
+          c.read.new.data none refl refl first one reserved.1 reserved.0)
       | inr refuses ↦ (
           let minor = refuses.read in
           let h = parts_header _ minor byte refuses.is_minor refuses.longer in
           let is = first_parts c.read.new.data minor one refuses.code in
-          let read = title_read g.R.Read c.args.self.now _ c.read.new.self c.minor.new.self c.read.new.data _ minor none refl refl refl first refuses.all is in
+          let read = title_read g.R.Read c.args.self.now _ c.read.new.self c.minor.new.self c.read.new.data _ minor
+          none refl refl refl first refuses.all is in
           inr (record {
             strict = search rules;
             header = h.0;
@@ -45,7 +48,8 @@ returns-in-Some-header-clause-header g c =
     let header = c.in-Some-header.header in
     let t = c.in-Some-header.ensures.some in
     let is = first_parts c.read.new.data minor one affix.code in
-    let read = title_read g.R.Read c.args.self.now _ c.read.new.self c.minor.new.self c.read.new.data _ minor none refl refl refl first affix.all is in
+    let read = title_read g.R.Read c.args.self.now _ c.read.new.self c.minor.new.self c.read.new.data _ minor none
+    refl refl refl first affix.all is in
     record {
       title = parts_bytes (get_or c.read.new.data 0 0 / 32) minor;
       is_title = t;
@@ -61,4 +65,5 @@ returns-in-Some-header-clause-header g c =
 pub header-requires-clause-kind : goal.header-requires-clause-kind
 header-requires-clause-kind g c =
     let affix = rw c.in-Some.is at c.in_ok-minor.ensures.minor in
-    subst (λ (z : ℕ). IsKind c.row_of-row.result.kind (get_or c.read.new.data 0 0 / 32) z) affix.code c.row_of-row.ensures.kind
+    subst (λ (z : ℕ). IsKind c.row_of-row.result.kind (get_or c.read.new.data 0 0 / 32) z) affix.code
+    c.row_of-row.ensures.kind

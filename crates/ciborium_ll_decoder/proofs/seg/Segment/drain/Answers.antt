@@ -12,5 +12,6 @@ chunks-init g c = record {
 
 pub returns-in-Err-clause-finishes : goal.returns-in-Err-clause-finishes
 returns-in-Err-clause-finishes g c =
-    rest_stopped g.R.Read _ c.chunks.self c.chunks.invariant.so_far _ _ c.chunk.result (Err c.in-Err.error) c.in-Err.error c.chunk.new.segment
-        c.chunk.ensures.chunk (search rules) refl c.chunks.auto.buffer c.requires.room c.chunk.ensures.moves_on.steady
+    rest_stopped g.R.Read _ c.chunks.self c.chunks.invariant.so_far _ _ c.chunk.result (Err c.in-Err.error)
+    c.in-Err.error c.chunk.new.segment
+    c.chunk.ensures.chunk (search rules) refl c.chunks.auto.buffer c.requires.room c.chunk.ensures.moves_on.steady

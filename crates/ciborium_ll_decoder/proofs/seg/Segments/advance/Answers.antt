@@ -19,7 +19,8 @@ titles-preserved g c =
     let reached = rw c.in-Open.is at kept.reached in
     record {
       same = search rules;
-      reached = Reached-step g.R.Read g.P.Parser.kind c.args.self.now.progress c.in-Open.opens _ _ _ _ reached step.moves_on.steady (rw c.in_default-2.is at step.steps);
+      reached = Reached-step g.R.Read g.P.Parser.kind c.args.self.now.progress c.in-Open.opens _ _ _ _ reached
+          step.moves_on.steady (rw c.in_default-2.is at step.steps);
       opens = let counted = rw c.in-Open.is at kept.opens in omega (arith, counted, step.opens);
       moves_on = MovesOn-then g.R.Read _ _ _ kept.moves_on step.moves_on;
     }
@@ -31,10 +32,12 @@ returns-in_err-body-clause-advances g c =
     let r = p.2 in
     let same : c.from_residual.result ≡ Err c.in_err-body.field-0.0 = cc in
     let reached = rw c.in-Open.is at c.titles.invariant.reached in
-    rw same (Reached-ends g.R.Read g.P.Parser.kind c.args.self.now.progress c.in-Open.opens _ _ _ (Err c.in_err-body.field-0.0) _ reached c.in_err-body.ensures.steps)
+    rw same (Reached-ends g.R.Read g.P.Parser.kind c.args.self.now.progress c.in-Open.opens _ _ _
+    (Err c.in_err-body.field-0.0) _ reached c.in_err-body.ensures.steps)
 
 pub returns-in-Some-clause-advances : goal.returns-in-Some-clause-advances
 returns-in-Some-clause-advances g c =
     let reached = rw c.in-Open.is at c.titles.invariant.reached in
     let step = rw c.in-Some.is at c.in_ok-body.ensures.steps in
-    Reached-ends g.R.Read g.P.Parser.kind c.args.self.now.progress c.in-Open.opens _ _ _ (Ok (Some c.in-Some.body)) _ reached step
+    Reached-ends g.R.Read g.P.Parser.kind c.args.self.now.progress c.in-Open.opens _ _ _ (Ok (Some c.in-Some.body))
+    _ reached step

@@ -3,4 +3,11 @@ use Rattle.ciborium_ll_text.proofs.FrontLaws.{IsStuck-nil}
 use Rattle.ciborium_ll_decoder.proofs.seg.Segments.segment.Goals as goal
 
 pub invariant_of-result : goal.invariant_of-result
-invariant_of-result g c = record { counted = search rules; none_waits = c.requires; stuck = IsStuck-nil; told = refl; text_alone = λ _. refl }
+invariant_of-result g c = record {
+  counted = search rules;
+  none_waits = c.requires;
+  stuck = IsStuck-nil;
+  told =
+      refl;
+  text_alone = λ _. refl;
+}

@@ -1,7 +1,8 @@
 use Rattle.std.proofs.Common.{[], ◌∷◌, ◌∙◌, arith}
 use Rattle.ciborium_ll_grammar.specs.Strings.{Bytes}
 use Rattle.ciborium_ll_grammar.proofs.ValueLaws.{byte_pieces}
-use Rattle.ciborium_ll_encoder.proofs.PieceLaws.{Leads, bytes_lead, bytes_last, Progress-more, Progress-stopped, Progress-last}
+use Rattle.ciborium_ll_encoder.proofs.PieceLaws.{Leads, bytes_lead, bytes_last, Progress-more, Progress-stopped}
+use Rattle.ciborium_ll_encoder.proofs.PieceLaws.{Progress-last}
 use Rattle.ciborium_ll_encoder.proofs.enc.Encoder.byte_pieces.Given as given
 use Rattle.ciborium_ll_encoder.proofs.enc.Encoder.byte_pieces.Goals as goal
 use Rattle.ciborium_ll_encoder.proofs.enc.Encoder.byte_pieces.Goals.{After-split_at}
@@ -16,7 +17,8 @@ pieces-preserved g c =
     let cut = (goal.at.pieces-preserved g c).After-split_at in
     record {
       some = omega arith;
-      progress = Progress-more g.W.Write Bytes c.args.limit _ _ _ _ c.split_at.result.0.now _ _ c.pieces.invariant.progress (leads g cut)
+      progress = Progress-more g.W.Write Bytes c.args.limit _ _ _ _ c.split_at.result.0.now _ _
+          c.pieces.invariant.progress (leads g cut)
           c.in_ok-string.ensures.bytes;
       target = c.in_ok-string.ensures.target ∙ c.pieces.invariant.target;
     }
@@ -26,7 +28,8 @@ returns-in_err-string-clause-pieces g c =
     let cut = (goal.at.returns-in_err-string-clause-pieces g c).After-split_at in
     let behind = c.split_at.result.1.now in
     let others = byte_pieces behind c.args.limit (omega arith) c.requires.some in
-    Progress-stopped g.W.Write c.from_residual.result c.from_residual.ensures.0 Bytes c.args.limit _ _ _ _ c.split_at.result.0.now behind
+    Progress-stopped g.W.Write c.from_residual.result c.from_residual.ensures.0 Bytes c.args.limit _ _ _ _
+    c.split_at.result.0.now behind
     others.0 _
     c.pieces.invariant.progress (leads g cut) others.1 c.in_err-string.ensures.bytes
 

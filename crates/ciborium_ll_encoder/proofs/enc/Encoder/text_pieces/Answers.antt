@@ -6,7 +6,8 @@ use Rattle.ciborium_ll_grammar.specs.Strings.{Text, kind_header}
 use Rattle.ciborium_ll_encoder.specs.Encoding.{WritesAll, WritesFront, WritesBytes}
 use Rattle.ciborium_ll_text.proofs.Utf8Laws.{from_std}
 use Rattle.ciborium_ll_text.proofs.FullCutLaws.{full_cut}
-use Rattle.ciborium_ll_encoder.proofs.PieceLaws.{Leads, text_leads, text_last, Progress-more, Progress-stopped, Progress-last}
+use Rattle.ciborium_ll_encoder.proofs.PieceLaws.{Leads, text_leads, text_last, Progress-more, Progress-stopped}
+use Rattle.ciborium_ll_encoder.proofs.PieceLaws.{Progress-last}
 use Rattle.ciborium_ll_encoder.proofs.enc.Encoder.text_pieces.Given as given
 use Rattle.ciborium_ll_encoder.proofs.enc.Encoder.text_pieces.Goals as goal
 use Rattle.ciborium_ll_encoder.proofs.enc.Encoder.text_pieces.Goals.{After-split_at}
@@ -37,7 +38,8 @@ pieces-preserved g c =
     record {
       some = omega arith;
       utf8 = behind_is_text g cut;
-      progress = Progress-more g.W.Write Text c.args.limit _ _ _ _ piece _ _ c.pieces.invariant.progress (leads g cut) wrote;
+      progress = Progress-more g.W.Write Text c.args.limit _ _ _ _ piece _ _ c.pieces.invariant.progress
+          (leads g cut) wrote;
       target = c.in_ok-string.ensures.target ∙ c.pieces.invariant.target;
     }
 
@@ -51,14 +53,16 @@ returns-in_err-string-clause-pieces g c =
     {x = c.as_bytes.result.now}
     c.as_bytes.ensures.value c.in_err-string.ensures.bytes in
     let others = full_cut behind c.args.limit (from_std behind (behind_is_text g cut)) c.requires.four in
-    Progress-stopped g.W.Write c.from_residual.result c.from_residual.ensures.0 Text c.args.limit _ _ _ _ piece behind others.0 _
+    Progress-stopped g.W.Write c.from_residual.result c.from_residual.ensures.0 Text c.args.limit _ _ _ _ piece
+    behind others.0 _
     c.pieces.invariant.progress (leads g cut) others.1 wrote
 
 pub returns-clause-pieces : goal.returns-clause-pieces
 returns-clause-pieces g c =
     let rest = c.pieces.rest.now in
     let title = shortest_title (kind_header Text (Some (length rest))) in
-    let wrote = subst (λ (z : List ℕ). WritesBytes g.W.Write c.pieces.self.writer c.string-2.result (title ++ z) c.string-2.new.self.writer) {x = c.as_bytes-2.result.now}
+    let wrote = subst (λ (z : List ℕ). WritesBytes g.W.Write c.pieces.self.writer c.string-2.result (title ++ z)
+    c.string-2.new.self.writer) {x = c.as_bytes-2.result.now}
     c.as_bytes-2.ensures.value c.string-2.ensures.bytes in
     Progress-last g.W.Write c.string-2.result Text c.args.limit _ _ rest _ _ c.pieces.invariant.progress
     (text_last c.args.limit rest c.pieces.invariant.utf8 c.pieces.invariant.some c.pieces-test.false) wrote

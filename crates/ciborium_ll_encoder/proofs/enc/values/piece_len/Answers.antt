@@ -16,7 +16,8 @@ some_left c =
 boundary : (c : After-shorter) → IsCharBoundary c.args.text.now c.shorter.len
 boundary c =
     at_no_tail c.args.text.now c.shorter.len (omega arith)
-    (λ tail. let found = c.is_continuation.ensures.1 (subst (λ (z : List ℕ). IsTail (get_or z c.shorter.len 0)) (sym c.as_bytes-bytes.ensures.value) tail) in
+    (λ tail. let found = c.is_continuation.ensures.1 (subst (λ (z : List ℕ). IsTail (get_or z c.shorter.len 0))
+    (sym c.as_bytes-bytes.ensures.value) tail) in
     let missed = c.shorter-test.false in cc (missed, found))
 
 pub overflow_sub-len : goal.overflow_sub-len
@@ -30,9 +31,11 @@ returns-clause-boundary c = boundary c
 
 pub returns-clause-some : goal.returns-clause-some
 returns-clause-some c =
-    some_within c.args.limit c.args.text.now c.shorter.len c.utf8.text (omega arith) c.requires.four c.shorter.invariant.longest
+    some_within c.args.limit c.args.text.now c.shorter.len c.utf8.text (omega arith) c.requires.four
+    c.shorter.invariant.longest
 
 pub returns-clause-back : goal.returns-clause-back
 returns-clause-back c =
-    near_limit c.args.limit c.args.text.now c.shorter.len c.utf8.text (boundary c) c.shorter.invariant.within c.requires.longer
+    near_limit c.args.limit c.args.text.now c.shorter.len c.utf8.text (boundary c) c.shorter.invariant.within
+    c.requires.longer
     c.shorter.invariant.longest

@@ -5,7 +5,8 @@ use Rattle.ciborium_ll_grammar.specs.declared.hdr.Header.TheVariants as h
 use Rattle.ciborium_ll_grammar.specs.declared.hdr.Minor.{Minor}
 use Rattle.ciborium_ll_grammar.specs.declared.hdr.Minor.TheVariants as m
 use Rattle.ciborium_ll_grammar.specs.declared.hdr.table.Kind.{Kind}
-use Rattle.ciborium_ll_grammar.specs.Title.{IsTitle, IsReserved, IsNeverOpen, Unsigned, Negative, ByteString, TextString, Array, Map, Tag}
+use Rattle.ciborium_ll_grammar.specs.Title.{IsTitle, IsReserved, IsNeverOpen, Unsigned, Negative, ByteString}
+use Rattle.ciborium_ll_grammar.specs.Title.{TextString, Array, Map, Tag}
 use Rattle.ciborium_ll_grammar.specs.Parts.{IsMinor, minor_code, minor_number, parts_bytes}
 use Rattle.ciborium_ll_grammar.specs.TitleRows.{IsKind}
 use Rattle.ciborium_ll_grammar.proofs.PartsLaws.{numbered_parts}
@@ -21,8 +22,10 @@ never_reserved (m.Eight n) small reserved = omega (arith, reserved.0)
 never_reserved m.Open small reserved = omega (arith, reserved.1)
 
 -- a minor with no number is 31
-some_open : (found : Option Header) (kind : Kind) (major : ℕ) (minor : Minor) → minor_number minor ≡ None → IsKind kind major (minor_code minor)
-    → IfSome found (λ header. (m : ℕ) → IsKind kind m 31 → IsTitle ((32 * m + 31) ∷ []) header) → IfSome found (IsTitle (parts_bytes major minor))
+some_open : (found : Option Header) (kind : Kind) (major : ℕ) (minor : Minor) → minor_number minor ≡ None
+    → IsKind kind major (minor_code minor)
+    → IfSome found (λ header. (m : ℕ) → IsKind kind m 31 → IsTitle ((32 * m + 31) ∷ []) header)
+    → IfSome found (IsTitle (parts_bytes major minor))
 some_open None kind major minor e is found = tt
 some_open (Some header) kind major m.Open e is found = found major is
 some_open (Some header) kind major (m.Small n) e is found = absurd cc
@@ -31,8 +34,10 @@ some_open (Some header) kind major (m.Two n) e is found = absurd cc
 some_open (Some header) kind major (m.Four n) e is found = absurd cc
 some_open (Some header) kind major (m.Eight n) e is found = absurd cc
 
-none_open : (found : Option Header) (kind : Kind) (major : ℕ) (minor : Minor) → minor_number minor ≡ None → IsKind kind major (minor_code minor)
-    → IfNone found ((m : ℕ) → IsKind kind m 31 → IsNeverOpen m) → IfNone found ((minor_code minor ≡ 31) × IsNeverOpen major)
+none_open : (found : Option Header) (kind : Kind) (major : ℕ) (minor : Minor) → minor_number minor ≡ None
+    → IsKind kind major (minor_code minor)
+    → IfNone found ((m : ℕ) → IsKind kind m 31 → IsNeverOpen m) → IfNone found
+    ((minor_code minor ≡ 31) × IsNeverOpen major)
 none_open (Some header) kind major minor e is none = tt
 none_open None kind major m.Open e is none = (refl, none major is)
 none_open None kind major (m.Small n) e is none = absurd cc
@@ -43,55 +48,64 @@ none_open None kind major (m.Eight n) e is none = absurd cc
 
 pub returns-in-None-clause-some : goal.returns-in-None-clause-some
 returns-in-None-clause-some c =
-    some_open c.open_header.result c.args.kind c.args.self.major c.args.self.minor (sym c.number.ensures ∙ c.in-None.is) c.requires.kind
+    some_open c.open_header.result c.args.kind c.args.self.major c.args.self.minor
+    (sym c.number.ensures ∙ c.in-None.is) c.requires.kind
     c.open_header.ensures.some
 
 pub returns-in-None-clause-none : goal.returns-in-None-clause-none
 returns-in-None-clause-none c =
-    none_open c.open_header.result c.args.kind c.args.self.major c.args.self.minor (sym c.number.ensures ∙ c.in-None.is) c.requires.kind
+    none_open c.open_header.result c.args.kind c.args.self.major c.args.self.minor
+    (sym c.number.ensures ∙ c.in-None.is) c.requires.kind
     c.open_header.ensures.none
 
 pub returns-in-Positive-clause-some : goal.returns-in-Positive-clause-some
 returns-in-Positive-clause-some c =
     let n = c.in-Some.n in
     let named = rw c.in-Positive.is at c.requires.kind in
-    rw named.0 (numbered_parts Unsigned c.args.self.minor n (h.Positive n) c.requires.parts.minor (sym c.number.ensures ∙ c.in-Some.is) (λ s. refl))
+    rw named.0 (numbered_parts Unsigned c.args.self.minor n (h.Positive n) c.requires.parts.minor
+    (sym c.number.ensures ∙ c.in-Some.is) (λ s. refl))
 
 pub returns-in-Negative-clause-some : goal.returns-in-Negative-clause-some
 returns-in-Negative-clause-some c =
     let n = c.in-Some.n in
     let named = rw c.in-Negative.is at c.requires.kind in
-    rw named.0 (numbered_parts Negative c.args.self.minor n (h.Negative n) c.requires.parts.minor (sym c.number.ensures ∙ c.in-Some.is) (λ s. refl))
+    rw named.0 (numbered_parts Negative c.args.self.minor n (h.Negative n) c.requires.parts.minor
+    (sym c.number.ensures ∙ c.in-Some.is) (λ s. refl))
 
 pub returns-in-Bytes-clause-some : goal.returns-in-Bytes-clause-some
 returns-in-Bytes-clause-some c =
     let n = c.in-Some.n in
     let named = rw c.in-Bytes.is at c.requires.kind in
-    rw named.0 (numbered_parts ByteString c.args.self.minor n (h.Bytes (Some n)) c.requires.parts.minor (sym c.number.ensures ∙ c.in-Some.is) (λ s. refl))
+    rw named.0 (numbered_parts ByteString c.args.self.minor n (h.Bytes (Some n)) c.requires.parts.minor
+    (sym c.number.ensures ∙ c.in-Some.is) (λ s. refl))
 
 pub returns-in-Text-clause-some : goal.returns-in-Text-clause-some
 returns-in-Text-clause-some c =
     let n = c.in-Some.n in
     let named = rw c.in-Text.is at c.requires.kind in
-    rw named.0 (numbered_parts TextString c.args.self.minor n (h.Text (Some n)) c.requires.parts.minor (sym c.number.ensures ∙ c.in-Some.is) (λ s. refl))
+    rw named.0 (numbered_parts TextString c.args.self.minor n (h.Text (Some n)) c.requires.parts.minor
+    (sym c.number.ensures ∙ c.in-Some.is) (λ s. refl))
 
 pub returns-in-Array-clause-some : goal.returns-in-Array-clause-some
 returns-in-Array-clause-some c =
     let n = c.in-Some.n in
     let named = rw c.in-Array.is at c.requires.kind in
-    rw named.0 (numbered_parts Array c.args.self.minor n (h.Array (Some n)) c.requires.parts.minor (sym c.number.ensures ∙ c.in-Some.is) (λ s. refl))
+    rw named.0 (numbered_parts Array c.args.self.minor n (h.Array (Some n)) c.requires.parts.minor
+    (sym c.number.ensures ∙ c.in-Some.is) (λ s. refl))
 
 pub returns-in-Map-clause-some : goal.returns-in-Map-clause-some
 returns-in-Map-clause-some c =
     let n = c.in-Some.n in
     let named = rw c.in-Map.is at c.requires.kind in
-    rw named.0 (numbered_parts Map c.args.self.minor n (h.Map (Some n)) c.requires.parts.minor (sym c.number.ensures ∙ c.in-Some.is) (λ s. refl))
+    rw named.0 (numbered_parts Map c.args.self.minor n (h.Map (Some n)) c.requires.parts.minor
+    (sym c.number.ensures ∙ c.in-Some.is) (λ s. refl))
 
 pub returns-in-Tag-clause-some : goal.returns-in-Tag-clause-some
 returns-in-Tag-clause-some c =
     let n = c.in-Some.n in
     let named = rw c.in-Tag.is at c.requires.kind in
-    rw named.0 (numbered_parts Tag c.args.self.minor n (h.Tag n) c.requires.parts.minor (sym c.number.ensures ∙ c.in-Some.is) (λ s. refl))
+    rw named.0 (numbered_parts Tag c.args.self.minor n (h.Tag n) c.requires.parts.minor
+    (sym c.number.ensures ∙ c.in-Some.is) (λ s. refl))
 
 pub returns-in-Other-clause-some : goal.returns-in-Other-clause-some
 returns-in-Other-clause-some c =

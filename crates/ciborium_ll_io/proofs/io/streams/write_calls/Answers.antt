@@ -14,6 +14,7 @@ loop-sent-preserved g c =
     let kept = c.loop-sent.invariant in
     record {
       within = search rules;
-      bytes = subst (Appends _ _) (sent_more c.loop-sent.sent c.in-Ok.count c.args.bytes.now) (Appends-trans _ _ _ _ _ kept.bytes c.in-Ok.ensures.bytes);
+      bytes = subst (Appends _ _) (sent_more c.loop-sent.sent c.in-Ok.count c.args.bytes.now)
+          (Appends-trans _ _ _ _ _ kept.bytes c.in-Ok.ensures.bytes);
       empty = search rules;
     }

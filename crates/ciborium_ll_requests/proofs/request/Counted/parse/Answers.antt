@@ -3,16 +3,19 @@ use Rattle.ciborium_ll_requests.proofs.RequestLaws.{cut_behind_count}
 use Rattle.ciborium_ll_requests.proofs.request.Counted.parse.Goals as goal
 
 pub returns-in_default-clause-none : goal.returns-in_default-clause-none
-returns-in_default-clause-none c asked spelled = cut_behind_count c.args.words.now None c.in_default.ensures.cases asked spelled
+returns-in_default-clause-none c asked spelled = cut_behind_count c.args.words.now None c.in_default.ensures.cases
+    asked spelled
 
 pub returns-in_default-number_of-clause-none : goal.returns-in_default-number_of-clause-none
 returns-in_default-number_of-clause-none c asked spelled =
-    let parts = cut_behind_count c.args.words.now (Some (c.in-Some.first, c.in-Some.word)) c.in-Some.ensures.cases asked spelled in
+    let parts = cut_behind_count c.args.words.now (Some (c.in-Some.first, c.in-Some.word)) c.in-Some.ensures.cases
+    asked spelled in
     c.in_default-number_of.ensures.none asked.count parts.0
 
 pub returns-in-None-clause-none : goal.returns-in-None-clause-none
 returns-in-None-clause-none c asked spelled =
-    let parts = cut_behind_count c.args.words.now (Some (c.in-Some.first, c.in-Some.word)) c.in-Some.ensures.cases asked spelled in
+    let parts = cut_behind_count c.args.words.now (Some (c.in-Some.first, c.in-Some.word)) c.in-Some.ensures.cases
+    asked spelled in
     let none = rw c.in-None.is at c.in_ok-bytes.ensures.none in
     let same = sym none ∙ parts.1 in
     cc same

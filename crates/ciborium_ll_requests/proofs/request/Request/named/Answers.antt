@@ -1,4 +1,5 @@
-use Rattle.ciborium_ll_requests.proofs.RequestLaws.{none_of_bytes, none_of_chunks, none_of_recode, none_of_skip, none_of_strict, none_of_text}
+use Rattle.ciborium_ll_requests.proofs.RequestLaws.{none_of_bytes, none_of_chunks, none_of_recode, none_of_skip}
+use Rattle.ciborium_ll_requests.proofs.RequestLaws.{none_of_strict, none_of_text}
 use Rattle.ciborium_ll_requests.proofs.request.Request.named.Goals as goal
 
 pub returns-in_ok-parse-in-chunks-clause-none : goal.returns-in_ok-parse-in-chunks-clause-none

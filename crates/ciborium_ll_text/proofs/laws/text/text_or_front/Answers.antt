@@ -13,4 +13,5 @@ returns-in-Ok-from_utf8-clause-accepted c =
 pub returns-in-Ok-from_utf8-clause-longest : goal.returns-in-Ok-from_utf8-clause-longest
 returns-in-Ok-from_utf8-clause-longest c =
     let valid = rw (← c.valid_up_to.ensures) at c.in-Err.ensures.cases.1 in
-    IsFront-valid c.args.bytes.now c.in-Ok-from_utf8.front.now c.valid_up_to.result c.in-Ok-from_utf8.ensures.cases.0 (search rules) valid
+    IsFront-valid c.args.bytes.now c.in-Ok-from_utf8.front.now c.valid_up_to.result
+    c.in-Ok-from_utf8.ensures.cases.0 (search rules) valid

@@ -4,7 +4,8 @@ use Rattle.ciborium_ll_text.specs.Windows.{after_window}
 use Rattle.ciborium_ll_text.proofs.RowLaws.{same_shift}
 use Rattle.ciborium_ll_text.proofs.WindowLaws.{IsWindow, windows_whole}
 use Rattle.ciborium_ll_text.proofs.state.State.run_blocks.Goals as goal
-use Rattle.ciborium_ll_text.proofs.state.State.run_blocks.Goals.{else-bytes-ge240-via-then-bytes-ge240+else-bytes-ge192, else-bytes-ge240-via-else-bytes-ge240}
+use Rattle.ciborium_ll_text.proofs.state.State.run_blocks.Goals.{else-bytes-ge240-via-then-bytes-ge240+else-bytes-ge192}
+use Rattle.ciborium_ll_text.proofs.state.State.run_blocks.Goals.{else-bytes-ge240-via-else-bytes-ge240}
 
 pub returns : goal.returns
 returns c =

@@ -8,7 +8,8 @@ pub loop-filled-preserved : goal.loop-filled-preserved
 loop-filled-preserved g c =
     let from = c.loop-filled.filled in
     let kept = c.loop-filled.invariant in
-    let joined = filled_more from (length c.loop-filled.«data» - from) c.in-Ok.count c.loop-filled.«data» c.read_part.new.«data» kept.within c.in-Ok.ensures.bound.1 in
+    let joined = filled_more from (length c.loop-filled.«data» - from) c.in-Ok.count c.loop-filled.«data»
+    c.read_part.new.«data» kept.within c.in-Ok.ensures.bound.1 in
     record {
       within = search rules;
       failures = search rules;

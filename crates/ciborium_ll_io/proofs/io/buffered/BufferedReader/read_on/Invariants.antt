@@ -8,7 +8,8 @@ invariant-loop-filled g l = record {
   within : l.filled ≤ length l.«data»;
   failures : l.self.failures.count ≡ l.initial.self.failures.count;
   fault : l.self.fault ≡ l.initial.self.fault;
-  bytes : Consumes (ahead_of g.T.Read.remaining l.initial.self) (ahead_of g.T.Read.remaining l.self) (take l.filled l.«data»);
+  bytes : Consumes (ahead_of g.T.Read.remaining l.initial.self) (ahead_of g.T.Read.remaining l.self)
+      (take l.filled l.«data»);
 }
 
 abbrev pub decreases-loop-filled : goal.decreases-loop-filled

@@ -1,4 +1,5 @@
--- `new` makes a count of zero: a struct of no bytes that owns nothing. By hand, since a struct with `also_owns` is made.
+-- `new` makes a count of zero: a struct of no bytes that owns nothing. By hand, since a struct with `also_owns` is
+-- made.
 use Rattle.std.proofs.Common.{[], ◌∷◌, refl}
 use Rattle.std.proofs.raw_atomic.Walks.{proved}
 use mir.Val.{Val, vstruct, vcons, vnil}
@@ -33,7 +34,8 @@ new_spec 𝓤 𝓛 𝓜 𝓡 wired =
     qed 𝓛 (raw (on_entry 𝓛 f.signature κs qs a tt) ∷ ‵ ftrue ∷ []) ∵ keep ! [] $
     enter ! _ _ _ _ _ $ alloc_all ! (λ l. pass_all ! refl tt $
     -- the marker, and then the struct around it
-    sets ! (agg ! (no_more !)) refl (tt, tt) $ sets ! (agg ! (and_then ! (get ! refl) (no_more !))) refl (tt, (tt, tt)) $
+    sets ! (agg ! (no_more !)) refl (tt, tt) $ sets ! (agg ! (and_then ! (get ! refl) (no_more !))) refl
+    (tt, (tt, tt)) $
     returns ! (look_at ! 0 refl) $ free_all ! refl $
     pure_i ! ((T.the_row).own_val none_yet (stored ∷ [])) ((λ vss. (tt, ((λ uss. (tt, tt)), tt))), tt)
     (((vstruct vnil ∷ [], tt), (refl, ((tt, (refl, tt)), tt))), tt) $

@@ -40,5 +40,6 @@ raise_spec 𝓤 𝓛 𝓜 𝓡 wired =
     closes ! tt R raised us b o $
     returns ! (look_at ! 0 refl) $ free_all ! refl $ move ! (3 ∷ []) $
     suffices ! _ (ends_at 𝓛 f.ended stayed c y vunit tt (raised, tt) (tt, tt)) $ says ! refl $
-    group ! 3 $ nothing ! $ move ! (1 ∷ 0 ∷ []) $ join ! $ nothing ! $ move ! (2 ∷ 0 ∷ []) $ join ! $ frame ! $ frame ! $
+    group ! 3 $ nothing ! $ move ! (1 ∷ 0 ∷ []) $ join ! $ nothing ! $ move ! (2 ∷ 0 ∷ []) $ join ! $ frame ! $
+    frame ! $
     feq_i ! _ (vunit ∷ []) _ refl $ done !)))

@@ -6,7 +6,8 @@ abbrev pub invariant-loop-filled : goal.invariant-loop-filled
 invariant-loop-filled g l = record {
   within : l.filled ≤ length l.«data»;
   failures : l.self.failures.count ≡ l.initial.self.failures.count;
-  bytes : Consumes (g.T.Read.remaining l.initial.self.source) (g.T.Read.remaining l.self.source) (take l.filled l.«data»);
+  bytes : Consumes (g.T.Read.remaining l.initial.self.source) (g.T.Read.remaining l.self.source)
+      (take l.filled l.«data»);
   empty : l.filled ≡ 0 → l.self.source ≡ l.initial.self.source;
 }
 
