@@ -12,6 +12,8 @@
 #include <stdlib.h>
 #include <string.h>
 
+#include "../input.h"
+
 /* Numbers without a sign are added, and 1 for each other title. */
 static uint64_t titles(const uint8_t *bytes, size_t size) {
     uint64_t sum = 0;
@@ -45,22 +47,6 @@ static uint64_t items(const uint8_t *bytes, size_t size) {
         offset += report.consumed;
     }
     return count;
-}
-
-/* Reads standard input whole. */
-static uint8_t *input(size_t *size) {
-    size_t room = 1 << 20;
-    uint8_t *bytes = malloc(room);
-    *size = 0;
-    while (bytes) {
-        size_t count = fread(bytes + *size, 1, room - *size, stdin);
-        *size += count;
-        if (count == 0)
-            return bytes;
-        if (*size == room)
-            bytes = realloc(bytes, room *= 2);
-    }
-    return NULL;
 }
 
 int main(int count, char **words) {

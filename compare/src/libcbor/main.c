@@ -12,6 +12,8 @@
 #include <stdlib.h>
 #include <string.h>
 
+#include "../input.h"
+
 /* The context of each call is the sum. A number without a sign is added, and 1 for each other title. */
 static void add_8(void *sum, uint8_t number) { *(uint64_t *)sum += number; }
 static void add_16(void *sum, uint16_t number) { *(uint64_t *)sum += number; }
@@ -56,22 +58,6 @@ static uint64_t items(const unsigned char *bytes, size_t size, unsigned char *ou
         offset += result.read;
     }
     return sum;
-}
-
-/* Reads standard input whole. */
-static unsigned char *input(size_t *size) {
-    size_t room = 1 << 20;
-    unsigned char *bytes = malloc(room);
-    *size = 0;
-    while (bytes) {
-        size_t count = fread(bytes + *size, 1, room - *size, stdin);
-        *size += count;
-        if (count == 0)
-            return bytes;
-        if (*size == room)
-            bytes = realloc(bytes, room *= 2);
-    }
-    return NULL;
 }
 
 int main(int count, char **words) {

@@ -1,0 +1,21 @@
+/* What the programs in C that are compared share. */
+#include <stddef.h>
+#include <stdint.h>
+#include <stdio.h>
+#include <stdlib.h>
+
+/* Reads standard input whole. It gives NULL where there is no memory. */
+static uint8_t *input(size_t *size) {
+    size_t room = 1 << 20;
+    uint8_t *bytes = malloc(room);
+    *size = 0;
+    while (bytes) {
+        size_t count = fread(bytes + *size, 1, room - *size, stdin);
+        *size += count;
+        if (count == 0)
+            return bytes;
+        if (*size == room)
+            bytes = realloc(bytes, room *= 2);
+    }
+    return NULL;
+}
