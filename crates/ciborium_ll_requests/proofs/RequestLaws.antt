@@ -11,13 +11,10 @@ use Rattle.std.proofs.lemmas.Str.Ascii.{IsAscii-cons, IsAscii-from_all, IsAscii-
 use Rattle.hex.specs.Hex.{decode_of, is_hex_digit}
 use Rattle.hex.specs.declared.error.FromHexError.{FromHexError}
 use Rattle.hex.proofs.HexLemmas.{decode_of-ok}
-use Rattle.ciborium_ll_requests.specs.Number.{IsDepth, IsLimit, IsNumber, IsSize}
-use Rattle.ciborium_ll_requests.specs.Request.{Asks, Spells, SpellsBuffered, SpellsCounted, SpellsLimited}
-use Rattle.ciborium_ll_requests.specs.Request.{SpellsNested, name_of, space}
-use Rattle.ciborium_ll_requests.specs.declared.request.Buffered.{Buffered}
-use Rattle.ciborium_ll_requests.specs.declared.request.Counted.{Counted}
+use Rattle.ciborium_ll_requests.specs.Number.{IsLimit, IsNumber, IsNumberUpTo, most_depth, most_number, most_size}
+use Rattle.ciborium_ll_requests.specs.Request.{Asks, Spells, SpellsLimited, SpellsNumbered, name_of, space}
 use Rattle.ciborium_ll_requests.specs.declared.request.Limited.{Limited}
-use Rattle.ciborium_ll_requests.specs.declared.request.Nested.{Nested}
+use Rattle.ciborium_ll_requests.specs.declared.request.Numbered.{Numbered}
 use Rattle.ciborium_ll_requests.specs.Word.{bytes_of_word, decoded}
 use Rattle.ciborium_ll_requests.specs.declared.request.Request.{Request}
 use Rattle.ciborium_ll_requests.specs.declared.request.Request.TheVariants.{Bytes, Chunks, Heads, Recode, Skip}
@@ -66,22 +63,26 @@ IsAscii-two : (first word : List ℕ) → IsAscii first → IsAscii word → IsA
 IsAscii-two first word left right =
     IsAscii-append first (space ∷ word) left (IsAscii-cons space word (omega arith) right)
 
+-- a number and bytes
+IsAscii-numbered : (most : ℕ) (words : List ℕ) (asked : Numbered) → SpellsNumbered most words asked → IsAscii words
+IsAscii-numbered most words asked (first, word, parts, number, has) =
+    rw parts (IsAscii-two first word (IsAscii-number first asked.number number.0)
+    (IsAscii-word word asked.bytes.items has))
+
+-- a limit and bytes
+IsAscii-limited : (words : List ℕ) (asked : Limited) → SpellsLimited words asked → IsAscii words
+IsAscii-limited words asked (first, word, parts, limit, has) =
+    rw parts (IsAscii-two first word (IsAscii-limit first asked.limit limit) (IsAscii-word word asked.bytes.items has))
+
 -- the words of a request
 IsAscii-words : (words : List ℕ) (request : Request) → Spells words request → IsAscii words
 IsAscii-words words (Heads bytes) has = IsAscii-word words bytes.items has
-IsAscii-words words (Chunks asked) (first, word, parts, size, has) =
-    rw parts (IsAscii-two first word (IsAscii-number first asked.size size.0) (IsAscii-word word asked.bytes.items has))
-IsAscii-words words (Bytes asked) (first, word, parts, limit, has) =
-    rw parts (IsAscii-two first word (IsAscii-limit first asked.limit limit) (IsAscii-word word asked.bytes.items has))
-IsAscii-words words (Text asked) (first, word, parts, limit, has) =
-    rw parts (IsAscii-two first word (IsAscii-limit first asked.limit limit) (IsAscii-word word asked.bytes.items has))
-IsAscii-words words (Recode asked) (first, word, parts, count, has) =
-    rw parts (IsAscii-two first word (IsAscii-number first asked.count count) (IsAscii-word word asked.bytes.items has))
-IsAscii-words words (Strict asked) (first, word, parts, count, has) =
-    rw parts (IsAscii-two first word (IsAscii-number first asked.count count) (IsAscii-word word asked.bytes.items has))
-IsAscii-words words (Skip asked) (first, word, parts, depth, has) =
-    rw parts (IsAscii-two first word (IsAscii-number first asked.depth depth.0)
-    (IsAscii-word word asked.bytes.items has))
+IsAscii-words words (Chunks asked) spelled = IsAscii-numbered most_size words asked spelled
+IsAscii-words words (Bytes asked) spelled = IsAscii-limited words asked spelled
+IsAscii-words words (Text asked) spelled = IsAscii-limited words asked spelled
+IsAscii-words words (Recode asked) spelled = IsAscii-numbered most_number words asked spelled
+IsAscii-words words (Strict asked) spelled = IsAscii-numbered most_number words asked spelled
+IsAscii-words words (Skip asked) spelled = IsAscii-numbered most_depth words asked spelled
 
 -- the name of a request
 IsAscii-name : (request : Request) → IsAscii (name_of request)
@@ -131,16 +132,16 @@ cut_behind_name line (Some x) cut request (words, parts, spelled) =
     (name_has_no_space request) in
     (same.0, rw same.1 spelled)
 
--- a size and bytes are cut behind the size
-pub cut_behind_size : (words : List ℕ) (r : Option (Bor (List ℕ) × Bor (List ℕ))) → IsSplitOnceResult space words r
-    → (asked : Buffered) → SpellsBuffered words asked
-    → MatchOption r ⊥ (λ x. IsSize x.0.now asked.size × (bytes_of_word x.1.now ≡ Some asked.bytes.items))
-cut_behind_size words None cut asked (first, word, parts, size, has) =
-    split_after space words first word None cut (omega arith) parts (number_has_no_space first asked.size size.0)
-cut_behind_size words (Some x) cut asked (first, word, parts, size, has) =
+-- a number and bytes are cut behind the number
+pub cut_behind_number : (most : ℕ) (words : List ℕ) (r : Option (Bor (List ℕ) × Bor (List ℕ)))
+    → IsSplitOnceResult space words r → (asked : Numbered) → SpellsNumbered most words asked
+    → MatchOption r ⊥ (λ x. IsNumberUpTo most x.0.now asked.number × (bytes_of_word x.1.now ≡ Some asked.bytes.items))
+cut_behind_number most words None cut asked (first, word, parts, number, has) =
+    split_after space words first word None cut (omega arith) parts (number_has_no_space first asked.number number.0)
+cut_behind_number most words (Some x) cut asked (first, word, parts, number, has) =
     let same = split_after space words first word (Some x) cut (omega arith) parts
-    (number_has_no_space first asked.size size.0) in
-    (rw same.0 size, rw same.1 has)
+    (number_has_no_space first asked.number number.0) in
+    (rw same.0 number, rw same.1 has)
 
 -- a limit and bytes are cut behind the limit
 pub cut_behind_limit : (words : List ℕ) (r : Option (Bor (List ℕ) × Bor (List ℕ))) → IsSplitOnceResult space words r
@@ -152,28 +153,6 @@ cut_behind_limit words (Some x) cut asked (first, word, parts, limit, has) =
     let same = split_after space words first word (Some x) cut (omega arith) parts
     (limit_has_no_space first asked.limit limit) in
     (rw same.0 limit, rw same.1 has)
-
--- a count and bytes are cut behind the count
-pub cut_behind_count : (words : List ℕ) (r : Option (Bor (List ℕ) × Bor (List ℕ))) → IsSplitOnceResult space words r
-    → (asked : Counted) → SpellsCounted words asked
-    → MatchOption r ⊥ (λ x. IsNumber x.0.now asked.count × (bytes_of_word x.1.now ≡ Some asked.bytes.items))
-cut_behind_count words None cut asked (first, word, parts, count, has) =
-    split_after space words first word None cut (omega arith) parts (number_has_no_space first asked.count count)
-cut_behind_count words (Some x) cut asked (first, word, parts, count, has) =
-    let same = split_after space words first word (Some x) cut (omega arith) parts
-    (number_has_no_space first asked.count count) in
-    (rw same.0 count, rw same.1 has)
-
--- a depth and bytes are cut behind the depth
-pub cut_behind_depth : (words : List ℕ) (r : Option (Bor (List ℕ) × Bor (List ℕ))) → IsSplitOnceResult space words r
-    → (asked : Nested) → SpellsNested words asked
-    → MatchOption r ⊥ (λ x. IsDepth x.0.now asked.depth × (bytes_of_word x.1.now ≡ Some asked.bytes.items))
-cut_behind_depth words None cut asked (first, word, parts, depth, has) =
-    split_after space words first word None cut (omega arith) parts (number_has_no_space first asked.depth depth.0)
-cut_behind_depth words (Some x) cut asked (first, word, parts, depth, has) =
-    let none = number_has_no_space first asked.depth depth.0 in
-    let same = split_after space words first word (Some x) cut (omega arith) parts none in
-    (rw same.0 depth, rw same.1 has)
 
 -- ---- requests of one name
 
@@ -187,8 +166,9 @@ abbrev second : List ℕ → ℕ
 second [] = 0
 second (byte ∷ bytes) = initial bytes
 
-refuses_chunks : (name words : List ℕ) → name ≡ codes "chunks" → ((asked : Buffered) → SpellsBuffered words asked → ⊥)
-    → (request : Request) → name ≡ name_of request → Spells words request → ⊥
+refuses_chunks : (name words : List ℕ) → name ≡ codes "chunks"
+    → ((asked : Numbered) → SpellsNumbered most_size words asked → ⊥) → (request : Request) → name ≡ name_of request
+    → Spells words request → ⊥
 refuses_chunks name words is refused (Heads bytes) named spelled = let other : 99 ≡ 104 =
     ap initial (sym is ∙ named) in omega (arith, other)
 refuses_chunks name words is refused (Chunks asked) named spelled = refused asked spelled
@@ -204,10 +184,10 @@ refuses_chunks name words is refused (Skip asked) named spelled = let other : 99
     ap initial (sym is ∙ named) in omega (arith, other)
 
 -- words that are refused behind the name are no request of it
-pub none_of_chunks : (name words : List ℕ) (found : Option Buffered) (result : Option Request)
-    (P : Buffered → Request → Type 0)
+pub none_of_chunks : (name words : List ℕ) (found : Option Numbered) (result : Option Request)
+    (P : Numbered → Request → Type 0)
     → MatchOption found (result ≡ None) (λ x. IsSomeAnd result (P x))
-    → IfNone found ((asked : Buffered) → SpellsBuffered words asked → ⊥)
+    → IfNone found ((asked : Numbered) → SpellsNumbered most_size words asked → ⊥)
     → name ≡ codes "chunks" → IfNone result ((request : Request) → name ≡ name_of request → Spells words request → ⊥)
 none_of_chunks name words found (Some request) P cases refused is = _
 none_of_chunks name words (Some asked) None P cases refused is = absurd cases
@@ -265,8 +245,9 @@ none_of_text name words found (Some request) P cases refused is = _
 none_of_text name words (Some asked) None P cases refused is = absurd cases
 none_of_text name words None None P cases refused is = refuses_text name words is refused
 
-refuses_recode : (name words : List ℕ) → name ≡ codes "recode" → ((asked : Counted) → SpellsCounted words asked → ⊥)
-    → (request : Request) → name ≡ name_of request → Spells words request → ⊥
+refuses_recode : (name words : List ℕ) → name ≡ codes "recode"
+    → ((asked : Numbered) → SpellsNumbered most_number words asked → ⊥) → (request : Request) → name ≡ name_of request
+    → Spells words request → ⊥
 refuses_recode name words is refused (Heads bytes) named spelled = let other : 114 ≡ 104 =
     ap initial (sym is ∙ named) in omega (arith, other)
 refuses_recode name words is refused (Chunks asked) named spelled = let other : 114 ≡ 99 =
@@ -282,17 +263,18 @@ refuses_recode name words is refused (Skip asked) named spelled = let other : 11
     ap initial (sym is ∙ named) in omega (arith, other)
 
 -- words that are refused behind the name are no request of it
-pub none_of_recode : (name words : List ℕ) (found : Option Counted) (result : Option Request)
-    (P : Counted → Request → Type 0)
+pub none_of_recode : (name words : List ℕ) (found : Option Numbered) (result : Option Request)
+    (P : Numbered → Request → Type 0)
     → MatchOption found (result ≡ None) (λ x. IsSomeAnd result (P x))
-    → IfNone found ((asked : Counted) → SpellsCounted words asked → ⊥)
+    → IfNone found ((asked : Numbered) → SpellsNumbered most_number words asked → ⊥)
     → name ≡ codes "recode" → IfNone result ((request : Request) → name ≡ name_of request → Spells words request → ⊥)
 none_of_recode name words found (Some request) P cases refused is = _
 none_of_recode name words (Some asked) None P cases refused is = absurd cases
 none_of_recode name words None None P cases refused is = refuses_recode name words is refused
 
-refuses_strict : (name words : List ℕ) → name ≡ codes "strict" → ((asked : Counted) → SpellsCounted words asked → ⊥)
-    → (request : Request) → name ≡ name_of request → Spells words request → ⊥
+refuses_strict : (name words : List ℕ) → name ≡ codes "strict"
+    → ((asked : Numbered) → SpellsNumbered most_number words asked → ⊥) → (request : Request) → name ≡ name_of request
+    → Spells words request → ⊥
 refuses_strict name words is refused (Heads bytes) named spelled = let other : 115 ≡ 104 =
     ap initial (sym is ∙ named) in omega (arith, other)
 refuses_strict name words is refused (Chunks asked) named spelled = let other : 115 ≡ 99 =
@@ -308,17 +290,18 @@ refuses_strict name words is refused (Skip asked) named spelled = let other : 11
     ap second (sym is ∙ named) in omega (arith, other)
 
 -- words that are refused behind the name are no request of it
-pub none_of_strict : (name words : List ℕ) (found : Option Counted) (result : Option Request)
-    (P : Counted → Request → Type 0)
+pub none_of_strict : (name words : List ℕ) (found : Option Numbered) (result : Option Request)
+    (P : Numbered → Request → Type 0)
     → MatchOption found (result ≡ None) (λ x. IsSomeAnd result (P x))
-    → IfNone found ((asked : Counted) → SpellsCounted words asked → ⊥)
+    → IfNone found ((asked : Numbered) → SpellsNumbered most_number words asked → ⊥)
     → name ≡ codes "strict" → IfNone result ((request : Request) → name ≡ name_of request → Spells words request → ⊥)
 none_of_strict name words found (Some request) P cases refused is = _
 none_of_strict name words (Some asked) None P cases refused is = absurd cases
 none_of_strict name words None None P cases refused is = refuses_strict name words is refused
 
-refuses_skip : (name words : List ℕ) → name ≡ codes "skip" → ((asked : Nested) → SpellsNested words asked → ⊥)
-    → (request : Request) → name ≡ name_of request → Spells words request → ⊥
+refuses_skip : (name words : List ℕ) → name ≡ codes "skip"
+    → ((asked : Numbered) → SpellsNumbered most_depth words asked → ⊥) → (request : Request) → name ≡ name_of request
+    → Spells words request → ⊥
 refuses_skip name words is refused (Heads bytes) named spelled = let other : 115 ≡ 104 =
     ap initial (sym is ∙ named) in omega (arith, other)
 refuses_skip name words is refused (Chunks asked) named spelled = let other : 115 ≡ 99 =
@@ -334,10 +317,10 @@ refuses_skip name words is refused (Strict asked) named spelled = let other : 10
 refuses_skip name words is refused (Skip asked) named spelled = refused asked spelled
 
 -- words that are refused behind the name are no request of it
-pub none_of_skip : (name words : List ℕ) (found : Option Nested) (result : Option Request)
-    (P : Nested → Request → Type 0)
+pub none_of_skip : (name words : List ℕ) (found : Option Numbered) (result : Option Request)
+    (P : Numbered → Request → Type 0)
     → MatchOption found (result ≡ None) (λ x. IsSomeAnd result (P x))
-    → IfNone found ((asked : Nested) → SpellsNested words asked → ⊥)
+    → IfNone found ((asked : Numbered) → SpellsNumbered most_depth words asked → ⊥)
     → name ≡ codes "skip" → IfNone result ((request : Request) → name ≡ name_of request → Spells words request → ⊥)
 none_of_skip name words found (Some request) P cases refused is = _
 none_of_skip name words (Some asked) None P cases refused is = absurd cases

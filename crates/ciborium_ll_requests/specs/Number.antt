@@ -10,6 +10,10 @@ most_number = 4294967295
 abbrev pub most_size : ℕ
 most_size = 65536
 
+-- the greatest depth of an item
+abbrev pub most_depth : ℕ
+most_depth = 256
+
 -- the word has digits alone, of which the first is a zero only where it is the only one, and the number is their value
 pub record IsNumber (word : List ℕ) (n : ℕ) : Type 0 where
   pub numeral : IsNumeral 10 word
@@ -17,17 +21,9 @@ pub record IsNumber (word : List ℕ) (n : ℕ) : Type 0 where
   pub value : n ≡ digits_value 10 word
   pub most : n ≤ most_number
 
--- the word is the size of a buffer
-abbrev pub IsSize : List ℕ → ℕ → Type 0
-IsSize word size = IsNumber word size × (size ≤ most_size)
-
--- the greatest depth of an item
-abbrev pub most_depth : ℕ
-most_depth = 256
-
--- the word is the depth of an item
-abbrev pub IsDepth : List ℕ → ℕ → Type 0
-IsDepth word depth = IsNumber word depth × (depth ≤ most_depth)
+-- the word is a number that is at most so much
+abbrev pub IsNumberUpTo : ℕ → List ℕ → ℕ → Type 0
+IsNumberUpTo most word n = IsNumber word n × (n ≤ most)
 
 -- the word is a limit: a number, or `*` for none
 abbrev pub IsLimit : List ℕ → Option ℕ → Type 0

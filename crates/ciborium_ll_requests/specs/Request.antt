@@ -1,38 +1,26 @@
 -- What lines ask for.
 use Rattle.std.specs.Prelude.{◌≡◌, ℕ, List, ◌++◌, ◌∷◌, codes, Some}
-use Rattle.ciborium_ll_requests.specs.Number.{IsDepth, IsLimit, IsNumber, IsSize}
+use Rattle.ciborium_ll_requests.specs.Number.{IsLimit, IsNumberUpTo, most_depth, most_number, most_size}
 use Rattle.ciborium_ll_requests.specs.Word.{bytes_of_word}
 use Rattle.ciborium_ll_requests.specs.declared.request.Limited.{Limited}
 use Rattle.ciborium_ll_requests.specs.declared.request.Request.{Request}
 use Rattle.ciborium_ll_requests.specs.declared.request.Request.TheVariants.{Bytes, Chunks, Heads, Recode, Skip}
 use Rattle.ciborium_ll_requests.specs.declared.request.Request.TheVariants.{Strict, Text}
-use Rattle.ciborium_ll_requests.specs.declared.request.Buffered.{Buffered}
-use Rattle.ciborium_ll_requests.specs.declared.request.Counted.{Counted}
-use Rattle.ciborium_ll_requests.specs.declared.request.Nested.{Nested}
+use Rattle.ciborium_ll_requests.specs.declared.request.Numbered.{Numbered}
 
 -- the byte that parts two words
 abbrev pub space : ℕ
 space = 32
 
--- the words are a size and bytes
-abbrev pub SpellsBuffered : List ℕ → Buffered → Type 0
-SpellsBuffered words asked = (first : List ℕ) × (word : List ℕ) × (words ≡ first ++ (space ∷ word))
-    × IsSize first asked.size × (bytes_of_word word ≡ Some asked.bytes.items)
+-- the words are a number of at most so much, and bytes
+abbrev pub SpellsNumbered : ℕ → List ℕ → Numbered → Type 0
+SpellsNumbered most words asked = (first : List ℕ) × (word : List ℕ) × (words ≡ first ++ (space ∷ word))
+    × IsNumberUpTo most first asked.number × (bytes_of_word word ≡ Some asked.bytes.items)
 
 -- the words are a limit and bytes
 abbrev pub SpellsLimited : List ℕ → Limited → Type 0
 SpellsLimited words asked = (first : List ℕ) × (word : List ℕ) × (words ≡ first ++ (space ∷ word))
     × IsLimit first asked.limit × (bytes_of_word word ≡ Some asked.bytes.items)
-
--- the words are a count and bytes
-abbrev pub SpellsCounted : List ℕ → Counted → Type 0
-SpellsCounted words asked = (first : List ℕ) × (word : List ℕ) × (words ≡ first ++ (space ∷ word))
-    × IsNumber first asked.count × (bytes_of_word word ≡ Some asked.bytes.items)
-
--- the words are a depth and bytes
-abbrev pub SpellsNested : List ℕ → Nested → Type 0
-SpellsNested words asked = (first : List ℕ) × (word : List ℕ) × (words ≡ first ++ (space ∷ word))
-    × IsDepth first asked.depth × (bytes_of_word word ≡ Some asked.bytes.items)
 
 -- the first word of a request
 abbrev pub name_of : Request → List ℕ
@@ -47,12 +35,12 @@ name_of (Skip asked) = codes "skip"
 -- the words behind the first one
 abbrev pub Spells : List ℕ → Request → Type 0
 Spells words (Heads bytes) = bytes_of_word words ≡ Some bytes.items
-Spells words (Chunks asked) = SpellsBuffered words asked
+Spells words (Chunks asked) = SpellsNumbered most_size words asked
 Spells words (Bytes asked) = SpellsLimited words asked
 Spells words (Text asked) = SpellsLimited words asked
-Spells words (Recode asked) = SpellsCounted words asked
-Spells words (Strict asked) = SpellsCounted words asked
-Spells words (Skip asked) = SpellsNested words asked
+Spells words (Recode asked) = SpellsNumbered most_number words asked
+Spells words (Strict asked) = SpellsNumbered most_number words asked
+Spells words (Skip asked) = SpellsNumbered most_depth words asked
 
 -- the line is this request, spelled out
 abbrev pub Asks : List ℕ → Request → Type 0

@@ -2,13 +2,16 @@
 
 ghost use Rattle.std.specs.Prelude.{◌≡◌, ℕ, Option, IfNone, IfSome};
 ghost use Rattle.std.specs.Fmt.{decimal};
-ghost use Rattle.ciborium_ll_requests.specs.Number.{IsDepth, IsLimit, IsNumber, IsSize};
+ghost use Rattle.ciborium_ll_requests.specs.Number.{IsLimit, IsNumber, IsNumberUpTo};
+
+/// The greatest number that a line may have.
+pub const MOST_NUMBER: u32 = u32::MAX;
 
 /// The greatest size of a buffer that a line may ask for.
-const MOST_SIZE: u32 = 65_536;
+pub const MOST_SIZE: u32 = 65_536;
 
 /// The greatest depth of an item that a line may ask for.
-const MOST_DEPTH: u32 = 256;
+pub const MOST_DEPTH: u32 = 256;
 
 /// The number that a word spells: `0`, or a digit from 1 to 9 and digits behind it, at most 4,294,967,295.
 ///
@@ -31,24 +34,13 @@ pub fn number_of(word: &str) -> Option<u32>
     }
 }
 
-/// The size of a buffer that a word spells: a number, at most 65,536.
-pub fn size_of(word: &str) -> Option<usize>
-    ensures some { IfSome result (IsSize word.now) }
-    ensures none { IfNone result ((size : ℕ) → IsSize word.now size → ⊥) }
+/// The number that a word spells, where it is at most so much.
+pub fn number_up_to(most: u32, word: &str) -> Option<usize>
+    ensures some { IfSome result (IsNumberUpTo most word.now) }
+    ensures none { IfNone result ((n : ℕ) → IsNumberUpTo most word.now n → ⊥) }
 {
     match number_of(word) {
-        Some(size) if size <= MOST_SIZE => Some(size as usize),
-        _ => None,
-    }
-}
-
-/// The depth of an item that a word spells: a number, at most 256.
-pub fn depth_of(word: &str) -> Option<usize>
-    ensures some { IfSome result (IsDepth word.now) }
-    ensures none { IfNone result ((depth : ℕ) → IsDepth word.now depth → ⊥) }
-{
-    match number_of(word) {
-        Some(depth) if depth <= MOST_DEPTH => Some(depth as usize),
+        Some(number) if number <= most => Some(number as usize),
         _ => None,
     }
 }

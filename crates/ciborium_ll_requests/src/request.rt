@@ -2,38 +2,39 @@
 
 ghost use Rattle.std.specs.Prelude.{IfNone, IfOk, IfSome};
 
-use crate::number::{depth_of, limit_of, number_of, size_of};
+use crate::number::{MOST_DEPTH, MOST_NUMBER, MOST_SIZE, limit_of, number_up_to};
 use crate::word::bytes_of;
 use std::alloc::{AllocError, Global};
 
-/// A size of a buffer, and bytes that are read through it.
+/// A number, and bytes.
 #[derive(Drop)]
-pub struct Buffered {
-    /// How many bytes the buffer has, at most 65,536.
-    pub size: usize,
-    /// What is read.
+pub struct Numbered {
+    /// The size of a buffer, a count of elements or a depth, by the request.
+    pub number: usize,
+    /// What is read or copied.
     pub bytes: Vec<u8>,
 }
 
-impl Buffered {
-    ghost use Rattle.ciborium_ll_requests.specs.declared.request.Buffered.{Buffered};
-    ghost use Rattle.ciborium_ll_requests.specs.Request.{SpellsBuffered};
+impl Numbered {
+    ghost use Rattle.ciborium_ll_requests.specs.declared.request.Numbered.{Numbered};
+    ghost use Rattle.ciborium_ll_requests.specs.Request.{SpellsNumbered};
 
-    /// Reads two words, parted by exactly one space.
+    /// Reads two words, parted by exactly one space, of which the first is a number of at most so much.
     ///
     /// It is `None` where they are no such. The error says that there is no memory for the bytes.
-    fn parse(alloc: Global, words: &str) -> Result<Option<Buffered>, AllocError>
-        ensures some { IfOk result (λ found. IfSome found (SpellsBuffered words.now)) }
-        ensures none { IfOk result (λ found. IfNone found ((asked : Buffered) → SpellsBuffered words.now asked → ⊥)) }
+    fn parse(alloc: Global, most: u32, words: &str) -> Result<Option<Numbered>, AllocError>
+        ensures some { IfOk result (λ found. IfSome found (SpellsNumbered most words.now)) }
+        ensures none { IfOk result (λ found. IfNone found
+            ((asked : Numbered) → SpellsNumbered most words.now asked → ⊥)) }
     {
         let Some((first, word)) = words.split_once(' ') else {
             return Ok(None);
         };
-        let Some(size) = size_of(first) else {
+        let Some(number) = number_up_to(most, first) else {
             return Ok(None);
         };
         match bytes_of(alloc, word)? {
-            Some(bytes) => Ok(Some(Buffered { size, bytes })),
+            Some(bytes) => Ok(Some(Numbered { number, bytes })),
             None => Ok(None),
         }
     }
@@ -72,92 +73,23 @@ impl Limited {
     }
 }
 
-/// A count of elements, and bytes that they are copied from.
-#[derive(Drop)]
-pub struct Counted {
-    /// How many elements are copied, at most 4,294,967,295.
-    pub count: usize,
-    /// What is copied.
-    pub bytes: Vec<u8>,
-}
-
-impl Counted {
-    ghost use Rattle.ciborium_ll_requests.specs.declared.request.Counted.{Counted};
-    ghost use Rattle.ciborium_ll_requests.specs.Request.{SpellsCounted};
-
-    /// Reads two words, parted by exactly one space.
-    ///
-    /// It is `None` where they are no such. The error says that there is no memory for the bytes.
-    fn parse(alloc: Global, words: &str) -> Result<Option<Counted>, AllocError>
-        ensures some { IfOk result (λ found. IfSome found (SpellsCounted words.now)) }
-        ensures none { IfOk result (λ found. IfNone found ((asked : Counted) → SpellsCounted words.now asked → ⊥)) }
-    {
-        let Some((first, word)) = words.split_once(' ') else {
-            return Ok(None);
-        };
-        let Some(count) = number_of(first) else {
-            return Ok(None);
-        };
-        match bytes_of(alloc, word)? {
-            Some(bytes) => Ok(Some(Counted {
-                count: count as usize,
-                bytes,
-            })),
-            None => Ok(None),
-        }
-    }
-}
-
-/// A depth, and bytes that an item is skipped in.
-#[derive(Drop)]
-pub struct Nested {
-    /// How many levels deep tags, arrays and maps may nest, at most 256.
-    pub depth: usize,
-    /// What is read.
-    pub bytes: Vec<u8>,
-}
-
-impl Nested {
-    ghost use Rattle.ciborium_ll_requests.specs.declared.request.Nested.{Nested};
-    ghost use Rattle.ciborium_ll_requests.specs.Request.{SpellsNested};
-
-    /// Reads two words, parted by exactly one space.
-    ///
-    /// It is `None` where they are no such. The error says that there is no memory for the bytes.
-    fn parse(alloc: Global, words: &str) -> Result<Option<Nested>, AllocError>
-        ensures some { IfOk result (λ found. IfSome found (SpellsNested words.now)) }
-        ensures none { IfOk result (λ found. IfNone found ((asked : Nested) → SpellsNested words.now asked → ⊥)) }
-    {
-        let Some((first, word)) = words.split_once(' ') else {
-            return Ok(None);
-        };
-        let Some(depth) = depth_of(first) else {
-            return Ok(None);
-        };
-        match bytes_of(alloc, word)? {
-            Some(bytes) => Ok(Some(Nested { depth, bytes })),
-            None => Ok(None),
-        }
-    }
-}
-
 /// What a line asks for.
 #[derive(Drop)]
 pub enum Request {
     /// `heads HEX`: the headers of the titles that the bytes spell, one behind the other.
     Heads(Vec<u8>),
-    /// `chunks SIZE HEX`: the string that the bytes begin with, read through a buffer of this size.
-    Chunks(Buffered),
+    /// `chunks SIZE HEX`: the string that the bytes begin with, read through a buffer of this size, at most 65,536.
+    Chunks(Numbered),
     /// `bytes LIMIT HEX`: the spelling of a byte string.
     Bytes(Limited),
     /// `text LIMIT HEX`: the spelling of a text string.
     Text(Limited),
-    /// `recode COUNT HEX`: a copy of the elements that the bytes begin with.
-    Recode(Counted),
+    /// `recode COUNT HEX`: a copy of so many elements that the bytes begin with, at most 4,294,967,295.
+    Recode(Numbered),
     /// `strict COUNT HEX`: such a copy by a strict decoder.
-    Strict(Counted),
-    /// `skip DEPTH HEX`: the item that the bytes begin with, skipped.
-    Skip(Nested),
+    Strict(Numbered),
+    /// `skip DEPTH HEX`: the item that the bytes begin with, skipped, to a depth of at most 256.
+    Skip(Numbered),
 }
 
 impl Request {
@@ -197,12 +129,12 @@ impl Request {
     {
         match name {
             "heads" => Ok(bytes_of(alloc, words)?.map(Request::Heads)),
-            "chunks" => Ok(Buffered::parse(alloc, words)?.map(Request::Chunks)),
+            "chunks" => Ok(Numbered::parse(alloc, MOST_SIZE, words)?.map(Request::Chunks)),
             "bytes" => Ok(Limited::parse(alloc, words)?.map(Request::Bytes)),
             "text" => Ok(Limited::parse(alloc, words)?.map(Request::Text)),
-            "recode" => Ok(Counted::parse(alloc, words)?.map(Request::Recode)),
-            "strict" => Ok(Counted::parse(alloc, words)?.map(Request::Strict)),
-            "skip" => Ok(Nested::parse(alloc, words)?.map(Request::Skip)),
+            "recode" => Ok(Numbered::parse(alloc, MOST_NUMBER, words)?.map(Request::Recode)),
+            "strict" => Ok(Numbered::parse(alloc, MOST_NUMBER, words)?.map(Request::Strict)),
+            "skip" => Ok(Numbered::parse(alloc, MOST_DEPTH, words)?.map(Request::Skip)),
             _ => Ok(None),
         }
     }

@@ -14,7 +14,7 @@ pub fn line<T: Write>(alloc: Global, line: &[u8], sink: &mut T) -> Result<(), To
     match Request::parse(alloc, line)? {
         Some(Request::Heads(bytes)) => heads(bytes.as_slice(), sink)?,
         Some(Request::Chunks(asked)) => {
-            string::chunks(alloc, asked.size, asked.bytes.as_slice(), sink)?;
+            string::chunks(alloc, asked.number, asked.bytes.as_slice(), sink)?;
         }
         Some(Request::Bytes(asked)) => {
             value::bytes(alloc, asked.bytes.as_slice(), asked.limit, sink)?;
@@ -24,13 +24,13 @@ pub fn line<T: Write>(alloc: Global, line: &[u8], sink: &mut T) -> Result<(), To
         }
         Some(Request::Recode(asked)) => {
             let decoder = Decoder::from(SliceReader::new(asked.bytes.as_slice()));
-            copy::elements(alloc, decoder, asked.count, asked.bytes.len(), sink)?;
+            copy::elements(alloc, decoder, asked.number, asked.bytes.len(), sink)?;
         }
         Some(Request::Strict(asked)) => {
             let decoder = Decoder::strict(SliceReader::new(asked.bytes.as_slice()));
-            copy::elements(alloc, decoder, asked.count, asked.bytes.len(), sink)?;
+            copy::elements(alloc, decoder, asked.number, asked.bytes.len(), sink)?;
         }
-        Some(Request::Skip(asked)) => skip::item(asked.depth, asked.bytes.as_slice(), sink)?,
+        Some(Request::Skip(asked)) => skip::item(asked.number, asked.bytes.as_slice(), sink)?,
         None => writeln!(sink, "error: line")?,
     }
     Ok(())

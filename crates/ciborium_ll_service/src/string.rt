@@ -1,13 +1,12 @@
 //! Strings that are read chunk by chunk.
 
-ghost use Rattle.std.specs.Prelude.{◌≡◌, ◌≤◌, None};
+ghost use Rattle.std.specs.Prelude.{◌≡◌};
 ghost use Rattle.ciborium_ll.specs.Chunks.{segment_reference};
-ghost use Rattle.ciborium_ll.specs.Decoding.{offset_of, waiting_of};
-ghost use Rattle.ciborium_ll.specs.Title.{title_len};
+ghost use Rattle.ciborium_ll.specs.Segments.{string_reference};
 
 use crate::answer::Last;
 use ciborium_ll::io::{Read, SliceReader};
-use ciborium_ll::{Bytes, Decoder, Error, Header, Segment, Text};
+use ciborium_ll::{Bytes, Chunked, Decoder, Error, Header, Segment, Segments, Text};
 use ciborium_ll_requests::word::word_of;
 use std::alloc::Global;
 use std::fmt;
@@ -63,8 +62,12 @@ where
     R::Error: Drop,
 {
     let stop = match decoder.pull() {
-        Ok(Header::Bytes(length)) => { byte_segments(alloc, decoder, length, most, buffer, sink)? }
-        Ok(Header::Text(length)) => { text_segments(alloc, decoder, length, most, buffer, sink)? }
+        Ok(Header::Bytes(length)) => {
+            segment_lines::<R, Bytes, T>(alloc, &mut decoder.bytes(length), most, buffer, sink)?
+        }
+        Ok(Header::Text(length)) => {
+            segment_lines::<R, Text, T>(alloc, &mut decoder.text(length), most, buffer, sink)?
+        }
         Ok(_) => return writeln!(sink, "other"),
         Err(error) => Stop::from(error),
     };
@@ -78,70 +81,36 @@ where
     writeln!(sink, "{last}")
 }
 
-/// Reads the segments of a byte string, each to its end. Each takes a byte, and the call after the last one ends them.
-fn byte_segments<R: Read, T: Write>(
+/// Reads the segments of a string, each to its end. Each takes a byte, and the call after the last one ends them.
+fn segment_lines<R: Read, P: Chunked, T: Write>(
     alloc: Global,
-    decoder: &mut Decoder<R>,
-    length: Option<usize>,
+    segments: &mut Segments<'_, R, P>,
     most: usize,
     buffer: &mut [u8],
     sink: &mut T,
 ) -> Result<Stop, fmt::Error>
 where
     R::Error: Drop,
-    requires none_waits { waiting_of decoder.old ≡ None }
-    requires covered { title_len (Header.Bytes length) ≤ offset_of decoder.old }
+    ensures { string_reference segments.new ≡ string_reference segments.old }
 {
-    let mut segments = decoder.bytes(length);
-    for _ in 0..=most {
-        let found = match segments.pull() {
-            Ok(found) => found,
+    'segments: for _ in 0..=most {
+        let body = match segments.advance() {
+            Ok(Some(body)) => body,
+            Ok(None) => return Ok(Stop::Ended),
             Err(error) => return Ok(Stop::from(error)),
         };
-        let Some(mut segment) = found else {
-            return Ok(Stop::Ended);
-        };
-        if let Some(stop) = byte_chunks(alloc, &mut segment, buffer, sink)? {
+        let mut segment = segments.segment(body);
+        if let Some(stop) = chunk_lines(alloc, &mut segment, buffer, sink)? {
             return Ok(stop);
         }
     }
     Ok(Stop::Room)
 }
 
-/// Reads the segments of a text string, each to its end. Each takes a byte, and the call after the last one ends them.
-fn text_segments<R: Read, T: Write>(
+/// Reads a segment. It is `None` at the segment's end.
+fn chunk_lines<R: Read, P: Chunked, T: Write>(
     alloc: Global,
-    decoder: &mut Decoder<R>,
-    length: Option<usize>,
-    most: usize,
-    buffer: &mut [u8],
-    sink: &mut T,
-) -> Result<Stop, fmt::Error>
-where
-    R::Error: Drop,
-    requires none_waits { waiting_of decoder.old ≡ None }
-    requires covered { title_len (Header.Text length) ≤ offset_of decoder.old }
-{
-    let mut segments = decoder.text(length);
-    for _ in 0..=most {
-        let found = match segments.pull() {
-            Ok(found) => found,
-            Err(error) => return Ok(Stop::from(error)),
-        };
-        let Some(mut segment) = found else {
-            return Ok(Stop::Ended);
-        };
-        if let Some(stop) = text_chunks(alloc, &mut segment, buffer, sink)? {
-            return Ok(stop);
-        }
-    }
-    Ok(Stop::Room)
-}
-
-/// Reads a segment of a byte string. It is `None` at the segment's end.
-fn byte_chunks<R: Read, T: Write>(
-    alloc: Global,
-    segment: &mut Segment<'_, R, Bytes>,
+    segment: &mut Segment<'_, R, P>,
     buffer: &mut [u8],
     sink: &mut T,
 ) -> Result<Option<Stop>, fmt::Error>
@@ -153,45 +122,13 @@ where
     writeln!(sink, "segment {left}")?;
     let mut was_empty = false;
     'chunks: loop {
-        match segment.pull(buffer) {
+        match P::chunk(segment, buffer) {
             Ok(Some(chunk)) => {
                 if was_empty && chunk.is_empty() {
                     return Ok(Some(Stop::Stuck));
                 }
                 was_empty = chunk.is_empty();
                 chunk_line(alloc, chunk, sink)?;
-            }
-            Ok(None) => {
-                writeln!(sink, "stop")?;
-                return Ok(None);
-            }
-            Err(error) => return Ok(Some(Stop::from(error))),
-        }
-    }
-}
-
-/// Reads a segment of a text string. It is `None` at the segment's end.
-fn text_chunks<R: Read, T: Write>(
-    alloc: Global,
-    segment: &mut Segment<'_, R, Text>,
-    buffer: &mut [u8],
-    sink: &mut T,
-) -> Result<Option<Stop>, fmt::Error>
-where
-    R::Error: Drop,
-    ensures { segment_reference segment.new ≡ segment_reference segment.old }
-{
-    let left = segment.left();
-    writeln!(sink, "segment {left}")?;
-    let mut was_empty = false;
-    'chunks: loop {
-        match segment.pull(buffer) {
-            Ok(Some(chunk)) => {
-                if was_empty && chunk.is_empty() {
-                    return Ok(Some(Stop::Stuck));
-                }
-                was_empty = chunk.is_empty();
-                chunk_line(alloc, chunk.as_bytes(), sink)?;
             }
             Ok(None) => {
                 writeln!(sink, "stop")?;

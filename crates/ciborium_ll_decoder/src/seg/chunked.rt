@@ -1,24 +1,27 @@
 //! Bodies in chunks and read to their end, for both kinds of string alike.
 
-ghost use Rattle.std.specs.Prelude.{◌≡◌, ◌≤◌, [], length, None};
+ghost use Rattle.std.specs.Prelude.{◌≡◌, ◌≤◌, ◌+◌, [], length, IfOk, IfSome, None};
 ghost use Rattle.ciborium_ll_decoder.specs.Decoding.{MovesOn, waiting_of};
 ghost use Rattle.ciborium_ll_decoder.specs.Segments.{progress_of, string_decoder, string_reference};
-ghost use Rattle.ciborium_ll_decoder.specs.Chunks.{PullsChunk, segment_decoder, segment_reference};
+ghost use Rattle.ciborium_ll_decoder.specs.Chunks.{PullsChunk, left_of, segment_decoder, segment_reference};
 ghost use Rattle.ciborium_ll_decoder.specs.Finishing.{EndsBody, Finishes};
 
 use crate::dec::Error;
 use crate::seg::{Body, Bytes, Parser, Segment, Segments, Text};
 use ciborium_ll_io::io::Read;
 
-/// A kind of string whose bodies are read in chunks.
+/// A kind of string whose chunks are bytes: what [`Bytes`] and [`Text`] have in common. It is the bound of a loop that
+/// reads the segments of either kind.
 pub trait Chunked: Parser {
-    /// The next chunk of a segment: what its `pull` gives, as bytes.
+    /// The next chunk of a segment: what its `pull` gives, as bytes. The errors are those of its `pull`.
     fn chunk<'a, R: Read>(
         segment: &mut Segment<'_, R, Self>,
         buffer: &'a mut [u8],
     ) -> Result<Option<&'a [u8]>, Error<R::Error>>
         ensures same_reference { segment_reference segment.new ≡ segment_reference segment.old }
         ensures chunk { PullsChunk R.Read (length buffer.old) segment.old result segment.new }
+        ensures left { IfOk result (λ chunk. IfSome chunk
+            (λ c. length c.now + left_of segment.new ≡ left_of segment.old)) }
         ensures moves_on { MovesOn R.Read (segment_decoder segment.old) (segment_decoder segment.new) };
 }
 
