@@ -106,13 +106,13 @@ pub fn skip_item<R: Read>(
     requires shallow { depth ≤ 256 }
     requires room { 4 ≤ length buffer.old }
     ensures skipped { SkipsItem R.Read depth (length buffer.old) decoder.old result decoder.new }
-    ensures moves_on { MovesOn R.Read decoder.old decoder.new }
     ensures told { (due : List ℕ) → IsReadyToSkip R.Read (length buffer.old) decoder.old due
         → SkipsTold R.Read depth due decoder.old result decoder.new }
     ensures exactly { (due : List ℕ) → IsReadyToSkip R.Read (length buffer.old) decoder.old due
         → (IsOk result ↔ ItemInFront depth due) }
     ensures front { (due : List ℕ) → view R.Read decoder.old ≡ Some due → IsOk result
         → SkipsFront R.Read depth due decoder.old decoder.new }
+    ensures moves_on { MovesOn R.Read decoder.old decoder.new }
 {
     // What a tag contains is one item.
     skip_within(decoder, Header::Tag(0), depth, buffer)

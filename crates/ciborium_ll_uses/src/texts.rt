@@ -62,10 +62,10 @@ fn read_segments<R: Read>(
     segments: &mut Segments<'_, R, Text>,
     limit: usize,
 ) -> Result<String, TextError<R::Error>>
-    ensures same_reference { string_reference segments.new ≡ string_reference segments.old }
     ensures limited { IfOk result (λ text. string_len text ≤ limit) }
     ensures gathers { IfOk result (λ text. GathersAll R.Read (progress_of segments.old) (string_bytes text)
         (string_decoder segments.new)) }
+    ensures same_reference { string_reference segments.new ≡ string_reference segments.old }
 {
     let mut text = String::new(alloc);
     // Empty segments could come without an end.
@@ -87,11 +87,11 @@ fn read_body<R: Read>(
     segment: &mut Segment<'_, R, Text>,
     text: &mut String,
 ) -> Result<(), TextError<R::Error>>
-    ensures same_reference { segment_reference segment.new ≡ segment_reference segment.old }
     ensures appends { (body : AnyBody) → IsWhole body segment.old → OnOk result (AppendsBody R.Read body.length
         (segment_decoder segment.old) (string_bytes text.old) (segment_decoder segment.new) (string_bytes text.new)) }
     ensures grows { (body : AnyBody) → IsWhole body segment.old
         → OnOk result (string_len text.new ≡ string_len text.old + body.length) }
+    ensures same_reference { segment_reference segment.new ≡ segment_reference segment.old }
     ensures steady { IsSteady R.Read (segment_decoder segment.old) → IsSteady R.Read (segment_decoder segment.new) }
 {
     let mut buffer = [0; 64];

@@ -33,6 +33,7 @@ pub fn copy_headers<R: Read, W: Write>(
         → IsReadyForTitles R.Read W.Write decoder.old (writer_of encoder.old) due written
         → (IsOk result ↔ TitlesInFront count due) }
     ensures moves_on { MovesOn R.Read decoder.old decoder.new }
+    ensures target { W.target (writer_of encoder.new) ≡ W.target (writer_of encoder.old) }
 {
     'headers: for _copied in 0..count {
         let header = match decoder.pull() {

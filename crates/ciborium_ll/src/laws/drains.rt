@@ -39,10 +39,11 @@ fn drain<R: Read, W: Write, P: Chunked>(
     sink: &mut Encoder<W>,
 ) -> Result<Drained, RecodeError<R::Error, W::Error>>
     requires fit { All (λ size. size ≤ length buffer.old) sizes.now }
-    ensures same_reference { segment_reference segment.new ≡ segment_reference segment.old }
     ensures drains { Drains R.Read W.Write sizes.now segment.old (writer_of sink.old) result segment.new
         (writer_of sink.new) }
     ensures moves_on { MovesOn R.Read (segment_decoder segment.old) (segment_decoder segment.new) }
+    ensures same_reference { segment_reference segment.new ≡ segment_reference segment.old }
+    ensures target { W.target (writer_of sink.new) ≡ W.target (writer_of sink.old) }
 {
     'sizes: for (index, size) in sizes.iter().enumerate() {
         let chunk = match P::chunk(segment, &mut buffer[..*size]) {
@@ -89,10 +90,8 @@ pub fn drain_bytes<R: Read, W: Write>(
     sink: &mut Encoder<W>,
 ) -> Result<Drained, RecodeError<R::Error, W::Error>>
     requires fit { All (λ size. size ≤ length buffer.old) sizes.now }
-    ensures same_reference { segment_reference segment.new ≡ segment_reference segment.old }
     ensures drains { Drains R.Read W.Write sizes.now segment.old (writer_of sink.old) result segment.new
         (writer_of sink.new) }
-    ensures moves_on { MovesOn R.Read (segment_decoder segment.old) (segment_decoder segment.new) }
     ensures told { (body written : List ℕ) → IsDrainable R.Read W.Write segment.old (writer_of sink.old) body written
         → DrainsTold R.Read W.Write sizes.now body written segment.old result segment.new (writer_of sink.new) }
     ensures exactly { (body written : List ℕ) → IsDrainable R.Read W.Write segment.old (writer_of sink.old) body written
@@ -100,6 +99,9 @@ pub fn drain_bytes<R: Read, W: Write>(
     ensures soonest { (body written : List ℕ) (count : ℕ)
         → IsDrainable R.Read W.Write segment.old (writer_of sink.old) body written
         → AddUp sizes.now (length body) count → IfOk result (λ drained. drained.calls ≤ count + 1) }
+    ensures moves_on { MovesOn R.Read (segment_decoder segment.old) (segment_decoder segment.new) }
+    ensures same_reference { segment_reference segment.new ≡ segment_reference segment.old }
+    ensures target { W.target (writer_of sink.new) ≡ W.target (writer_of sink.old) }
 {
     drain::<R, W, Bytes>(segment, sizes, buffer, sink)
 }
@@ -120,15 +122,16 @@ pub fn drain_text<R: Read, W: Write>(
     sink: &mut Encoder<W>,
 ) -> Result<Drained, RecodeError<R::Error, W::Error>>
     requires fit { All (λ size. size ≤ length buffer.old) sizes.now }
-    ensures same_reference { segment_reference segment.new ≡ segment_reference segment.old }
     ensures drains { Drains R.Read W.Write sizes.now segment.old (writer_of sink.old) result segment.new
         (writer_of sink.new) }
-    ensures moves_on { MovesOn R.Read (segment_decoder segment.old) (segment_decoder segment.new) }
     ensures told { (body written : List ℕ) → IsDrainable R.Read W.Write segment.old (writer_of sink.old) body written
         → DrainsTold R.Read W.Write sizes.now body written segment.old result segment.new (writer_of sink.new) }
     ensures any_sizes { (body written : List ℕ) (count : ℕ)
         → IsDrainable R.Read W.Write segment.old (writer_of sink.old) body written
         → IsEnough text_strings sizes.now (length body) count → (HasEnded result ↔ IsCharacters body) }
+    ensures moves_on { MovesOn R.Read (segment_decoder segment.old) (segment_decoder segment.new) }
+    ensures same_reference { segment_reference segment.new ≡ segment_reference segment.old }
+    ensures target { W.target (writer_of sink.new) ≡ W.target (writer_of sink.old) }
 {
     drain::<R, W, Text>(segment, sizes, buffer, sink)
 }

@@ -1,10 +1,11 @@
 //! Headers and values written one by one.
 
-ghost use Rattle.std.specs.Prelude.{◌≤◌, ◌++◌, ℕ, List, length, Option};
+ghost use Rattle.std.specs.Prelude.{◌≡◌, ◌≤◌, ◌++◌, ℕ, List, length, Option};
 ghost use Rattle.std.specs.List.{All};
 ghost use Rattle.ciborium_ll_grammar.specs.Strings.{Bytes, Text};
 ghost use Rattle.ciborium_ll_grammar.specs.Elements.{Mark, IsRun, spelling};
 ghost use Rattle.ciborium_ll_encoder.specs.Encoding.{writer_of};
+ghost use Rattle.ciborium_ll_decoder.specs.Decoding.{MovesOn};
 ghost use Rattle.ciborium_ll_decoder.specs.RecodingTold.{IsReady};
 ghost use Rattle.ciborium_ll.specs.Pieces.{AreSpelled, CopiesSame, HasMarks, IsPlainPiece, IsSpelled, WritesElements};
 ghost use Rattle.ciborium_ll.specs.Pieces.{WritesPiece};
@@ -62,7 +63,8 @@ pub fn spelled_pieces(pieces: &[Piece<'_>])
 
 /// Writes one piece.
 fn write_piece<W: Write>(encoder: &mut Encoder<W>, piece: &Piece<'_>) -> Result<(), W::Error>
-    ensures { WritesPiece W.Write piece.now (writer_of encoder.old) result (writer_of encoder.new) }
+    ensures piece { WritesPiece W.Write piece.now (writer_of encoder.old) result (writer_of encoder.new) }
+    ensures target { W.target (writer_of encoder.new) ≡ W.target (writer_of encoder.old) }
 {
     match piece {
         Piece::Header(header) => encoder.push(*header),
@@ -82,7 +84,8 @@ pub fn write_pieces<W: Write>(
     pieces: &[Piece<'_>],
 ) -> Result<(), W::Error>
     requires { All IsPlainPiece pieces.now }
-    ensures { WritesElements W.Write pieces.now (writer_of encoder.old) result (writer_of encoder.new) }
+    ensures elements { WritesElements W.Write pieces.now (writer_of encoder.old) result (writer_of encoder.new) }
+    ensures target { W.target (writer_of encoder.new) ≡ W.target (writer_of encoder.old) }
 {
     // By this law pieces behind a failure have a spelling too. It writes nothing.
     spelled_pieces(pieces);
@@ -103,10 +106,12 @@ pub fn copy_spelled<R: Read, W: Write>(
     buffer: &mut [u8],
 ) -> Result<(), RecodeError<R::Error, W::Error>>
     requires room { 4 ≤ length buffer.old }
-    ensures { (marks : List Mark) (rest written : List ℕ) → IsRun count (spelling marks) marks
+    ensures same { (marks : List Mark) (rest written : List ℕ) → IsRun count (spelling marks) marks
         → IsReady R.Read W.Write count (length buffer.old) decoder.old (writer_of encoder.old)
         (spelling marks ++ rest) written
         → CopiesSame R.Read W.Write (spelling marks) rest written result decoder.new (writer_of encoder.new) }
+    ensures moves_on { MovesOn R.Read decoder.old decoder.new }
+    ensures target { W.target (writer_of encoder.new) ≡ W.target (writer_of encoder.old) }
 {
     recode(decoder, encoder, count, buffer)
 }

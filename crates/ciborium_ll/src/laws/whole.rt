@@ -60,11 +60,11 @@ fn skip_segments<R: Read, P: Chunked>(
 ) -> Result<(), Error<R::Error>>
     requires room { 4 ≤ length buffer.old }
     requires fresh { IsAtBeginning segments.old }
-    ensures same_reference { string_reference segments.new ≡ string_reference segments.old }
     ensures skipped { (opened : AnyDecoder R) (len : Option ℕ) → IsInRange (kind_header P.kind len)
         → waiting_of opened ≡ None → TakesBack R.Read opened (kind_header P.kind len) (string_decoder segments.old)
         → SkipsString R.Read P.kind len (length buffer.old) opened result (string_decoder segments.new) }
     ensures moves_on { MovesOn R.Read (string_decoder segments.old) (string_decoder segments.new) }
+    ensures same_reference { string_reference segments.new ≡ string_reference segments.old }
 {
     'segments: while let Some(body) = segments.advance()? {
         segments.finish(body, buffer)?;

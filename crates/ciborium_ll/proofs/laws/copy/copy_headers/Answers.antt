@@ -12,6 +12,7 @@ headers-init g c = (
   refl,
   Copies-none g.R.Read g.W.Write c.args.decoder.now c.args.encoder.now.writer,
   MovesOn-none g.R.Read c.args.decoder.now,
+  refl,
 )
 
 pub headers-preserved : goal.headers-preserved
@@ -23,6 +24,7 @@ headers-preserved g c =
       Copies-push g.R.Read g.W.Write headers c.in-Ok.header _ _ _ _ _ _ c.headers.invariant.2 pulled.header
           pulled.moves_on.steady c.in_default.ensures.title,
       MovesOn-then g.R.Read _ _ _ c.headers.invariant.3 pulled.moves_on,
+      c.in_default.ensures.target ∙ c.headers.invariant.4,
     )
 
 pub returns-in-Err : goal.returns-in-Err
@@ -43,6 +45,7 @@ returns-in-Err g c =
       exactly = λ due written ready. exactly g.R.Read g.W.Write c.args.count _ _ _ _ due written
           (Err (r.Read c.in-Err.error)) ready copied;
       moves_on = MovesOn-then g.R.Read _ _ _ c.headers.invariant.3 c.in-Err.ensures.moves_on;
+      target = c.headers.invariant.4;
     }
 
 pub returns-in-Err-push : goal.returns-in-Err-push
@@ -66,6 +69,7 @@ returns-in-Err-push g c =
       exactly = λ due written ready. exactly g.R.Read g.W.Write c.args.count _ _ _ _ due written
           (Err (r.Write c.in-Err-push.fault)) ready copied;
       moves_on = MovesOn-then g.R.Read _ _ _ c.headers.invariant.3 c.in-Ok.ensures.moves_on;
+      target = c.in-Err-push.ensures.target ∙ c.headers.invariant.4;
     }
 
 pub returns : goal.returns
@@ -84,4 +88,5 @@ returns g c =
       exactly = λ due written ready. exactly g.R.Read g.W.Write c.args.count _ _ _ _ due written (Ok (tt {0})) ready
           copied;
       moves_on = c.headers.invariant.3;
+      target = c.headers.invariant.4;
     }

@@ -8,3 +8,4 @@ abbrev pub invariant-headers : goal.invariant-headers
 invariant-headers g l = (headers : List Header) × (length headers ≡ l._copied)
     × Copies g.R.Read g.W.Write headers l.initial.decoder l.initial.encoder.writer l.decoder l.encoder.writer
     × MovesOn g.R.Read l.initial.decoder l.decoder
+    × (g.W.Write.target l.encoder.writer ≡ g.W.Write.target l.initial.encoder.writer)

@@ -1,4 +1,4 @@
-use Rattle.std.proofs.Common.{rules, ◌≡◌, ℕ, length, take, get_or, refl, subst, sym, arith, Err, length-take-le}
+use Rattle.std.proofs.Common.{rules, ◌≡◌, ℕ, length, take, get_or, refl, subst, sym, ◌∙◌, arith, Err, length-take-le}
 use Rattle.std.proofs.lemmas.List.{take_more, take_all}
 use Rattle.ciborium_ll_decoder.specs.Chunks.{GivesChunk, PullsChunk}
 use Rattle.ciborium_ll_decoder.proofs.DecodingLaws.{MovesOn-none, MovesOn-then}
@@ -10,6 +10,7 @@ sizes-init g c = record {
   same = search rules;
   some = drains_none g.R.Read g.W.Write c.args.segment.now c.args.sink.now.writer;
   moves_on = MovesOn-none g.R.Read c.args.segment.now.decoder.now;
+  target = refl;
 }
 
 pub returns-in-Ok-None-clause-drains : goal.returns-in-Ok-None-clause-drains
@@ -82,6 +83,7 @@ sizes-preserved g c =
       same = search rules;
       some = rw (sym (take_more sizes c.sizes.index 0 c.sizes-test.true)) at more;
       moves_on = MovesOn-then g.R.Read _ _ _ c.sizes.invariant.moves_on pulled.moves_on;
+      target = wrote.target ∙ c.sizes.invariant.target;
     }
 
 pub returns-clause-drains : goal.returns-clause-drains

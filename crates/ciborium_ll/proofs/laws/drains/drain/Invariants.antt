@@ -9,4 +9,5 @@ invariant-sizes g l = record {
   some : DrainsSome g.R.Read g.W.Write (take l.index l.fn.sizes) l.initial.segment l.initial.sink.writer l.segment
       l.sink.writer;
   moves_on : MovesOn g.R.Read l.initial.segment.decoder.now l.segment.decoder.now;
+  target : g.W.Write.target l.sink.writer ≡ g.W.Write.target l.initial.sink.writer;
 }

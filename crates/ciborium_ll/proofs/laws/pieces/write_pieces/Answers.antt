@@ -1,25 +1,31 @@
-use Rattle.std.proofs.Common.{arith}
+use Rattle.std.proofs.Common.{refl, ◌∙◌, arith}
 use Rattle.std.proofs.lemmas.List.{drop_more, drop_all}
 use Rattle.ciborium_ll.proofs.PiecesWritten.{midway_first, midway_more, midway_stops, midway_last}
 use Rattle.ciborium_ll.proofs.laws.pieces.write_pieces.Goals as goal
 
 pub pieces-init : goal.pieces-init
-pieces-init g c = midway_first g.W.Write c.args.pieces.now c.args.encoder.now.writer c.spelled_pieces.ensures
+pieces-init g c = record {
+  midway = midway_first g.W.Write c.args.pieces.now c.args.encoder.now.writer c.spelled_pieces.ensures;
+  target = refl;
+}
 
-pub returns-in_err-write_piece : goal.returns-in_err-write_piece
-returns-in_err-write_piece g c =
+pub returns-in_err-write_piece-clause-elements : goal.returns-in_err-write_piece-clause-elements
+returns-in_err-write_piece-clause-elements g c =
     let all = c.args.pieces.now in
-    let wrote = c.in_err-write_piece.ensures in
+    let wrote = c.in_err-write_piece.ensures.piece in
     midway_stops g.W.Write all _ _ _ _ _ _ wrote.marks c.from_residual.result c.from_residual.ensures.0
-    (drop_more all c.pieces.piece-index _ (omega arith)) c.pieces.invariant wrote.is_piece wrote.bytes
+    (drop_more all c.pieces.piece-index _ (omega arith)) c.pieces.invariant.midway wrote.is_piece wrote.bytes
 
 pub pieces-preserved : goal.pieces-preserved
 pieces-preserved g c =
     let all = c.args.pieces.now in
-    let wrote = c.in_ok-write_piece.ensures in
-    midway_more g.W.Write all _ _ _ _ _ _ wrote.marks (drop_more all c.pieces.piece-index _ (omega arith))
-    c.pieces.invariant wrote.is_piece wrote.bytes
+    let wrote = c.in_ok-write_piece.ensures.piece in
+    record {
+      midway = midway_more g.W.Write all _ _ _ _ _ _ wrote.marks (drop_more all c.pieces.piece-index _ (omega arith))
+          c.pieces.invariant.midway wrote.is_piece wrote.bytes;
+      target = c.in_ok-write_piece.ensures.target ∙ c.pieces.invariant.target;
+    }
 
-pub returns : goal.returns
-returns g c = midway_last g.W.Write c.args.pieces.now _ _ _
-    (drop_all c.pieces.piece-index c.args.pieces.now (omega arith)) c.pieces.invariant
+pub returns-clause-elements : goal.returns-clause-elements
+returns-clause-elements g c = midway_last g.W.Write c.args.pieces.now _ _ _
+    (drop_all c.pieces.piece-index c.args.pieces.now (omega arith)) c.pieces.invariant.midway
