@@ -1,7 +1,7 @@
 -- A request is spelled in ASCII, and cut where its words end.
 use Rattle.std.proofs.Common.{◌≡◌, ◌≢◌, ◌<◌, ◌==◌, ℕ, suc, zero, List, [], ◌∷◌, ◌++◌, length, get_or, Option, Some}
 use Rattle.std.proofs.Common.{None, MatchOption, IfNone, IsSomeAnd, sym, ap, ◌∙◌, Result, Ok, Err, Bool, true, not}
-use Rattle.std.proofs.Common.{nat_lt, codes, refl, arith, IsUtf8, Bor}
+use Rattle.std.proofs.Common.{nat_lt, codes, refl, arith, IsUtf8, Bor, false, ◌+◌, ◌*◌}
 use Rattle.std.specs.List.{AllPass, list_all}
 use Rattle.std.specs.Str.{IsAscii}
 use Rattle.std.proofs.lemmas.Str.{IsAscii-append, IsUtf8-from_ascii}
@@ -156,172 +156,126 @@ cut_behind_limit words (Some x) cut asked (first, word, parts, limit, has) =
 
 -- ---- requests of one name
 
--- the first byte, by which most names differ
-abbrev initial : List ℕ → ℕ
-initial [] = 0
-initial (byte ∷ bytes) = byte
+-- the first two bytes, by which all names differ
+abbrev initials : List ℕ → ℕ
+initials [] = 0
+initials (first ∷ []) = first
+initials (first ∷ second ∷ bytes) = 256 * first + second
 
--- the second byte, by which the others do
-abbrev second : List ℕ → ℕ
-second [] = 0
-second (byte ∷ bytes) = initial bytes
+-- no name is two that differ in them
+differs : (name one other : List ℕ) → name ≡ one → name ≡ other → (initials one == initials other) ≡ false → ⊥
+differs name one other is named apart =
+    let same : initials one ≡ initials other = ap initials (sym is ∙ named) in
+    absurd (grind (arith))
 
-refuses_chunks : (name words : List ℕ) → name ≡ codes "chunks"
-    → ((asked : Numbered) → SpellsNumbered most_size words asked → ⊥) → (request : Request) → name ≡ name_of request
-    → Spells words request → ⊥
-refuses_chunks name words is refused (Heads bytes) named spelled = let other : 99 ≡ 104 =
-    ap initial (sym is ∙ named) in omega (arith, other)
+-- words that are refused behind a name are no request of it, where no other request has the name
+none_named : {A : Type 0} (name words : List ℕ) (found : Option A) (result : Option Request) (Spelled : A → Type 0)
+    (P : A → Request → Type 0) → MatchOption found (result ≡ None) (λ x. IsSomeAnd result (P x))
+    → IfNone found ((asked : A) → Spelled asked → ⊥)
+    → (((asked : A) → Spelled asked → ⊥) → (request : Request) → name ≡ name_of request → Spells words request → ⊥)
+    → IfNone result ((request : Request) → name ≡ name_of request → Spells words request → ⊥)
+none_named name words found (Some request) Spelled P cases refused others = _
+none_named name words (Some asked) None Spelled P cases refused others = absurd cases
+none_named name words None None Spelled P cases refused others = others refused
+
+refuses_chunks : (name words : List ℕ) → name ≡ codes "chunks" → ((asked : Numbered) → SpellsNumbered most_size words asked → ⊥)
+    → (request : Request) → name ≡ name_of request → Spells words request → ⊥
+refuses_chunks name words is refused (Heads bytes) named spelled = differs name _ _ is named refl
 refuses_chunks name words is refused (Chunks asked) named spelled = refused asked spelled
-refuses_chunks name words is refused (Bytes asked) named spelled = let other : 99 ≡ 98 =
-    ap initial (sym is ∙ named) in omega (arith, other)
-refuses_chunks name words is refused (Text asked) named spelled = let other : 99 ≡ 116 =
-    ap initial (sym is ∙ named) in omega (arith, other)
-refuses_chunks name words is refused (Recode asked) named spelled = let other : 99 ≡ 114 =
-    ap initial (sym is ∙ named) in omega (arith, other)
-refuses_chunks name words is refused (Strict asked) named spelled = let other : 99 ≡ 115 =
-    ap initial (sym is ∙ named) in omega (arith, other)
-refuses_chunks name words is refused (Skip asked) named spelled = let other : 99 ≡ 115 =
-    ap initial (sym is ∙ named) in omega (arith, other)
+refuses_chunks name words is refused (Bytes asked) named spelled = differs name _ _ is named refl
+refuses_chunks name words is refused (Text asked) named spelled = differs name _ _ is named refl
+refuses_chunks name words is refused (Recode asked) named spelled = differs name _ _ is named refl
+refuses_chunks name words is refused (Strict asked) named spelled = differs name _ _ is named refl
+refuses_chunks name words is refused (Skip asked) named spelled = differs name _ _ is named refl
 
--- words that are refused behind the name are no request of it
 pub none_of_chunks : (name words : List ℕ) (found : Option Numbered) (result : Option Request)
-    (P : Numbered → Request → Type 0)
-    → MatchOption found (result ≡ None) (λ x. IsSomeAnd result (P x))
-    → IfNone found ((asked : Numbered) → SpellsNumbered most_size words asked → ⊥)
-    → name ≡ codes "chunks" → IfNone result ((request : Request) → name ≡ name_of request → Spells words request → ⊥)
-none_of_chunks name words found (Some request) P cases refused is = _
-none_of_chunks name words (Some asked) None P cases refused is = absurd cases
-none_of_chunks name words None None P cases refused is = refuses_chunks name words is refused
+    (P : Numbered → Request → Type 0) → MatchOption found (result ≡ None) (λ x. IsSomeAnd result (P x))
+    → IfNone found ((asked : Numbered) → SpellsNumbered most_size words asked → ⊥) → name ≡ codes "chunks"
+    → IfNone result ((request : Request) → name ≡ name_of request → Spells words request → ⊥)
+none_of_chunks name words found result P cases refused is =
+    none_named name words found result (SpellsNumbered most_size words) P cases refused (refuses_chunks name words is)
 
 refuses_bytes : (name words : List ℕ) → name ≡ codes "bytes" → ((asked : Limited) → SpellsLimited words asked → ⊥)
     → (request : Request) → name ≡ name_of request → Spells words request → ⊥
-refuses_bytes name words is refused (Heads bytes) named spelled = let other : 98 ≡ 104 =
-    ap initial (sym is ∙ named) in omega (arith, other)
-refuses_bytes name words is refused (Chunks asked) named spelled = let other : 98 ≡ 99 =
-    ap initial (sym is ∙ named) in omega (arith, other)
+refuses_bytes name words is refused (Heads bytes) named spelled = differs name _ _ is named refl
+refuses_bytes name words is refused (Chunks asked) named spelled = differs name _ _ is named refl
 refuses_bytes name words is refused (Bytes asked) named spelled = refused asked spelled
-refuses_bytes name words is refused (Text asked) named spelled = let other : 98 ≡ 116 =
-    ap initial (sym is ∙ named) in omega (arith, other)
-refuses_bytes name words is refused (Recode asked) named spelled = let other : 98 ≡ 114 =
-    ap initial (sym is ∙ named) in omega (arith, other)
-refuses_bytes name words is refused (Strict asked) named spelled = let other : 98 ≡ 115 =
-    ap initial (sym is ∙ named) in omega (arith, other)
-refuses_bytes name words is refused (Skip asked) named spelled = let other : 98 ≡ 115 =
-    ap initial (sym is ∙ named) in omega (arith, other)
+refuses_bytes name words is refused (Text asked) named spelled = differs name _ _ is named refl
+refuses_bytes name words is refused (Recode asked) named spelled = differs name _ _ is named refl
+refuses_bytes name words is refused (Strict asked) named spelled = differs name _ _ is named refl
+refuses_bytes name words is refused (Skip asked) named spelled = differs name _ _ is named refl
 
--- words that are refused behind the name are no request of it
 pub none_of_bytes : (name words : List ℕ) (found : Option Limited) (result : Option Request)
-    (P : Limited → Request → Type 0)
-    → MatchOption found (result ≡ None) (λ x. IsSomeAnd result (P x))
-    → IfNone found ((asked : Limited) → SpellsLimited words asked → ⊥)
-    → name ≡ codes "bytes" → IfNone result ((request : Request) → name ≡ name_of request → Spells words request → ⊥)
-none_of_bytes name words found (Some request) P cases refused is = _
-none_of_bytes name words (Some asked) None P cases refused is = absurd cases
-none_of_bytes name words None None P cases refused is = refuses_bytes name words is refused
+    (P : Limited → Request → Type 0) → MatchOption found (result ≡ None) (λ x. IsSomeAnd result (P x))
+    → IfNone found ((asked : Limited) → SpellsLimited words asked → ⊥) → name ≡ codes "bytes"
+    → IfNone result ((request : Request) → name ≡ name_of request → Spells words request → ⊥)
+none_of_bytes name words found result P cases refused is =
+    none_named name words found result (SpellsLimited words) P cases refused (refuses_bytes name words is)
 
 refuses_text : (name words : List ℕ) → name ≡ codes "text" → ((asked : Limited) → SpellsLimited words asked → ⊥)
     → (request : Request) → name ≡ name_of request → Spells words request → ⊥
-refuses_text name words is refused (Heads bytes) named spelled = let other : 116 ≡ 104 =
-    ap initial (sym is ∙ named) in omega (arith, other)
-refuses_text name words is refused (Chunks asked) named spelled = let other : 116 ≡ 99 =
-    ap initial (sym is ∙ named) in omega (arith, other)
-refuses_text name words is refused (Bytes asked) named spelled = let other : 116 ≡ 98 =
-    ap initial (sym is ∙ named) in omega (arith, other)
+refuses_text name words is refused (Heads bytes) named spelled = differs name _ _ is named refl
+refuses_text name words is refused (Chunks asked) named spelled = differs name _ _ is named refl
+refuses_text name words is refused (Bytes asked) named spelled = differs name _ _ is named refl
 refuses_text name words is refused (Text asked) named spelled = refused asked spelled
-refuses_text name words is refused (Recode asked) named spelled = let other : 116 ≡ 114 =
-    ap initial (sym is ∙ named) in omega (arith, other)
-refuses_text name words is refused (Strict asked) named spelled = let other : 116 ≡ 115 =
-    ap initial (sym is ∙ named) in omega (arith, other)
-refuses_text name words is refused (Skip asked) named spelled = let other : 116 ≡ 115 =
-    ap initial (sym is ∙ named) in omega (arith, other)
+refuses_text name words is refused (Recode asked) named spelled = differs name _ _ is named refl
+refuses_text name words is refused (Strict asked) named spelled = differs name _ _ is named refl
+refuses_text name words is refused (Skip asked) named spelled = differs name _ _ is named refl
 
--- words that are refused behind the name are no request of it
 pub none_of_text : (name words : List ℕ) (found : Option Limited) (result : Option Request)
-    (P : Limited → Request → Type 0)
-    → MatchOption found (result ≡ None) (λ x. IsSomeAnd result (P x))
-    → IfNone found ((asked : Limited) → SpellsLimited words asked → ⊥)
-    → name ≡ codes "text" → IfNone result ((request : Request) → name ≡ name_of request → Spells words request → ⊥)
-none_of_text name words found (Some request) P cases refused is = _
-none_of_text name words (Some asked) None P cases refused is = absurd cases
-none_of_text name words None None P cases refused is = refuses_text name words is refused
+    (P : Limited → Request → Type 0) → MatchOption found (result ≡ None) (λ x. IsSomeAnd result (P x))
+    → IfNone found ((asked : Limited) → SpellsLimited words asked → ⊥) → name ≡ codes "text"
+    → IfNone result ((request : Request) → name ≡ name_of request → Spells words request → ⊥)
+none_of_text name words found result P cases refused is =
+    none_named name words found result (SpellsLimited words) P cases refused (refuses_text name words is)
 
-refuses_recode : (name words : List ℕ) → name ≡ codes "recode"
-    → ((asked : Numbered) → SpellsNumbered most_number words asked → ⊥) → (request : Request) → name ≡ name_of request
-    → Spells words request → ⊥
-refuses_recode name words is refused (Heads bytes) named spelled = let other : 114 ≡ 104 =
-    ap initial (sym is ∙ named) in omega (arith, other)
-refuses_recode name words is refused (Chunks asked) named spelled = let other : 114 ≡ 99 =
-    ap initial (sym is ∙ named) in omega (arith, other)
-refuses_recode name words is refused (Bytes asked) named spelled = let other : 114 ≡ 98 =
-    ap initial (sym is ∙ named) in omega (arith, other)
-refuses_recode name words is refused (Text asked) named spelled = let other : 114 ≡ 116 =
-    ap initial (sym is ∙ named) in omega (arith, other)
+refuses_recode : (name words : List ℕ) → name ≡ codes "recode" → ((asked : Numbered) → SpellsNumbered most_number words asked → ⊥)
+    → (request : Request) → name ≡ name_of request → Spells words request → ⊥
+refuses_recode name words is refused (Heads bytes) named spelled = differs name _ _ is named refl
+refuses_recode name words is refused (Chunks asked) named spelled = differs name _ _ is named refl
+refuses_recode name words is refused (Bytes asked) named spelled = differs name _ _ is named refl
+refuses_recode name words is refused (Text asked) named spelled = differs name _ _ is named refl
 refuses_recode name words is refused (Recode asked) named spelled = refused asked spelled
-refuses_recode name words is refused (Strict asked) named spelled = let other : 114 ≡ 115 =
-    ap initial (sym is ∙ named) in omega (arith, other)
-refuses_recode name words is refused (Skip asked) named spelled = let other : 114 ≡ 115 =
-    ap initial (sym is ∙ named) in omega (arith, other)
+refuses_recode name words is refused (Strict asked) named spelled = differs name _ _ is named refl
+refuses_recode name words is refused (Skip asked) named spelled = differs name _ _ is named refl
 
--- words that are refused behind the name are no request of it
 pub none_of_recode : (name words : List ℕ) (found : Option Numbered) (result : Option Request)
-    (P : Numbered → Request → Type 0)
-    → MatchOption found (result ≡ None) (λ x. IsSomeAnd result (P x))
-    → IfNone found ((asked : Numbered) → SpellsNumbered most_number words asked → ⊥)
-    → name ≡ codes "recode" → IfNone result ((request : Request) → name ≡ name_of request → Spells words request → ⊥)
-none_of_recode name words found (Some request) P cases refused is = _
-none_of_recode name words (Some asked) None P cases refused is = absurd cases
-none_of_recode name words None None P cases refused is = refuses_recode name words is refused
+    (P : Numbered → Request → Type 0) → MatchOption found (result ≡ None) (λ x. IsSomeAnd result (P x))
+    → IfNone found ((asked : Numbered) → SpellsNumbered most_number words asked → ⊥) → name ≡ codes "recode"
+    → IfNone result ((request : Request) → name ≡ name_of request → Spells words request → ⊥)
+none_of_recode name words found result P cases refused is =
+    none_named name words found result (SpellsNumbered most_number words) P cases refused (refuses_recode name words is)
 
-refuses_strict : (name words : List ℕ) → name ≡ codes "strict"
-    → ((asked : Numbered) → SpellsNumbered most_number words asked → ⊥) → (request : Request) → name ≡ name_of request
-    → Spells words request → ⊥
-refuses_strict name words is refused (Heads bytes) named spelled = let other : 115 ≡ 104 =
-    ap initial (sym is ∙ named) in omega (arith, other)
-refuses_strict name words is refused (Chunks asked) named spelled = let other : 115 ≡ 99 =
-    ap initial (sym is ∙ named) in omega (arith, other)
-refuses_strict name words is refused (Bytes asked) named spelled = let other : 115 ≡ 98 =
-    ap initial (sym is ∙ named) in omega (arith, other)
-refuses_strict name words is refused (Text asked) named spelled = let other : 115 ≡ 116 =
-    ap initial (sym is ∙ named) in omega (arith, other)
-refuses_strict name words is refused (Recode asked) named spelled = let other : 115 ≡ 114 =
-    ap initial (sym is ∙ named) in omega (arith, other)
+refuses_strict : (name words : List ℕ) → name ≡ codes "strict" → ((asked : Numbered) → SpellsNumbered most_number words asked → ⊥)
+    → (request : Request) → name ≡ name_of request → Spells words request → ⊥
+refuses_strict name words is refused (Heads bytes) named spelled = differs name _ _ is named refl
+refuses_strict name words is refused (Chunks asked) named spelled = differs name _ _ is named refl
+refuses_strict name words is refused (Bytes asked) named spelled = differs name _ _ is named refl
+refuses_strict name words is refused (Text asked) named spelled = differs name _ _ is named refl
+refuses_strict name words is refused (Recode asked) named spelled = differs name _ _ is named refl
 refuses_strict name words is refused (Strict asked) named spelled = refused asked spelled
-refuses_strict name words is refused (Skip asked) named spelled = let other : 116 ≡ 107 =
-    ap second (sym is ∙ named) in omega (arith, other)
+refuses_strict name words is refused (Skip asked) named spelled = differs name _ _ is named refl
 
--- words that are refused behind the name are no request of it
 pub none_of_strict : (name words : List ℕ) (found : Option Numbered) (result : Option Request)
-    (P : Numbered → Request → Type 0)
-    → MatchOption found (result ≡ None) (λ x. IsSomeAnd result (P x))
-    → IfNone found ((asked : Numbered) → SpellsNumbered most_number words asked → ⊥)
-    → name ≡ codes "strict" → IfNone result ((request : Request) → name ≡ name_of request → Spells words request → ⊥)
-none_of_strict name words found (Some request) P cases refused is = _
-none_of_strict name words (Some asked) None P cases refused is = absurd cases
-none_of_strict name words None None P cases refused is = refuses_strict name words is refused
+    (P : Numbered → Request → Type 0) → MatchOption found (result ≡ None) (λ x. IsSomeAnd result (P x))
+    → IfNone found ((asked : Numbered) → SpellsNumbered most_number words asked → ⊥) → name ≡ codes "strict"
+    → IfNone result ((request : Request) → name ≡ name_of request → Spells words request → ⊥)
+none_of_strict name words found result P cases refused is =
+    none_named name words found result (SpellsNumbered most_number words) P cases refused (refuses_strict name words is)
 
-refuses_skip : (name words : List ℕ) → name ≡ codes "skip"
-    → ((asked : Numbered) → SpellsNumbered most_depth words asked → ⊥) → (request : Request) → name ≡ name_of request
-    → Spells words request → ⊥
-refuses_skip name words is refused (Heads bytes) named spelled = let other : 115 ≡ 104 =
-    ap initial (sym is ∙ named) in omega (arith, other)
-refuses_skip name words is refused (Chunks asked) named spelled = let other : 115 ≡ 99 =
-    ap initial (sym is ∙ named) in omega (arith, other)
-refuses_skip name words is refused (Bytes asked) named spelled = let other : 115 ≡ 98 =
-    ap initial (sym is ∙ named) in omega (arith, other)
-refuses_skip name words is refused (Text asked) named spelled = let other : 115 ≡ 116 =
-    ap initial (sym is ∙ named) in omega (arith, other)
-refuses_skip name words is refused (Recode asked) named spelled = let other : 115 ≡ 114 =
-    ap initial (sym is ∙ named) in omega (arith, other)
-refuses_skip name words is refused (Strict asked) named spelled = let other : 107 ≡ 116 =
-    ap second (sym is ∙ named) in omega (arith, other)
+refuses_skip : (name words : List ℕ) → name ≡ codes "skip" → ((asked : Numbered) → SpellsNumbered most_depth words asked → ⊥)
+    → (request : Request) → name ≡ name_of request → Spells words request → ⊥
+refuses_skip name words is refused (Heads bytes) named spelled = differs name _ _ is named refl
+refuses_skip name words is refused (Chunks asked) named spelled = differs name _ _ is named refl
+refuses_skip name words is refused (Bytes asked) named spelled = differs name _ _ is named refl
+refuses_skip name words is refused (Text asked) named spelled = differs name _ _ is named refl
+refuses_skip name words is refused (Recode asked) named spelled = differs name _ _ is named refl
+refuses_skip name words is refused (Strict asked) named spelled = differs name _ _ is named refl
 refuses_skip name words is refused (Skip asked) named spelled = refused asked spelled
 
--- words that are refused behind the name are no request of it
 pub none_of_skip : (name words : List ℕ) (found : Option Numbered) (result : Option Request)
-    (P : Numbered → Request → Type 0)
-    → MatchOption found (result ≡ None) (λ x. IsSomeAnd result (P x))
-    → IfNone found ((asked : Numbered) → SpellsNumbered most_depth words asked → ⊥)
-    → name ≡ codes "skip" → IfNone result ((request : Request) → name ≡ name_of request → Spells words request → ⊥)
-none_of_skip name words found (Some request) P cases refused is = _
-none_of_skip name words (Some asked) None P cases refused is = absurd cases
-none_of_skip name words None None P cases refused is = refuses_skip name words is refused
+    (P : Numbered → Request → Type 0) → MatchOption found (result ≡ None) (λ x. IsSomeAnd result (P x))
+    → IfNone found ((asked : Numbered) → SpellsNumbered most_depth words asked → ⊥) → name ≡ codes "skip"
+    → IfNone result ((request : Request) → name ≡ name_of request → Spells words request → ⊥)
+none_of_skip name words found result P cases refused is =
+    none_named name words found result (SpellsNumbered most_depth words) P cases refused (refuses_skip name words is)

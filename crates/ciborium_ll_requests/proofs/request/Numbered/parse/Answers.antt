@@ -8,14 +8,14 @@ returns-in_default-clause-none c asked spelled =
 
 pub returns-in_default-number_up_to-clause-none : goal.returns-in_default-number_up_to-clause-none
 returns-in_default-number_up_to-clause-none c asked spelled =
-    let found = Some (c.in-Some.first, c.in-Some.word) in
-    let parts = cut_behind_number c.args.most c.args.words.now found c.in-Some.ensures.cases asked spelled in
+    let parts = cut_behind_number c.args.most c.args.words.now (Some (c.in-Some.first, c.in-Some.word))
+    c.in-Some.ensures.cases asked spelled in
     c.in_default-number_up_to.ensures.none asked.number parts.0
 
 pub returns-in-None-clause-none : goal.returns-in-None-clause-none
 returns-in-None-clause-none c asked spelled =
-    let found = Some (c.in-Some.first, c.in-Some.word) in
-    let parts = cut_behind_number c.args.most c.args.words.now found c.in-Some.ensures.cases asked spelled in
+    let parts = cut_behind_number c.args.most c.args.words.now (Some (c.in-Some.first, c.in-Some.word))
+    c.in-Some.ensures.cases asked spelled in
     let none = rw c.in-None.is at c.in_ok-bytes.ensures.none in
     let same = sym none ∙ parts.1 in
     cc same
