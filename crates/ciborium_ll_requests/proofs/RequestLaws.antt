@@ -178,8 +178,9 @@ none_named name words found (Some request) Spelled P cases refused others = _
 none_named name words (Some asked) None Spelled P cases refused others = absurd cases
 none_named name words None None Spelled P cases refused others = others refused
 
-refuses_chunks : (name words : List ℕ) → name ≡ codes "chunks" → ((asked : Numbered) → SpellsNumbered most_size words asked → ⊥)
-    → (request : Request) → name ≡ name_of request → Spells words request → ⊥
+refuses_chunks : (name words : List ℕ) → name ≡ codes "chunks"
+    → ((asked : Numbered) → SpellsNumbered most_size words asked → ⊥) → (request : Request) → name ≡ name_of request
+    → Spells words request → ⊥
 refuses_chunks name words is refused (Heads bytes) named spelled = differs name _ _ is named refl
 refuses_chunks name words is refused (Chunks asked) named spelled = refused asked spelled
 refuses_chunks name words is refused (Bytes asked) named spelled = differs name _ _ is named refl
@@ -229,8 +230,9 @@ pub none_of_text : (name words : List ℕ) (found : Option Limited) (result : Op
 none_of_text name words found result P cases refused is =
     none_named name words found result (SpellsLimited words) P cases refused (refuses_text name words is)
 
-refuses_recode : (name words : List ℕ) → name ≡ codes "recode" → ((asked : Numbered) → SpellsNumbered most_number words asked → ⊥)
-    → (request : Request) → name ≡ name_of request → Spells words request → ⊥
+refuses_recode : (name words : List ℕ) → name ≡ codes "recode"
+    → ((asked : Numbered) → SpellsNumbered most_number words asked → ⊥) → (request : Request) → name ≡ name_of request
+    → Spells words request → ⊥
 refuses_recode name words is refused (Heads bytes) named spelled = differs name _ _ is named refl
 refuses_recode name words is refused (Chunks asked) named spelled = differs name _ _ is named refl
 refuses_recode name words is refused (Bytes asked) named spelled = differs name _ _ is named refl
@@ -246,8 +248,9 @@ pub none_of_recode : (name words : List ℕ) (found : Option Numbered) (result :
 none_of_recode name words found result P cases refused is =
     none_named name words found result (SpellsNumbered most_number words) P cases refused (refuses_recode name words is)
 
-refuses_strict : (name words : List ℕ) → name ≡ codes "strict" → ((asked : Numbered) → SpellsNumbered most_number words asked → ⊥)
-    → (request : Request) → name ≡ name_of request → Spells words request → ⊥
+refuses_strict : (name words : List ℕ) → name ≡ codes "strict"
+    → ((asked : Numbered) → SpellsNumbered most_number words asked → ⊥) → (request : Request) → name ≡ name_of request
+    → Spells words request → ⊥
 refuses_strict name words is refused (Heads bytes) named spelled = differs name _ _ is named refl
 refuses_strict name words is refused (Chunks asked) named spelled = differs name _ _ is named refl
 refuses_strict name words is refused (Bytes asked) named spelled = differs name _ _ is named refl
@@ -263,8 +266,9 @@ pub none_of_strict : (name words : List ℕ) (found : Option Numbered) (result :
 none_of_strict name words found result P cases refused is =
     none_named name words found result (SpellsNumbered most_number words) P cases refused (refuses_strict name words is)
 
-refuses_skip : (name words : List ℕ) → name ≡ codes "skip" → ((asked : Numbered) → SpellsNumbered most_depth words asked → ⊥)
-    → (request : Request) → name ≡ name_of request → Spells words request → ⊥
+refuses_skip : (name words : List ℕ) → name ≡ codes "skip"
+    → ((asked : Numbered) → SpellsNumbered most_depth words asked → ⊥) → (request : Request) → name ≡ name_of request
+    → Spells words request → ⊥
 refuses_skip name words is refused (Heads bytes) named spelled = differs name _ _ is named refl
 refuses_skip name words is refused (Chunks asked) named spelled = differs name _ _ is named refl
 refuses_skip name words is refused (Bytes asked) named spelled = differs name _ _ is named refl
