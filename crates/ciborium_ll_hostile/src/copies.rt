@@ -3,9 +3,7 @@ use ciborium_ll::recode::recode;
 use ciborium_ll::{Decoder, Encoder, Error, RecodeError};
 use ciborium_ll_fixtures::devices::{DeviceFault, Failing, FailingReader, FailingWriter};
 use ciborium_ll_fixtures::plain::{self, Fault};
-use ciborium_ll_fixtures::samples::{
-    COPIES, LISTS, LONGER_TITLES, TWENTY_FIVE, TWENTY_FIVE_AND_BREAK, VECTORS,
-};
+use ciborium_ll_fixtures::samples::{self, LISTS, TWENTY_FIVE, TWENTY_FIVE_AND_BREAK};
 use std::alloc::Global;
 use std::process::Abort;
 use std::test::Fail;
@@ -27,6 +25,19 @@ pub struct Outcome {
     pub has_failed: bool,
 }
 
+// The copy of either kind.
+fn copies_by(
+    kind: Kind,
+    decoder: &mut Decoder<FailingReader<'_>>,
+    encoder: &mut Encoder<FailingWriter<'_>>,
+    count: usize,
+) -> Result<(), RecodeError<DeviceFault, DeviceFault>> {
+    match kind {
+        Kind::Headers => copy_headers(decoder, encoder, count),
+        Kind::Elements => recode(decoder, encoder, count, &mut [0; 64]),
+    }
+}
+
 // Copies by a reader and a writer that fail where they are told to.
 pub fn copies(
     alloc: Global,
@@ -37,13 +48,9 @@ pub fn copies(
     writing: Failing,
 ) -> Result<Outcome, Fail> {
     let mut space = [0; 64];
-    let mut buffer = [0; 64];
     let mut decoder = Decoder::from(FailingReader::new(bytes, reading));
     let mut encoder = Encoder::from(FailingWriter::new(&mut space, writing));
-    let outcome = match kind {
-        Kind::Headers => copy_headers(&mut decoder, &mut encoder, count),
-        Kind::Elements => recode(&mut decoder, &mut encoder, count, &mut buffer),
-    };
+    let outcome = copies_by(kind, &mut decoder, &mut encoder, count);
     let offset = decoder.offset();
     let reader = decoder.into_inner();
     let writer = encoder.into_inner();
@@ -54,6 +61,18 @@ pub fn copies(
         left: reader.left().len(),
         has_failed: reader.has_failed() || writer.has_failed(),
     })
+}
+
+// An error is the fault that is wanted, if one is.
+fn is_fault(error: &Option<RecodeError<DeviceFault, DeviceFault>>, want: Option<Fault>) -> bool {
+    match error {
+        None => want.is_none(),
+        Some(RecodeError::Read(Error::Syntax(place))) => want == Some(Fault::Syntax(*place)),
+        Some(RecodeError::Read(Error::Io(DeviceFault::Short))) => {
+            matches!(want, Some(Fault::Short | Fault::ShortAndDamaged))
+        }
+        Some(_) => false,
+    }
 }
 
 // What is written is what a plain reading of the bytes gives, and so is the answer.
@@ -69,15 +88,7 @@ pub fn agrees(
     assert!(rt; got.written.as_slice() == want.output.as_slice());
     assert_eq!(rt; got.offset, want.offset);
     assert_eq!(rt; got.offset.saturating_add(got.left), bytes.len());
-    let is_right = match &got.error {
-        None => want.fault.is_none(),
-        Some(RecodeError::Read(Error::Syntax(place))) => want.fault == Some(Fault::Syntax(*place)),
-        Some(RecodeError::Read(Error::Io(DeviceFault::Short))) => {
-            matches!(want.fault, Some(Fault::Short | Fault::ShortAndDamaged))
-        }
-        Some(_) => false,
-    };
-    assert!(rt; is_right, "answer to {bytes:?}");
+    assert!(rt; is_fault(&got.error, want.fault), "answer to {bytes:?}");
     Ok(())
 }
 
@@ -191,67 +202,69 @@ fn each_call_fails(
     Ok(())
 }
 
-#[test]
-fn each_call_fails_under_copies_of_headers(rt: HostRuntime) -> Result<(), Fail> {
-    for (hex, _) in VECTORS {
-        each_call_fails(&rt, rt.alloc(), Kind::Headers, 1, hex)?;
+// Each call fails in turn over titles alone and in a row.
+fn each_call_fails_in_titles(rt: &impl Abort, alloc: Global, kind: Kind) -> Result<(), Fail> {
+    for (hex, _) in samples::vectors(alloc)? {
+        each_call_fails(rt, alloc, kind, 1, hex)?;
     }
     for (hex, headers) in LISTS {
-        each_call_fails(&rt, rt.alloc(), Kind::Headers, headers.len(), hex)?;
+        each_call_fails(rt, alloc, kind, headers.len(), hex)?;
     }
-    for (hex, _, _) in LONGER_TITLES {
+    each_call_fails(rt, alloc, kind, 27, TWENTY_FIVE)?;
+    each_call_fails(rt, alloc, kind, 27, TWENTY_FIVE_AND_BREAK)
+}
+
+#[test]
+fn each_call_fails_under_copies_of_headers(rt: HostRuntime) -> Result<(), Fail> {
+    for (hex, _, _) in samples::longer_titles(rt.alloc())? {
         each_call_fails(&rt, rt.alloc(), Kind::Headers, 2, hex)?;
     }
-    each_call_fails(&rt, rt.alloc(), Kind::Headers, 27, TWENTY_FIVE)?;
-    each_call_fails(&rt, rt.alloc(), Kind::Headers, 27, TWENTY_FIVE_AND_BREAK)
+    each_call_fails_in_titles(&rt, rt.alloc(), Kind::Headers)
 }
 
 #[test]
 fn each_call_fails_under_copies_of_elements(rt: HostRuntime) -> Result<(), Fail> {
-    for (hex, _) in VECTORS {
-        each_call_fails(&rt, rt.alloc(), Kind::Elements, 1, hex)?;
-    }
-    for (hex, headers) in LISTS {
-        each_call_fails(&rt, rt.alloc(), Kind::Elements, headers.len(), hex)?;
-    }
-    for (count, hex) in COPIES {
+    for (count, hex) in samples::copies(rt.alloc())? {
         each_call_fails(&rt, rt.alloc(), Kind::Elements, count, hex)?;
     }
-    each_call_fails(&rt, rt.alloc(), Kind::Elements, 27, TWENTY_FIVE)?;
-    each_call_fails(&rt, rt.alloc(), Kind::Elements, 27, TWENTY_FIVE_AND_BREAK)
+    each_call_fails_in_titles(&rt, rt.alloc(), Kind::Elements)
 }
 
 // A string of indefinite length, whose one body is "ab".
 const STRING: [u8; 5] = [0x7f, 0x62, 0x61, 0x62, 0xff];
 
+// A copy of that string where the reader and the writer fail, or don't: how much was written and read.
+fn string_row(
+    rt: &impl Abort,
+    alloc: Global,
+    failing: (Failing, Failing),
+    want: (usize, usize),
+) -> Result<(), Fail> {
+    let got = copies(alloc, Kind::Elements, 1, &STRING, failing.0, failing.1)?;
+    assert_eq!(rt; (got.written.len(), got.offset), want);
+    assert!(rt; STRING.starts_with(got.written.as_slice()));
+    assert_eq!(rt; got.error.is_some(), want.0 < 5);
+    Ok(())
+}
+
 #[test]
 fn a_string_by_hand(rt: HostRuntime) -> Result<(), Fail> {
     let never = Failing::Never;
     for (call, written, offset) in [(1, 0, 0), (2, 1, 1), (3, 2, 2), (4, 4, 4), (5, 5, 5)] {
-        let got = copies(
+        string_row(
+            &rt,
             rt.alloc(),
-            Kind::Elements,
-            1,
-            &STRING,
-            Failing::Call(call),
-            never,
+            (Failing::Call(call), never),
+            (written, offset),
         )?;
-        assert_eq!(rt; (got.written.len(), got.offset), (written, offset));
-        assert!(rt; STRING.starts_with(got.written.as_slice()));
-        assert_eq!(rt; got.error.is_some(), call < 5);
     }
     for (call, written, offset) in [(1, 0, 1), (2, 1, 2), (3, 3, 4), (4, 4, 5), (5, 5, 5)] {
-        let got = copies(
+        string_row(
+            &rt,
             rt.alloc(),
-            Kind::Elements,
-            1,
-            &STRING,
-            never,
-            Failing::Call(call),
+            (never, Failing::Call(call)),
+            (written, offset),
         )?;
-        assert_eq!(rt; (got.written.len(), got.offset), (written, offset));
-        assert!(rt; STRING.starts_with(got.written.as_slice()));
-        assert_eq!(rt; got.error.is_some(), call < 5);
     }
     Ok(())
 }

@@ -2,12 +2,44 @@ use ciborium_ll::io::{ReadFault, StdReader, StdWriter, WriteFault};
 use ciborium_ll::recode::recode;
 use ciborium_ll::{Decoder, Encoder, Error, RecodeError};
 use ciborium_ll_fixtures::plain::{self, Fault};
-use ciborium_ll_fixtures::samples::COPIES;
+use ciborium_ll_fixtures::samples;
 use ciborium_ll_fixtures::streams::{PartReader, PartWriter};
 use std::alloc::Global;
 use std::io;
 use std::process::Abort;
 use std::test::Fail;
+
+// What a copy through a reader that may be interrupted answers, where a plain reading has this fault.
+fn is_read_answer(
+    outcome: Result<(), RecodeError<ReadFault, WriteFault>>,
+    has_failed: bool,
+    want: Option<Fault>,
+) -> bool {
+    match outcome {
+        Err(RecodeError::Read(Error::Io(ReadFault::Failed(error)))) => {
+            has_failed && error.kind() == io::ErrorKind::Interrupted
+        }
+        _ if has_failed => false,
+        Ok(()) => want.is_none(),
+        Err(RecodeError::Read(Error::Syntax(place))) => want == Some(Fault::Syntax(place)),
+        Err(RecodeError::Read(Error::Io(ReadFault::End))) => {
+            matches!(want, Some(Fault::Short | Fault::ShortAndDamaged))
+        }
+        Err(_) => false,
+    }
+}
+
+// What a copy through a writer answers that takes no byte, or fails by an error of this kind.
+fn is_write_answer(
+    outcome: Result<(), RecodeError<ReadFault, WriteFault>>,
+    kind: Option<io::ErrorKind>,
+) -> bool {
+    match outcome {
+        Err(RecodeError::Write(WriteFault::Zero)) => kind.is_none(),
+        Err(RecodeError::Write(WriteFault::Failed(error))) => kind == Some(error.kind()),
+        _ => false,
+    }
+}
 
 // Copies through a reader that gives few bytes a call and is interrupted once. What was written is just what the bytes
 // in front of that call give. It tells whether the interrupted call came.
@@ -19,8 +51,7 @@ fn stops_reading(
     call: usize,
 ) -> Result<bool, Fail> {
     let (count, bytes) = row;
-    let interrupted = io::ErrorKind::Interrupted;
-    let source = PartReader::new(bytes, most).failing_at(call, interrupted);
+    let source = PartReader::new(bytes, most).failing_at(call, io::ErrorKind::Interrupted);
     let mut decoder = Decoder::from(StdReader::new(source));
     let mut encoder = Encoder::from(StdWriter::new(PartWriter::new(alloc, most)));
     let outcome = recode(&mut decoder, &mut encoder, count, &mut [0; 64]);
@@ -35,18 +66,7 @@ fn stops_reading(
     let taken = encoder.into_inner().into_inner().taken;
     assert!(rt; taken.as_slice() == want.output.as_slice());
     assert_eq!(rt; offset, want.offset);
-    let is_right = match outcome {
-        Err(RecodeError::Read(Error::Io(ReadFault::Failed(error)))) => {
-            has_failed && error.kind() == interrupted
-        }
-        _ if has_failed => false,
-        Ok(()) => want.fault.is_none(),
-        Err(RecodeError::Read(Error::Syntax(place))) => want.fault == Some(Fault::Syntax(place)),
-        Err(RecodeError::Read(Error::Io(ReadFault::End))) => {
-            matches!(want.fault, Some(Fault::Short | Fault::ShortAndDamaged))
-        }
-        Err(_) => false,
-    };
+    let is_right = is_read_answer(outcome, has_failed, want.fault);
     assert!(rt; is_right, "at {call} of {bytes:?}");
     Ok(has_failed)
 }
@@ -72,18 +92,14 @@ fn stops_writing(
     let want = plain::copy(alloc, false, count, bytes)?;
     assert!(rt; want.output.as_slice().starts_with(sink.taken.as_slice()));
     assert_eq!(rt; sink.taken.len().saturating_add(1), call);
-    let is_right = match outcome {
-        Err(RecodeError::Write(WriteFault::Zero)) => kind.is_none(),
-        Err(RecodeError::Write(WriteFault::Failed(error))) => kind == Some(error.kind()),
-        _ => false,
-    };
+    let is_right = is_write_answer(outcome, kind);
     assert!(rt; is_right, "at {call} of {bytes:?}");
     Ok(true)
 }
 
 #[test]
 fn each_read_of_a_stream_is_interrupted(rt: HostRuntime) -> Result<(), Fail> {
-    for (count, hex) in COPIES {
+    for (count, hex) in samples::copies(rt.alloc())? {
         let bytes = hex::decode(rt.alloc(), hex)?;
         let row = (count, bytes.as_slice());
         for most in [1, 2, 3, 64usize] {
@@ -102,7 +118,7 @@ fn each_read_of_a_stream_is_interrupted(rt: HostRuntime) -> Result<(), Fail> {
 
 #[test]
 fn each_write_of_a_stream_fails(rt: HostRuntime) -> Result<(), Fail> {
-    for (count, hex) in COPIES {
+    for (count, hex) in samples::copies(rt.alloc())? {
         let bytes = hex::decode(rt.alloc(), hex)?;
         let row = (count, bytes.as_slice());
         for kind in [None, Some(io::ErrorKind::Interrupted)] {

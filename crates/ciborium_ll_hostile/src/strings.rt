@@ -1,6 +1,5 @@
-use ciborium_ll::io::Read;
 use ciborium_ll::laws::{Drained, End, drain_bytes, drain_text};
-use ciborium_ll::{Decoder, Encoder, Error, Header, RecodeError};
+use ciborium_ll::{Bytes, Decoder, Encoder, Error, Header, RecodeError, Segment, Segments, Text};
 use ciborium_ll_fixtures::devices::{DeviceFault, Failing, FailingReader, FailingWriter};
 use std::alloc::Global;
 use std::process::Abort;
@@ -20,6 +19,27 @@ fn an_affix_fails_in_a_string(rt: HostRuntime) {
     assert_eq!(rt; decoder.offset(), 3);
 }
 
+// A pull of a chunk of a text gives these characters, or the end.
+fn chunk_is(
+    rt: &impl Abort,
+    segment: &mut Segment<'_, FailingReader<'_>, Text>,
+    buffer: &mut [u8],
+    want: Option<&str>,
+) {
+    let got = segment.pull(buffer);
+    assert!(rt; matches!(got, Ok(chunk) if chunk == want));
+}
+
+// A pull of a chunk of a text fails where the reader does.
+fn chunk_fails(
+    rt: &impl Abort,
+    segment: &mut Segment<'_, FailingReader<'_>, Text>,
+    buffer: &mut [u8],
+) {
+    let got = segment.pull(buffer);
+    assert!(rt; matches!(got, Err(Error::Io(DeviceFault::Planned))));
+}
+
 // A read that failed keeps the byte of the character that the one before it cut, and what was not read.
 #[test]
 fn a_segment_whose_reader_fails(rt: HostRuntime) {
@@ -29,19 +49,13 @@ fn a_segment_whose_reader_fails(rt: HostRuntime) {
     let Ok(Some(mut segment)) = segments.pull() else {
         panic!(rt; "no segment");
     };
-    let mut buffer = [0; 4];
-    assert!(rt; matches!(segment.pull(&mut buffer[..1]), Ok(Some(""))));
+    chunk_is(&rt, &mut segment, &mut [0; 1], Some(""));
     assert_eq!(rt; segment.left(), 2);
-    assert!(rt;
-        matches!(
-            segment.pull(&mut buffer),
-            Err(Error::Io(DeviceFault::Planned))
-        )
-    );
+    chunk_fails(&rt, &mut segment, &mut [0; 4]);
     assert_eq!(rt; segment.left(), 2);
-    assert!(rt; matches!(segment.pull(&mut buffer), Ok(Some("é"))));
+    chunk_is(&rt, &mut segment, &mut [0; 4], Some("é"));
     assert_eq!(rt; segment.left(), 0);
-    assert!(rt; matches!(segment.pull(&mut buffer), Ok(None)));
+    chunk_is(&rt, &mut segment, &mut [0; 4], None);
 }
 
 // A segment that can't go on, since its buffer is empty or kept bytes fill it, calls the reader all the same.
@@ -54,14 +68,12 @@ fn a_segment_that_waits_is_a_call(rt: HostRuntime) {
     let Ok(Some(mut segment)) = segments.pull() else {
         panic!(rt; "no segment");
     };
-    let mut one = [0; 1];
-    let mut four = [0; 4];
-    assert!(rt; matches!(segment.pull(&mut []), Err(Error::Io(DeviceFault::Planned))));
-    assert!(rt; matches!(segment.pull(&mut one), Ok(Some(""))));
-    assert!(rt; matches!(segment.pull(&mut one), Err(Error::Io(DeviceFault::Planned))));
+    chunk_fails(&rt, &mut segment, &mut []);
+    chunk_is(&rt, &mut segment, &mut [0; 1], Some(""));
+    chunk_fails(&rt, &mut segment, &mut [0; 1]);
     assert_eq!(rt; segment.left(), 2);
-    assert!(rt; matches!(segment.pull(&mut four), Ok(Some("é"))));
-    assert!(rt; matches!(segment.pull(&mut []), Ok(None)));
+    chunk_is(&rt, &mut segment, &mut [0; 4], Some("é"));
+    chunk_is(&rt, &mut segment, &mut [], None);
 }
 
 // Strings of a definite length whose titles have no affix, and their bodies.
@@ -74,37 +86,56 @@ const STRINGS: [(&str, &str); 6] = [
     ("6d48656c6c6f2c20576f726c6421", "48656c6c6f2c20576f726c6421"),
 ];
 
-// A drain of a string of a definite length, and once more where the reader failed.
-fn drains<R: Read>(
+type Drain = Result<Drained, RecodeError<DeviceFault, DeviceFault>>;
+
+// A drain ended, unless the reader or the writer failed.
+fn is_drain(drain: &Drain, has_read_failed: bool, has_write_failed: bool) -> bool {
+    match drain {
+        Ok(drained) => drained.end == End::Ended && !has_read_failed && !has_write_failed,
+        Err(RecodeError::Read(Error::Io(DeviceFault::Planned))) => has_read_failed,
+        Err(RecodeError::Write(DeviceFault::Planned)) => has_write_failed,
+        Err(_) => false,
+    }
+}
+
+// Two drains of a text of a definite length.
+fn drains_text(
     rt: &impl Abort,
-    decoder: &mut Decoder<R>,
+    mut segments: Segments<'_, FailingReader<'_>, Text>,
+    sink: &mut Encoder<FailingWriter<'_>>,
+) -> [Drain; 2] {
+    let Ok(Some(mut segment)) = segments.pull() else {
+        panic!(rt; "no segment");
+    };
+    let first = drain_text(&mut segment, &[4; 8], &mut [0; 4], sink);
+    [first, drain_text(&mut segment, &[4; 8], &mut [0; 4], sink)]
+}
+
+// Two drains of a byte string of a definite length.
+fn drains_bytes(
+    rt: &impl Abort,
+    mut segments: Segments<'_, FailingReader<'_>, Bytes>,
+    sink: &mut Encoder<FailingWriter<'_>>,
+) -> [Drain; 2] {
+    let Ok(Some(mut segment)) = segments.pull() else {
+        panic!(rt; "no segment");
+    };
+    let first = drain_bytes(&mut segment, &[4; 8], &mut [0; 4], sink);
+    [first, drain_bytes(&mut segment, &[4; 8], &mut [0; 4], sink)]
+}
+
+// A drain of a string of a definite length, and once more where the reader failed.
+fn drains(
+    rt: &impl Abort,
+    decoder: &mut Decoder<FailingReader<'_>>,
     header: Header,
     sink: &mut Encoder<FailingWriter<'_>>,
-) -> [Result<Drained, RecodeError<R::Error, DeviceFault>>; 2]
-where
-    R::Error: Drop,
-{
+) -> [Drain; 2] {
     assert!(rt; !decoder.is_waiting());
     assert!(rt; header.title_len() <= decoder.offset());
-    let sizes = [4; 8];
-    let mut buffer = [0; 4];
     match header {
-        Header::Text(length) => {
-            let mut segments = decoder.text(length);
-            let Ok(Some(mut segment)) = segments.pull() else {
-                panic!(rt; "no segment");
-            };
-            let first = drain_text(&mut segment, &sizes, &mut buffer, sink);
-            [first, drain_text(&mut segment, &sizes, &mut buffer, sink)]
-        }
-        Header::Bytes(length) => {
-            let mut segments = decoder.bytes(length);
-            let Ok(Some(mut segment)) = segments.pull() else {
-                panic!(rt; "no segment");
-            };
-            let first = drain_bytes(&mut segment, &sizes, &mut buffer, sink);
-            [first, drain_bytes(&mut segment, &sizes, &mut buffer, sink)]
-        }
+        Header::Text(length) => drains_text(rt, decoder.text(length), sink),
+        Header::Bytes(length) => drains_bytes(rt, decoder.bytes(length), sink),
         _ => panic!(rt; "no string"),
     }
 }
@@ -131,17 +162,11 @@ fn drains_on(
     let reader = decoder.into_inner();
     let writer = sink.into_inner();
     let (has_read_failed, has_write_failed) = (reader.has_failed(), writer.has_failed());
-    let is_right = match &first {
-        Ok(drained) => drained.end == End::Ended && !has_read_failed && !has_write_failed,
-        Err(RecodeError::Read(Error::Io(DeviceFault::Planned))) => has_read_failed,
-        Err(RecodeError::Write(DeviceFault::Planned)) => has_write_failed,
-        Err(_) => false,
-    };
-    assert!(rt; is_right, "the first drain of {row:?}");
     assert!(rt;
-        matches!(&second, Ok(drained) if drained.end == End::Ended),
-        "the next one of {row:?}"
+        is_drain(&first, has_read_failed, has_write_failed),
+        "the first drain of {row:?}"
     );
+    assert!(rt; is_drain(&second, false, false), "the next one of {row:?}");
     assert!(rt; has_write_failed || writer.written() == body.as_slice());
     assert!(rt; !has_write_failed || writer.written().len() < body.len());
     assert_eq!(rt; offset.saturating_add(reader.left().len()), bytes.len());

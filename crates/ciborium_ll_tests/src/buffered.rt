@@ -6,7 +6,31 @@ use ciborium_ll::{Decoder, Encoder};
 use ciborium_ll_fixtures::streams::{PartReader, PartWriter};
 use std::alloc::Global;
 use std::io;
+use std::process::Abort;
 use std::test::Fail;
+
+// Reads the bytes 1 to 6 in parts of these lengths, with so many bytes lent: each read gives its part. It tells how many
+// calls that is, and what is then ahead and left.
+fn reads_row(
+    rt: &impl Abort,
+    alloc: Global,
+    room: usize,
+    parts: &[&[u8]],
+) -> Result<(usize, Vec<u8>, Vec<u8>), Fail> {
+    let mut lent = vec![in alloc; 0u8; room]?;
+    let source = PartReader::new(&[1, 2, 3, 4, 5, 6], usize::MAX);
+    let mut reader = BufferedReader::new(source, lent.as_mut_slice());
+    for part in parts {
+        let mut data = vec![in alloc; 0u8; part.len()]?;
+        reader.read_exact(data.as_mut_slice())?;
+        assert!(rt; data.as_slice() == *part);
+    }
+    let ahead = reader.buffer().to_vec(alloc)?;
+    let (source, buffer, fault) = reader.into_parts();
+    assert!(rt; buffer == ahead.as_slice());
+    assert!(rt; fault.is_none());
+    Ok((source.calls, ahead, source.left.to_vec(alloc)?))
+}
 
 // How many bytes are lent, what each read gives, how many calls that is, and what is then ahead and left.
 #[test]
@@ -22,20 +46,10 @@ fn reads_ahead(rt: HostRuntime) -> Result<(), Fail> {
         (0, &[&[1], &[2, 3], &[], &[4, 5, 6]], 3, &[], &[]),
     ];
     for (room, parts, calls, ahead, left) in rows {
-        let mut lent = vec![in rt.alloc(); 0u8; room]?;
-        let source = PartReader::new(&[1, 2, 3, 4, 5, 6], usize::MAX);
-        let mut reader = BufferedReader::new(source, lent.as_mut_slice());
-        for part in parts {
-            let mut data = vec![in rt.alloc(); 0u8; part.len()]?;
-            reader.read_exact(data.as_mut_slice())?;
-            assert_eq!(rt; data.as_slice(), *part, "at {room}, {parts:?}");
-        }
-        assert_eq!(rt; reader.buffer(), ahead, "at {room}, {parts:?}");
-        let (source, buffer, fault) = reader.into_parts();
-        assert_eq!(rt; buffer, ahead, "at {room}, {parts:?}");
-        assert_eq!(rt; source.left, left, "at {room}, {parts:?}");
-        assert_eq!(rt; source.calls, calls, "at {room}, {parts:?}");
-        assert!(rt; fault.is_none());
+        let (got_calls, got_ahead, got_left) = reads_row(&rt, rt.alloc(), room, parts)?;
+        assert_eq!(rt; got_calls, calls, "at {room}, {parts:?}");
+        assert_eq!(rt; got_ahead.as_slice(), ahead, "at {room}, {parts:?}");
+        assert_eq!(rt; got_left.as_slice(), left, "at {room}, {parts:?}");
     }
     Ok(())
 }
@@ -68,6 +82,26 @@ fn a_fault_of_a_reader_is_kept(rt: HostRuntime) -> Result<(), Fail> {
     Ok(())
 }
 
+// Writes these parts, with so many bytes lent. It tells what was written, byte by byte, and what is kept back.
+fn keeps_row(
+    rt: &impl Abort,
+    alloc: Global,
+    room: usize,
+    parts: &[&[u8]],
+) -> Result<(Vec<u8>, Vec<u8>), Fail> {
+    let mut lent = vec![in alloc; 0u8; room]?;
+    let mut writer = BufferedWriter::new(PartWriter::new(alloc, 1), lent.as_mut_slice());
+    for part in parts {
+        writer.write_all(*part)?;
+    }
+    let kept = writer.buffer().to_vec(alloc)?;
+    let (sink, buffer, fault) = writer.into_parts();
+    assert!(rt; buffer == kept.as_slice());
+    assert!(rt; sink.calls == sink.taken.len() && sink.flushes == 0);
+    assert!(rt; fault.is_none());
+    Ok((sink.taken, kept))
+}
+
 // How many bytes are lent, what each write brings, and what is then written and kept back.
 #[test]
 fn keeps_back(rt: HostRuntime) -> Result<(), Fail> {
@@ -81,18 +115,9 @@ fn keeps_back(rt: HostRuntime) -> Result<(), Fail> {
         (0, &[&[1], &[], &[2, 3]], &[1, 2, 3], &[]),
     ];
     for (room, parts, written, kept) in rows {
-        let mut lent = vec![in rt.alloc(); 0u8; room]?;
-        let sink = PartWriter::new(rt.alloc(), 1);
-        let mut writer = BufferedWriter::new(sink, lent.as_mut_slice());
-        for part in parts {
-            writer.write_all(*part)?;
-        }
-        assert_eq!(rt; writer.buffer(), kept, "at {room}, {parts:?}");
-        let (sink, buffer, fault) = writer.into_parts();
-        assert_eq!(rt; buffer, kept, "at {room}, {parts:?}");
-        assert_eq!(rt; sink.taken.as_slice(), written, "at {room}, {parts:?}");
-        assert_eq!(rt; (sink.calls, sink.flushes), (written.len(), 0));
-        assert!(rt; fault.is_none());
+        let (got_written, got_kept) = keeps_row(&rt, rt.alloc(), room, parts)?;
+        assert_eq!(rt; got_written.as_slice(), written, "at {room}, {parts:?}");
+        assert_eq!(rt; got_kept.as_slice(), kept, "at {room}, {parts:?}");
     }
     Ok(())
 }

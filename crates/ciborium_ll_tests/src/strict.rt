@@ -1,8 +1,8 @@
 use crate::calls::pulls;
-use ciborium_ll::io::{Read, SliceReader, SliceWriter};
+use ciborium_ll::io::{EndOfFile, OutOfSpace, Read, SliceReader, SliceWriter};
 use ciborium_ll::recode::{recode, strict_len};
 use ciborium_ll::{Decoder, Encoder, Error, Header, RecodeError};
-use ciborium_ll_fixtures::samples::VECTORS;
+use ciborium_ll_fixtures::samples;
 use std::alloc::Global;
 use std::process::Abort;
 use std::test::Fail;
@@ -15,20 +15,25 @@ enum End {
     Short,
 }
 
+// A copy ended as is wanted.
+fn is_end(outcome: Result<(), RecodeError<EndOfFile, OutOfSpace>>, want: End) -> bool {
+    match outcome {
+        Ok(()) => matches!(want, End::Copied),
+        Err(RecodeError::Read(Error::Syntax(place))) => {
+            matches!(want, End::Syntax(at) if at == place)
+        }
+        Err(RecodeError::Read(Error::Io(_))) => matches!(want, End::Short),
+        Err(_) => false,
+    }
+}
+
 // Copies so many elements, each from a strict decoder, and compares what was written, the answer and the offset.
 fn copy_row(rt: &impl Abort, bytes: &[u8], count: usize, written: &[u8], end: End, offset: usize) {
     let mut space = [0; 16];
     let mut decoder = Decoder::strict(SliceReader::new(bytes));
     let mut encoder = Encoder::from(SliceWriter::new(&mut space));
     let outcome = recode(&mut decoder, &mut encoder, count, &mut [0; 64]);
-    let is_right = match outcome {
-        Ok(()) => matches!(end, End::Copied),
-        Err(RecodeError::Read(Error::Syntax(place))) =>
-            matches!(end, End::Syntax(at) if at == place),
-        Err(RecodeError::Read(Error::Io(_))) => matches!(end, End::Short),
-        Err(_) => false,
-    };
-    assert!(rt; is_right, "at {bytes:?}");
+    assert!(rt; is_end(outcome, end), "at {bytes:?}");
     assert_eq!(rt; decoder.offset(), offset, "at {bytes:?}");
     assert!(rt; encoder.into_inner().written() == written, "at {bytes:?}");
     let want = match end {
@@ -152,28 +157,39 @@ fn pulled(rt: &impl Abort, mut decoder: Decoder<SliceReader>, title: &[u8]) -> O
     }
 }
 
+// What a decoder of either kind gives for a title.
+fn both_pulled(rt: &impl Abort, title: &[u8]) -> (Option<Header>, Option<Header>) {
+    let plain = pulled(rt, Decoder::from(SliceReader::new(title)), title);
+    let strict = pulled(rt, Decoder::strict(SliceReader::new(title)), title);
+    (plain, strict)
+}
+
+// A strict decoder takes the shortest title of a header, unless it is that of a small simple value, and no longer one,
+// and another decoder takes each. It tells how many longer ones there are.
+fn vector_row(rt: &impl Abort, alloc: Global, title: &[u8], header: Header) -> Result<usize, Fail> {
+    let is_small = matches!(header, Header::Simple(24..=31));
+    let want = if is_small { None } else { Some(header) };
+    assert!(rt;
+        both_pulled(rt, title) == (Some(header), want),
+        "at {title:?}"
+    );
+    let longer = longer_titles(alloc, title)?;
+    for other in &longer {
+        assert!(rt;
+            both_pulled(rt, other.as_slice()) == (Some(header), None),
+            "at {other:?}"
+        );
+    }
+    Ok(longer.len())
+}
+
 #[test]
 fn vectors_and_their_longer_titles(rt: HostRuntime) -> Result<(), Fail> {
     let mut all = 0usize;
-    for (hex, header) in VECTORS {
+    for (hex, header) in samples::vectors(rt.alloc())? {
         let shortest = hex::decode(rt.alloc(), hex)?;
-        let title = shortest.as_slice();
-        let plain = pulled(&rt, Decoder::from(SliceReader::new(title)), title);
-        assert!(rt; plain == Some(header), "at {hex}");
-        let strict = pulled(&rt, Decoder::strict(SliceReader::new(title)), title);
-        let is_small = matches!(header, Header::Simple(24..=31));
-        assert!(rt;
-            strict == if is_small { None } else { Some(header) },
-            "at {hex}"
-        );
-        for other in &longer_titles(rt.alloc(), title)? {
-            let title = other.as_slice();
-            let plain = pulled(&rt, Decoder::from(SliceReader::new(title)), title);
-            assert!(rt; plain == Some(header), "at {title:?}");
-            let strict = pulled(&rt, Decoder::strict(SliceReader::new(title)), title);
-            assert!(rt; strict.is_none(), "at {title:?}");
-            all = all.saturating_add(1);
-        }
+        let longer = vector_row(&rt, rt.alloc(), shortest.as_slice(), header)?;
+        all = all.saturating_add(longer);
     }
     // The titles of numbers that are a byte have four longer ones, and so on; simple values in one byte have one.
     assert_eq!(rt; all, 80);

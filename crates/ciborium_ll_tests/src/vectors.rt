@@ -1,8 +1,6 @@
 use ciborium_ll::io::{SliceReader, SliceWriter};
 use ciborium_ll::{Decoder, Encoder, Error, Header};
-use ciborium_ll_fixtures::samples::{
-    LISTS, LONGER_TITLES, TWENTY_FIVE, TWENTY_FIVE_AND_BREAK, VECTORS,
-};
+use ciborium_ll_fixtures::samples::{self, LISTS, TWENTY_FIVE, TWENTY_FIVE_AND_BREAK};
 use std::alloc::Global;
 use std::process::Abort;
 use std::test::Fail;
@@ -51,7 +49,7 @@ fn goes_both_ways(
 
 #[test]
 fn single_titles(rt: HostRuntime) -> Result<(), Fail> {
-    for (hex, header) in VECTORS {
+    for (hex, header) in samples::vectors(rt.alloc())? {
         goes_both_ways(&rt, rt.alloc(), hex, &[header])?;
         assert!(rt; header.title_len() == hex.len() / 2, "at {hex}");
     }
@@ -83,7 +81,7 @@ fn twenty_five_items(rt: HostRuntime) -> Result<(), Fail> {
 
 #[test]
 fn longer_titles(rt: HostRuntime) -> Result<(), Fail> {
-    for (hex, header, shortest) in LONGER_TITLES {
+    for (hex, header, shortest) in samples::longer_titles(rt.alloc())? {
         let headers = pulled(rt.alloc(), hex)?;
         assert!(rt; headers.as_slice() == [header].as_slice(), "at {hex}");
         let text = pushed(rt.alloc(), headers.as_slice())?;

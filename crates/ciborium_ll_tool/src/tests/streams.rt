@@ -4,7 +4,7 @@ use super::copies::long_elements;
 use ciborium_ll::io::{ReadFault, WriteFault};
 use ciborium_ll::{Error, RecodeError};
 use ciborium_ll_fixtures::plain::{self, Fault};
-use ciborium_ll_fixtures::samples::COPIES;
+use ciborium_ll_fixtures::samples;
 use ciborium_ll_fixtures::streams::{PartReader, PartWriter};
 use ciborium_ll_service::raw::{raw, raw_buffered};
 use std::alloc::Global;
@@ -166,7 +166,7 @@ fn stops_writing(
 
 #[test]
 fn each_read_of_a_raw_copy_is_interrupted(rt: HostRuntime) -> Result<(), Fail> {
-    for (count, hex) in COPIES {
+    for (count, hex) in samples::copies(rt.alloc())? {
         let bytes = hex::decode(rt.alloc(), hex)?;
         let row = (count, bytes.as_slice());
         for is_buffered in [false, true] {
@@ -187,7 +187,7 @@ fn each_read_of_a_raw_copy_is_interrupted(rt: HostRuntime) -> Result<(), Fail> {
 
 #[test]
 fn each_write_of_a_raw_copy_fails(rt: HostRuntime) -> Result<(), Fail> {
-    for (count, hex) in COPIES {
+    for (count, hex) in samples::copies(rt.alloc())? {
         let bytes = hex::decode(rt.alloc(), hex)?;
         let row = (count, bytes.as_slice());
         for is_buffered in [false, true] {
