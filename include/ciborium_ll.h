@@ -49,7 +49,7 @@ enum {
     CLL_SHORT,     /* the bytes end too early; `consumed` says where the read stopped */
     CLL_SYNTAX,    /* at `place` stands no CBOR that could stand there */
     CLL_ROOM,      /* `out` is full */
-    CLL_TOO_LONG,  /* an offset would pass the greatest number, which no bytes in memory make it do: no call answers it */
+    CLL_TOO_LONG,  /* an offset would pass the greatest number, which no bytes in memory make it do: never answered */
     CLL_BREAK_DUE, /* at `place` a break stands where an item is due */
     CLL_TOO_DEEP,  /* at `place` a tag, an array or a map stands deeper than was allowed */
     CLL_ARGUMENT   /* an argument is out of its range, and nothing was done */
@@ -60,7 +60,8 @@ enum {
  * The body of a string stands behind its title, and is not read.
  *
  * CLL_OK; CLL_SHORT where `data` ends before a title or inside it; CLL_SYNTAX, with the place 0, for a first byte with
- * which no title begins. After the last two `header` is as it was, and `consumed` counts the first byte if there is one.
+ * which no title begins. After the last two `header` is as it was, and `consumed` counts the first byte if there is
+ * one.
  */
 uint32_t cll_pull(const uint8_t *data, size_t len, cll_header *header, cll_report *report);
 

@@ -111,8 +111,8 @@ fn run(program: &str, input: &Input) -> io::Result<Taken> {
     Ok(Taken { time, peak })
 }
 
-/// Writes an input, and looks at the peak of the memory before its last byte, where the program waits for that. A program
-/// that ended before it read all closes the pipe, and its answer is then another one.
+/// Writes an input, and looks at the peak of the memory before its last byte, where the program waits for that. A
+/// program that ended before it read all closes the pipe, and its answer is then another one.
 fn write_all(pipe: &mut ChildStdin, bytes: &[u8], process: u32) -> u64 {
     let (front, last) = bytes.split_at(bytes.len().saturating_sub(1));
     if pipe.write_all(front).is_err() {

@@ -5,13 +5,15 @@ use Rattle.ciborium_ll.specs.Types.Header.{Header}
 use Rattle.ciborium_ll.specs.Types.Header.TheVariants as h
 use Rattle.ciborium_ll.specs.Title.{IsTitle}
 use Rattle.ciborium_ll.specs.Strings.{Bytes, Text}
-use Rattle.ciborium_ll.specs.Elements.{Mark, Plain, Whole, open_marks, IsElement, plain, definite, indefinite}
+use Rattle.ciborium_ll.specs.Strings.IsString.{definite, indefinite}
+use Rattle.ciborium_ll.specs.Elements.{Mark, Plain, Whole, open_marks, IsElement, plain, string}
 use Rattle.ciborium_ll.specs.Faults.{Place, Due, In}
 use Rattle.ciborium_ll.specs.Items.{Completes, positive, negative, float, simple, byte_string, text_string}
 use Rattle.ciborium_ll.specs.Items.{open_bytes, open_text, tag, array, pairs, open_array, open_pairs, AreItems}
 use Rattle.ciborium_ll.specs.Items.{no_items, more_items, IsItem}
 use Rattle.ciborium_ll.proofs.TitleLaws.{one_title}
 use Rattle.ciborium_ll.proofs.StringLaws.{break_title}
+use Rattle.ciborium_ll.proofs.ElementLaws.{bytes_writable}
 use Rattle.ciborium_ll.proofs.ItemLaws.{one_item}
 use Rattle.ciborium_ll.proofs.HaltLaws.{opens_of, stop_bad, halt_bad, element_stops, element_inside}
 use Rattle.ciborium_ll.proofs.FaultLaws.{Stuck, stop, halt, bad_body, stuck}
@@ -162,14 +164,14 @@ whole_string t r v marks ok = record { word = t ++ r; marks = marks; rest = v; o
 element_in_front : (d : ℕ) (t r v : List ℕ) (x : Header) → IsTitle t x → Completes d x r → Begins (t ++ (r ++ v))
 element_in_front d t r v x p (byte_string l) =
     let title = subst (λ (n : ℕ). IsTitle t (h.Bytes (Some n))) (sym l) p in
-    whole_string t r v (Whole Bytes r ∷ []) (definite Bytes title tt)
+    whole_string t r v (Whole Bytes r ∷ []) (string Bytes (definite title) (tt, tt))
 element_in_front d t r v x p (text_string l k) =
     let title = subst (λ (n : ℕ). IsTitle t (h.Text (Some n))) (sym l) p in
-    whole_string t r v (Whole Text r ∷ []) (definite Text title k)
+    whole_string t r v (Whole Text r ∷ []) (string Text (definite title) (k, tt))
 element_in_front d t r v x p (open_bytes {bodies = bs} s) =
-    whole_string t r v (open_marks Bytes bs) (indefinite Bytes p s tt)
+    whole_string t r v (open_marks Bytes bs) (string Bytes (indefinite p s) (bytes_writable bs))
 element_in_front d t r v x p (open_text {bodies = bs} s k) =
-    whole_string t r v (open_marks Text bs) (indefinite Text p s k)
+    whole_string t r v (open_marks Text bs) (string Text (indefinite p s) k)
 element_in_front d t r v x p positive = lone_title t r v x (plain x p tt)
 element_in_front d t r v x p negative = lone_title t r v x (plain x p tt)
 element_in_front d t r v x p float = lone_title t r v x (plain x p tt)

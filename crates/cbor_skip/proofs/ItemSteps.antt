@@ -8,9 +8,9 @@ use Rattle.ciborium_ll.specs.Types.Header.TheVariants as h
 use Rattle.ciborium_ll.specs.Types.Decoder.{Decoder}
 use Rattle.ciborium_ll.specs.Types.Error.{Error}
 use Rattle.ciborium_ll.specs.Title.{IsTitle, shortest_title}
-use Rattle.ciborium_ll.specs.Strings.{Kind, Bytes, Text, kind_header, IsString, AreStrings}
+use Rattle.ciborium_ll.specs.Strings.{Kind, Bytes, Text, kind_header, IsString, AreStrings, IsWritable}
 use Rattle.ciborium_ll.specs.Strings.IsString.{definite, indefinite}
-use Rattle.ciborium_ll.specs.Elements.{IsSound}
+use Rattle.ciborium_ll.specs.Elements.{AreWritable}
 use Rattle.ciborium_ll.specs.Items.{Completes, byte_string, text_string, open_bytes, open_text, tag, array, pairs}
 use Rattle.ciborium_ll.specs.Items.{open_array, open_pairs, AreItems, no_items, more_items, IsItem}
 use Rattle.ciborium_ll.specs.Decoding.{Passes, PullsHeader, PullsTitle, IsSteady}
@@ -52,11 +52,11 @@ no_items_read d count items less (more_items p c i) = absurd (omega (arith, less
 
 -- ---- a string behind its header
 
-completes_body : (d : ℕ) (k : Kind) (b : List ℕ) → IsSound k (b ∷ []) → Completes d (kind_header k (Some (length b))) b
+completes_body : (d : ℕ) (k : Kind) (b : List ℕ) → IsWritable k b → Completes d (kind_header k (Some (length b))) b
 completes_body d Bytes b sound = byte_string refl
 completes_body d Text b sound = text_string refl sound
 
-completes_open : (d : ℕ) (k : Kind) (x : List ℕ) (bs : List (List ℕ)) → AreStrings k x bs → IsSound k bs
+completes_open : (d : ℕ) (k : Kind) (x : List ℕ) (bs : List (List ℕ)) → AreStrings k x bs → AreWritable k bs
     → Completes d (kind_header k None) (x ++ 0xff ∷ [])
 completes_open d Bytes x bs strings sound = open_bytes strings
 completes_open d Text x bs strings sound = open_text strings sound
@@ -64,13 +64,13 @@ completes_open d Text x bs strings sound = open_text strings sound
 -- what follows a string's title is the rest of an item
 string_completes : (d : ℕ) (k : Kind) (len : Option ℕ) (t rest w : List ℕ) (bs : List (List ℕ))
     → IsTitle t (kind_header k len)
-    → IsString k w bs → t ++ rest ≡ w → IsSound k bs → Completes d (kind_header k len) rest
+    → IsString k w bs → t ++ rest ≡ w → AreWritable k bs → Completes d (kind_header k len) rest
 string_completes d k len t rest w bs p (definite {title = t'} {body = b} p') e sound =
     let f = fronts k t t' rest b len (Some (length b)) p p' e in
     let same : Some (length b) ≡ len = sym f.1 in
     let behind : b ≡ rest = sym f.2 in
     subst (λ (z : List ℕ). Completes d (kind_header k len) z) behind
-    (subst (λ (o : Option ℕ). Completes d (kind_header k o) b) same (completes_body d k b sound))
+    (subst (λ (o : Option ℕ). Completes d (kind_header k o) b) same (completes_body d k b sound.0))
 string_completes d k len t rest w bs p (indefinite {title = t'} {strings = x} p' strings) e sound =
     let f = fronts k t t' rest (x ++ 0xff ∷ []) len None p p' e in
     let same : None ≡ len = sym f.1 in

@@ -14,7 +14,7 @@ use Rattle.ciborium_ll.specs.Types.Error.TheVariants as e
 use Rattle.ciborium_ll.specs.Title.{BeginsRefused, title_len}
 use Rattle.ciborium_ll.specs.Strings.{Kind, Text, kind_header, IsMisplaced}
 use Rattle.ciborium_ll.specs.Text.{IsCharacters, BeginsNoText}
-use Rattle.ciborium_ll.specs.Faults.{Place, Due, In, Body, IsAtTitle, IsInside, FirstFault, CutTitle, NoTitle}
+use Rattle.ciborium_ll.specs.Faults.{Place, Due, In, BodyDue, IsAtTitle, IsInside, FirstFault, CutTitle, NoTitle}
 use Rattle.ciborium_ll.specs.Faults.{OtherTitle, DamagedText, CutBody, CutDamagedText, Short, Syntax, with_front}
 use Rattle.ciborium_ll.specs.Decoding.{view, next_read, Passes, PullsHeader, PullsTitle, IsSteady}
 use Rattle.ciborium_ll.specs.Finishing.{EndsBody, RestFails, RestPasses, RestDamaged}
@@ -38,7 +38,7 @@ use Rattle.cbor_skip.proofs.DueLaws.{no_item_fault, no_early_break, no_deep_nest
 -- the row of a text's body that is no text, as a whole or however it goes on
 damage : (before : List ℕ) (len start : ℕ) (read rest behind : List ℕ) → rest ≡ read ++ behind → length read ≤ len
     → ((length read ≡ len) × (IsCharacters read → ⊥)) ⊎ BeginsNoText read
-    → FirstFault before [] (Body Text len start) rest (Syntax start) (with_front [] Text len []) (length read)
+    → FirstFault before [] (BodyDue Text len start) rest (Syntax start) (with_front [] Text len []) (length read)
 damage before len start read rest behind split within (inl whole) =
     let taken : take len rest ≡ read = front_of len rest read behind split whole.0 in
     let counted = ap length split in
@@ -205,7 +205,7 @@ module _ {R E : Type 0} (source : Ghosts R E) (depth room : ℕ) (old : Decoder 
     -- ---- where a body is due
 
     cut_body : (bytes : List ℕ) (k : Kind) (len start : ℕ) (at new : Decoder R)
-        → ReachesItem depth bytes (Body k len start)
+        → ReachesItem depth bytes (BodyDue k len start)
         → Passes source old bytes at → RestFails source k [] len at new → MeetsItemFault source depth due Short old new
     cut_body bytes k len start at new reach passed fails =
         let c = came bytes at passed in
@@ -223,7 +223,7 @@ module _ {R E : Type 0} (source : Ghosts R E) (depth room : ℕ) (old : Decoder 
         record {
           fault = record {
             before = bytes;
-            place = Body k len start;
+            place = BodyDue k len start;
             ahead = c.rest;
             answer = Short;
             written = with_front [] k len part.front;
@@ -267,7 +267,7 @@ module _ {R E : Type 0} (source : Ghosts R E) (depth room : ℕ) (old : Decoder 
         )
 
     damaged_body : (bytes : List ℕ) (k : Kind) (len start : ℕ) (at new : Decoder R)
-        → ReachesItem depth bytes (Body k len start)
+        → ReachesItem depth bytes (BodyDue k len start)
         → Passes source old bytes at → RestDamaged source k [] len at new
         → MeetsItemFault source depth due (Syntax start) old new
     damaged_body bytes k len start at new reach passed fails =
@@ -276,12 +276,12 @@ module _ {R E : Type 0} (source : Ghosts R E) (depth room : ℕ) (old : Decoder 
         record {
           fault = record {
             before = bytes;
-            place = Body Text len start;
+            place = BodyDue Text len start;
             ahead = c.rest;
             answer = Syntax start;
             written = with_front [] Text len [];
             consumed = length fails.read;
-            reach = subst (λ (j : Kind). ReachesItem depth bytes (Body j len start)) fails.textual reach;
+            reach = subst (λ (j : Kind). ReachesItem depth bytes (BodyDue j len start)) fails.textual reach;
             is = c.parts;
             fault = damage bytes len start fails.read c.rest gone.0 gone.2 fails.within fails.no_text;
           };
@@ -293,7 +293,7 @@ module _ {R E : Type 0} (source : Ghosts R E) (depth room : ℕ) (old : Decoder 
     -- a body that fails, by its answer
     body_told : (bytes : List ℕ) (k : Kind) (len start at-place : ℕ) (at : Decoder R) (error : Error E)
         (new : Decoder R)
-        → ReachesItem depth bytes (Body k len start) → Passes source old bytes at → at-place ≡ old.offset + start
+        → ReachesItem depth bytes (BodyDue k len start) → Passes source old bytes at → at-place ≡ old.offset + start
         → EndsBody source k [] len room at-place at (Err error) new
         → SkipsTold source depth due old (Err (s.Read error)) new
     body_told bytes k len start at-place at (e.Io fault) new reach passed place ends =
@@ -379,11 +379,12 @@ module _ {R E : Type 0} (source : Ghosts R E) (depth room : ℕ) (old : Decoder 
     open_told (e.Syntax n) new first (inl meets) = meets_title (e.Syntax n) new first meets
     open_told {k = k} (e.Syntax n) new first (inr (inl meets)) =
         let w = inside first meets.part in
-        let misplaced : IsMisplaced k meets.header = elim meets.misplaced [
-          | inl other ↦ other
+        let other = meets.other in
+        let misplaced : IsMisplaced k other.header = elim other.refused [
+          | inl elsewhere ↦ elsewhere
           | inr nested ↦ absurd (let on = nested.0 in let off = w.passed.mode ∙ ready.lenient in cc)
         ] in
-        other_title w.bytes k meets.between meets.header n new w.reach w.passed meets.pulled misplaced meets.place
+        other_title w.bytes k meets.between other.header n new w.reach w.passed other.pulled misplaced other.place
     open_told (e.Syntax n) new first (inr (inr meets)) = meets_body (e.Syntax n) new first meets
     open_told e.TooLong new first (inl meets) = meets_title e.TooLong new first meets
     open_told e.TooLong new first (inr meets) = meets_body e.TooLong new first meets

@@ -4,9 +4,9 @@ use Rattle.ciborium_ll.specs.Types.Header.{Header}
 use Rattle.ciborium_ll.specs.Types.Header.TheVariants as h
 use Rattle.ciborium_ll.specs.Title.{IsTitle, title_len}
 use Rattle.ciborium_ll.specs.Strings.{Kind, kind_header}
-use Rattle.ciborium_ll.specs.Elements.{IsSound}
+use Rattle.ciborium_ll.specs.Elements.{AreWritable}
 use Rattle.ciborium_ll.specs.Items.{AreItems}
-use Rattle.ciborium_ll.specs.Faults.{IsInside, Place, Due, In, Body}
+use Rattle.ciborium_ll.specs.Faults.{IsInside, Place, Due, In, BodyDue}
 
 -- A nest: a header behind which items stand, one level deeper. It is that of a tag (RFC 7049, 2.4), an array or a map
 -- (2.1, 2.2.1)
@@ -50,12 +50,13 @@ pub data ReachesItem (depth : ℕ) : List ℕ → Place → Type 0 where
   at_item : {bytes : List ℕ} {levels : ℕ} {closable : Bool} → ItemDue false depth bytes levels closable
       → ReachesItem depth bytes Due
   at_string : {bytes opens : List ℕ} {levels : ℕ} {closable : Bool} {bodies : List (List ℕ)} {kind : Kind}
-      → ItemDue false depth bytes levels closable → IsInside kind opens bodies → IsSound kind bodies
+      → ItemDue false depth bytes levels closable → IsInside kind opens bodies → AreWritable kind bodies
       → ReachesItem depth (bytes ++ opens) (In kind)
   -- the offset is the end of the title less the length of the shortest one: late, where the title is a longer one
   at_body : {bytes title : List ℕ} {len : ℕ} (kind : Kind) → ReachesItem depth bytes Due
       → IsTitle title (kind_header kind (Some len))
       → ReachesItem depth (bytes ++ title)
-      (Body kind len (length (bytes ++ title) - title_len (kind_header kind (Some len))))
+      (BodyDue kind len (length (bytes ++ title) - title_len (kind_header kind (Some len))))
   at_piece : {bytes title : List ℕ} {len : ℕ} {kind : Kind} → ReachesItem depth bytes (In kind)
-      → IsTitle title (kind_header kind (Some len)) → ReachesItem depth (bytes ++ title) (Body kind len (length bytes))
+      → IsTitle title (kind_header kind (Some len))
+      → ReachesItem depth (bytes ++ title) (BodyDue kind len (length bytes))

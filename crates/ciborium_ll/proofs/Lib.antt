@@ -15,6 +15,7 @@ pub use Rattle.ciborium_ll_grammar.proofs.FaultLaws
 pub use Rattle.ciborium_ll_grammar.proofs.ItemLaws
 pub use Rattle.ciborium_ll_grammar.proofs.StepLaws
 pub use Rattle.ciborium_ll_encoder.proofs.EncodingLaws
+pub use Rattle.ciborium_ll_decoder.proofs.BodyCopyLaws
 pub use Rattle.ciborium_ll_decoder.proofs.BodyLaws
 pub use Rattle.ciborium_ll_decoder.proofs.CopyingTold
 pub use Rattle.ciborium_ll_decoder.proofs.DecodingLaws

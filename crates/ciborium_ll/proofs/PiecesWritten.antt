@@ -10,13 +10,14 @@ use Rattle.ciborium_ll_decoder.specs.declared.dec.Decoder.{Decoder}
 use Rattle.ciborium_ll_decoder.specs.declared.recode.RecodeError.{RecodeError}
 use Rattle.ciborium_ll_grammar.specs.Faults.{RunInFront}
 use Rattle.ciborium_ll_decoder.specs.RecodingTold.{CopiesFront, RecodesTold}
+use Rattle.ciborium_ll_decoder.specs.Sides.{sides}
 use Rattle.ciborium_ll_grammar.specs.declared.hdr.Header.{Header}
 use Rattle.ciborium_ll.specs.declared.laws.pieces.Piece.{Piece}
 use Rattle.ciborium_ll.specs.declared.laws.pieces.Piece.TheVariants as p
 use Rattle.ciborium_ll_grammar.specs.Title.{IsInRange, shortest_title}
-use Rattle.ciborium_ll_grammar.specs.Strings.{Kind, Bytes, Text}
+use Rattle.ciborium_ll_grammar.specs.Strings.{Kind, Bytes, Text, IsWritable}
 use Rattle.ciborium_ll_text.specs.Text.{joined}
-use Rattle.ciborium_ll_grammar.specs.Elements.{IsSound, Mark, Plain, IsPlain, spelling, IsElement, plain, IsRun, done}
+use Rattle.ciborium_ll_grammar.specs.Elements.{Mark, Plain, IsPlain, spelling, IsElement, plain, IsRun, done}
 use Rattle.ciborium_ll_grammar.specs.Elements.{next}
 use Rattle.ciborium_ll_grammar.specs.Values.{least_limit, value_limit, segments, IsWritten, in_one, in_pieces}
 use Rattle.ciborium_ll_encoder.specs.Encoding.{WritesAll, WritesFront, WritesBytes, WritesValue}
@@ -54,7 +55,7 @@ limit_least k None value = omega arith
 limit_least k (Some n) value = omega arith
 
 -- a value that is no longer than any slice has marks
-pub some_marks : (k : Kind) (segment : Option ℕ) (value : List ℕ) → IsSound k (value ∷ []) → length value < 2 ^ 64
+pub some_marks : (k : Kind) (segment : Option ℕ) (value : List ℕ) → IsWritable k value → length value < 2 ^ 64
     → HasMarks k segment value
 some_marks k segment value s n =
     let w = some_writing k (value_limit k segment value) value (limit_least k segment value) s in
@@ -242,7 +243,7 @@ module _ {R E W F : Type 0} (source : Reader R E) (sink : Ghosts W F) where
   -- the run in front is the one that stands there
   same_front_copied : (count : ℕ) (marks : List Mark) (rest written : List ℕ) (old new : Decoder R) (writer' : W)
       → IsRun count (spelling marks) marks
-      → CopiesFront source sink count (spelling marks ++ rest) written old new writer'
+      → CopiesFront source sink count (spelling marks ++ rest) written old (sides new writer')
       → CopiesSame source sink {T = Unit {0}} {X = RecodeError E F} (spelling marks) rest written (Ok (tt {0})) new
       writer'
   same_front_copied count marks rest written old new writer' run copied =
@@ -258,7 +259,7 @@ module _ {R E W F : Type 0} (source : Reader R E) (sink : Ghosts W F) where
   pub copied_same : (count : ℕ) (marks : List Mark) (rest written : List ℕ) (old new : Decoder R) (writer' : W)
       (result : Result (Unit {0}) (RecodeError E F))
       → IsRun count (spelling marks) marks → (IsOk result ↔ RunInFront count (spelling marks ++ rest))
-      → RecodesTold source sink count (spelling marks ++ rest) written old result new writer'
+      → RecodesTold source sink count (spelling marks ++ rest) written old result (sides new writer')
       → CopiesSame source sink (spelling marks) rest written result new writer'
   copied_same count marks rest written old new writer' (Ok unit) run exactly told =
       same_front_copied count marks rest written old new writer' run told

@@ -17,7 +17,8 @@ use Rattle.ciborium_ll_grammar.proofs.OpenStrings.{IsInsideAt, one_open, more_op
 use Rattle.ciborium_ll_decoder.specs.Decoding.{Passes, IsSteady, TakesBack}
 use Rattle.ciborium_ll_encoder.specs.Encoding.{WritesAll}
 use Rattle.ciborium_ll_decoder.specs.Segments.{AdvancesFrom, AdvancesTo}
-use Rattle.ciborium_ll_decoder.specs.Recoding.{CopiesWhole}
+use Rattle.ciborium_ll_decoder.specs.Recoding.{BodyWritten}
+use Rattle.ciborium_ll_decoder.specs.Sides.{sides}
 use Rattle.ciborium_ll_decoder.specs.Finishing.{ReadsRest, BeginsRest, EndsBody}
 use Rattle.ciborium_ll.specs.Skipping.{SkipsWhole, SkipsInside, MeetsBody, StopsInside, SkipsString}
 use Rattle.ciborium_ll_grammar.proofs.TitleLaws.{IsTitle-shortest}
@@ -26,7 +27,7 @@ use Rattle.ciborium_ll_decoder.proofs.DecodingLaws.{Passes-none, Passes-then, Pa
 use Rattle.ciborium_ll_decoder.proofs.NestLaws.{alone_bytes, open_length, title_some, advance_definite, FindsOnly}
 use Rattle.ciborium_ll_decoder.proofs.RecodeLaws.{sound_body, passes_same}
 use Rattle.ciborium_ll_decoder.proofs.SegmentLaws.{StringSoFar, AdvancesAmong, IsAmong, advances_among, segment_added}
-use Rattle.ciborium_ll_decoder.proofs.SegmentLaws.{opens_counted, misplaced_inside, some_open}
+use Rattle.ciborium_ll_decoder.proofs.SegmentLaws.{opens_counted, other_inside, some_open}
 
 -- a writer that tells nothing
 abbrev silent : Writer (Unit {0}) (Unit {0})
@@ -90,6 +91,10 @@ module _ {R E : Type 0} (source : Reader R E) (k : Kind) (len : ℕ) (old new : 
     record {
       textual = damaged.1.textual;
       read = damaged.1.read;
+      front = damaged.1.front;
+      left = damaged.1.left;
+      parts = damaged.1.parts;
+      sound = damaged.1.sound;
       within = damaged.1.within;
       no_text = damaged.1.no_text;
       passed = Passes-then source old new ended [] damaged.1.read passed damaged.1.passed;
@@ -118,7 +123,8 @@ module _ {R E : Type 0} (source : Reader R E) (k : Kind) where
 
   -- what the loop keeps
   abbrev pub SkipsSoFar : Option ℕ → Decoder R → Progress → Decoder R → Type 0
-  SkipsSoFar None opened progress now = StringSoFar source silent k opened tt progress now tt × (0 < opened.offset)
+  SkipsSoFar None opened progress now =
+      StringSoFar source silent k (sides opened tt) progress (sides now tt) × (0 < opened.offset)
   SkipsSoFar (Some len) opened progress now = AloneSoFar len opened progress now
 
   -- ---- a lone body
@@ -231,14 +237,14 @@ module _ {R E : Type 0} (source : Reader R E) (k : Kind) where
   body_stops room opened e.Waiting ended meets = meets.ends
 
   module _ (opened now new : Decoder R) (progress progress' : Progress)
-      (so_far : StringSoFar source silent k opened tt progress now tt) (settled : 0 < opened.offset)
+      (so_far : StringSoFar source silent k (sides opened tt) progress (sides now tt)) (settled : 0 < opened.offset)
       (steady : IsSteady source now → IsSteady source new) where
     among : (result : Result (Option Body) (Error E)) → AdvancesTo source k progress now result progress' new
-        → AdvancesAmong source silent k opened tt now result progress' new tt
-    among result advances = advances_among source silent k opened now tt tt result progress progress' new so_far
-        advances steady
+        → AdvancesAmong source silent k (sides opened tt) (sides now tt) result progress' new
+    among result advances = advances_among source silent k (sides opened tt) (sides now tt) result progress progress'
+        new so_far advances steady
 
-    part_of : (left : ℕ) (between : Decoder R) → IsAmong source silent k left opened tt between tt
+    part_of : (left : ℕ) (between : Decoder R) → IsAmong source silent k left (sides opened tt) (sides between tt)
         → SkipsInside source k opened between
     part_of left between a = record {
       behind = a.strings;
@@ -269,7 +275,7 @@ module _ {R E : Type 0} (source : Reader R E) (k : Kind) where
 
     -- so many opens take more bytes than an offset counts
     not_too_deep : (left : ℕ) (between : Decoder R) (title : List ℕ)
-        → IsAmong source silent k left opened tt between tt → left ≡ 2 ^ 64 - 1 → new.offset
+        → IsAmong source silent k left (sides opened tt) (sides between tt) → left ≡ 2 ^ 64 - 1 → new.offset
         ≡ between.offset + length title
         → IsTitle title (kind_header k None) → new.offset < 2 ^ 64 → ⊥
     not_too_deep left between title a most moved t less =
@@ -300,11 +306,8 @@ module _ {R E : Type 0} (source : Reader R E) (k : Kind) where
           | inr other ↦ inr (inl (record {
             between = all.between;
             part = part;
-            header = other.header;
-            pulled = other.pulled;
-            misplaced = misplaced_inside all.between.strict k all.left other.header
-                (some_open k all.left _ _ all.among.within) other.misplaced;
-            place = other.place;
+            other = other_inside source k all.left all.between at progress' new
+                (some_open k all.left _ _ all.among.within) other;
           }))
         ]
     open_error room e.TooLong less advances =
@@ -323,19 +326,13 @@ module _ {R E : Type 0} (source : Reader R E) (k : Kind) where
 
     open_reads : (body : Body) (ended : Decoder R) → AdvancesTo source k progress now (Ok (Some body)) progress' new
         → (IsSteady source new → IsSteady source ended)
-        → ReadsRest source k [] body.length new ended → StringSoFar source silent k opened tt progress' ended tt
+        → ReadsRest source k [] body.length new ended → StringSoFar source silent k (sides opened tt) progress'
+        (sides ended tt)
     open_reads body ended advances steady' reads =
-        let whole : CopiesWhole source silent k body.length new tt ended tt =
-        record {
-          body = reads.read;
-          all = reads.all;
-          sound = reads.sound;
-          passed = reads.passed;
-          written =
-              nothing reads.read;
-        } in
-        segment_added source silent k opened now new ended tt tt tt tt body progress' so_far.none_waits
-        (among (Ok (Some body)) advances) (nothing _) whole steady'
+        let whole : BodyWritten source silent k body.length 0 body.place (sides new tt) (Ok (tt {0})) (sides ended tt) =
+        record { ends = reads; written = nothing reads.read } in
+        segment_added source silent k (sides opened tt) (sides now tt) new tt (sides ended tt) 0 body progress'
+        so_far.none_waits (among (Ok (Some body)) advances) (nothing _) whole steady'
 
     open_stops : (room : ℕ) (body : Body) (ended : Decoder R) (error : Error E)
         → AdvancesTo source k progress now (Ok (Some body)) progress' new

@@ -32,4 +32,5 @@ pub use Rattle.ciborium_ll_decoder.specs.Lend
 pub use Rattle.ciborium_ll_decoder.specs.Recoding
 pub use Rattle.ciborium_ll_decoder.specs.RecodingTold
 pub use Rattle.ciborium_ll_decoder.specs.Segments
+pub use Rattle.ciborium_ll_decoder.specs.Sides
 pub use Rattle.ciborium_ll_decoder.specs.StrictRecoding

@@ -1,4 +1,4 @@
--- Pieces that are written one by one: headers, and values of bytes and of text (RFC 7049, 2.1).
+-- Pieces: what is written by one call, a header or a value of bytes or of text (RFC 7049, 2.1).
 use Rattle.std.specs.Prelude.{◌≡◌, ℕ, List, [], ◌∷◌, ◌++◌, length, Option, Some, Result, IsOk}
 use Rattle.ciborium_ll_io.specs.declared.io.Read.{Ghosts as Reader}
 use Rattle.ciborium_ll_io.specs.declared.io.Write.{Ghosts}
@@ -12,7 +12,7 @@ use Rattle.ciborium_ll_grammar.specs.Values.{value_limit, IsWritten, segments}
 use Rattle.ciborium_ll_decoder.specs.Decoding.{view}
 use Rattle.ciborium_ll_encoder.specs.Encoding.{WritesBytes}
 
--- a header piece begins no string; strings are pieces of bytes and of text
+-- a header that is a piece begins no string: strings are written as values of bytes and of text
 abbrev pub IsPlainPiece : Piece → Type 0
 IsPlainPiece (p.Header header) = IsPlain header
 IsPlainPiece (p.Bytes value segment) = Unit {0}

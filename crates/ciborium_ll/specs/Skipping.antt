@@ -1,17 +1,17 @@
 -- What `skip_bytes` and `skip_text` do: a string is read to its end, behind its header. The old decoder stands behind
 -- that header, and the bytes of the string are those of the header's shortest title and then those that are consumed.
-use Rattle.std.specs.Prelude.{◌≡◌, ℕ, ◌-◌, ◌⊎◌, List, [], ◌++◌, Option, Some, None, Result, Ok, Err}
+use Rattle.std.specs.Prelude.{ℕ, ◌-◌, ◌⊎◌, List, [], ◌++◌, Option, Some, None, Result, Ok, Err}
 use Rattle.ciborium_ll_io.specs.declared.io.Read.{Ghosts}
-use Rattle.ciborium_ll_grammar.specs.declared.hdr.Header.{Header}
 use Rattle.ciborium_ll_decoder.specs.declared.dec.Decoder.{Decoder}
 use Rattle.ciborium_ll_decoder.specs.declared.dec.Error.{Error}
 use Rattle.ciborium_ll_decoder.specs.declared.dec.Error.TheVariants as e
 use Rattle.ciborium_ll_grammar.specs.Title.{shortest_title, title_len}
 use Rattle.ciborium_ll_grammar.specs.Strings.{Kind, kind_header, IsString}
-use Rattle.ciborium_ll_grammar.specs.Elements.{IsSound}
+use Rattle.ciborium_ll_grammar.specs.Elements.{AreWritable}
 use Rattle.ciborium_ll_grammar.specs.Faults.{IsInside, IsRefusedIn}
 use Rattle.ciborium_ll_decoder.specs.Decoding.{IsSteady, Passes, PullsHeader, PullsTitle}
 use Rattle.ciborium_ll_decoder.specs.Finishing.{EndsBody}
+use Rattle.ciborium_ll_decoder.specs.Segments.{PullsOther}
 
 module _ {R E : Type 0} (source : Ghosts R E) (kind : Kind) where
   -- all of the string was read: the bytes behind its header make one string, and its bodies are sound
@@ -19,7 +19,7 @@ module _ {R E : Type 0} (source : Ghosts R E) (kind : Kind) where
     pub behind : List ℕ
     pub bodies : List (List ℕ)
     pub is_string : IsString kind (shortest_title (kind_header kind len) ++ behind) bodies
-    pub sound : IsSound kind bodies
+    pub sound : AreWritable kind bodies
     pub passed : Passes source old behind new
 
   -- a beginning of a string of indefinite length was read, behind its open: further opens, and whole strings
@@ -27,7 +27,7 @@ module _ {R E : Type 0} (source : Ghosts R E) (kind : Kind) where
     pub behind : List ℕ
     pub bodies : List (List ℕ)
     pub inside : IsInside kind (shortest_title (kind_header kind None) ++ behind) bodies
-    pub sound : IsSound kind bodies
+    pub sound : AreWritable kind bodies
     pub passed : Passes source old behind between
 
   -- there `pull` failed, where a title is due
@@ -40,10 +40,7 @@ module _ {R E : Type 0} (source : Ghosts R E) (kind : Kind) where
   pub record MeetsOther (old : Decoder R) (at : ℕ) (new : Decoder R) : Type 0 where
     pub between : Decoder R
     pub part : SkipsInside old between
-    pub header : Header
-    pub pulled : PullsTitle source between header new
-    pub misplaced : IsRefusedIn between.strict kind header
-    pub place : at ≡ between.offset
+    pub other : PullsOther source (IsRefusedIn between.strict kind) between at new
 
   -- there the title of a segment came, and the read of its body failed: its place is the offset of that title
   pub record MeetsBody (room : ℕ) (old : Decoder R) (error : Error E) (new : Decoder R) : Type 0 where

@@ -9,18 +9,19 @@ use Rattle.ciborium_ll.specs.Types.Error.TheVariants as e
 use Rattle.ciborium_ll.specs.Types.RecodeError.{RecodeError}
 use Rattle.ciborium_ll.specs.Types.RecodeError.TheVariants as r
 use Rattle.ciborium_ll.specs.Elements.{spelling}
-use Rattle.ciborium_ll.specs.Faults.{Place, Due, In, Body, Syntax}
+use Rattle.ciborium_ll.specs.Faults.{Place, Due, In, BodyDue, Syntax}
 use Rattle.ciborium_ll.specs.Decoding.{IsFreshAs, offset_limit}
 use Rattle.ciborium_ll.specs.RecodingTold.{IsReadyAs, IsToldAs, RecodesAnyhow, RecodesTold, StopsAt}
-use Rattle.ciborium_ll.specs.Slices.{before_of, target_of}
+use Rattle.ciborium_ll.specs.Sides.{sides}
+use Rattle.ciborium_ll.specs.Slices.{slice_before, slice_target}
 use Rattle.ciborium_ll.specs.StrictRecoding.{RecodesStrictly}
 use Rattle.ciborium_ll.specs.Transfer.{Target}
-use Rattle.ciborium_ll_c.specs.declared.answer.Answer.{Answer}
-use Rattle.ciborium_ll_c.specs.declared.answer.Answer.TheVariants as a
+use Rattle.ciborium_ll_c.specs.declared.answer.CllAnswer.{CllAnswer}
+use Rattle.ciborium_ll_c.specs.declared.answer.CllAnswer.TheVariants as a
 use Rattle.ciborium_ll_c.specs.declared.answer.CllReport.{CllReport}
 use Rattle.ciborium_ll_c.specs.Answers.{Reports}
 use Rattle.ciborium_ll_c.specs.Checking.{Checks}
-use Rattle.ciborium_ll_c.specs.Copying.{Copies, CopiesAnyhow, HasRoom, StandInFront, copy_answer, copy_place}
+use Rattle.ciborium_ll_c.specs.Copying.{CopiesInto, CopiesAnyhow, HasRoom, StandInFront, copy_answer, copy_place}
 use Rattle.ciborium_ll_c.proofs.PullLaws.{due_ahead, still_steady}
 
 same_bytes : (known : Option (List ℕ)) (one other : List ℕ) → known ≡ Some one → known ≡ Some other → one ≡ other
@@ -41,15 +42,15 @@ no_more : (place : Place) (ahead more : List ℕ) (consumed : ℕ) → StopsAt p
     ≤ length ahead
 no_more Due ahead more consumed stops = omega (arith, stops.1)
 no_more (In kind) ahead more consumed stops = omega (arith, stops.1)
-no_more (Body kind len start) ahead more consumed stops = omega (arith, stops.7)
+no_more (BodyDue kind len start) ahead more consumed stops = omega (arith, stops.7)
 
 -- a writer whose target is told has just that one
 pub same_target : {one other : Target} → Some one ≡ Some other → one ≡ other
 same_target same = cc
 
 -- a writer that stayed on its slice left what it wrote in front of what stood there
-pub stands_behind : (behind first : SliceWriter) (written out after : List ℕ) → target_of behind ≡ target_of first
-    → before_of first ≡ out → behind.buffer.now ≡ written ++ drop (length written) (before_of behind)
+pub stands_behind : (behind first : SliceWriter) (written out after : List ℕ) → slice_target behind ≡ slice_target first
+    → slice_before first ≡ out → behind.buffer.now ≡ written ++ drop (length written) (slice_before behind)
     → after ≡ behind.buffer.now → StandInFront written out after
 stands_behind behind first written out after kept begun slice ended =
     ended ∙ slice ∙ ap (λ l. written ++ drop (length written) l) (ap (λ t. t.before) kept ∙ begun)
@@ -58,7 +59,7 @@ module _ {R E W F : Type 0} (source : Reader R E) (sink : Writer W F) where
   pub told_to_copy : (strict : Bool) (reader : R) (decoder : Decoder R) (writer : W) (due : List ℕ)
       → IsFreshAs strict reader 0 decoder
       → source.ahead reader ≡ Some due → sink.written writer ≡ Some []
-      → IsToldAs source sink strict decoder writer due []
+      → IsToldAs source sink strict (sides decoder writer) due []
   told_to_copy strict reader decoder writer due fresh ahead output = record {
     mode = fresh.mode;
     due-told = due_ahead source strict reader decoder fresh due ahead;
@@ -70,23 +71,24 @@ module _ {R E W F : Type 0} (source : Reader R E) (sink : Writer W F) where
       → IsFreshAs strict reader 0 decoder → IsTrue (source.steady reader) → source.ahead reader ≡ Some due
       → sink.written writer ≡ Some [] → sink.room writer ≡ Some room → HasRoom count due room
       → length due + 8 < offset_limit → length due + size < offset_limit
-      → IsReadyAs source sink strict count size decoder writer due []
-  ready_to_copy strict count size room reader decoder writer due fresh steady ahead output space enough title chunk = record {
-    steady = still_steady source strict reader decoder fresh steady;
-    told = told_to_copy strict reader decoder writer due fresh ahead output;
-    room = room;
-    room-told = space;
-    enough = enough;
-    fits-title = omega (arith, fresh.offset, title);
-    fits-chunk = omega (arith, fresh.offset, chunk);
-  }
+      → IsReadyAs source sink strict count size (sides decoder writer) due []
+  ready_to_copy strict count size room reader decoder writer due fresh steady ahead output space enough title chunk =
+      record {
+        steady = still_steady source strict reader decoder fresh steady;
+        told = told_to_copy strict reader decoder writer due fresh ahead output;
+        room = room;
+        room-told = space;
+        enough = enough;
+        fits-title = omega (arith, fresh.offset, title);
+        fits-chunk = omega (arith, fresh.offset, chunk);
+      }
 
   copy_reported :
       (count : ℕ) (due : List ℕ) (old new : Decoder R) (writer' : W) (result : Result (Unit {0}) (RecodeError E F))
       (report : CllReport) (output before after : List ℕ)
-      → RecodesTold source sink count due [] old result new writer' → old.offset ≡ 0
+      → RecodesTold source sink count due [] old result (sides new writer') → old.offset ≡ 0
       → sink.written writer' ≡ Some output → Reports report new.offset (length output) (copy_place result)
-      → StandInFront output before after → Copies count due before (copy_answer result) after report
+      → StandInFront output before after → CopiesInto count due before (copy_answer result) after report
   copy_reported count due old new writer' (Ok done) report output before after told start out reports stands = (
     told.front,
     stands_too (sink.written writer') output (spelling told.front.marks) before after out told.output stands,
@@ -97,16 +99,18 @@ module _ {R E W F : Type 0} (source : Reader R E) (sink : Writer W F) where
       place_is = reports.place_is;
     },
   )
-  copy_reported count due old new writer' (Err (r.Read (e.Io fault))) report output before after told start out reports stands = (
-    told.fault,
-    told.answered,
-    stands_too (sink.written writer') output told.fault.written before after out told.output stands,
-    record {
-      consumed_is = omega (arith, reports.consumed_is, told.offset, start);
-      written_is = reports.written_is ∙ same_length (sink.written writer') output told.fault.written out told.output;
-      place_is = reports.place_is;
-    },
-  )
+  copy_reported count due old new writer' (Err (r.Read (e.Io fault))) report output before after told start out
+      reports stands = (
+        told.fault,
+        told.answered,
+        stands_too (sink.written writer') output told.fault.written before after out told.output stands,
+        record {
+          consumed_is = omega (arith, reports.consumed_is, told.offset, start);
+          written_is = reports.written_is
+              ∙ same_length (sink.written writer') output told.fault.written out told.output;
+          place_is = reports.place_is;
+        },
+      )
   copy_reported count due old new writer' (Err (r.Read (e.Syntax place))) report output before after told start out
       reports stands =
       let named : told.0 ≡ report.place = omega (arith, told.1, start, reports.place_is) in
@@ -120,35 +124,41 @@ module _ {R E W F : Type 0} (source : Reader R E) (sink : Writer W F) where
           place_is = refl;
         },
       )
-  copy_reported count due old new writer' (Err (r.Read e.TooLong)) report output before after told start out reports stands = absurd told
-  copy_reported count due old new writer' (Err (r.Read e.Waiting)) report output before after told start out reports stands = absurd told
-  copy_reported count due old new writer' (Err (r.Write fault)) report output before after told start out reports stands = absurd told
+  copy_reported count due old new writer' (Err (r.Read e.TooLong)) report output before after told start out
+      reports stands = absurd told
+  copy_reported count due old new writer' (Err (r.Read e.Waiting)) report output before after told start out
+      reports stands = absurd told
+  copy_reported count due old new writer' (Err (r.Write fault)) report output before after told start out
+      reports stands = absurd told
 
   anyhow_reported :
       (count : ℕ) (due : List ℕ) (old new : Decoder R) (writer' : W) (result : Result (Unit {0}) (RecodeError E F))
       (report : CllReport) (output before after : List ℕ)
-      → RecodesAnyhow source sink count 1024 due [] old result new writer' → length due < 2 ^ 63 → old.offset ≡ 0
+      → RecodesAnyhow source sink count 1024 due [] old result (sides new writer') → length due < 2 ^ 63 → old.offset
+      ≡ 0
       → sink.written writer' ≡ Some output → Reports report new.offset (length output) (copy_place result)
       → StandInFront output before after → CopiesAnyhow count due before (copy_answer result) after report
-  anyhow_reported count due old new writer' (Ok done) report output before after told object start out reports stands = (
-    told.front,
-    stands_too (sink.written writer') output (spelling told.front.marks) before after out told.output stands,
-    record {
-      consumed_is = omega (arith, reports.consumed_is, told.offset, start);
-      written_is = reports.written_is ∙ same_length (sink.written writer') output (spelling told.front.marks) out
-          told.output;
-      place_is = reports.place_is;
-    },
-  )
-  anyhow_reported count due old new writer' (Err (r.Read (e.Io fault))) report output before after told object start out reports stands = (
-    told.stop,
-    stands_too (sink.written writer') output told.stop.written before after out told.output stands,
-    record {
-      consumed_is = omega (arith, reports.consumed_is, told.offset, start);
-      written_is = reports.written_is ∙ same_length (sink.written writer') output told.stop.written out told.output;
-      place_is = reports.place_is;
-    },
-  )
+  anyhow_reported count due old new writer' (Ok done) report output before after told object start out
+      reports stands = (
+        told.front,
+        stands_too (sink.written writer') output (spelling told.front.marks) before after out told.output stands,
+        record {
+          consumed_is = omega (arith, reports.consumed_is, told.offset, start);
+          written_is = reports.written_is ∙ same_length (sink.written writer') output (spelling told.front.marks) out
+              told.output;
+          place_is = reports.place_is;
+        },
+      )
+  anyhow_reported count due old new writer' (Err (r.Read (e.Io fault))) report output before after told object start
+      out reports stands = (
+        told.stop,
+        stands_too (sink.written writer') output told.stop.written before after out told.output stands,
+        record {
+          consumed_is = omega (arith, reports.consumed_is, told.offset, start);
+          written_is = reports.written_is ∙ same_length (sink.written writer') output told.stop.written out told.output;
+          place_is = reports.place_is;
+        },
+      )
   anyhow_reported count due old new writer' (Err (r.Read (e.Syntax place))) report output before after told object
       start out reports stands =
       let named : told.0 ≡ report.place = omega (arith, told.1, start, reports.place_is) in
@@ -169,24 +179,26 @@ module _ {R E W F : Type 0} (source : Reader R E) (sink : Writer W F) where
       let few = no_more stop.place stop.ahead stop.more stop.consumed stop.stops in
       let full : 2 ^ 64 ≤ new.offset + max 8 1024 = told.1 in
       absurd (omega (arith, object, parts, few, full, told.0.offset, start, length-append stop.before stop.ahead))
-  anyhow_reported count due old new writer' (Err (r.Read e.Waiting)) report output before after told object start out reports stands = absurd told
-  anyhow_reported count due old new writer' (Err (r.Write fault)) report output before after told object start out reports stands = (
-    told.stop,
-    stands_too (sink.written writer') output told.stop.written before after out told.output stands,
-    record {
-      consumed_is = omega (arith, reports.consumed_is, told.offset, start);
-      written_is = reports.written_is ∙ same_length (sink.written writer') output told.stop.written out told.output;
-      place_is = reports.place_is;
-    },
-  )
+  anyhow_reported count due old new writer' (Err (r.Read e.Waiting)) report output before after told object start out
+      reports stands = absurd told
+  anyhow_reported count due old new writer' (Err (r.Write fault)) report output before after told object start
+      out reports stands = (
+        told.stop,
+        stands_too (sink.written writer') output told.stop.written before after out told.output stands,
+        record {
+          consumed_is = omega (arith, reports.consumed_is, told.offset, start);
+          written_is = reports.written_is ∙ same_length (sink.written writer') output told.stop.written out told.output;
+          place_is = reports.place_is;
+        },
+      )
 
   pub copy_said :
       (count : ℕ) (due : List ℕ) (old new : Decoder R) (writer' : W) (result : Result (Unit {0}) (RecodeError E F))
       (report : CllReport) (output before after : List ℕ)
-      (answer : Answer) (place behind : ℕ) → RecodesTold source sink count due [] old result new writer'
+      (answer : CllAnswer) (place behind : ℕ) → RecodesTold source sink count due [] old result (sides new writer')
       → old.offset ≡ 0 → sink.written writer' ≡ Some output → answer ≡ copy_answer result → place ≡ copy_place result
       → behind ≡ new.offset → Reports report behind (length output) place
-      → StandInFront output before after → Copies count due before answer after report
+      → StandInFront output before after → CopiesInto count due before answer after report
   copy_said count due old new writer' result report output before after answer place behind told start out same
       named at reports stands =
       let said = copy_reported count due old new writer' result report output before after told start out record {
@@ -194,14 +206,15 @@ module _ {R E W F : Type 0} (source : Reader R E) (sink : Writer W F) where
         written_is = reports.written_is;
         place_is = reports.place_is ∙ named;
       } stands in
-      subst (λ (x : Answer). Copies count due before x after report) (sym same) said
+      subst (λ (x : CllAnswer). CopiesInto count due before x after report) (sym same) said
 
   pub anyhow_said :
       (count : ℕ) (due : List ℕ) (old new : Decoder R) (writer' : W) (result : Result (Unit {0}) (RecodeError E F))
       (report : CllReport) (output before after : List ℕ)
-      (answer : Answer) (place behind : ℕ) → RecodesAnyhow source sink count 1024 due [] old result new writer'
-      → length due < 2 ^ 63 → old.offset ≡ 0 → sink.written writer' ≡ Some output → answer ≡ copy_answer result
-      → place ≡ copy_place result → behind ≡ new.offset → Reports report behind (length output) place
+      (answer : CllAnswer) (place behind : ℕ) → RecodesAnyhow source sink count 1024 due [] old result
+      (sides new writer') → length due < 2 ^ 63 → old.offset ≡ 0 → sink.written writer' ≡ Some output
+      → answer ≡ copy_answer result → place ≡ copy_place result → behind ≡ new.offset
+      → Reports report behind (length output) place
       → StandInFront output before after → CopiesAnyhow count due before answer after report
   anyhow_said count due old new writer' result report output before after answer place behind told object start out
       same named at reports stands =
@@ -211,11 +224,11 @@ module _ {R E W F : Type 0} (source : Reader R E) (sink : Writer W F) where
         written_is = reports.written_is;
         place_is = reports.place_is ∙ named;
       } stands in
-      subst (λ (x : Answer). CopiesAnyhow count due before x after report) (sym same) said
+      subst (λ (x : CllAnswer). CopiesAnyhow count due before x after report) (sym same) said
 
   check_reported :
       (count : ℕ) (due : List ℕ) (old new : Decoder R) (writer' : W) (result : Result (Unit {0}) (RecodeError E F))
-      (report : CllReport) → RecodesStrictly source sink count due [] old result new writer' → old.offset ≡ 0
+      (report : CllReport) → RecodesStrictly source sink count due [] old result (sides new writer') → old.offset ≡ 0
       → Reports report new.offset 0 (copy_place result) → Checks count due (copy_answer result) report
   check_reported count due old new writer' (Ok done) report told start reports = (
     told.front,
@@ -251,8 +264,8 @@ module _ {R E W F : Type 0} (source : Reader R E) (sink : Writer W F) where
 
   pub check_said :
       (count : ℕ) (due : List ℕ) (old new : Decoder R) (writer' : W) (result : Result (Unit {0}) (RecodeError E F))
-      (report : CllReport) (answer : Answer) (place behind : ℕ)
-      → RecodesStrictly source sink count due [] old result new writer' → old.offset ≡ 0
+      (report : CllReport) (answer : CllAnswer) (place behind : ℕ)
+      → RecodesStrictly source sink count due [] old result (sides new writer') → old.offset ≡ 0
       → answer ≡ copy_answer result → place ≡ copy_place result → behind ≡ new.offset
       → Reports report behind 0 place → Checks count due answer report
   check_said count due old new writer' result report answer place behind told start same named at reports =
@@ -261,7 +274,7 @@ module _ {R E W F : Type 0} (source : Reader R E) (sink : Writer W F) where
         written_is = reports.written_is;
         place_is = reports.place_is ∙ named;
       } in
-      subst (λ (x : Answer). Checks count due x report) (sym same) said
+      subst (λ (x : CllAnswer). Checks count due x report) (sym same) said
 
 -- the answer `Ok` stands for the copy that succeeded alone
 copy_answers_ok : {E F : Type 0} (result : Result (Unit {0}) (RecodeError E F))
@@ -273,7 +286,7 @@ copy_answers_ok (Err (r.Read e.TooLong)) = (λ same. absurd cc, λ ok. absurd cc
 copy_answers_ok (Err (r.Read e.Waiting)) = (λ same. absurd cc, λ ok. absurd cc)
 copy_answers_ok (Err (r.Write fault)) = (λ same. absurd cc, λ ok. absurd cc)
 
-pub copy_exactly : {E F Holds : Type 0} (result : Result (Unit {0}) (RecodeError E F)) (answer : Answer) → answer
+pub copy_exactly : {E F Holds : Type 0} (result : Result (Unit {0}) (RecodeError E F)) (answer : CllAnswer) → answer
     ≡ copy_answer result
     → IsOk result ↔ Holds → (answer ≡ a.Ok) ↔ Holds
 copy_exactly result answer same exact =

@@ -1,3 +1,4 @@
 pub mod CopyLaws
 pub mod PullLaws
 pub mod SkipLaws
+pub mod TitleParts

@@ -9,8 +9,8 @@ use Rattle.ciborium_ll.proofs.AffixLaws.{title_not_cut}
 use Rattle.ciborium_ll.proofs.BodyLaws.{view_none}
 use Rattle.ciborium_ll.proofs.CopyingTold.{consumes_told}
 use Rattle.ciborium_ll.proofs.TitleLaws.{title_refused}
-use Rattle.ciborium_ll_c.specs.declared.answer.Answer.{Answer}
-use Rattle.ciborium_ll_c.specs.declared.answer.Answer.TheVariants as a
+use Rattle.ciborium_ll_c.specs.declared.answer.CllAnswer.{CllAnswer}
+use Rattle.ciborium_ll_c.specs.declared.answer.CllAnswer.TheVariants as a
 use Rattle.ciborium_ll_c.specs.declared.answer.CllReport.{CllReport}
 use Rattle.ciborium_ll_c.specs.declared.header.CllHeader.{CllHeader}
 use Rattle.ciborium_ll_c.specs.Answers.{Reports, code}
@@ -28,7 +28,7 @@ front_not_refused bytes front refused =
     title_refused front.title front.rest front.header front.is_title (subst BeginsRefused front.is refused)
 
 -- no other answer has the number of `Ok`
-pub code_ok : (answer : Answer) (result : ℕ) → result ≡ code answer → (result ≡ code a.Ok) ↔ (answer ≡ a.Ok)
+pub code_ok : (answer : CllAnswer) (result : ℕ) → result ≡ code answer → (result ≡ code a.Ok) ↔ (answer ≡ a.Ok)
 code_ok a.Ok result is = (λ same. refl, λ same. is)
 code_ok a.Short result is = (λ same. absurd (omega (arith, is, same)), λ same. absurd cc)
 code_ok a.Syntax result is = (λ same. absurd (omega (arith, is, same)), λ same. absurd cc)
@@ -39,13 +39,13 @@ code_ok a.TooDeep result is = (λ same. absurd (omega (arith, is, same)), λ sam
 code_ok a.Argument result is = (λ same. absurd (omega (arith, is, same)), λ same. absurd cc)
 
 -- where the answer is `Ok` exactly under a condition, the number is that of `Ok` exactly then
-pub code_exactly : {Holds : Type 0} (answer : Answer) (result : ℕ) → result ≡ code answer → (answer ≡ a.Ok) ↔ Holds
+pub code_exactly : {Holds : Type 0} (answer : CllAnswer) (result : ℕ) → result ≡ code answer → (answer ≡ a.Ok) ↔ Holds
     → (result ≡ code a.Ok) ↔ Holds
 code_exactly answer result is exact =
     let same = code_ok answer result is in (λ ok. exact.0 (same.0 ok), λ holds. same.1 (exact.1 holds))
 
 -- `Ok` comes just where a title stands in front
-pub pulled_exactly : (bytes : List ℕ) (answer : Answer) (old new : CllHeader) (report : CllReport) (result : ℕ)
+pub pulled_exactly : (bytes : List ℕ) (answer : CllAnswer) (old new : CllHeader) (report : CllReport) (result : ℕ)
     → result ≡ code answer → Pulls bytes answer old new report → (result ≡ code a.Ok) ↔ TitleInFront bytes
 pulled_exactly bytes a.Ok old new report result is pulled = (λ same. pulled.0, λ front. is)
 pulled_exactly bytes a.Short old new report result is pulled =

@@ -9,8 +9,8 @@ use Rattle.ciborium_ll.specs.Decoding.{IsFresh, offset_limit}
 use Rattle.cbor_skip.specs.declared.SkipError.{SkipError}
 use Rattle.cbor_skip.specs.declared.SkipError.TheVariants as s
 use Rattle.cbor_skip.specs.SkippingTold.{IsReadyToSkip, SkipsTold}
-use Rattle.ciborium_ll_c.specs.declared.answer.Answer.{Answer}
-use Rattle.ciborium_ll_c.specs.declared.answer.Answer.TheVariants as a
+use Rattle.ciborium_ll_c.specs.declared.answer.CllAnswer.{CllAnswer}
+use Rattle.ciborium_ll_c.specs.declared.answer.CllAnswer.TheVariants as a
 use Rattle.ciborium_ll_c.specs.declared.answer.CllReport.{CllReport}
 use Rattle.ciborium_ll_c.specs.Answers.{Reports}
 use Rattle.ciborium_ll_c.specs.Skipping.{Skips, skip_answer, skip_place}
@@ -79,7 +79,7 @@ module _ {R E : Type 0} (source : Ghosts R E) where
   )
 
   pub skip_said : (depth : ℕ) (due : List ℕ) (old new : Decoder R) (result : Result (Unit {0}) (SkipError E))
-      (report : CllReport) (answer : Answer) (place count : ℕ) → SkipsTold source depth due old result new
+      (report : CllReport) (answer : CllAnswer) (place count : ℕ) → SkipsTold source depth due old result new
       → old.offset ≡ 0 → answer ≡ skip_answer result → place ≡ skip_place result → count ≡ new.offset
       → Reports report count 0 place → Skips depth due answer report
   skip_said depth due old new result report answer place count told start same named behind reports =
@@ -88,7 +88,7 @@ module _ {R E : Type 0} (source : Ghosts R E) where
         written_is = reports.written_is;
         place_is = reports.place_is ∙ named;
       } in
-      subst (λ (x : Answer). Skips depth due x report) (sym same) said
+      subst (λ (x : CllAnswer). Skips depth due x report) (sym same) said
 
 -- the answer `Ok` stands for the skip that succeeded alone
 pub skip_answers_ok : {E : Type 0} (result : Result (Unit {0}) (SkipError E))
@@ -101,7 +101,7 @@ skip_answers_ok (Err (s.Read e.Waiting)) = (λ same. absurd cc, λ ok. absurd cc
 skip_answers_ok (Err (s.Break place)) = (λ same. absurd cc, λ ok. absurd cc)
 skip_answers_ok (Err (s.Deep place)) = (λ same. absurd cc, λ ok. absurd cc)
 
-pub skip_exactly : {E Holds : Type 0} (result : Result (Unit {0}) (SkipError E)) (answer : Answer) → answer
+pub skip_exactly : {E Holds : Type 0} (result : Result (Unit {0}) (SkipError E)) (answer : CllAnswer) → answer
     ≡ skip_answer result
     → IsOk result ↔ Holds → (answer ≡ a.Ok) ↔ Holds
 skip_exactly result answer same exact =

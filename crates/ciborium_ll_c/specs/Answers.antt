@@ -1,11 +1,11 @@
 -- What a call for C answers and reports.
 use Rattle.std.specs.Prelude.{◌≡◌, ℕ}
-use Rattle.ciborium_ll_c.specs.declared.answer.Answer.{Answer}
-use Rattle.ciborium_ll_c.specs.declared.answer.Answer.TheVariants as a
+use Rattle.ciborium_ll_c.specs.declared.answer.CllAnswer.{CllAnswer}
+use Rattle.ciborium_ll_c.specs.declared.answer.CllAnswer.TheVariants as a
 use Rattle.ciborium_ll_c.specs.declared.answer.CllReport.{CllReport}
 
 -- the number of an answer, as the header for C has it
-abbrev pub code : Answer → ℕ
+abbrev pub code : CllAnswer → ℕ
 code a.Ok = 0
 code a.Short = 1
 code a.Syntax = 2

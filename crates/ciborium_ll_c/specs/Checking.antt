@@ -2,15 +2,14 @@
 use Rattle.std.specs.Prelude.{◌≡◌, ℕ, ◌+◌, List, length}
 use Rattle.ciborium_ll.specs.Faults.{Short, Syntax}
 use Rattle.ciborium_ll.specs.StrictRecoding.{StrictRunInFront, HasStrictFault}
-use Rattle.ciborium_ll_c.specs.declared.answer.Answer.{Answer}
-use Rattle.ciborium_ll_c.specs.declared.answer.Answer.TheVariants as a
+use Rattle.ciborium_ll_c.specs.declared.answer.CllAnswer.{CllAnswer}
+use Rattle.ciborium_ll_c.specs.declared.answer.CllAnswer.TheVariants as a
 use Rattle.ciborium_ll_c.specs.declared.answer.CllReport.{CllReport}
 use Rattle.ciborium_ll_c.specs.Answers.{Reports}
 
 -- so many elements in their shortest spelling stand in front, or the first fault of a strict read stands in their
--- place,
--- by the answer. Nothing is written
-abbrev pub Checks : ℕ → List ℕ → Answer → CllReport → Type 0
+-- place, by the answer. Nothing is written
+abbrev pub Checks : ℕ → List ℕ → CllAnswer → CllReport → Type 0
 Checks count bytes a.Ok report = (front : StrictRunInFront count bytes) × Reports report (length front.elements) 0 0
 Checks count bytes a.Short report =
     (fault : HasStrictFault count bytes) × (fault.answer ≡ Short)

@@ -6,8 +6,8 @@ use Rattle.ciborium_ll.specs.Types.RecodeError.TheVariants as r
 use Rattle.ciborium_ll.specs.Elements.{spelling}
 use Rattle.ciborium_ll.specs.Faults.{Short, Syntax, RunInFront, HasFault}
 use Rattle.ciborium_ll.specs.RecodingTold.{StopInReading, StopInWriting}
-use Rattle.ciborium_ll_c.specs.declared.answer.Answer.{Answer}
-use Rattle.ciborium_ll_c.specs.declared.answer.Answer.TheVariants as a
+use Rattle.ciborium_ll_c.specs.declared.answer.CllAnswer.{CllAnswer}
+use Rattle.ciborium_ll_c.specs.declared.answer.CllAnswer.TheVariants as a
 use Rattle.ciborium_ll_c.specs.declared.answer.CllReport.{CllReport}
 use Rattle.ciborium_ll_c.specs.Answers.{Reports}
 
@@ -21,33 +21,33 @@ abbrev pub StandInFront : List ℕ → List ℕ → List ℕ → Type 0
 StandInFront bytes old new = new ≡ bytes ++ drop (length bytes) old
 
 -- so many elements stood in front: all of them were consumed, and their shortest spelling stands in the output
-abbrev pub CopiesFront : ℕ → List ℕ → List ℕ → List ℕ → CllReport → Type 0
-CopiesFront count bytes old new report =
+abbrev pub OutputsElements : ℕ → List ℕ → List ℕ → List ℕ → CllReport → Type 0
+OutputsElements count bytes old new report =
     (front : RunInFront count bytes) × StandInFront (spelling front.marks) old new
     × Reports report (length front.elements) (length (spelling front.marks)) 0
 
 -- the first fault stopped the copy at this place of the bytes, and what was written before stands in the output
-abbrev pub MeetsSyntax : ℕ → List ℕ → List ℕ → List ℕ → CllReport → Type 0
-MeetsSyntax count bytes old new report =
+abbrev pub OutputsUpToFault : ℕ → List ℕ → List ℕ → List ℕ → CllReport → Type 0
+OutputsUpToFault count bytes old new report =
     (fault : HasFault count bytes) × (fault.answer ≡ Syntax report.place) × StandInFront fault.written old new
     × Reports report (length fault.before + fault.consumed) (length fault.written) report.place
 
 -- a copy where there is room, by the answer: the first fault stops it where so many elements do not stand in front
-abbrev pub Copies : ℕ → List ℕ → List ℕ → Answer → List ℕ → CllReport → Type 0
-Copies count bytes old a.Ok new report = CopiesFront count bytes old new report
-Copies count bytes old a.Short new report =
+abbrev pub CopiesInto : ℕ → List ℕ → List ℕ → CllAnswer → List ℕ → CllReport → Type 0
+CopiesInto count bytes old a.Ok new report = OutputsElements count bytes old new report
+CopiesInto count bytes old a.Short new report =
     (fault : HasFault count bytes) × (fault.answer ≡ Short) × StandInFront fault.written old new
     × Reports report (length fault.before + fault.consumed) (length fault.written) 0
-Copies count bytes old a.Syntax new report = MeetsSyntax count bytes old new report
-Copies count bytes old answer new report = ⊥
+CopiesInto count bytes old a.Syntax new report = OutputsUpToFault count bytes old new report
+CopiesInto count bytes old answer new report = ⊥
 
 -- the same where the room may be too small
-abbrev pub CopiesAnyhow : ℕ → List ℕ → List ℕ → Answer → List ℕ → CllReport → Type 0
-CopiesAnyhow count bytes old a.Ok new report = CopiesFront count bytes old new report
+abbrev pub CopiesAnyhow : ℕ → List ℕ → List ℕ → CllAnswer → List ℕ → CllReport → Type 0
+CopiesAnyhow count bytes old a.Ok new report = OutputsElements count bytes old new report
 CopiesAnyhow count bytes old a.Short new report =
     (stop : StopInReading count bytes) × StandInFront stop.written old new
     × Reports report (length stop.before + stop.consumed) (length stop.written) 0
-CopiesAnyhow count bytes old a.Syntax new report = MeetsSyntax count bytes old new report
+CopiesAnyhow count bytes old a.Syntax new report = OutputsUpToFault count bytes old new report
 CopiesAnyhow count bytes old a.Room new report =
     (stop : StopInWriting count bytes) × StandInFront stop.written old new
     × Reports report (length stop.before + length stop.read) (length stop.written) 0
@@ -55,7 +55,7 @@ CopiesAnyhow count bytes old answer new report = ⊥
 
 module _ {E F : Type 0} where
   -- the answer that stands for what `recode` gave
-  abbrev pub copy_answer : Result (Unit {0}) (RecodeError E F) → Answer
+  abbrev pub copy_answer : Result (Unit {0}) (RecodeError E F) → CllAnswer
   copy_answer (Ok done) = a.Ok
   copy_answer (Err (r.Read (e.Io fault))) = a.Short
   copy_answer (Err (r.Read (e.Syntax place))) = a.Syntax

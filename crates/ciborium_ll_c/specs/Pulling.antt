@@ -2,8 +2,8 @@
 use Rattle.std.specs.Prelude.{◌≡◌, ℕ, min, List, ◌++◌, length}
 use Rattle.ciborium_ll.specs.Types.Header.{Header}
 use Rattle.ciborium_ll.specs.Title.{IsTitle, IsCutTitle, BeginsRefused}
-use Rattle.ciborium_ll_c.specs.declared.answer.Answer.{Answer}
-use Rattle.ciborium_ll_c.specs.declared.answer.Answer.TheVariants as a
+use Rattle.ciborium_ll_c.specs.declared.answer.CllAnswer.{CllAnswer}
+use Rattle.ciborium_ll_c.specs.declared.answer.CllAnswer.TheVariants as a
 use Rattle.ciborium_ll_c.specs.declared.answer.CllReport.{CllReport}
 use Rattle.ciborium_ll_c.specs.declared.header.CllHeader.{CllHeader}
 use Rattle.ciborium_ll_c.specs.Answers.{Reports}
@@ -19,7 +19,7 @@ pub record TitleInFront (bytes : List ℕ) : Type 0 where
 
 -- the title in front, by the answer: the parts of its header, and its length as what was consumed. Where there is none,
 -- the parts are as they were, and a first byte was consumed if there is one
-abbrev pub Pulls : List ℕ → Answer → CllHeader → CllHeader → CllReport → Type 0
+abbrev pub Pulls : List ℕ → CllAnswer → CllHeader → CllHeader → CllReport → Type 0
 Pulls bytes a.Ok old new report = (front : TitleInFront bytes) × Says new front.header
     × Reports report (length front.title) 0 0
 Pulls bytes a.Short old new report = IsCutTitle bytes × (new ≡ old) × Reports report (min 1 (length bytes)) 0 0

@@ -2,8 +2,8 @@
 use Rattle.std.specs.Prelude.{◌≡◌, ℕ, ◌<◌, List, ◌++◌, length, drop}
 use Rattle.ciborium_ll.specs.Types.Header.{Header}
 use Rattle.ciborium_ll.specs.Title.{IsInRange, shortest_title, title_len}
-use Rattle.ciborium_ll_c.specs.declared.answer.Answer.{Answer}
-use Rattle.ciborium_ll_c.specs.declared.answer.Answer.TheVariants as a
+use Rattle.ciborium_ll_c.specs.declared.answer.CllAnswer.{CllAnswer}
+use Rattle.ciborium_ll_c.specs.declared.answer.CllAnswer.TheVariants as a
 use Rattle.ciborium_ll_c.specs.declared.answer.CllReport.{CllReport}
 use Rattle.ciborium_ll_c.specs.declared.header.CllHeader.{CllHeader}
 use Rattle.ciborium_ll_c.specs.Answers.{Reports}
@@ -11,7 +11,7 @@ use Rattle.ciborium_ll_c.specs.Headers.{IsNoHeader, Says}
 
 -- the shortest title of the header that has the parts stands in front of the output, by the answer; where there is no
 -- room for all of it, or no such header, the output is as it was
-abbrev pub Pushes : CllHeader → List ℕ → Answer → List ℕ → CllReport → Type 0
+abbrev pub Pushes : CllHeader → List ℕ → CllAnswer → List ℕ → CllReport → Type 0
 Pushes parts old a.Ok new report =
     (header : Header) × Says parts header × IsInRange header
     × (new ≡ shortest_title header ++ drop (title_len header) old) × Reports report 0 (title_len header) 0

@@ -5,13 +5,13 @@ use Rattle.ciborium_ll.specs.Faults.{Short, Syntax}
 use Rattle.cbor_skip.specs.declared.SkipError.{SkipError}
 use Rattle.cbor_skip.specs.declared.SkipError.TheVariants as s
 use Rattle.cbor_skip.specs.ItemFaults.{HasDeepNest, HasEarlyBreak, HasItemFault, ItemInFront}
-use Rattle.ciborium_ll_c.specs.declared.answer.Answer.{Answer}
-use Rattle.ciborium_ll_c.specs.declared.answer.Answer.TheVariants as a
+use Rattle.ciborium_ll_c.specs.declared.answer.CllAnswer.{CllAnswer}
+use Rattle.ciborium_ll_c.specs.declared.answer.CllAnswer.TheVariants as a
 use Rattle.ciborium_ll_c.specs.declared.answer.CllReport.{CllReport}
 use Rattle.ciborium_ll_c.specs.Answers.{Reports}
 
 -- the item in front, or what stops the read of it, by the answer. Nothing is written
-abbrev pub Skips : ℕ → List ℕ → Answer → CllReport → Type 0
+abbrev pub Skips : ℕ → List ℕ → CllAnswer → CllReport → Type 0
 Skips depth bytes a.Ok report = (front : ItemInFront depth bytes) × Reports report (length front.item) 0 0
 Skips depth bytes a.Short report =
     (fault : HasItemFault depth bytes) × (fault.answer ≡ Short)
@@ -28,7 +28,7 @@ Skips depth bytes answer report = ⊥
 
 module _ {E : Type 0} where
   -- the answer that stands for what `skip_item` gave
-  abbrev pub skip_answer : Result (Unit {0}) (SkipError E) → Answer
+  abbrev pub skip_answer : Result (Unit {0}) (SkipError E) → CllAnswer
   skip_answer (Ok done) = a.Ok
   skip_answer (Err (s.Read (e.Io fault))) = a.Short
   skip_answer (Err (s.Read (e.Syntax place))) = a.Syntax

@@ -5,7 +5,7 @@ ghost use Rattle.ciborium_ll_c.specs.Answers.{Reports, code};
 
 /// How a call came out.
 #[derive(Clone, Copy, Debug, PartialEq, Eq)]
-pub enum Answer {
+pub enum CllAnswer {
     /// All that was asked for was done.
     Ok,
     /// The bytes end too early.
@@ -24,21 +24,21 @@ pub enum Answer {
     Argument,
 }
 
-impl Answer {
+impl CllAnswer {
     /// The number by which C knows the answer.
     #[inline(always)]
     pub fn code(self) -> u32
         ensures { result ≡ code self }
     {
         match self {
-            Answer::Ok => 0,
-            Answer::Short => 1,
-            Answer::Syntax => 2,
-            Answer::Room => 3,
-            Answer::TooLong => 4,
-            Answer::BreakDue => 5,
-            Answer::TooDeep => 6,
-            Answer::Argument => 7,
+            CllAnswer::Ok => 0,
+            CllAnswer::Short => 1,
+            CllAnswer::Syntax => 2,
+            CllAnswer::Room => 3,
+            CllAnswer::TooLong => 4,
+            CllAnswer::BreakDue => 5,
+            CllAnswer::TooDeep => 6,
+            CllAnswer::Argument => 7,
         }
     }
 }

@@ -1,9 +1,12 @@
 //! Headers as C knows them.
 
 ghost use Rattle.std.specs.Prelude.{◌≡◌, IfNone, IfSome};
+ghost use Rattle.ciborium_ll.specs.Title.{IsTitle};
+ghost use Rattle.ciborium_ll_grammar.specs.Parts.{IsMinor, IsParts, minor_number, parts_bytes, title_bytes};
 ghost use Rattle.ciborium_ll_c.specs.Headers.{IsNoHeader, Says, indefinite_of, len_from, length_or_none, rebuilt};
 
 use ciborium_ll::{Float, Header};
+use ciborium_ll_grammar::hdr::{Minor, Title};
 
 /// What a title means: a kind, a number, and whether it is of the indefinite form.
 #[derive(Clone, Copy, Debug, PartialEq, Eq)]
@@ -37,6 +40,38 @@ impl CllHeader {
             Header::Float(Float::Single(bits)) => CllHeader::definite(9, u64::from(bits)),
             Header::Float(Float::Double(bits)) => CllHeader::definite(10, bits),
             Header::Break => CllHeader::definite(11, 0),
+        }
+    }
+
+    /// The parts of the header that a title means. They are told by the title's own parts, with no look at which header
+    /// it is. So a pull is one jump by a table, but for the major type 7.
+    #[inline(always)]
+    pub(crate) fn of_title(title: Title, header: Header) -> CllHeader
+        requires parts { IsParts title }
+        requires title { IsTitle (title_bytes title) header }
+        ensures { Says result header }
+    {
+        if title.major == 7 {
+            CllHeader::of_other(title.minor, header)
+        } else {
+            CllHeader::with_length(title.major, title.minor.length())
+        }
+    }
+
+    /// The same of a title of the major type 7.
+    #[inline(always)]
+    fn of_other(minor: Minor, header: Header) -> CllHeader
+        requires minor { IsMinor minor }
+        requires title { IsTitle (parts_bytes 7 minor) header }
+        ensures { Says result header }
+    {
+        match minor {
+            Minor::Small(n) => CllHeader::definite(7, n),
+            Minor::One(n) => CllHeader::definite(7, n),
+            Minor::Two(n) => CllHeader::definite(8, n),
+            Minor::Four(n) => CllHeader::definite(9, n),
+            Minor::Eight(n) => CllHeader::definite(10, n),
+            Minor::Open => CllHeader::definite(11, 0),
         }
     }
 

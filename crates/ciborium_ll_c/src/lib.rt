@@ -1,21 +1,22 @@
 //! The library for C and C++: a static library, whose header is `include/ciborium_ll.h`. No call takes memory, and
 //! none calls out of this library.
 //!
-//! C passes a slice as a pointer and then a length. Each call answers by a number, which is the code of an [`Answer`],
-//! and says in a [`CllReport`] how far it came.
+//! C passes a slice as a pointer and then a length. Each call answers by a number, which is the code of a
+//! [`CllAnswer`], and says in a [`CllReport`] how far it came.
 #![tactic(auto)]
 
 ghost use Rattle.std.specs.Prelude.{◌≡◌, ◌↔◌, ◌≤◌, ◌<◌, ℕ, List, IsOk, length};
 ghost use Rattle.ciborium_ll.specs.Faults.{RunInFront};
 ghost use Rattle.ciborium_ll.specs.RecodingTold.{IsReady, IsTold, RecodesAnyhow, RecodesTold};
-ghost use Rattle.ciborium_ll.specs.Slices.{target_of};
+ghost use Rattle.ciborium_ll.specs.Sides.{sides};
+ghost use Rattle.ciborium_ll.specs.Slices.{slice_target};
 ghost use Rattle.ciborium_ll.specs.StrictRecoding.{StrictRunInFront};
 ghost use Rattle.cbor_skip.specs.ItemFaults.{ItemInFront};
-ghost use Rattle.ciborium_ll_c.specs.declared.answer.Answer.{Answer};
-ghost use Rattle.ciborium_ll_c.specs.declared.answer.Answer.TheVariants as a;
+ghost use Rattle.ciborium_ll_c.specs.declared.answer.CllAnswer.{CllAnswer};
+ghost use Rattle.ciborium_ll_c.specs.declared.answer.CllAnswer.TheVariants as a;
 ghost use Rattle.ciborium_ll_c.specs.Answers.{Reports, code};
 ghost use Rattle.ciborium_ll_c.specs.Checking.{Checks};
-ghost use Rattle.ciborium_ll_c.specs.Copying.{Copies, CopiesAnyhow, HasRoom, copy_answer, copy_place};
+ghost use Rattle.ciborium_ll_c.specs.Copying.{CopiesInto, CopiesAnyhow, HasRoom, copy_answer, copy_place};
 ghost use Rattle.ciborium_ll_c.specs.Pulling.{Pulls, TitleInFront};
 ghost use Rattle.ciborium_ll_c.specs.Pushing.{Pushes};
 ghost use Rattle.ciborium_ll_c.specs.Skipping.{Skips, skip_answer, skip_place};
@@ -25,12 +26,13 @@ mod header;
 #[cfg(test)]
 mod tests;
 
-pub use self::answer::{Answer, CllReport};
+pub use self::answer::{CllAnswer, CllReport};
 pub use self::header::CllHeader;
 use cbor_skip::{SkipError, skip_item};
 use ciborium_ll::io::{Discard, EndOfFile, OutOfSpace, Read, SliceReader, SliceWriter, Write};
 use ciborium_ll::recode::recode;
 use ciborium_ll::{Decoder, Encoder, Error, RecodeError};
+use ciborium_ll_decoder::title::pull_title;
 use std::mem;
 
 /// How many bytes of a string are read at a time, at most.
@@ -40,25 +42,25 @@ const BUFFER_SIZE: usize = 1024;
 const TITLE_SIZE: usize = 9;
 
 /// Reads the title in front of the bytes.
-fn pull(bytes: &[u8], header: &mut CllHeader, report: &mut CllReport) -> Answer
+fn pull(bytes: &[u8], header: &mut CllHeader, report: &mut CllReport) -> CllAnswer
     ensures { Pulls bytes.now result header.old header.new report.new }
 {
     let mut decoder = Decoder::from(SliceReader::new(bytes));
-    let pulled = decoder.pull();
+    let pulled = pull_title(&mut decoder);
     report.say(decoder.offset(), 0, 0);
     match pulled {
-        Ok(pulled) => {
+        Ok((pulled, title)) => {
+            let parts = CllHeader::of_title(title, pulled);
             // Field by field, since a struct is copied with the bytes between and behind its fields.
-            let parts = CllHeader::of(pulled);
             header.value = parts.value;
             header.kind = parts.kind;
             header.indefinite = parts.indefinite;
-            Answer::Ok
+            CllAnswer::Ok
         }
-        Err(Error::Io(_)) => Answer::Short,
+        Err(Error::Io(_)) => CllAnswer::Short,
         // The title that is none stands at the start.
-        Err(Error::Syntax(_)) => Answer::Syntax,
-        Err(_) => Answer::TooLong,
+        Err(Error::Syntax(_)) => CllAnswer::Syntax,
+        Err(_) => CllAnswer::TooLong,
     }
 }
 
@@ -69,7 +71,7 @@ fn pull(bytes: &[u8], header: &mut CllHeader, report: &mut CllReport) -> Answer
 #[unsafe(no_mangle)]
 #[tactic(auto, using(crate::proofs::PullLaws::pulled_exactly))]
 pub extern "C" fn cll_pull(bytes: &[u8], header: &mut CllHeader, report: &mut CllReport) -> u32
-    ensures pulled { (answer : Answer) × (result ≡ code answer)
+    ensures pulled { (answer : CllAnswer) × (result ≡ code answer)
         × Pulls bytes.now answer header.old header.new report.new }
     ensures exactly { result ≡ code a.Ok ↔ TitleInFront bytes.now }
 {
@@ -77,27 +79,27 @@ pub extern "C" fn cll_pull(bytes: &[u8], header: &mut CllHeader, report: &mut Cl
 }
 
 /// Writes the shortest title of a header in front of the output.
-fn push(header: &CllHeader, out: &mut [u8], report: &mut CllReport) -> Answer
+fn push(header: &CllHeader, out: &mut [u8], report: &mut CllReport) -> CllAnswer
     ensures { Pushes header.now out.old result out.new report.new }
 {
     report.say(0, 0, 0);
     let Some(pushed) = header.header() else {
-        return Answer::Argument;
+        return CllAnswer::Argument;
     };
     if out.len() < pushed.title_len() {
-        return Answer::Room;
+        return CllAnswer::Room;
     }
     // A loan that an encoder holds is followed to no end (`copy_onto`), so the title is copied out of space of its own.
     let mut space = [0; TITLE_SIZE];
     let mut encoder = Encoder::from(SliceWriter::new(&mut space));
     if encoder.push(pushed).is_err() {
-        return Answer::Room;
+        return CllAnswer::Room;
     }
     let writer = encoder.into_inner();
     let title = writer.written();
     out[..title.len()].copy_from_slice(title);
     report.say(0, title.len(), 0);
-    Answer::Ok
+    CllAnswer::Ok
 }
 
 /// Writes the shortest title of a header in front of `out` (RFC 7049, 3.9), whole or not at all.
@@ -106,22 +108,22 @@ fn push(header: &CllHeader, out: &mut [u8], report: &mut CllReport) -> Answer
 /// its value or form is none of its kind. After the last two `out` is as it was.
 #[unsafe(no_mangle)]
 pub extern "C" fn cll_push(header: &CllHeader, out: &mut [u8], report: &mut CllReport) -> u32
-    ensures { (answer : Answer) × (result ≡ code answer) × Pushes header.now out.old answer out.new report.new }
+    ensures { (answer : CllAnswer) × (result ≡ code answer) × Pushes header.now out.old answer out.new report.new }
 {
     push(header, out, report).code()
 }
 
 /// The answer to a copy, and its place.
-fn stop_of_copy(copied: Result<(), RecodeError<EndOfFile, OutOfSpace>>) -> (Answer, usize)
+fn stop_of_copy(copied: Result<(), RecodeError<EndOfFile, OutOfSpace>>) -> (CllAnswer, usize)
     ensures answer { result.0 ≡ copy_answer copied }
     ensures place { result.1 ≡ copy_place copied }
 {
     match copied {
-        Ok(()) => (Answer::Ok, 0),
-        Err(RecodeError::Read(Error::Io(_))) => (Answer::Short, 0),
-        Err(RecodeError::Read(Error::Syntax(place))) => (Answer::Syntax, place),
-        Err(RecodeError::Read(_)) => (Answer::TooLong, 0),
-        Err(RecodeError::Write(_)) => (Answer::Room, 0),
+        Ok(()) => (CllAnswer::Ok, 0),
+        Err(RecodeError::Read(Error::Io(_))) => (CllAnswer::Short, 0),
+        Err(RecodeError::Read(Error::Syntax(place))) => (CllAnswer::Syntax, place),
+        Err(RecodeError::Read(_)) => (CllAnswer::TooLong, 0),
+        Err(RecodeError::Write(_)) => (CllAnswer::Room, 0),
     }
 }
 
@@ -134,16 +136,19 @@ fn copy_onto<'a, R: Read>(
 ) -> Result<(), RecodeError<R::Error, OutOfSpace>>
     requires room { 4 ≤ length buffer.old }
     ensures told { (due written : List ℕ)
-        → IsReady R.Read ⟦<SliceWriter<'a> as Write>⟧ count (length buffer.old) decoder.old writer.old due written
-        → RecodesTold R.Read ⟦<SliceWriter<'a> as Write>⟧ count due written decoder.old result decoder.new writer.new }
+        → IsReady R.Read ⟦<SliceWriter<'a> as Write>⟧ count (length buffer.old)
+        (sides decoder.old writer.old) due written
+        → RecodesTold R.Read ⟦<SliceWriter<'a> as Write>⟧ count due written decoder.old result
+        (sides decoder.new writer.new) }
     ensures exactly { (due written : List ℕ)
-        → IsReady R.Read ⟦<SliceWriter<'a> as Write>⟧ count (length buffer.old) decoder.old writer.old due written
+        → IsReady R.Read ⟦<SliceWriter<'a> as Write>⟧ count (length buffer.old)
+        (sides decoder.old writer.old) due written
         → (IsOk result ↔ RunInFront count due) }
     ensures anyhow { (due written : List ℕ)
-        → IsTold R.Read ⟦<SliceWriter<'a> as Write>⟧ decoder.old writer.old due written
+        → IsTold R.Read ⟦<SliceWriter<'a> as Write>⟧ (sides decoder.old writer.old) due written
         → RecodesAnyhow R.Read ⟦<SliceWriter<'a> as Write>⟧ count (length buffer.old) due written
-        decoder.old result decoder.new writer.new }
-    ensures target { target_of writer.new ≡ target_of writer.old }
+        decoder.old result (sides decoder.new writer.new) }
+    ensures target { slice_target writer.new ≡ slice_target writer.old }
 {
     // A loan inside a writer is followed to its end, and one inside an encoder over it is not. So the encoder has the
     // writer for this call alone, and what it writes to then is put back.
@@ -154,9 +159,9 @@ fn copy_onto<'a, R: Read>(
 }
 
 /// Copies so many elements.
-fn copy(bytes: &[u8], count: usize, out: &mut [u8], report: &mut CllReport) -> Answer
+fn copy(bytes: &[u8], count: usize, out: &mut [u8], report: &mut CllReport) -> CllAnswer
     ensures copied { HasRoom count bytes.now (length out.old)
-        → Copies count bytes.now out.old result out.new report.new }
+        → CopiesInto count bytes.now out.old result out.new report.new }
     ensures exactly { HasRoom count bytes.now (length out.old)
         → (result ≡ a.Ok ↔ RunInFront count bytes.now) }
     ensures anyhow { CopiesAnyhow count bytes.now out.old result out.new report.new }
@@ -186,17 +191,17 @@ pub extern "C" fn cll_recode(
     report: &mut CllReport,
 ) -> u32
     ensures copied { HasRoom count bytes.now (length out.old)
-        → (answer : Answer) × (result ≡ code answer) × Copies count bytes.now out.old answer out.new report.new }
+        → (answer : CllAnswer) × (result ≡ code answer) × CopiesInto count bytes.now out.old answer out.new report.new }
     ensures exactly { HasRoom count bytes.now (length out.old)
         → (result ≡ code a.Ok ↔ RunInFront count bytes.now) }
-    ensures anyhow { (answer : Answer) × (result ≡ code answer)
+    ensures anyhow { (answer : CllAnswer) × (result ≡ code answer)
         × CopiesAnyhow count bytes.now out.old answer out.new report.new }
 {
     copy(bytes, count as usize, out, report).code()
 }
 
 /// Reads so many elements, each in its shortest spelling.
-fn check(bytes: &[u8], count: usize, report: &mut CllReport) -> Answer
+fn check(bytes: &[u8], count: usize, report: &mut CllReport) -> CllAnswer
     ensures checked { Checks count bytes.now result report.new }
     ensures exactly { result ≡ a.Ok ↔ StrictRunInFront count bytes.now }
 {
@@ -218,29 +223,29 @@ fn check(bytes: &[u8], count: usize, report: &mut CllReport) -> Answer
 #[unsafe(no_mangle)]
 #[tactic(auto, using(crate::proofs::PullLaws::code_exactly))]
 pub extern "C" fn cll_strict(bytes: &[u8], count: u64, report: &mut CllReport) -> u32
-    ensures checked { (answer : Answer) × (result ≡ code answer) × Checks count bytes.now answer report.new }
+    ensures checked { (answer : CllAnswer) × (result ≡ code answer) × Checks count bytes.now answer report.new }
     ensures exactly { result ≡ code a.Ok ↔ StrictRunInFront count bytes.now }
 {
     check(bytes, count as usize, report).code()
 }
 
 /// The answer to a skip, and its place.
-fn stop_of_skip(skipped: Result<(), SkipError<EndOfFile>>) -> (Answer, usize)
+fn stop_of_skip(skipped: Result<(), SkipError<EndOfFile>>) -> (CllAnswer, usize)
     ensures answer { result.0 ≡ skip_answer skipped }
     ensures place { result.1 ≡ skip_place skipped }
 {
     match skipped {
-        Ok(()) => (Answer::Ok, 0),
-        Err(SkipError::Read(Error::Io(_))) => (Answer::Short, 0),
-        Err(SkipError::Read(Error::Syntax(place))) => (Answer::Syntax, place),
-        Err(SkipError::Read(_)) => (Answer::TooLong, 0),
-        Err(SkipError::Break(place)) => (Answer::BreakDue, place),
-        Err(SkipError::Deep(place)) => (Answer::TooDeep, place),
+        Ok(()) => (CllAnswer::Ok, 0),
+        Err(SkipError::Read(Error::Io(_))) => (CllAnswer::Short, 0),
+        Err(SkipError::Read(Error::Syntax(place))) => (CllAnswer::Syntax, place),
+        Err(SkipError::Read(_)) => (CllAnswer::TooLong, 0),
+        Err(SkipError::Break(place)) => (CllAnswer::BreakDue, place),
+        Err(SkipError::Deep(place)) => (CllAnswer::TooDeep, place),
     }
 }
 
 /// Skips the item in front of the bytes.
-fn skip(bytes: &[u8], depth: usize, report: &mut CllReport) -> Answer
+fn skip(bytes: &[u8], depth: usize, report: &mut CllReport) -> CllAnswer
     requires shallow { depth ≤ 256 }
     ensures skipped { Skips depth bytes.now result report.new }
     ensures exactly { result ≡ a.Ok ↔ ItemInFront depth bytes.now }
@@ -262,13 +267,13 @@ fn skip(bytes: &[u8], depth: usize, report: &mut CllReport) -> Answer
 #[unsafe(no_mangle)]
 pub extern "C" fn cll_skip(bytes: &[u8], depth: u32, report: &mut CllReport) -> u32
     ensures skipped { depth ≤ 256
-        → (answer : Answer) × (result ≡ code answer) × Skips depth bytes.now answer report.new }
+        → (answer : CllAnswer) × (result ≡ code answer) × Skips depth bytes.now answer report.new }
     ensures exactly { depth ≤ 256 → (result ≡ code a.Ok ↔ ItemInFront depth bytes.now) }
     ensures argument { 256 < depth → (result ≡ code a.Argument) × Reports report.new 0 0 0 }
 {
     if depth > 256 {
         report.say(0, 0, 0);
-        return Answer::Argument.code();
+        return CllAnswer::Argument.code();
     }
     skip(bytes, depth as usize, report).code()
 }

@@ -1,6 +1,8 @@
 // Each call once for each answer that it has, by bytes and numbers from outside.
 
-use super::{Answer, CllHeader, CllReport, cll_pull, cll_push, cll_recode, cll_skip, cll_strict};
+use super::{
+    CllAnswer, CllHeader, CllReport, cll_pull, cll_push, cll_recode, cll_skip, cll_strict,
+};
 use std::process::Abort;
 
 fn nothing() -> CllReport {
@@ -77,7 +79,7 @@ fn titles(rt: HostRuntime) {
 }
 
 // No title: the answer, and how many bytes were consumed.
-fn no_title_row(rt: &impl Abort, bytes: &[u8], answer: Answer, consumed: u64) {
+fn no_title_row(rt: &impl Abort, bytes: &[u8], answer: CllAnswer, consumed: u64) {
     let mut header = CllHeader {
         value: 99,
         kind: 98,
@@ -98,11 +100,11 @@ fn no_title_row(rt: &impl Abort, bytes: &[u8], answer: Answer, consumed: u64) {
 
 #[test]
 fn no_titles(rt: HostRuntime) {
-    no_title_row(&rt, &[], Answer::Short, 0);
-    no_title_row(&rt, &[0x19, 0x03], Answer::Short, 1);
-    no_title_row(&rt, &[0x1f, 0x00], Answer::Syntax, 1);
-    no_title_row(&rt, &[0x1c], Answer::Syntax, 1);
-    no_title_row(&rt, &[0xdf], Answer::Syntax, 1);
+    no_title_row(&rt, &[], CllAnswer::Short, 0);
+    no_title_row(&rt, &[0x19, 0x03], CllAnswer::Short, 1);
+    no_title_row(&rt, &[0x1f, 0x00], CllAnswer::Syntax, 1);
+    no_title_row(&rt, &[0x1c], CllAnswer::Syntax, 1);
+    no_title_row(&rt, &[0xdf], CllAnswer::Syntax, 1);
 }
 
 // A header in its parts, and the title that is written into 16 bytes; and into a byte less than it has, nothing.
@@ -127,7 +129,7 @@ fn push_row(rt: &impl Abort, kind: u8, indefinite: u8, value: u64, want: &[u8]) 
     let mut out = [0xee; 16];
     let mut report = nothing();
     let code = cll_push(&header, &mut out[..want.len() - 1], &mut report);
-    assert_eq!(rt; code, Answer::Room.code(), "at {want:?}");
+    assert_eq!(rt; code, CllAnswer::Room.code(), "at {want:?}");
     says(rt, &report, 0, 0, 0, want);
     assert!(rt; out == [0xee; 16], "at {want:?}: {out:?}");
 }
@@ -174,7 +176,7 @@ fn no_header_row(rt: &impl Abort, kind: u8, indefinite: u8, value: u64) {
     let code = cll_push(&header, &mut out, &mut report);
     assert_eq!(rt;
         code,
-        Answer::Argument.code(),
+        CllAnswer::Argument.code(),
         "at {kind} {indefinite} {value}"
     );
     says(rt, &report, 0, 0, 0, &[kind, indefinite]);
@@ -201,7 +203,7 @@ fn copy_row(
     bytes: &[u8],
     count: u64,
     room: usize,
-    answer: Answer,
+    answer: CllAnswer,
     consumed: u64,
     place: u64,
     want: &[u8],
@@ -227,7 +229,7 @@ fn copies(rt: HostRuntime) {
         &nested,
         1,
         16,
-        Answer::Ok,
+        CllAnswer::Ok,
         7,
         0,
         &[0x5f, 0x41, 0x01, 0xff],
@@ -237,29 +239,29 @@ fn copies(rt: HostRuntime) {
         &nested,
         1,
         4,
-        Answer::Ok,
+        CllAnswer::Ok,
         7,
         0,
         &[0x5f, 0x41, 0x01, 0xff],
     );
-    copy_row(&rt, &nested, 0, 16, Answer::Ok, 0, 0, &[]);
+    copy_row(&rt, &nested, 0, 16, CllAnswer::Ok, 0, 0, &[]);
     copy_row(
         &rt,
         &[0x18, 0x05, 0xf8, 0x10, 0xa0],
         2,
         16,
-        Answer::Ok,
+        CllAnswer::Ok,
         4,
         0,
         &[0x05, 0xf0],
     );
-    copy_row(&rt, &[0x7f, 0xff], 1, 2, Answer::Ok, 2, 0, &[0x7f, 0xff]);
+    copy_row(&rt, &[0x7f, 0xff], 1, 2, CllAnswer::Ok, 2, 0, &[0x7f, 0xff]);
     copy_row(
         &rt,
         &[0x7f, 0x61, 0x61, 0x5f, 0xff],
         1,
         16,
-        Answer::Syntax,
+        CllAnswer::Syntax,
         4,
         3,
         &[0x7f, 0x61, 0x61],
@@ -269,29 +271,36 @@ fn copies(rt: HostRuntime) {
         &[0x78, 0x02, 0x61, 0xff],
         1,
         16,
-        Answer::Syntax,
+        CllAnswer::Syntax,
         4,
         1,
         &[0x62, 0x61],
     );
-    copy_row(&rt, &[0x43, 0x01], 1, 16, Answer::Short, 1, 0, &[0x43]);
+    copy_row(&rt, &[0x43, 0x01], 1, 16, CllAnswer::Short, 1, 0, &[0x43]);
     copy_row(
         &rt,
         &[0x7f, 0x7f, 0xff],
         1,
         16,
-        Answer::Short,
+        CllAnswer::Short,
         3,
         0,
         &[0x7f],
     );
-    copy_row(&rt, &[], 1, 0, Answer::Short, 0, 0, &[]);
-    copy_row(&rt, &[0x05, 0x06], 2, 1, Answer::Room, 2, 0, &[0x05]);
-    copy_row(&rt, &[0x18, 0x18], 1, 1, Answer::Room, 2, 0, &[0x18]);
+    copy_row(&rt, &[], 1, 0, CllAnswer::Short, 0, 0, &[]);
+    copy_row(&rt, &[0x05, 0x06], 2, 1, CllAnswer::Room, 2, 0, &[0x05]);
+    copy_row(&rt, &[0x18, 0x18], 1, 1, CllAnswer::Room, 2, 0, &[0x18]);
 }
 
 // A skip: the answer, how many bytes were consumed, and the place.
-fn skip_row(rt: &impl Abort, bytes: &[u8], depth: u32, answer: Answer, consumed: u64, place: u64) {
+fn skip_row(
+    rt: &impl Abort,
+    bytes: &[u8],
+    depth: u32,
+    answer: CllAnswer,
+    consumed: u64,
+    place: u64,
+) {
     let mut report = nothing();
     assert_eq!(rt;
         cll_skip(bytes, depth, &mut report),
@@ -304,16 +313,16 @@ fn skip_row(rt: &impl Abort, bytes: &[u8], depth: u32, answer: Answer, consumed:
 #[test]
 fn skips(rt: HostRuntime) {
     let map = [0xa1, 0x61, 0x61, 0x82, 0x01, 0x02];
-    skip_row(&rt, &map, 2, Answer::Ok, 6, 0);
-    skip_row(&rt, &map, 256, Answer::Ok, 6, 0);
-    skip_row(&rt, &map, 257, Answer::Argument, 0, 0);
-    skip_row(&rt, &map, 1, Answer::TooDeep, 4, 3);
-    skip_row(&rt, &[0x81, 0xff], 1, Answer::BreakDue, 2, 1);
-    skip_row(&rt, &[0xbf, 0x01, 0xff], 1, Answer::BreakDue, 3, 2);
-    skip_row(&rt, &[0x5f, 0x41, 0x01, 0xff], 0, Answer::Ok, 4, 0);
-    skip_row(&rt, &[0x82, 0x01], 1, Answer::Short, 2, 0);
-    skip_row(&rt, &[0x81, 0x1f], 1, Answer::Syntax, 2, 1);
-    skip_row(&rt, &[0xff], 0, Answer::BreakDue, 1, 0);
+    skip_row(&rt, &map, 2, CllAnswer::Ok, 6, 0);
+    skip_row(&rt, &map, 256, CllAnswer::Ok, 6, 0);
+    skip_row(&rt, &map, 257, CllAnswer::Argument, 0, 0);
+    skip_row(&rt, &map, 1, CllAnswer::TooDeep, 4, 3);
+    skip_row(&rt, &[0x81, 0xff], 1, CllAnswer::BreakDue, 2, 1);
+    skip_row(&rt, &[0xbf, 0x01, 0xff], 1, CllAnswer::BreakDue, 3, 2);
+    skip_row(&rt, &[0x5f, 0x41, 0x01, 0xff], 0, CllAnswer::Ok, 4, 0);
+    skip_row(&rt, &[0x82, 0x01], 1, CllAnswer::Short, 2, 0);
+    skip_row(&rt, &[0x81, 0x1f], 1, CllAnswer::Syntax, 2, 1);
+    skip_row(&rt, &[0xff], 0, CllAnswer::BreakDue, 1, 0);
 }
 
 // A strict read of so many elements: the answer, how many bytes were consumed, and the place.
@@ -321,7 +330,7 @@ fn strict_row(
     rt: &impl Abort,
     bytes: &[u8],
     count: u64,
-    answer: Answer,
+    answer: CllAnswer,
     consumed: u64,
     place: u64,
 ) {
@@ -336,22 +345,22 @@ fn strict_row(
 
 #[test]
 fn strict_elements(rt: HostRuntime) {
-    strict_row(&rt, &[0x18, 0x18], 1, Answer::Ok, 2, 0);
-    strict_row(&rt, &[0x05, 0x18, 0x05], 1, Answer::Ok, 1, 0);
-    strict_row(&rt, &[0x05, 0x18, 0x05], 2, Answer::Syntax, 3, 1);
-    strict_row(&rt, &[0x18, 0x05], 1, Answer::Syntax, 2, 0);
-    strict_row(&rt, &[0xf8, 0x18], 1, Answer::Syntax, 2, 0);
+    strict_row(&rt, &[0x18, 0x18], 1, CllAnswer::Ok, 2, 0);
+    strict_row(&rt, &[0x05, 0x18, 0x05], 1, CllAnswer::Ok, 1, 0);
+    strict_row(&rt, &[0x05, 0x18, 0x05], 2, CllAnswer::Syntax, 3, 1);
+    strict_row(&rt, &[0x18, 0x05], 1, CllAnswer::Syntax, 2, 0);
+    strict_row(&rt, &[0xf8, 0x18], 1, CllAnswer::Syntax, 2, 0);
     strict_row(
         &rt,
         &[0x5f, 0x5f, 0x41, 0x01, 0xff, 0xff],
         1,
-        Answer::Syntax,
+        CllAnswer::Syntax,
         2,
         1,
     );
-    strict_row(&rt, &[0x5f, 0x41, 0x01, 0xff], 1, Answer::Ok, 4, 0);
-    strict_row(&rt, &[0x62, 0x61, 0xff], 1, Answer::Syntax, 3, 0);
-    strict_row(&rt, &[0x43, 0x01], 1, Answer::Short, 1, 0);
-    strict_row(&rt, &[], 1, Answer::Short, 0, 0);
-    strict_row(&rt, &[], 0, Answer::Ok, 0, 0);
+    strict_row(&rt, &[0x5f, 0x41, 0x01, 0xff], 1, CllAnswer::Ok, 4, 0);
+    strict_row(&rt, &[0x62, 0x61, 0xff], 1, CllAnswer::Syntax, 3, 0);
+    strict_row(&rt, &[0x43, 0x01], 1, CllAnswer::Short, 1, 0);
+    strict_row(&rt, &[], 1, CllAnswer::Short, 0, 0);
+    strict_row(&rt, &[], 0, CllAnswer::Ok, 0, 0);
 }

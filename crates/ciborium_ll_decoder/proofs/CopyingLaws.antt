@@ -5,12 +5,12 @@ use Rattle.std.proofs.KnownBytes.{Appends-nil}
 use Rattle.ciborium_ll_io.specs.declared.io.Read.{Ghosts as Reader}
 use Rattle.ciborium_ll_io.specs.declared.io.Write.{Ghosts as Writer}
 use Rattle.ciborium_ll_grammar.specs.declared.hdr.Header.{Header}
-use Rattle.ciborium_ll_decoder.specs.declared.dec.Decoder.{Decoder}
 use Rattle.ciborium_ll_grammar.specs.Title.{IsTitle, shortest_title}
 use Rattle.ciborium_ll_io.specs.Transfer.{Shrinks}
 use Rattle.ciborium_ll_decoder.specs.Decoding.{IsSteady, PullsTitle}
 use Rattle.ciborium_ll_encoder.specs.Encoding.{WritesAll}
 use Rattle.ciborium_ll_decoder.specs.Copying.{AreTitles, none, next, shortest_titles, Copies}
+use Rattle.ciborium_ll_decoder.specs.Sides.{Sides}
 use Rattle.ciborium_ll_grammar.proofs.TitleLaws.{IsTitle-shortest, title_in_range}
 use Rattle.ciborium_ll_decoder.proofs.DecodingLaws.{Passes-none, Passes-pull}
 use Rattle.ciborium_ll_encoder.proofs.EncodingLaws.{WritesBytes-then}
@@ -44,30 +44,29 @@ Shrinks-zero (Some n) = omega arith
 
 module _ {R E W F : Type 0} (source : Reader R E) (sink : Writer W F) where
   -- no header is copied
-  pub Copies-none : (decoder : Decoder R) (writer : W) → Copies source sink [] decoder writer decoder writer
-  Copies-none decoder writer = record {
+  pub Copies-none : (start : Sides R W) → Copies source sink [] start start
+  Copies-none start = record {
     bytes = [];
     titles = none;
-    passed = Passes-none source decoder;
+    passed = Passes-none source start.decoder;
     written = record {
-      appended = Appends-nil (sink.written writer);
-      room =
-          Shrinks-zero (sink.room writer);
+      appended = Appends-nil (sink.written start.writer);
+      room = Shrinks-zero (sink.room start.writer);
       failures = refl;
     };
   }
 
   -- one header more
-  pub Copies-push : (headers : List Header) (header : Header) (old between new : Decoder R)
-      (writer writer-between writer' : W) → Copies source sink headers old writer between writer-between
-      → PullsTitle source between header new → (IsSteady source between → IsSteady source new)
-      → WritesAll sink writer-between (shortest_title header) writer'
-      → Copies source sink (headers ++ header ∷ []) old writer new writer'
-  Copies-push headers header old between new writer writer-between writer' copied pulled steady written = record {
+  pub Copies-push : (headers : List Header) (header : Header) (old between new : Sides R W)
+      → Copies source sink headers old between → PullsTitle source between.decoder header new.decoder
+      → (IsSteady source between.decoder → IsSteady source new.decoder)
+      → WritesAll sink between.writer (shortest_title header) new.writer
+      → Copies source sink (headers ++ header ∷ []) old new
+  Copies-push headers header old between new copied pulled steady written = record {
     bytes = copied.bytes ++ pulled.title;
     titles = AreTitles-push copied.bytes pulled.title headers header copied.titles pulled.is_title;
-    passed = Passes-pull source old between new copied.bytes header pulled copied.passed steady;
-    written = subst (λ (z : List ℕ). WritesAll sink writer z writer') (sym (shortest_titles-push headers header))
-        (WritesBytes-then sink {T = Unit {0}} writer writer-between writer' (Ok (tt {0})) (shortest_titles headers)
-        (shortest_title header) copied.written written);
+    passed = Passes-pull source old.decoder between.decoder new.decoder copied.bytes header pulled copied.passed steady;
+    written = subst (λ (z : List ℕ). WritesAll sink old.writer z new.writer) (sym (shortest_titles-push headers header))
+        (WritesBytes-then sink {T = Unit {0}} old.writer between.writer new.writer (Ok (tt {0}))
+        (shortest_titles headers) (shortest_title header) copied.written written);
   }

@@ -7,7 +7,6 @@ use Rattle.std.specs.Io.KnownBytes.{Consumes, Appends}
 use Rattle.ciborium_ll_io.specs.declared.io.Read.{Ghosts as Reader}
 use Rattle.ciborium_ll_io.specs.declared.io.Write.{Ghosts as Writer}
 use Rattle.ciborium_ll_grammar.specs.declared.hdr.Header.{Header}
-use Rattle.ciborium_ll_decoder.specs.declared.dec.Decoder.{Decoder}
 use Rattle.ciborium_ll_decoder.specs.declared.dec.Error.{Error}
 use Rattle.ciborium_ll_decoder.specs.declared.dec.Error.TheVariants as e
 use Rattle.ciborium_ll_decoder.specs.declared.recode.RecodeError.{RecodeError}
@@ -18,6 +17,7 @@ use Rattle.ciborium_ll_decoder.specs.Decoding.{view, next_read}
 use Rattle.ciborium_ll_decoder.specs.Copying.{AreTitles, none, next, shortest_titles, TitlesInFront, Copies}
 use Rattle.ciborium_ll_decoder.specs.Copying.{CopiesEach, StopsAtPull, StopsAtPush, CopiesHeaders, IsReadyForTitles}
 use Rattle.ciborium_ll_decoder.specs.Copying.{CopiesTitles, CopiesSoMany, CopiesTold}
+use Rattle.ciborium_ll_decoder.specs.Sides.{Sides, sides}
 use Rattle.ciborium_ll_decoder.proofs.DecodingLaws.{lenient_refuses}
 use Rattle.ciborium_ll_grammar.proofs.TitleLaws.{one_title, shortest_no_longer, title_refused}
 use Rattle.ciborium_ll_grammar.proofs.AffixLaws.{title_not_cut}
@@ -102,12 +102,12 @@ pub refused_byte : (rest left : List ℕ) (byte : ℕ) → rest ≡ byte ∷ lef
 refused_byte rest left byte e = sym (ap (drop 1) e)
 
 module _ {R E W F : Type 0} (source : Reader R E) (sink : Writer W F) where
-  abbrev copies_front : (headers : List Header) (old between : Decoder R) (writer writer' : W)
-      (due written : List ℕ) → IsReadyForTitles source sink old writer due written
-      → Copies source sink headers old writer between writer' →
-      (front : CopiesTitles source sink headers due written writer') × (view source between ≡ Some front.rest)
-  copies_front headers old between writer writer' due written ready copied =
-      let p = passed headers due copied.bytes (view source old) (view source between) ready.due-told
+  abbrev copies_front : (headers : List Header) (old between : Sides R W) (due written : List ℕ)
+      → IsReadyForTitles source sink old due written → Copies source sink headers old between →
+      (front : CopiesTitles source sink headers due written between.writer)
+      × (view source between.decoder ≡ Some front.rest)
+  copies_front headers old between due written ready copied =
+      let p = passed headers due copied.bytes (view source old.decoder) (view source between.decoder) ready.due-told
       copied.passed.consumed in (
         record {
           front = copied.bytes;
@@ -119,11 +119,11 @@ module _ {R E W F : Type 0} (source : Reader R E) (sink : Writer W F) where
         p.left,
       )
 
-  told_all : (count : ℕ) (old new : Decoder R) (writer writer' : W) (due written : List ℕ)
-      → IsReadyForTitles source sink old writer due written
-      → CopiesEach source sink count old writer new writer' → CopiesSoMany source sink count due written old new writer'
-  told_all count old new writer writer' due written ready all =
-      let f = copies_front all.headers old new writer writer' due written ready all.copied in
+  told_all : (count : ℕ) (old new : Sides R W) (due written : List ℕ)
+      → IsReadyForTitles source sink old due written
+      → CopiesEach source sink count old new → CopiesSoMany source sink count due written old.decoder new
+  told_all count old new due written ready all =
+      let f = copies_front all.headers old new due written ready all.copied in
       record {
         headers = all.headers;
         all = all.all;
@@ -134,12 +134,12 @@ module _ {R E W F : Type 0} (source : Reader R E) (sink : Writer W F) where
             all.copied.passed.offset;
       }
 
-  told_stop : (count : ℕ) (old new : Decoder R) (writer writer' : W) (due written : List ℕ) (error : Error E)
-      → IsReadyForTitles source sink old writer due written
-      → StopsAtPull source sink count old writer error new writer'
-      → CopiesTold source sink count due written old (Err (r.Read error)) new writer'
-  told_stop count old new writer writer' due written (e.Io fault) ready stops =
-      let f = copies_front stops.headers old stops.between writer writer' due written ready stops.copied in
+  told_stop : (count : ℕ) (old new : Sides R W) (due written : List ℕ) (error : Error E)
+      → IsReadyForTitles source sink old due written
+      → StopsAtPull source sink count old error new
+      → CopiesTold source sink count due written old.decoder (Err (r.Read error)) new
+  told_stop count old new due written (e.Io fault) ready stops =
+      let f = copies_front stops.headers old (sides stops.between new.writer) due written ready stops.copied in
       let cut = stops.stopped.steady (stops.copied.passed.steady ready.steady) in
       let gone = consumes_told _ _ f.0.rest stops.stopped.read f.1 cut.0 in
       let ends = rw f.1 at cut.1 in
@@ -156,9 +156,9 @@ module _ {R E W F : Type 0} (source : Reader R E) (sink : Writer W F) where
           stops.copied.passed.offset,
         );
       }
-  told_stop count old new writer writer' due written (e.Syntax place) ready stops =
-      let f = copies_front stops.headers old stops.between writer writer' due written ready stops.copied in
-      let stopped = lenient_refuses source stops.between place new (stops.copied.passed.mode ∙ ready.lenient)
+  told_stop count old new due written (e.Syntax place) ready stops =
+      let f = copies_front stops.headers old (sides stops.between new.writer) due written ready stops.copied in
+      let stopped = lenient_refuses source stops.between place new.decoder (stops.copied.passed.mode ∙ ready.lenient)
       stops.stopped in
       let byte = stopped.byte in
       let gone = consumes_told _ _ f.0.rest (byte ∷ []) f.1 stopped.bytes in
@@ -171,14 +171,14 @@ module _ {R E W F : Type 0} (source : Reader R E) (sink : Writer W F) where
         left = gone.1 ∙ ap Some (refused_byte f.0.rest gone.0 byte gone.2);
         offset = omega (arith, stopped.place, stopped.offset);
       }
-  told_stop count old new writer writer' due written e.TooLong ready stops =
-      let f = copies_front stops.headers old stops.between writer writer' due written ready stops.copied in
+  told_stop count old new due written e.TooLong ready stops =
+      let f = copies_front stops.headers old (sides stops.between new.writer) due written ready stops.copied in
       let read = stops.stopped.read in
       let gone = consumes_told _ _ f.0.rest read f.1 stops.stopped.bytes in
       let behind = ap length gone.2 in
       let whole = ap length f.0.parts in
-      let fits : old.offset + length due + 8 < 2 ^ 64 = ready.fits in
-      let full : 2 ^ 64 ≤ new.offset + next_read read = stops.stopped.full in
+      let fits : old.decoder.offset + length due + 8 < 2 ^ 64 = ready.fits in
+      let full : 2 ^ 64 ≤ new.decoder.offset + next_read read = stops.stopped.full in
       absurd (omega (
         arith,
         behind,
@@ -191,13 +191,13 @@ module _ {R E W F : Type 0} (source : Reader R E) (sink : Writer W F) where
         length-append read gone.0,
         length-append f.0.front f.0.rest,
       ))
-  told_stop count old new writer writer' due written e.Waiting ready stops = absurd stops.stopped
+  told_stop count old new due written e.Waiting ready stops = absurd stops.stopped
 
-  never_full : (count : ℕ) (old new : Decoder R) (writer writer' : W) (due written : List ℕ)
-      → IsReadyForTitles source sink old writer due written
-      → StopsAtPush source sink count old writer new writer' → ⊥
-  never_full count old new writer writer' due written ready stops =
-      let f = copies_front stops.headers old stops.between writer stops.writer-between due written ready stops.copied in
+  never_full : (count : ℕ) (old new : Sides R W) (due written : List ℕ)
+      → IsReadyForTitles source sink old due written
+      → StopsAtPush source sink count old new → ⊥
+  never_full count old new due written ready stops =
+      let f = copies_front stops.headers old stops.between due written ready stops.copied in
       let last = stops.last in
       let gone = consumes_told _ _ f.0.rest stops.pulled.title f.1 stops.pulled.bytes in
       let behind = ap length gone.2 in
@@ -219,16 +219,16 @@ module _ {R E W F : Type 0} (source : Reader R E) (sink : Writer W F) where
         length-append f.0.front f.0.rest,
       )
 
-  pub told : (count : ℕ) (old new : Decoder R) (writer writer' : W) (due written : List ℕ)
-      (result : Result (Unit {0}) (RecodeError E F)) → IsReadyForTitles source sink old writer due written
-      → CopiesHeaders source sink count old writer result new writer'
-      → CopiesTold source sink count due written old result new writer'
-  told count old new writer writer' due written (Ok done) ready all =
-      told_all count old new writer writer' due written ready all
-  told count old new writer writer' due written (Err (r.Read error)) ready stops =
-      told_stop count old new writer writer' due written error ready stops
-  told count old new writer writer' due written (Err (r.Write fault)) ready stops =
-      never_full count old new writer writer' due written ready stops
+  pub told : (count : ℕ) (old new : Sides R W) (due written : List ℕ)
+      (result : Result (Unit {0}) (RecodeError E F)) → IsReadyForTitles source sink old due written
+      → CopiesHeaders source sink count old result new
+      → CopiesTold source sink count due written old.decoder result new
+  told count old new due written (Ok done) ready all =
+      told_all count old new due written ready all
+  told count old new due written (Err (r.Read error)) ready stops =
+      told_stop count old new due written error ready stops
+  told count old new due written (Err (r.Write fault)) ready stops =
+      never_full count old new due written ready stops
 
   -- a fault excludes as many titles in front
   fault_or_titles : (count : ℕ) (due written : List ℕ) (writer' : W) (headers : List Header)
@@ -242,10 +242,10 @@ module _ {R E W F : Type 0} (source : Reader R E) (sink : Writer W F) where
         | inr cut ↦ title_not_cut next.0 next.2 next.1 next.3 (subst IsCutTitle next.4 cut)
       ]
 
-  exactly_told : (count : ℕ) (old new : Decoder R) (writer' : W) (due written : List ℕ)
+  exactly_told : (count : ℕ) (old new : Sides R W) (due written : List ℕ)
       (result : Result (Unit {0}) (RecodeError E F))
-      → CopiesTold source sink count due written old result new writer' → IsOk result ↔ TitlesInFront count due
-  exactly_told count old new writer' due written (Ok done) told = (
+      → CopiesTold source sink count due written old.decoder result new → IsOk result ↔ TitlesInFront count due
+  exactly_told count old new due written (Ok done) told = (
     λ ok. record {
       headers = told.headers;
       all = told.all;
@@ -256,23 +256,23 @@ module _ {R E W F : Type 0} (source : Reader R E) (sink : Writer W F) where
     },
     λ front. refl,
   )
-  exactly_told count old new writer' due written (Err (r.Read (e.Io fault))) told = (
+  exactly_told count old new due written (Err (r.Read (e.Io fault))) told = (
     λ ok. absurd cc,
-    λ front. absurd (fault_or_titles count due written writer' told.headers told.copied told.fewer (inr told.cut)
+    λ front. absurd (fault_or_titles count due written new.writer told.headers told.copied told.fewer (inr told.cut)
         front),
   )
-  exactly_told count old new writer' due written (Err (r.Read (e.Syntax place))) told = (
+  exactly_told count old new due written (Err (r.Read (e.Syntax place))) told = (
     λ ok. absurd cc,
-    λ front. absurd (fault_or_titles count due written writer' told.headers told.copied told.fewer
+    λ front. absurd (fault_or_titles count due written new.writer told.headers told.copied told.fewer
         (inl told.refused) front),
   )
-  exactly_told count old new writer' due written (Err (r.Read e.TooLong)) told = absurd told
-  exactly_told count old new writer' due written (Err (r.Read e.Waiting)) told = absurd told
-  exactly_told count old new writer' due written (Err (r.Write fault)) told = absurd told
+  exactly_told count old new due written (Err (r.Read e.TooLong)) told = absurd told
+  exactly_told count old new due written (Err (r.Read e.Waiting)) told = absurd told
+  exactly_told count old new due written (Err (r.Write fault)) told = absurd told
 
-  pub exactly : (count : ℕ) (old new : Decoder R) (writer writer' : W) (due written : List ℕ)
-      (result : Result (Unit {0}) (RecodeError E F)) → IsReadyForTitles source sink old writer due written
-      → CopiesHeaders source sink count old writer result new writer' → IsOk result ↔ TitlesInFront count due
-  exactly count old new writer writer' due written result ready copied =
-      exactly_told count old new writer' due written result
-      (told count old new writer writer' due written result ready copied)
+  pub exactly : (count : ℕ) (old new : Sides R W) (due written : List ℕ)
+      (result : Result (Unit {0}) (RecodeError E F)) → IsReadyForTitles source sink old due written
+      → CopiesHeaders source sink count old result new → IsOk result ↔ TitlesInFront count due
+  exactly count old new due written result ready copied =
+      exactly_told count old new due written result
+      (told count old new due written result ready copied)

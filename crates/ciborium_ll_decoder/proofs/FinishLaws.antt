@@ -1,5 +1,6 @@
 -- What is left of a body, read chunk by chunk.
-use Rattle.std.proofs.Common.{◌≡◌, ℕ, ◌+◌, ◌≤◌, true, List, [], ◌++◌, length, Option, Some, None, Result, Ok, Err}
+use Rattle.std.proofs.Common.{◌≡◌, ℕ, Bool, ◌+◌, ◌≤◌, ◌⊎◌, true, false, List, [], ◌++◌, length, Option, Some, None}
+use Rattle.std.proofs.Common.{Result, Ok, Err}
 use Rattle.std.proofs.Common.{IsOk, refl, sym, ap, subst, ◌∙◌, inl, inr, arith, append_assoc, append-nil}
 use Rattle.std.proofs.Common.{length-append}
 use Rattle.std.specs.Borrow.{Bor}
@@ -12,12 +13,24 @@ use Rattle.ciborium_ll_decoder.specs.declared.seg.Segment.{Segment}
 use Rattle.ciborium_ll_grammar.specs.Strings.{Kind, Bytes, Text, IsWritable}
 use Rattle.ciborium_ll_decoder.specs.Kept.{kept_bytes}
 use Rattle.ciborium_ll_decoder.specs.Decoding.{IsSteady, Passes}
-use Rattle.ciborium_ll_decoder.specs.Chunks.{IsSplit, GivesChunk, FindsDamage, EndsInCharacter, KeepsTooMuch}
+use Rattle.ciborium_ll_decoder.specs.Chunks.{IsSplit, GivesChunk, EndsInCharacter, KeepsTooMuch}
 use Rattle.ciborium_ll_decoder.specs.Chunks.{ChunkFails, ChunkPasses, PullsChunk, read_count}
-use Rattle.ciborium_ll_decoder.specs.Finishing.{BeginsRest, RestFails, RestPasses, RestDamaged, Finishes}
+use Rattle.ciborium_ll_decoder.specs.Finishing.{BeginsRest, RestFails, RestPasses, RestDamaged, EndsBody, handed_out}
+use Rattle.ciborium_ll_decoder.specs.Finishing.{Finishes}
 use Rattle.ciborium_ll_decoder.proofs.DecodingLaws.{Passes-none}
 use Rattle.ciborium_ll_decoder.proofs.BodyLaws.{split_parts, writable_nil, writable_chunk, three_kept, few_kept}
 use Rattle.ciborium_ll_decoder.proofs.BodyLaws.{stuck_is_no_text, too_much_is_no_text, Passes-read}
+
+-- a segment is damaged or not
+pub not_both : (damaged : Bool) → damaged ≡ true → damaged ≡ false → ⊥
+not_both damaged one other = cc
+
+-- the read of a body ends with this error, and the front was handed out of it
+abbrev pub HandsOut : {R E : Type 0} (source : Reader R E) (kind : Kind) (kept : List ℕ) (unread room place : ℕ)
+    → Decoder R → Error E → List ℕ → Decoder R → Type 0
+HandsOut source kind kept unread room place old error front new =
+    (ends : EndsBody source kind kept unread room place old (Err error) new)
+    × (handed_out source kind kept unread room place old (Err error) new ends ≡ front)
 
 module _ {R E P : Type 0} {parser : Parser P} (source : Reader R E) where
   -- of the rest of the first segment these bytes were read, and those behind the chunks are kept
@@ -32,7 +45,7 @@ module _ {R E P : Type 0} {parser : Parser P} (source : Reader R E) where
     pub damage : segment.damaged ≡ first.damaged
     pub still : segment.damaged ≡ true → segment.decoder.now ≡ first.decoder.now
 
-  pub rest_start : (segment : Segment R P parser) → RestSoFar segment segment
+  abbrev pub rest_start : (segment : Segment R P parser) → RestSoFar segment segment
   rest_start segment = record {
     read = [];
     front = [];
@@ -46,7 +59,7 @@ module _ {R E P : Type 0} {parser : Parser P} (source : Reader R E) where
   }
 
   module _ (first segment : Segment R P parser) (so_far : RestSoFar first segment) where
-    pub rest_chunk : (room : ℕ) (chunk : List ℕ) (new : Segment R P parser)
+    abbrev pub rest_chunk : (room : ℕ) (chunk : List ℕ) (new : Segment R P parser)
         (gives : GivesChunk source room segment chunk new)
         → (IsSteady source segment.decoder.now → IsSteady source new.decoder.now) → RestSoFar first new
     rest_chunk room chunk new gives steady =
@@ -66,7 +79,7 @@ module _ {R E P : Type 0} {parser : Parser P} (source : Reader R E) where
               so_far.passed gives.reads.reads steady;
           at = gives.reads.place ∙ so_far.at;
           damage = gives.still_sound ∙ sym gives.reads.sound ∙ so_far.damage;
-          still = λ damaged. absurd (let never = gives.still_sound in cc);
+          still = λ damaged. absurd (not_both new.damaged damaged gives.still_sound);
         }
 
     -- the same of whatever a pull gave, if it didn't fail and gave no `None`
@@ -78,7 +91,8 @@ module _ {R E P : Type 0} {parser : Parser P} (source : Reader R E) where
     rest_pulled room (Ok None) new pulled ok some steady = absurd (some refl)
     rest_pulled room (Err error) new pulled ok some steady = cc
 
-    part : BeginsRest source parser.kind (kept_bytes first.kept) first.unread first.decoder.now segment.decoder.now
+    abbrev part : BeginsRest source parser.kind (kept_bytes first.kept) first.unread first.decoder.now
+        segment.decoder.now
     part = record {
       read = so_far.read;
       front = so_far.front;
@@ -90,9 +104,8 @@ module _ {R E P : Type 0} {parser : Parser P} (source : Reader R E) where
       passed = so_far.passed;
     }
 
-    rest_fails : (room : ℕ) (new : Segment R P parser) → 4 ≤ room → ChunkFails source room segment new
+    abbrev rest_fails : (room : ℕ) (new : Segment R P parser) → 4 ≤ room → ChunkFails source room segment new
         → RestFails source parser.kind (kept_bytes first.kept) first.unread first.decoder.now new.decoder.now
-    unfolding part
     rest_fails room new four fails = record {
       between = segment.decoder.now;
       part = part;
@@ -102,9 +115,8 @@ module _ {R E P : Type 0} {parser : Parser P} (source : Reader R E) where
       fails = fails.fails;
     }
 
-    rest_passes : (room : ℕ) (new : Segment R P parser) → ChunkPasses source room segment new
+    abbrev rest_passes : (room : ℕ) (new : Segment R P parser) → ChunkPasses source room segment new
         → RestPasses source parser.kind (kept_bytes first.kept) first.unread room first.decoder.now new.decoder.now
-    unfolding part
     rest_passes room new passes = record {
       between = segment.decoder.now;
       part = part;
@@ -116,48 +128,90 @@ module _ {R E P : Type 0} {parser : Parser P} (source : Reader R E) where
     }
 
     damaged_end : (new : Segment R P parser) → (kind : Kind) → parser.kind ≡ kind
-        → EndsInCharacter source segment new → IsWritable kind so_far.front
-        → RestDamaged source kind (kept_bytes first.kept) first.unread first.decoder.now new.decoder.now
+        → EndsInCharacter source segment new → IsWritable kind so_far.front → (damaged : RestDamaged source kind
+        (kept_bytes first.kept) first.unread first.decoder.now new.decoder.now) × (damaged.front ≡ so_far.front)
     damaged_end new Bytes is ends sound = absurd (let none = ap length (segment.text_alone is) in let some =
         ends.some_kept in omega (arith, none, some))
-    damaged_end new Text is ends sound = record {
-      textual = refl;
-      read = so_far.read;
-      within = omega (arith, so_far.counted);
-      no_text = inl (
-        omega (arith, so_far.counted, ends.none_unread),
-        stuck_is_no_text (kept_bytes first.kept ++ so_far.read) so_far.front (kept_bytes segment.kept) so_far.parts
-            sound segment.stuck ends.some_kept,
-      );
-      passed = subst (λ (d : Decoder R). Passes source first.decoder.now so_far.read d) (sym ends.decoder)
-          so_far.passed;
-    }
+    damaged_end new Text is ends sound = (
+      record {
+        textual = refl;
+        read = so_far.read;
+        front = so_far.front;
+        left = kept_bytes segment.kept;
+        parts = so_far.parts;
+        sound = sound;
+        within = omega (arith, so_far.counted);
+        no_text = inl (
+          omega (arith, so_far.counted, ends.none_unread),
+          stuck_is_no_text (kept_bytes first.kept ++ so_far.read) so_far.front (kept_bytes segment.kept) so_far.parts
+              sound segment.stuck ends.some_kept,
+        );
+        passed = subst (λ (d : Decoder R). Passes source first.decoder.now so_far.read d) (sym ends.decoder)
+            so_far.passed;
+      },
+      refl,
+    )
 
     damaged_middle : (room : ℕ) (new : Segment R P parser) →
         (IsSteady source segment.decoder.now → IsSteady source new.decoder.now) → (kind : Kind) → parser.kind ≡ kind
         → (keeps : KeepsTooMuch source room segment new) → IsWritable kind so_far.front
-        → IsSplit kind (kept_bytes segment.kept ++ keeps.read) keeps.front keeps.left
-        → RestDamaged source kind (kept_bytes first.kept) first.unread first.decoder.now new.decoder.now
+        → IsSplit kind (kept_bytes segment.kept ++ keeps.read) keeps.front keeps.left → (damaged : RestDamaged source
+        kind (kept_bytes first.kept) first.unread first.decoder.now new.decoder.now) × (damaged.front ≡ so_far.front)
     damaged_middle room new steady Bytes is keeps sound split = absurd
         (let none = ap length split.1 in let much = keeps.too_much in omega (arith, none, much))
     damaged_middle room new steady Text is keeps sound split =
         let kept = kept_bytes first.kept in
         let parts = sym (append_assoc kept so_far.read keeps.read) ∙ ap (λ (z : List ℕ). z ++ keeps.read)
-        so_far.parts ∙ append_assoc so_far.front (kept_bytes segment.kept) keeps.read in
-        record {
-          textual = refl;
-          read = so_far.read ++ keeps.read;
-          within = omega (arith, so_far.counted, keeps.reads.unread, length-append so_far.read keeps.read);
-          no_text = inr (too_much_is_no_text (kept ++ (so_far.read ++ keeps.read)) so_far.front
-              (kept_bytes segment.kept) keeps.read keeps.front keeps.left parts sound split keeps.too_much);
-          passed = Passes-read source first.decoder.now segment.decoder.now new.decoder.now so_far.read keeps.read
-              so_far.passed keeps.reads.reads steady;
-        }
+        so_far.parts ∙ append_assoc so_far.front (kept_bytes segment.kept) keeps.read in (
+          record {
+            textual = refl;
+            read = so_far.read ++ keeps.read;
+            front = so_far.front;
+            left = kept_bytes segment.kept ++ keeps.read;
+            parts = parts;
+            sound = sound;
+            within = omega (arith, so_far.counted, keeps.reads.unread, length-append so_far.read keeps.read);
+            no_text = inr (too_much_is_no_text (kept ++ (so_far.read ++ keeps.read)) so_far.front
+                (kept_bytes segment.kept) keeps.read keeps.front keeps.left parts sound split keeps.too_much);
+            passed = Passes-read source first.decoder.now segment.decoder.now new.decoder.now so_far.read keeps.read
+                so_far.passed keeps.reads.reads steady;
+          },
+          refl,
+        )
 
+    -- the body is found to be no text
     rest_damaged : (room at : ℕ) (new : Segment R P parser) →
-        (IsSteady source segment.decoder.now → IsSteady source new.decoder.now) → FindsDamage source room segment at new
-        → Finishes source room first (Err (e.Syntax at)) new.decoder.now
-    rest_damaged room at new steady finds =
+        (IsSteady source segment.decoder.now → IsSteady source new.decoder.now) → at ≡ first.place
+        → EndsInCharacter source segment new ⊎ KeepsTooMuch source room segment new
+        → HandsOut source parser.kind (kept_bytes first.kept) first.unread room first.place first.decoder.now
+        (e.Syntax at) so_far.front new.decoder.now
+    rest_damaged room at new steady placed (inl ends) =
+        let found = damaged_end new parser.kind refl ends so_far.sound in ((placed, found.0), found.1)
+    rest_damaged room at new steady placed (inr keeps) =
+        let found = damaged_middle room new steady parser.kind refl keeps so_far.sound keeps.split in
+        ((placed, found.0), found.1)
+
+    -- a pull that fails is the last one: of a body that was sound before
+    pub rest_ends : (room : ℕ) (error : Error E) (new : Segment R P parser) → 4 ≤ room → first.damaged ≡ false
+        → (IsSteady source segment.decoder.now → IsSteady source new.decoder.now)
+        → PullsChunk source room segment (Err error) new
+        → HandsOut source parser.kind (kept_bytes first.kept) first.unread room first.place first.decoder.now error
+        so_far.front new.decoder.now
+    rest_ends room (e.Io fault) new four undamaged steady fails = (rest_fails room new four fails, refl)
+    rest_ends room (e.Syntax at) new four undamaged steady finds = elim finds.cause [
+      | inl stays ↦ absurd (let a = stays.damaged-before in let b = so_far.damage in cc)
+      | inr found ↦ rest_damaged room at new steady (finds.place ∙ so_far.at) found
+    ]
+    rest_ends room e.TooLong new four undamaged steady passes = (rest_passes room new passes, refl)
+    rest_ends room e.Waiting new four undamaged steady never = absurd never
+
+    -- and of any
+    pub rest_error : (room : ℕ) (error : Error E) (new : Segment R P parser) → 4 ≤ room
+        → (IsSteady source segment.decoder.now → IsSteady source new.decoder.now)
+        → PullsChunk source room segment (Err error) new → Finishes source room first (Err error) new.decoder.now
+    rest_error room (e.Io fault) new four steady fails = inl
+        (record { undamaged = sym so_far.damage ∙ fails.sound; ends = rest_fails room new four fails })
+    rest_error room (e.Syntax at) new four steady finds =
         let placed = finds.place ∙ so_far.at in
         elim finds.cause [
           | inl stays ↦ inr (record {
@@ -165,25 +219,11 @@ module _ {R E P : Type 0} {parser : Parser P} (source : Reader R E) where
             answer = ap (λ (z : ℕ). Err (e.Syntax z)) placed;
             same = stays.decoder ∙ so_far.still stays.damaged-before;
           })
-          | inr found ↦ elim found [
-            | inl ends ↦ inl (record {
-              undamaged = sym so_far.damage ∙ ends.sound;
-              ends = (placed, damaged_end new parser.kind refl ends so_far.sound);
-            })
-            | inr keeps ↦ inl (record {
-              undamaged = sym so_far.damage ∙ keeps.reads.sound;
-              ends = (placed, damaged_middle room new steady parser.kind refl keeps so_far.sound keeps.split);
-            })
-          ]
+          | inr found ↦ inl (record {
+            undamaged = sym so_far.damage ∙ elim found [ inl ends ↦ ends.sound | inr keeps ↦ keeps.reads.sound ];
+            ends = (rest_damaged room at new steady placed found).0;
+          })
         ]
-
-    -- a pull that fails is the last one
-    rest_error : (room : ℕ) (error : Error E) (new : Segment R P parser) → 4 ≤ room
-        → (IsSteady source segment.decoder.now → IsSteady source new.decoder.now)
-        → PullsChunk source room segment (Err error) new → Finishes source room first (Err error) new.decoder.now
-    rest_error room (e.Io fault) new four steady fails = inl
-        (record { undamaged = sym so_far.damage ∙ fails.sound; ends = rest_fails room new four fails })
-    rest_error room (e.Syntax at) new four steady finds = rest_damaged room at new steady finds
     rest_error room e.TooLong new four steady passes = inl
         (record { undamaged = sym so_far.damage ∙ passes.sound; ends = rest_passes room new passes })
     rest_error room e.Waiting new four steady never = absurd never

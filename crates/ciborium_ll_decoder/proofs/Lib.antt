@@ -1,4 +1,5 @@
 pub mod AdvanceLaws
+pub mod BodyCopyLaws
 pub mod BodyLaws
 pub mod ChunkLaws
 pub mod CopyLaws
@@ -7,8 +8,11 @@ pub mod CopyingTold
 pub mod DecodingLaws
 pub mod FinishLaws
 pub mod NestLaws
+pub mod RecodeAnyhowLaws
+pub mod RecodeFaultLaws
 pub mod RecodeLaws
-pub mod RecodingToldLaws
+pub mod RecodeReadyLaws
+pub mod RecodeStrictLaws
 pub mod RoomLaws
 pub mod RunLaws
 pub mod SegmentLaws

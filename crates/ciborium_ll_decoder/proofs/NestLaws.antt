@@ -258,10 +258,10 @@ module _ {R E : Type 0} (source : Ghosts R E) (k : Kind) where
       absurd (let a = ap (λ d. d.waiting) same ∙ taken.waits in let b = refused.none_waited in cc)
   only_body len pulled pushed between new (Err (e.Syntax place)) progress taken same (inl (inr refused, after)) =
       absurd (let a = ap (λ d. d.waiting) same ∙ taken.waits in let b = refused.none_waited in cc)
-  only_body len pulled pushed between new (Err (e.Syntax place)) progress taken same (inr other) =
+  only_body len pulled pushed between new (Err (e.Syntax place)) progress taken same (inr found) =
       let waits : between.waiting ≡ Some (kind_header k (Some len)) = ap (λ d. d.waiting) same ∙ taken.waits in
-      let waited = rw waits at other.pulled.waited in
-      elim other.misplaced [
+      let waited = rw waits at found.other.pulled.waited in
+      elim found.other.refused [
         | inl misplaced ↦ absurd (well_placed k (Some len) (subst (IsMisplacedAt k 0) (sym waited.0) misplaced))
         | inr nested ↦ absurd (let some = nested.0 in omega (arith, some))
       ]
@@ -308,10 +308,10 @@ module _ {R E : Type 0} (source : Ghosts R E) (k : Kind) where
       let a = ap (λ d. d.waiting) same ∙ taken.waits in let b = refused.none_waited in cc
   not_at_once pulled pushed between new (Err (e.Syntax place)) progress taken same (inl (inr refused, after)) =
       let a = ap (λ d. d.waiting) same ∙ taken.waits in let b = refused.none_waited in cc
-  not_at_once pulled pushed between new (Err (e.Syntax place)) progress taken same (inr other) =
+  not_at_once pulled pushed between new (Err (e.Syntax place)) progress taken same (inr found) =
       let waits : between.waiting ≡ Some (kind_header k None) = ap (λ d. d.waiting) same ∙ taken.waits in
-      let waited = rw waits at other.pulled.waited in
-      elim other.misplaced [
+      let waited = rw waits at found.other.pulled.waited in
+      elim found.other.refused [
         | inl misplaced ↦ well_placed k None (subst (IsMisplacedAt k 0) (sym waited.0) misplaced)
         | inr nested ↦ let some = nested.0 in omega (arith, some)
       ]

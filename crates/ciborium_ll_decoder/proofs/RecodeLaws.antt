@@ -8,17 +8,20 @@ use Rattle.ciborium_ll_io.specs.declared.io.Read.{Ghosts as Reader}
 use Rattle.ciborium_ll_io.specs.declared.io.Write.{Ghosts as Writer}
 use Rattle.ciborium_ll_grammar.specs.declared.hdr.Header.{Header}
 use Rattle.ciborium_ll_decoder.specs.declared.dec.Decoder.{Decoder}
+use Rattle.ciborium_ll_decoder.specs.declared.dec.Error.{Error}
 use Rattle.ciborium_ll_decoder.specs.declared.dec.Error.TheVariants as e
 use Rattle.ciborium_ll_decoder.specs.declared.recode.RecodeError.{RecodeError}
 use Rattle.ciborium_ll_decoder.specs.declared.recode.RecodeError.TheVariants as r
 use Rattle.ciborium_ll_grammar.specs.Title.{IsTitle, IsStrictTitle, shortest_title, title_len}
-use Rattle.ciborium_ll_grammar.specs.Strings.{Kind, Bytes, Text, kind_header, IsWritable}
-use Rattle.ciborium_ll_grammar.specs.Elements.{IsSound, Mark, Whole, spelling, definite, IsRun, IsStrictSpelling}
-use Rattle.ciborium_ll_grammar.specs.Faults.{Place, Due, Body, Reaches, due, body}
+use Rattle.ciborium_ll_grammar.specs.Strings.{Kind, kind_header, IsWritable}
+use Rattle.ciborium_ll_grammar.specs.Strings.IsString.{definite}
+use Rattle.ciborium_ll_grammar.specs.Elements.{AreWritable, Mark, Whole, spelling, string, IsRun, IsStrictSpelling}
+use Rattle.ciborium_ll_grammar.specs.Faults.{Place, Due, BodyDue, Reaches, due, body}
 use Rattle.ciborium_ll_decoder.specs.Decoding.{Begins, behind_waiting, view, Passes, Strictly}
 use Rattle.ciborium_ll_encoder.specs.Encoding.{WritesAll, WritesFront}
-use Rattle.ciborium_ll_decoder.specs.Recoding.{WritesHeader, CopiesBody, CopiesWhole, BodyUnwritten, IsUnderWay}
-use Rattle.ciborium_ll_decoder.specs.Recoding.{Copied, StopsWriting, StopsCopy, AddsElement, GoesOn}
+use Rattle.ciborium_ll_decoder.specs.Recoding.{WritesHeader, CopiesBody, BodyWritten, BodyUnwritten, IsUnderWay}
+use Rattle.ciborium_ll_decoder.specs.Recoding.{Copied, CopiesRun, StopsInBody, StopsWriting, StopsCopy, GoesOn}
+use Rattle.ciborium_ll_decoder.specs.Sides.{Sides, sides}
 use Rattle.ciborium_ll_grammar.proofs.TitleLaws.{shortest_no_longer}
 use Rattle.ciborium_ll_grammar.proofs.ElementLaws.{spelling-append}
 use Rattle.ciborium_ll_grammar.proofs.StepLaws.{add_element}
@@ -36,9 +39,8 @@ run_belongs count j bytes marks run within =
     ]
 
 -- a body that is written is sound by itself
-pub sound_body : (k : Kind) (b : List ℕ) → IsWritable k b → IsSound k (b ∷ [])
-sound_body Bytes b w = tt
-sound_body Text b w = (w, tt)
+pub sound_body : (k : Kind) (b : List ℕ) → IsWritable k b → AreWritable k (b ∷ [])
+sound_body k b w = (w, tt)
 
 waited_same : {R : Type 0} (old now now' : Decoder R) (bytes : List ℕ) (waiting : Option Header) → old.waiting
     ≡ waiting → now.waiting ≡ None
@@ -68,188 +70,159 @@ module _ {R E W F : Type 0} (source : Reader R E) (sink : Writer W F) where
       subst (λ (z : List ℕ). WritesAll sink writer z writer') (sym (spelling-append marks others))
       (writes_then writer between writer' (spelling marks) (spelling others) first second)
 
-  module _ (count room : ℕ) (old : Decoder R) (writer : W) where
+  module _ (count room : ℕ) (old : Sides R W) where
     -- the marks of one more header belong to the copy, and the writer failed at it
-    pub mark_unwritten : (bytes : List ℕ) (marks others : List Mark) (now : Decoder R) (between writer' : W)
-        (fault : F) → Passes source old bytes now
-        → WritesAll sink writer (spelling marks) between → WritesFront sink between (spelling others) writer'
+    pub mark_unwritten : (bytes : List ℕ) (marks others : List Mark) (now : Sides R W) (after : W) (fault : F)
+        → Copied source sink old bytes marks now → WritesFront sink now.writer (spelling others) after
         → IsRun count bytes (marks ++ others) ⊎ ((place : Place) × Reaches count bytes (marks ++ others) place
-        × IsUnderWay place [] []) → StopsWriting source sink count old writer now writer'
-    mark_unwritten bytes marks others now between writer' fault passed written stopped belongs = record {
+        × IsUnderWay place [] []) → StopsWriting source sink count old (sides now.decoder after)
+    mark_unwritten bytes marks others now after fault copied stopped belongs = record {
       bytes = bytes;
       marks = marks ++ others;
       more = [];
       read = [];
-      passed = subst (λ (z : List ℕ). Passes source old z now) (sym (append-nil bytes)) passed;
-      stopped = subst (λ (z : List ℕ). WritesFront sink writer z writer')
+      passed = subst (λ (z : List ℕ). Passes source old.decoder z now.decoder) (sym (append-nil bytes)) copied.passed;
+      stopped = subst (λ (z : List ℕ). WritesFront sink old.writer z after)
           (sym (append-nil (spelling (marks ++ others)) ∙ spelling-append marks others))
-          (stops_then writer between writer' fault (spelling marks) (spelling others) written stopped);
+          (stops_then old.writer now.writer after fault (spelling marks) (spelling others) copied.written stopped);
       belongs = elim belongs [ inl run ↦ inl (run, refl, refl) | inr reach ↦ inr reach ];
     }
 
     -- the element that is added belongs to the copy
-    pub element_unwritten : (before : ℕ) (bytes : List ℕ) (marks others : List Mark) (now : Decoder R)
-        (between writer' : W) (fault : F) → before < count → IsRun (suc before) bytes (marks ++ others)
-        → Passes source old bytes now → WritesAll sink writer (spelling marks) between
-        → WritesFront sink between (spelling others) writer' → StopsWriting source sink count old writer now writer'
-    element_unwritten before bytes marks others now between writer' fault less run passed written stopped =
-        mark_unwritten bytes marks others now between writer' fault passed written stopped
+    pub element_unwritten : (before : ℕ) (bytes : List ℕ) (marks others : List Mark) (now : Sides R W) (after : W)
+        (fault : F) → before < count → IsRun (suc before) bytes (marks ++ others)
+        → Copied source sink old bytes marks now → WritesFront sink now.writer (spelling others) after
+        → StopsWriting source sink count old (sides now.decoder after)
+    element_unwritten before bytes marks others now after fault less run copied stopped =
+        mark_unwritten bytes marks others now after fault copied stopped
         (elim (run_belongs count (suc before) bytes (marks ++ others) run (omega (arith, less)))
         [ inl all ↦ inl all | inr reach ↦ inr (Due, reach, (refl, refl)) ])
 
     -- the writer failed at the title of a body
-    pub title_unwritten : (bytes : List ℕ) (marks : List Mark) (k : Kind) (len start : ℕ) (now : Decoder R)
-        (between writer' : W) (fault : F) → Reaches count bytes marks (Body k len start)
-        → Copied source sink old writer bytes marks now between → WritesFront sink between
-        (shortest_title (kind_header k (Some len))) writer' → StopsWriting source sink count old writer now writer'
-    title_unwritten bytes marks k len start now between writer' fault reach copied stopped =
+    pub title_unwritten : (bytes : List ℕ) (marks : List Mark) (k : Kind) (len start : ℕ) (now : Sides R W) (after : W)
+        (fault : F) → Reaches count bytes marks (BodyDue k len start) → Copied source sink old bytes marks now
+        → WritesFront sink now.writer (shortest_title (kind_header k (Some len))) after
+        → StopsWriting source sink count old (sides now.decoder after)
+    title_unwritten bytes marks k len start now after fault reach copied stopped =
         let title = shortest_title (kind_header k (Some len)) in
         record {
           bytes = bytes;
           marks = marks;
           more = title;
           read = [];
-          passed = subst (λ (z : List ℕ). Passes source old z now) (sym (append-nil bytes)) copied.passed;
-          stopped = stops_then writer between writer' fault (spelling marks) title copied.written stopped;
-          belongs = inr (Body k len start, reach, ([], sym (append-nil title), ([], refl), omega arith));
+          passed = subst (λ (z : List ℕ). Passes source old.decoder z now.decoder) (sym (append-nil bytes))
+              copied.passed;
+          stopped = stops_then old.writer now.writer after fault (spelling marks) title copied.written stopped;
+          belongs = inr (BodyDue k len start, reach, ([], sym (append-nil title), ([], refl), omega arith));
         }
 
     -- the writer failed within a body
-    body_unwritten : (bytes : List ℕ) (marks : List Mark) (k : Kind) (len start : ℕ) (between new : Decoder R)
-        (writer-between titled writer' : W) (fault : F) → Reaches count bytes marks (Body k len start)
-        → Copied source sink old writer bytes marks between writer-between
-        → WritesAll sink writer-between (shortest_title (kind_header k (Some len))) titled
-        → BodyUnwritten source sink k len between titled new writer'
-        → StopsWriting source sink count old writer new writer'
-    body_unwritten bytes marks k len start between new writer-between titled writer' fault reach copied title stops =
+    body_unwritten : (bytes : List ℕ) (marks : List Mark) (k : Kind) (len start : ℕ) (between : Sides R W)
+        (titled : W) (new : Sides R W) (fault : F) → Reaches count bytes marks (BodyDue k len start)
+        → Copied source sink old bytes marks between
+        → WritesAll sink between.writer (shortest_title (kind_header k (Some len))) titled
+        → BodyUnwritten source sink k len (sides between.decoder titled) new → StopsWriting source sink count old new
+    body_unwritten bytes marks k len start between titled new fault reach copied title stops =
         let shortest = shortest_title (kind_header k (Some len)) in
         let part = stops.front ++ stops.chunk in
         let read = stops.front ++ (stops.chunk ++ stops.kept) in
         let listed : (spelling marks ++ shortest) ++ part ≡ spelling marks ++ (shortest ++ part) =
         append_assoc (spelling marks) shortest part in
-        let before = writes_then writer writer-between titled (spelling marks) shortest copied.written title in
-        let front = stops_then titled stops.writer-between writer' fault stops.front stops.chunk stops.written
+        let before = writes_then old.writer between.writer titled (spelling marks) shortest copied.written title in
+        let front = stops_then titled stops.between new.writer fault stops.front stops.chunk stops.written
         stops.stopped in
         record {
           bytes = bytes;
           marks = marks;
           more = shortest ++ part;
           read = read;
-          passed = Passes-then source old between new bytes read copied.passed stops.passed;
-          stopped = subst (λ (z : List ℕ). WritesFront sink writer z writer') listed
-              (stops_then writer titled writer' fault (spelling marks ++ shortest) part before front);
+          passed = Passes-then source old.decoder between.decoder new.decoder bytes read copied.passed stops.passed;
+          stopped = subst (λ (z : List ℕ). WritesFront sink old.writer z new.writer) listed
+              (stops_then old.writer titled new.writer fault (spelling marks ++ shortest) part before front);
           belongs = inr (
-            Body k len start,
+            BodyDue k len start,
             reach,
             (
               part,
               refl,
               (stops.kept, sym (append_assoc stops.front stops.chunk stops.kept)),
-              omega
-                  (arith, stops.within, length-append stops.front stops.chunk),
+              omega (arith, stops.within, length-append stops.front stops.chunk),
             ),
           );
         }
 
-    -- the copy of a body stops the copy of elements
-    pub body_stops : (bytes : List ℕ) (marks : List Mark) (k : Kind) (len start : ℕ) (between new : Decoder R)
-        (writer-between titled writer' : W) (error : RecodeError E F) → Reaches count bytes marks (Body k len start)
-        → Strictly old (IsStrictSpelling bytes marks (shortest_title (kind_header k (Some len))))
-        → Copied source sink old writer bytes marks between writer-between
-        → WritesAll sink writer-between (shortest_title (kind_header k (Some len))) titled
-        → CopiesBody source sink k len room (old.offset + start) between titled (Err error) new writer'
-        → StopsCopy source sink count room old writer error new writer'
-    body_stops bytes marks k len start between new writer-between titled writer' (r.Write fault) reach strict copied
-        title stops =
-        body_unwritten bytes marks k len start between new writer-between titled writer' fault reach copied title stops
-    body_stops bytes marks k len start between new writer-between titled writer' (r.Read (e.Io fault)) reach strict copied title stops = inr (record {
-      bytes = bytes;
-      marks = marks;
-      kind = k;
-      len = len;
-      start = start;
-      reaches = reach;
-      between = between;
-      writer-titled = titled;
-      writer-between = writer-between;
-      copied = copied;
-      titled = title;
-      stopped = stops;
-      strict = strict;
-    })
-    body_stops bytes marks k len start between new writer-between titled writer' (r.Read (e.Syntax at)) reach strict copied title stops = inr (inr (record {
-      bytes = bytes;
-      marks = marks;
-      kind = k;
-      len = len;
-      start = start;
-      reaches = reach;
-      between = between;
-      writer-titled = titled;
-      writer-between = writer-between;
-      copied = copied;
-      titled = title;
-      stopped = stops;
-      strict = strict;
-    }))
-    body_stops bytes marks k len start between new writer-between titled writer' (r.Read e.TooLong) reach strict copied title stops = inr (inr (record {
-      bytes = bytes;
-      marks = marks;
-      kind = k;
-      len = len;
-      start = start;
-      reaches = reach;
-      between = between;
-      writer-titled = titled;
-      writer-between = writer-between;
-      copied = copied;
-      titled = title;
-      stopped = stops;
-      strict = strict;
-    }))
-    body_stops bytes marks k len start between new writer-between titled writer' (r.Read e.Waiting) reach strict copied title stops = stops
+    -- the read of a body stops the copy of elements
+    read_stops : (error : Error E) (new : Sides R W) → StopsInBody source sink count room old error new
+        → StopsCopy source sink count room old (r.Read error) new
+    read_stops (e.Io fault) new stops = inr stops
+    read_stops (e.Syntax at) new stops = inr (inr stops)
+    read_stops e.TooLong new stops = inr (inr stops)
+    read_stops e.Waiting new stops = stops.stopped.ends
+
+    -- and so does its copy
+    pub body_stops : (bytes : List ℕ) (marks : List Mark) (k : Kind) (len start : ℕ) (between : Sides R W)
+        (titled : W) (new : Sides R W) (error : RecodeError E F) → Reaches count bytes marks (BodyDue k len start)
+        → Strictly old.decoder (IsStrictSpelling bytes marks (shortest_title (kind_header k (Some len))))
+        → Copied source sink old bytes marks between
+        → WritesAll sink between.writer (shortest_title (kind_header k (Some len))) titled
+        → CopiesBody source sink k len room (old.decoder.offset + start) (sides between.decoder titled) (Err error) new
+        → StopsCopy source sink count room old error new
+    body_stops bytes marks k len start between titled new (r.Write fault) reach strict copied title stops =
+        body_unwritten bytes marks k len start between titled new fault reach copied title stops
+    body_stops bytes marks k len start between titled new (r.Read error) reach strict copied title stops =
+        read_stops error new record {
+          bytes = bytes;
+          marks = marks;
+          kind = k;
+          len = len;
+          start = start;
+          reaches = reach;
+          between = between;
+          copied = copied;
+          titled = titled;
+          title = title;
+          stopped = stops;
+          strict = strict;
+        }
 
     -- the place of a body is where its shortest title would begin, behind a title of any length
     body_start : (before : ℕ) (title : List ℕ) (k : Kind) (len : ℕ) → IsTitle title (kind_header k (Some len))
-        → (bytes : List ℕ) → before + title_len (kind_header k (Some len)) ≡ old.offset + length (bytes ++ title)
-        → old.offset + (length (bytes ++ title) - title_len (kind_header k (Some len))) ≡ before
-    body_start before title k len t bytes e = omega (
-      arith,
-      e,
-      shortest_no_longer title (kind_header k (Some len))
-          t,
-      length-append bytes title,
-    )
+        → (bytes : List ℕ) → before + title_len (kind_header k (Some len)) ≡ old.decoder.offset + length
+        (bytes ++ title)
+        → old.decoder.offset + (length (bytes ++ title) - title_len (kind_header k (Some len))) ≡ before
+    body_start before title k len t bytes e =
+        omega (arith, e, shortest_no_longer title (kind_header k (Some len)) t, length-append bytes title)
 
     -- the copy of a definite string that goes through adds an element
-    definite_added : (before : ℕ) (bytes title : List ℕ) (marks : List Mark) (k : Kind) (len : ℕ)
-        (between new : Decoder R) (writer-between titled writer' : W) → IsTitle title (kind_header k (Some len))
-        → IsRun before bytes marks → Passes source old (bytes ++ title) between
-        → WritesAll sink writer (spelling marks) writer-between
-        → WritesAll sink writer-between (shortest_title (kind_header k (Some len))) titled
-        → CopiesWhole source sink k len between titled new writer'
-        → Strictly old (IsStrictTitle title (kind_header k (Some len)))
-        → Strictly old (IsStrictSpelling bytes marks []) → AddsElement source sink before old writer new writer'
-    definite_added before bytes title marks k len between new writer-between titled writer' t run passed written
-        title-written whole only strict =
-        let b = whole.body in
-        let lengths : len ≡ length b = sym whole.all in
+    definite_added : (before : ℕ) (bytes title : List ℕ) (marks : List Mark) (k : Kind) (len place : ℕ)
+        (between : Sides R W) (titled : W) (new : Sides R W) → IsTitle title (kind_header k (Some len))
+        → IsRun before bytes marks → Copied source sink old (bytes ++ title) marks between
+        → WritesAll sink between.writer (shortest_title (kind_header k (Some len))) titled
+        → BodyWritten source sink k len room place (sides between.decoder titled) (Ok (tt {0})) new
+        → Strictly old.decoder (IsStrictTitle title (kind_header k (Some len)))
+        → Strictly old.decoder (IsStrictSpelling bytes marks []) → CopiesRun source sink (suc before) old new
+    definite_added before bytes title marks k len place between titled new t run copied title-written whole only
+        strict =
+        let b = whole.ends.read in
+        let lengths : len ≡ length b = sym whole.ends.all in
         let t' = subst (λ (n : ℕ). IsTitle title (kind_header k (Some n))) lengths t in
-        let w' = subst (λ (n : ℕ). WritesAll sink writer-between (shortest_title (kind_header k (Some n))) titled)
+        let w' = subst (λ (n : ℕ). WritesAll sink between.writer (shortest_title (kind_header k (Some n))) titled)
         lengths title-written in
         let mark = Whole k b ∷ [] in
-        let spelled = writes_then writer-between titled writer' (shortest_title (kind_header k (Some (length b)))) b
+        let spelled = writes_then between.writer titled new.writer (shortest_title (kind_header k (Some (length b)))) b
         w' whole.written in
-        let one = subst (λ (z : List ℕ). WritesAll sink writer-between z writer')
+        let one = subst (λ (z : List ℕ). WritesAll sink between.writer z new.writer)
         (sym (append-nil (shortest_title (kind_header k (Some (length b))) ++ b))) spelled in
         record {
           bytes = bytes ++ (title ++ b);
           marks = marks ++ mark;
-          run = add_element before bytes marks run (title ++ b) mark (definite k t' (sound_body k b whole.sound));
+          run = add_element before bytes marks run (title ++ b) mark
+              (string k (definite t') (sound_body k b whole.ends.sound));
           copied = record {
-            passed = subst (λ (z : List ℕ). Passes source old z new) (append_assoc bytes title b)
-                (Passes-then source old between new (bytes ++ title) b passed whole.passed);
-            written = marks_then writer writer-between writer' marks mark written one;
+            passed = subst (λ (z : List ℕ). Passes source old.decoder z new.decoder) (append_assoc bytes title b)
+                (Passes-then source old.decoder between.decoder new.decoder (bytes ++ title) b copied.passed
+                whole.ends.passed);
+            written = marks_then old.writer between.writer new.writer marks mark copied.written one;
           };
           strict = λ on none.
               let first = (only on none).shortest ∙ ap (λ (n : ℕ). shortest_title (kind_header k (Some n))) lengths in
@@ -260,42 +233,39 @@ module _ {R E W F : Type 0} (source : Reader R E) (sink : Writer W F) where
 
     -- a body of a definite string, with its answer
     pub definite_goes_on : (before : ℕ) (bytes title : List ℕ) (marks : List Mark) (k : Kind) (len place : ℕ)
-        (between new : Decoder R) (writer-between titled writer' : W)
-        (result : Result (Unit {0}) (RecodeError E F)) → before < count → IsTitle title (kind_header k (Some len))
-        → IsRun before bytes marks → Passes source old (bytes ++ title) between
-        → place + title_len (kind_header k (Some len)) ≡ between.offset
-        → WritesAll sink writer (spelling marks) writer-between
-        → WritesAll sink writer-between (shortest_title (kind_header k (Some len))) titled
-        → CopiesBody source sink k len room place between titled result new writer'
-        → Strictly old (IsStrictTitle title (kind_header k (Some len)))
-        → Strictly old (IsStrictSpelling bytes marks []) → GoesOn source sink count before room old writer
-        result new writer'
-    definite_goes_on before bytes title marks k len place between new writer-between titled writer' (Ok done) less t
-        run passed at written title-written copied only strict =
-        definite_added before bytes title marks k len between new writer-between titled writer' t run passed written
-        title-written copied only strict
-    definite_goes_on before bytes title marks k len place between new writer-between titled writer' (Err error) less
-        t run passed at written title-written copied only strict =
+        (between : Sides R W) (titled : W) (new : Sides R W) (result : Result (Unit {0}) (RecodeError E F))
+        → before < count → IsTitle title (kind_header k (Some len)) → IsRun before bytes marks
+        → Copied source sink old (bytes ++ title) marks between
+        → place + title_len (kind_header k (Some len)) ≡ between.decoder.offset
+        → WritesAll sink between.writer (shortest_title (kind_header k (Some len))) titled
+        → CopiesBody source sink k len room place (sides between.decoder titled) result new
+        → Strictly old.decoder (IsStrictTitle title (kind_header k (Some len)))
+        → Strictly old.decoder (IsStrictSpelling bytes marks []) → GoesOn source sink count before room old result new
+    definite_goes_on before bytes title marks k len place between titled new (Ok done) less t run copied at
+        title-written whole only strict =
+        definite_added before bytes title marks k len place between titled new t run copied title-written whole only
+        strict
+    definite_goes_on before bytes title marks k len place between titled new (Err error) less t run copied at
+        title-written stopped only strict =
         let start = length (bytes ++ title) - title_len (kind_header k (Some len)) in
-        let placed : old.offset + start ≡ place = body_start place title k len t bytes (at ∙ passed.offset) in
-        body_stops (bytes ++ title) marks k len start between new writer-between titled writer' error
-        (body k (due less run) t)
+        let placed : old.decoder.offset + start ≡ place = body_start place title k len t bytes
+        (at ∙ copied.passed.offset) in
+        body_stops (bytes ++ title) marks k len start between titled new error (body k (due less run) t)
         (λ on none. spelled_title bytes marks title (shortest_title (kind_header k (Some len))) (strict on none)
-        (only on none).shortest) (record { passed = passed; written = written }) title-written
-        (subst (λ (n : ℕ). CopiesBody source sink k len room n between titled (Err error) new writer') (sym placed)
-        copied)
+        (only on none).shortest) copied title-written
+        (subst (λ (n : ℕ). CopiesBody source sink k len room n (sides between.decoder titled) (Err error) new)
+        (sym placed) stopped)
 
     -- the writer failed at the title of a definite string
     pub definite_unwritten : (before : ℕ) (bytes title : List ℕ) (marks : List Mark) (k : Kind) (len : ℕ)
-        (now : Decoder R) (between writer' : W) (fault : F) → before < count
-        → IsTitle title (kind_header k (Some len)) → IsRun before bytes marks
-        → Passes source old (bytes ++ title) now → WritesAll sink writer (spelling marks) between
-        → WritesFront sink between (shortest_title (kind_header k (Some len))) writer'
-        → StopsWriting source sink count old writer now writer'
-    definite_unwritten before bytes title marks k len now between writer' fault less t run passed written stopped =
-        title_unwritten (bytes ++ title) marks k len (length (bytes ++ title) - title_len
-        (kind_header k (Some len))) now between writer' fault (body k (due less run) t)
-        (record { passed = passed; written = written }) stopped
+        (now : Sides R W) (after : W) (fault : F) → before < count → IsTitle title (kind_header k (Some len))
+        → IsRun before bytes marks → Copied source sink old (bytes ++ title) marks now
+        → WritesFront sink now.writer (shortest_title (kind_header k (Some len))) after
+        → StopsWriting source sink count old (sides now.decoder after)
+    definite_unwritten before bytes title marks k len now after fault less t run copied stopped =
+        title_unwritten (bytes ++ title) marks k len
+        (length (bytes ++ title) - title_len (kind_header k (Some len))) now after fault (body k (due less run) t)
+        copied stopped
 
   -- a decoder with the same reader and offset, and with no header that waits either
   pub passes_same : (old now now' : Decoder R) (bytes : List ℕ) → Passes source old bytes now → now.waiting ≡ None
@@ -316,10 +286,10 @@ module _ {R E W F : Type 0} (source : Reader R E) (sink : Writer W F) where
       }
 
   -- the only error of a header's write is the writer's
-  pub header_error : (count room : ℕ) (old new : Decoder R) (writer between writer' : W) (header : Header)
-      (error : RecodeError E F) → WritesHeader {E = E} sink between (Err error) header writer'
-      → ((fault : F) → WritesFront sink between (shortest_title header) writer'
-      → StopsWriting source sink count old writer new writer')
-      → StopsCopy source sink count room old writer error new writer'
-  header_error count room old new writer between writer' header (r.Write fault) wrote stops = stops fault wrote
-  header_error count room old new writer between writer' header (r.Read error) wrote stops = absurd wrote
+  pub header_error : (count room : ℕ) (old now : Sides R W) (after : W) (header : Header) (error : RecodeError E F)
+      → WritesHeader {E = E} sink now.writer (Err error) header after
+      → ((fault : F) → WritesFront sink now.writer (shortest_title header) after
+      → StopsWriting source sink count old (sides now.decoder after))
+      → StopsCopy source sink count room old error (sides now.decoder after)
+  header_error count room old now after header (r.Write fault) wrote stops = stops fault wrote
+  header_error count room old now after header (r.Read error) wrote stops = absurd wrote

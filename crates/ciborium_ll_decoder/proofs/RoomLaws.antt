@@ -4,8 +4,8 @@ use Rattle.std.proofs.Common.{arith, append_assoc, length-append}
 use Rattle.ciborium_ll_grammar.specs.declared.hdr.Header.TheVariants as h
 use Rattle.ciborium_ll_grammar.specs.Title.{IsTitle, shortest_title, title_len}
 use Rattle.ciborium_ll_grammar.specs.Strings.{Kind, kind_header, AreStrings, none, more}
-use Rattle.ciborium_ll_grammar.specs.Strings.IsString.{definite as definite_str, indefinite as indefinite_str}
-use Rattle.ciborium_ll_grammar.specs.Elements.{Mark, Open, pieces, spelling, IsElement, plain, definite, indefinite}
+use Rattle.ciborium_ll_grammar.specs.Strings.IsString.{definite, indefinite}
+use Rattle.ciborium_ll_grammar.specs.Elements.{Mark, Open, pieces, spelling, IsElement, plain, string}
 use Rattle.ciborium_ll_grammar.specs.Elements.{IsPlain, IsRun, done, next}
 use Rattle.ciborium_ll_grammar.specs.Faults.{Place, Reaches, due, inside, body, body_inside}
 use Rattle.ciborium_ll_decoder.specs.Recoding.{IsUnderWay}
@@ -65,14 +65,14 @@ strings_rest k x cs c y rec w bs none v e =
     absurd (not_break k None ((one_title z.0 (0xff ∷ []) (z.1 ++ y) v (kind_header k None) h.Break z.2 break_title
     (sym (append_assoc z.0 z.1 y) ∙ (ap (λ (x : List ℕ). x ++ y) (sym z.3) ∙ e))).1))
 strings_rest k x cs c y rec w bs (more {rest = b} {bodies = fs} {others = gs}
-    (definite_str {title = t} {body = d} p) q) v e =
+    (definite {title = t} {body = d} p) q) v e =
     let z = opens_title k x c in
     let o = fronts k z.0 t (z.1 ++ y) (d ++ (b ++ 0xff ∷ v)) None (Some (length d)) z.2 p
     (sym (append_assoc z.0 z.1 y) ∙ (ap (λ (x : List ℕ). x ++ y) (sym z.3)
     ∙ (e ∙ append_assoc (t ++ d) b (0xff ∷ v) ∙ append_assoc t d (b ++ 0xff ∷ v)))) in
     absurd (mixed (length d) (sym o.1))
 strings_rest k x cs c y rec w bs (more {rest = b} {bodies = fs} {others = gs}
-    (indefinite_str {title = t} {strings = d} p i) q) v e =
+    (indefinite {title = t} {strings = d} p i) q) v e =
     let g = rec t d (b ++ 0xff ∷ v) fs p i (e ∙ append_assoc (t ++ (d ++ 0xff ∷ [])) b (0xff ∷ v)
     ∙ append_assoc t (d ++ 0xff ∷ []) (b ++ 0xff ∷ v)
     ∙ ap (λ (z : List ℕ). t ++ z) (append_assoc d (0xff ∷ []) (b ++ 0xff ∷ v))) in
@@ -121,12 +121,12 @@ element_rest w ms (plain x p f) k u os c y q e =
     let o = one_title w z.0 q (z.1 ++ y) x (kind_header k None) p z.2
     (sym e ∙ (ap (λ (x : List ℕ). x ++ y) z.3 ∙ append_assoc z.0 z.1 y)) in
     absurd (not_plain k None (subst IsPlain o.1 f))
-element_rest w ms (definite {title = t} {body = b} j p s) k u os c y q e =
+element_rest w ms (string j (definite {title = t} {body = b} p) s) k u os c y q e =
     let z = opens_title k u c in
     let o = string_fronts j k t z.0 (b ++ q) (z.1 ++ y) (Some (length b)) None p z.2
     (sym (append_assoc t b q) ∙ (sym e ∙ (ap (λ (x : List ℕ). x ++ y) z.3 ∙ append_assoc z.0 z.1 y))) in
     absurd (mixed (length b) o.2)
-element_rest w ms (indefinite {title = t} {strings = x} {bodies = bs} j p i s) k u os c y q e =
+element_rest w ms (string j (indefinite {title = t} {strings = x} {bodies = bs} p i) s) k u os c y q e =
     let z = opens_title k u c in
     let e2 = e ∙ (append_assoc t (x ++ 0xff ∷ []) q ∙ ap (λ (r : List ℕ). t ++ r) (append_assoc x (0xff ∷ []) q)) in
     let o = string_fronts j k t z.0 (x ++ 0xff ∷ q) (z.1 ++ y) None None p z.2
@@ -162,14 +162,14 @@ element_body : (w : List ℕ) (ms : List Mark) → IsElement w ms → (k : Kind)
 element_body w ms (plain y p f) k len t x q c e =
     let o = one_title w t q x y (kind_header k (Some len)) p c (sym e) in
     absurd (not_plain k (Some len) (subst IsPlain o.1 f))
-element_body w ms (definite {title = y} {body = b} j p s) k len t x q c e =
+element_body w ms (string j (definite {title = y} {body = b} p) s) k len t x q c e =
     let o = string_fronts k j t y x (b ++ q) (Some len) (Some (length b)) c p (e ∙ append_assoc y b q) in
     let same = some_is len (length b) o.2 in
     let front = shortest_title (kind_header j (Some (length b))) in
     let titles = ap (λ (r : Kind). title_len (kind_header r (Some len))) o.0 in
     let lens = ap (λ (n : ℕ). title_len (kind_header j (Some n))) same in
     omega (arith, same, titles, lens, length-append (front ++ b) [], length-append front b)
-element_body w ms (indefinite {title = y} {strings = z} {bodies = bs} j p i s) k len t x q c e =
+element_body w ms (string j (indefinite {title = y} {strings = z} {bodies = bs} p i) s) k len t x q c e =
     let o = string_fronts k j t y x ((z ++ 0xff ∷ []) ++ q) (Some len) None c p
     (e ∙ append_assoc y (z ++ 0xff ∷ []) q) in
     absurd (mixed len o.2)
@@ -180,7 +180,7 @@ strings_body : (k : Kind) (w : List ℕ) (bs : List (List ℕ)) → AreStrings k
     → title_len (kind_header k (Some len)) + len ≤ size k bs
 strings_body k w bs none len t x v c e = absurd (not_break k (Some len)
     ((one_title t (0xff ∷ []) x v (kind_header k (Some len)) h.Break c break_title e).1))
-strings_body k w bs (more {rest = b} {bodies = fs} {others = gs} (definite_str {title = y} {body = d} p) q) len t x
+strings_body k w bs (more {rest = b} {bodies = fs} {others = gs} (definite {title = y} {body = d} p) q) len t x
     v c e =
     let o = fronts k t y x (d ++ (b ++ 0xff ∷ v)) (Some len) (Some (length d)) c p
     (e ∙ append_assoc (y ++ d) b (0xff ∷ v) ∙ append_assoc y d (b ++ 0xff ∷ v)) in
@@ -188,7 +188,7 @@ strings_body k w bs (more {rest = b} {bodies = fs} {others = gs} (definite_str {
     let front = shortest_title (kind_header k (Some (length d))) in
     let lens = ap (λ (n : ℕ). title_len (kind_header k (Some n))) same in
     omega (arith, same, lens, size-append k (d ∷ []) gs, length-append (front ++ d) [], length-append front d)
-strings_body k w bs (more {rest = b} {bodies = fs} {others = gs} (indefinite_str {title = y} {strings = d} p i) q)
+strings_body k w bs (more {rest = b} {bodies = fs} {others = gs} (indefinite {title = y} {strings = d} p i) q)
     len t x v c e =
     let o = fronts k t y x ((d ++ 0xff ∷ []) ++ (b ++ 0xff ∷ v)) (Some len) None c p
     (e ∙ append_assoc (y ++ (d ++ 0xff ∷ [])) b (0xff ∷ v) ∙ append_assoc y (d ++ 0xff ∷ []) (b ++ 0xff ∷ v)) in

@@ -6,9 +6,10 @@ use Rattle.ciborium_ll_io.specs.declared.io.Read.{Ghosts as Reader}
 use Rattle.ciborium_ll_decoder.specs.declared.dec.Decoder.{Decoder}
 use Rattle.ciborium_ll_grammar.specs.Title.{shortest_title, title_len}
 use Rattle.ciborium_ll_grammar.specs.Strings.{kind_header}
-use Rattle.ciborium_ll_grammar.specs.Elements.{Mark, Open, pieces, spelling, IsElement, plain, definite, indefinite}
+use Rattle.ciborium_ll_grammar.specs.Strings.IsString.{definite, indefinite}
+use Rattle.ciborium_ll_grammar.specs.Elements.{Mark, Open, pieces, spelling, IsElement, plain, string}
 use Rattle.ciborium_ll_grammar.specs.Elements.{IsRun, done, next}
-use Rattle.ciborium_ll_grammar.specs.Faults.{Place, Due, In, Body, Reaches, due, inside, body, body_inside}
+use Rattle.ciborium_ll_grammar.specs.Faults.{Place, Due, In, BodyDue, Reaches, due, inside, body, body_inside}
 use Rattle.ciborium_ll_decoder.specs.Decoding.{Begins, Passes}
 use Rattle.ciborium_ll_decoder.specs.Recoding.{IsUnderWay}
 use Rattle.ciborium_ll_grammar.proofs.TitleLaws.{shortest_no_longer, shortest_some}
@@ -22,7 +23,7 @@ use Rattle.ciborium_ll_decoder.proofs.NestLaws.{title_some}
 abbrev under_way : Place → ℕ
 under_way Due = 0
 under_way (In kind) = 0
-under_way (Body kind len start) = title_len (kind_header kind (Some len))
+under_way (BodyDue kind len start) = title_len (kind_header kind (Some len))
 
 reach_shorter : (count : ℕ) (bytes : List ℕ) (marks : List Mark) (place : Place) → Reaches count bytes marks place
     → length (spelling marks) + under_way place ≤ length bytes
@@ -78,14 +79,14 @@ way_shorter count bytes marks (In k) more read reach way =
       length-append (spelling marks) more,
       length-append bytes read,
     )
-way_shorter count bytes marks (Body k len start) more read reach way =
+way_shorter count bytes marks (BodyDue k len start) more read reach way =
     let parts = ap length way.1 in
     let front = ap length way.2.1 in
     omega (
       arith,
       parts,
       front,
-      reach_shorter count bytes marks (Body k len start) reach,
+      reach_shorter count bytes marks (BodyDue k len start) reach,
       length-append (spelling marks) more,
       length-append bytes read,
       length-append (shortest_title (kind_header k (Some len))) way.0,
@@ -97,9 +98,9 @@ way_shorter count bytes marks (Body k len start) more read reach way =
 -- an element has a byte
 element_some : (w : List ℕ) (ms : List Mark) → IsElement w ms → 0 < length w
 element_some w ms (plain x p q) = title_some w x p
-element_some w ms (definite {title = t} {body = b} k p s) = omega
+element_some w ms (string k (definite {title = t} {body = b} p) s) = omega
     (arith, title_some t (kind_header k (Some (length b))) p, length-append t b)
-element_some w ms (indefinite {title = t} {strings = y} k p q s) =
+element_some w ms (string k (indefinite {title = t} {strings = y} p q) s) =
     omega (arith, title_some t (kind_header k None) p, length-append t (y ++ 0xff ∷ []))
 
 -- behind some elements no header waits

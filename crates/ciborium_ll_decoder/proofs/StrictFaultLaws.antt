@@ -6,10 +6,10 @@ use Rattle.ciborium_ll_grammar.specs.declared.hdr.Header.{Header}
 use Rattle.ciborium_ll_grammar.specs.declared.hdr.Header.TheVariants as h
 use Rattle.ciborium_ll_grammar.specs.Title.{IsTitle, IsSmallSimple, IsStrictTitle, shortest_title, title_len}
 use Rattle.ciborium_ll_grammar.specs.Strings.{Kind, Bytes, Text, kind_header, IsString, AreStrings, none, more}
-use Rattle.ciborium_ll_grammar.specs.Strings.IsString.{definite as definite_str, indefinite as indefinite_str}
-use Rattle.ciborium_ll_grammar.specs.Elements.{Mark, Open, pieces, spelling, IsElement, plain, definite, indefinite}
+use Rattle.ciborium_ll_grammar.specs.Strings.IsString.{definite, indefinite}
+use Rattle.ciborium_ll_grammar.specs.Elements.{Mark, Open, pieces, spelling, IsElement, plain, string}
 use Rattle.ciborium_ll_grammar.specs.Elements.{IsPlain, IsRun, done, next, IsMeant, IsStrictSpelling}
-use Rattle.ciborium_ll_grammar.specs.Faults.{Place, Due, In, Body, IsAtTitle, IsInside, opened, deeper, Reaches, due}
+use Rattle.ciborium_ll_grammar.specs.Faults.{Place, Due, In, BodyDue, IsAtTitle, IsInside, opened, deeper, Reaches, due}
 use Rattle.ciborium_ll_grammar.specs.Faults.{inside, body, body_inside, Answer}
 use Rattle.ciborium_ll_decoder.specs.StrictRecoding.{due_title, IsStrictRun, StrictRunInFront, StrictlyReaches}
 use Rattle.ciborium_ll_decoder.specs.StrictRecoding.{StrictFault, Fault, LongTitle, NestedOpen, HasStrictFault}
@@ -111,7 +111,7 @@ element_begins : (w : List ℕ) (ms : List Mark) → IsElement w ms → w ≡ sp
     → (t r q : List ℕ) (x : Header) → IsTitle t x → t ++ r ≡ w ++ q → IsStrictTitle t x
 element_begins w ms (plain y p f) s m t r q x c e = same_strictly t w r q x y c p
     (s ∙ append-nil (shortest_title y)) m.0 e
-element_begins w ms (definite {title = y} {body = b} k p f) s m t r q x c e =
+element_begins w ms (string k (definite {title = y} {body = b} p) f) s m t r q x c e =
     let front = shortest_title (kind_header k (Some (length b))) in
     let l = ap length s in
     let first = same_front y front b b (omega (
@@ -123,7 +123,7 @@ element_begins w ms (definite {title = y} {body = b} k p f) s m t r q x c e =
     )) (s ∙ append-nil (front ++ b)) in
     same_strictly t y r (b ++ q) x (kind_header k (Some (length b))) c p first.0 (kind_meant k (Some (length b)))
     (e ∙ append_assoc y b q)
-element_begins w ms (indefinite {title = y} {strings = z} {bodies = bs} k p g f) s m t r q x c e =
+element_begins w ms (string k (indefinite {title = y} {strings = z} {bodies = bs} p g) f) s m t r q x c e =
     same_strictly t y r ((z ++ 0xff ∷ []) ++ q) x (kind_header k None) c p
     (alone_bytes y (kind_header k None) p (open_alone k)) (kind_meant k None)
     (e ∙ append_assoc y (z ++ 0xff ∷ []) q)
@@ -170,7 +170,7 @@ goes_tight k w bs (more {first = a} {rest = y} {bodies = cs} {others = ds} s ss)
 inner_string : (k : Kind) (a : List ℕ) (cs : List (List ℕ)) → IsString k a cs → length a
     ≤ length (spelling (pieces k cs)) → (t r q : List ℕ) (x : Header) → IsTitle t x → t ++ r ≡ a ++ q
     → IsStrictTitle t x × (x ≡ kind_header k None → ⊥)
-inner_string k a cs (definite_str {title = y} {body = b} p) l t r q x c e =
+inner_string k a cs (definite {title = y} {body = b} p) l t r q x c e =
     let z = kind_header k (Some (length b)) in
     let front = shortest_title z in
     let first = tight_title y z p (omega (
@@ -187,7 +187,7 @@ inner_string k a cs (definite_str {title = y} {body = b} p) l t r q x c e =
       λ same. open_has_none k
           (length b) (sym same ∙ o.1),
     )
-inner_string k a cs (indefinite_str {title = y} {strings = z} p s) l t r q x c e =
+inner_string k a cs (indefinite {title = y} {strings = z} p s) l t r q x c e =
     let n = respell_all k z cs s in
     absurd (let m = n.shorter in omega (arith, l, m, length-append y (z ++ 0xff ∷ []), length-append z (0xff ∷ [])))
 
@@ -237,13 +237,13 @@ element_goes w ms (plain z p f) s k y bs ys t r q x c e =
     let o = one_title front w (y ++ (t ++ r)) q (kind_header k None) z
     (IsTitle-shortest (kind_header k None) (open_in_range k)) p (sym (append_assoc front y (t ++ r)) ∙ e) in
     absurd (not_plain k None (subst IsPlain (sym o.1) f))
-element_goes w ms (definite {title = z} {body = b} j p f) s k y bs ys t r q x c e =
+element_goes w ms (string j (definite {title = z} {body = b} p) f) s k y bs ys t r q x c e =
     let front = shortest_title (kind_header k None) in
     let o = string_fronts k j front z (y ++ (t ++ r)) (b ++ q) None (Some (length b))
     (IsTitle-shortest (kind_header k None) (open_in_range k)) p
     (sym (append_assoc front y (t ++ r)) ∙ (e ∙ append_assoc z b q)) in
     absurd (mixed (length b) (sym o.2))
-element_goes w ms (indefinite {title = z} {strings = a} {bodies = cs} j p g f) s k y bs ys t r q x c e =
+element_goes w ms (string j (indefinite {title = z} {strings = a} {bodies = cs} p g) f) s k y bs ys t r q x c e =
     let front = shortest_title (kind_header k None) in
     let o = string_fronts k j front z (y ++ (t ++ r)) ((a ++ 0xff ∷ []) ++ q) None None
     (IsTitle-shortest (kind_header k None) (open_in_range k)) p
@@ -293,7 +293,7 @@ inside_same i k a b os bs r n e =
 abbrev IsNoOpen : Place → Header → Type 0
 IsNoOpen Due x = Unit {0}
 IsNoOpen (In k) x = x ≡ kind_header k None → ⊥
-IsNoOpen (Body k len start) x = Unit {0}
+IsNoOpen (BodyDue k len start) x = Unit {0}
 
 title_strictly : (n : ℕ) (u : List ℕ) (ms : List Mark) (at : Place) → Reaches n u ms at → IsAtTitle at → u
     ≡ spelling ms → (t r : List ℕ) (x : Header) → IsTitle t x
@@ -315,7 +315,7 @@ at_title_spelled : (place : Place) (bytes : List ℕ) (marks : List Mark) → Is
     → IsStrictSpelling bytes marks (due_title place) → bytes ≡ spelling marks
 at_title_spelled Due bytes marks d spelled = spelled_alone bytes marks spelled
 at_title_spelled (In k) bytes marks d spelled = spelled_alone bytes marks spelled
-at_title_spelled (Body k len start) bytes marks d spelled = absurd d
+at_title_spelled (BodyDue k len start) bytes marks d spelled = absurd d
 
 strictly_stuck : (n : ℕ) (u : List ℕ) (ms : List Mark) (at : Place) → StrictlyReaches n u ms at
     → (s : List ℕ) (a : Answer) (out : List ℕ) (c : ℕ) → StrictFault u ms at s a out c

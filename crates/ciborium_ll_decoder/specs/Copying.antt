@@ -11,6 +11,7 @@ use Rattle.ciborium_ll_decoder.specs.declared.recode.RecodeError.TheVariants as 
 use Rattle.ciborium_ll_decoder.specs.declared.dec.Error.TheVariants as e
 use Rattle.ciborium_ll_grammar.specs.Title.{IsTitle, shortest_title, BeginsRefused, IsCutTitle}
 use Rattle.ciborium_ll_decoder.specs.Decoding.{offset_limit, view, IsSteady, Passes, PullsHeader}
+use Rattle.ciborium_ll_decoder.specs.Sides.{Sides, sides}
 use Rattle.ciborium_ll_encoder.specs.Encoding.{WritesAll, WritesFront}
 
 -- the bytes are titles of the headers, joined
@@ -35,58 +36,55 @@ pub record TitlesInFront (count : ℕ) (bytes : List ℕ) : Type 0 where
 
 module _ {R E W F : Type 0} (source : Reader R E) (sink : Writer W F) where
   -- the titles of the headers were read, and their shortest titles written
-  pub record Copies (headers : List Header) (old : Decoder R) (writer : W) (new : Decoder R) (writer' : W) : Type 0
-    where
-      pub bytes : List ℕ
-      pub titles : AreTitles bytes headers
-      pub passed : Passes source old bytes new
-      pub written : WritesAll sink writer (shortest_titles headers) writer'
+  pub record Copies (headers : List Header) (old new : Sides R W) : Type 0 where
+    pub bytes : List ℕ
+    pub titles : AreTitles bytes headers
+    pub passed : Passes source old.decoder bytes new.decoder
+    pub written : WritesAll sink old.writer (shortest_titles headers) new.writer
 
   -- all headers were copied; what was written are titles of just these headers again
-  pub record CopiesEach (count : ℕ) (old : Decoder R) (writer : W) (new : Decoder R) (writer' : W) : Type 0 where
+  pub record CopiesEach (count : ℕ) (old new : Sides R W) : Type 0 where
     pub headers : List Header
     pub all : length headers ≡ count
-    pub copied : Copies headers old writer new writer'
+    pub copied : Copies headers old new
     pub again : AreTitles (shortest_titles headers) headers
 
   -- behind fewer headers, `pull` failed with this error
-  pub record StopsAtPull (count : ℕ) (old : Decoder R) (writer : W) (error : Error E) (new : Decoder R)
-      (writer' : W) : Type 0 where
+  pub record StopsAtPull (count : ℕ) (old : Sides R W) (error : Error E) (new : Sides R W) : Type 0 where
     pub headers : List Header
     pub fewer : length headers < count
     pub between : Decoder R
-    pub copied : Copies headers old writer between writer'
-    pub stopped : PullsHeader source between (Err error) new
+    pub copied : Copies headers old (sides between new.writer)
+    pub stopped : PullsHeader source between (Err error) new.decoder
 
   -- behind fewer headers, `push` of the next one failed
-  pub record StopsAtPush (count : ℕ) (old : Decoder R) (writer : W) (new : Decoder R) (writer' : W) : Type 0 where
+  pub record StopsAtPush (count : ℕ) (old new : Sides R W) : Type 0 where
     pub headers : List Header
     pub fewer : length headers < count
-    pub between : Decoder R
-    pub writer-between : W
-    pub copied : Copies headers old writer between writer-between
+    pub between : Sides R W
+    pub copied : Copies headers old between
     pub last : Header
-    pub pulled : PullsHeader source between (Ok last) new
-    pub stopped : WritesFront sink writer-between (shortest_title last) writer'
+    pub pulled : PullsHeader source between.decoder (Ok last) new.decoder
+    pub stopped : WritesFront sink between.writer (shortest_title last) new.writer
 
   -- the copy of so many headers, by its answer
-  abbrev pub CopiesHeaders : ℕ → Decoder R → W → Result (Unit {0}) (RecodeError E F) → Decoder R → W → Type 0
-  CopiesHeaders count old writer (Ok done) new writer' = CopiesEach count old writer new writer'
-  CopiesHeaders count old writer (Err (r.Read error)) new writer' = StopsAtPull count old writer error new writer'
-  CopiesHeaders count old writer (Err (r.Write fault)) new writer' = StopsAtPush count old writer new writer'
+  abbrev pub CopiesHeaders : ℕ → Sides R W → Result (Unit {0}) (RecodeError E F) → Sides R W → Type 0
+  CopiesHeaders count old (Ok done) new = CopiesEach count old new
+  CopiesHeaders count old (Err (r.Read error)) new = StopsAtPull count old error new
+  CopiesHeaders count old (Err (r.Write fault)) new = StopsAtPush count old new
 
   -- ---- what that means where the bytes are told
 
   -- the reader gives the bytes that it tells, the writer has room for as many, and the offset fits
-  pub record IsReadyForTitles (decoder : Decoder R) (writer : W) (due written : List ℕ) : Type 0 where
-    pub lenient : decoder.strict ≡ false
-    pub steady : IsSteady source decoder
-    pub due-told : view source decoder ≡ Some due
-    pub written-told : sink.written writer ≡ Some written
+  pub record IsReadyForTitles (now : Sides R W) (due written : List ℕ) : Type 0 where
+    pub lenient : now.decoder.strict ≡ false
+    pub steady : IsSteady source now.decoder
+    pub due-told : view source now.decoder ≡ Some due
+    pub written-told : sink.written now.writer ≡ Some written
     pub room : ℕ
-    pub room-told : sink.room writer ≡ Some room
+    pub room-told : sink.room now.writer ≡ Some room
     pub enough : length due ≤ room
-    pub fits : decoder.offset + length due + 8 < offset_limit
+    pub fits : now.decoder.offset + length due + 8 < offset_limit
 
   -- titles of the headers stand in front of the bytes due, and their shortest titles were written
   pub record CopiesTitles (headers : List Header) (due written : List ℕ) (writer' : W) : Type 0 where
@@ -97,41 +95,39 @@ module _ {R E W F : Type 0} (source : Reader R E) (sink : Writer W F) where
     pub output : sink.written writer' ≡ Some (written ++ shortest_titles headers)
 
   -- as many titles were copied, and what follows them is left
-  pub record CopiesSoMany (count : ℕ) (due written : List ℕ) (old new : Decoder R) (writer' : W) : Type 0 where
+  pub record CopiesSoMany (count : ℕ) (due written : List ℕ) (old : Decoder R) (new : Sides R W) : Type 0 where
     pub headers : List Header
     pub all : length headers ≡ count
-    pub copied : CopiesTitles headers due written writer'
+    pub copied : CopiesTitles headers due written new.writer
     pub again : AreTitles (shortest_titles headers) headers
-    pub left : view source new ≡ Some copied.rest
-    pub offset : new.offset ≡ old.offset + length copied.front
+    pub left : view source new.decoder ≡ Some copied.rest
+    pub offset : new.decoder.offset ≡ old.offset + length copied.front
 
   -- behind fewer titles the bytes end, at once or inside a title, of which the first byte is gone
-  pub record MeetsCutTitle (count : ℕ) (due written : List ℕ) (old new : Decoder R) (writer' : W) : Type 0 where
+  pub record MeetsCutTitle (count : ℕ) (due written : List ℕ) (old : Decoder R) (new : Sides R W) : Type 0 where
     pub headers : List Header
     pub fewer : length headers < count
-    pub copied : CopiesTitles headers due written writer'
+    pub copied : CopiesTitles headers due written new.writer
     pub cut : IsCutTitle copied.rest
-    pub left : view source new ≡ Some (drop 1 copied.rest)
-    pub offset : new.offset ≡ old.offset + length copied.front + length (take 1 copied.rest)
+    pub left : view source new.decoder ≡ Some (drop 1 copied.rest)
+    pub offset : new.decoder.offset ≡ old.offset + length copied.front + length (take 1 copied.rest)
 
   -- behind fewer titles stands a byte with which no title begins; it is gone, and the place is its offset
-  pub record MeetsRefused (count : ℕ) (due written : List ℕ) (place : ℕ) (old new : Decoder R) (writer' : W) : Type
-      0 where
-    pub headers : List Header
-    pub fewer : length headers < count
-    pub copied : CopiesTitles headers due written writer'
-    pub refused : BeginsRefused copied.rest
-    pub at : place ≡ old.offset + length copied.front
-    pub left : view source new ≡ Some (drop 1 copied.rest)
-    pub offset : new.offset ≡ place + 1
+  pub record MeetsRefused (count : ℕ) (due written : List ℕ) (place : ℕ) (old : Decoder R) (new : Sides R W) : Type 0
+    where
+      pub headers : List Header
+      pub fewer : length headers < count
+      pub copied : CopiesTitles headers due written new.writer
+      pub refused : BeginsRefused copied.rest
+      pub at : place ≡ old.offset + length copied.front
+      pub left : view source new.decoder ≡ Some (drop 1 copied.rest)
+      pub offset : new.decoder.offset ≡ place + 1
 
   -- copying ends with all titles, or at the first place where none stands
-  abbrev pub CopiesTold : ℕ → List ℕ → List ℕ → Decoder R → Result (Unit {0}) (RecodeError E F) → Decoder R → W → Type 0
-  CopiesTold count due written old (Ok done) new writer' = CopiesSoMany count due written old new writer'
-  CopiesTold count due written old (Err (r.Read (e.Io fault))) new writer' =
-      MeetsCutTitle count due written old new writer'
-  CopiesTold count due written old (Err (r.Read (e.Syntax place))) new writer' =
-      MeetsRefused count due written place old new writer'
-  CopiesTold count due written old (Err (r.Read e.TooLong)) new writer' = ⊥
-  CopiesTold count due written old (Err (r.Read e.Waiting)) new writer' = ⊥
-  CopiesTold count due written old (Err (r.Write fault)) new writer' = ⊥
+  abbrev pub CopiesTold : ℕ → List ℕ → List ℕ → Decoder R → Result (Unit {0}) (RecodeError E F) → Sides R W → Type 0
+  CopiesTold count due written old (Ok done) new = CopiesSoMany count due written old new
+  CopiesTold count due written old (Err (r.Read (e.Io fault))) new = MeetsCutTitle count due written old new
+  CopiesTold count due written old (Err (r.Read (e.Syntax place))) new = MeetsRefused count due written place old new
+  CopiesTold count due written old (Err (r.Read e.TooLong)) new = ⊥
+  CopiesTold count due written old (Err (r.Read e.Waiting)) new = ⊥
+  CopiesTold count due written old (Err (r.Write fault)) new = ⊥

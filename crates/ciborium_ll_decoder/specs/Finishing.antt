@@ -1,5 +1,5 @@
 -- What `finish` does with a segment: it reads what is left of the body.
-use Rattle.std.specs.Prelude.{◌≡◌, ℕ, ◌+◌, ◌<◌, ◌≤◌, ◌⊎◌, true, false, List, ◌++◌, length, Result, Ok, Err}
+use Rattle.std.specs.Prelude.{◌≡◌, ℕ, ◌+◌, ◌<◌, ◌≤◌, ◌⊎◌, true, false, List, [], ◌++◌, length, Result, Ok, Err}
 use Rattle.ciborium_ll_io.specs.declared.io.Read.{Ghosts}
 use Rattle.ciborium_ll_decoder.specs.declared.dec.Decoder.{Decoder}
 use Rattle.ciborium_ll_decoder.specs.declared.dec.Error.{Error}
@@ -10,6 +10,11 @@ use Rattle.ciborium_ll_grammar.specs.Strings.{Kind, Text, IsWritable, most_kept}
 use Rattle.ciborium_ll_text.specs.Text.{IsCharacters, BeginsNoText}
 use Rattle.ciborium_ll_decoder.specs.Kept.{kept_bytes}
 use Rattle.ciborium_ll_decoder.specs.Decoding.{offset_limit, Passes, ReadFails, IsUntouched}
+
+-- behind bytes that were kept so many were unread, and of those these were read: together they are no text, as the
+-- whole body or however they go on
+abbrev pub IsNoText : List ℕ → ℕ → List ℕ → Type 0
+IsNoText kept unread read = ((length read ≡ unread) × (IsCharacters (kept ++ read) → ⊥)) ⊎ BeginsNoText (kept ++ read)
 
 -- of a body these bytes are kept, and so many are unread
 module _ {R E : Type 0} (source : Ghosts R E) (kind : Kind) (kept : List ℕ) (unread : ℕ) where
@@ -50,12 +55,16 @@ module _ {R E : Type 0} (source : Ghosts R E) (kind : Kind) (kept : List ℕ) (u
     pub full : offset_limit ≤ between.offset + count
     pub untouched : IsUntouched between new
 
-  -- what was read is no text: as the whole body, or however it goes on
+  -- what was read is no text, behind a front that is
   pub record RestDamaged (old new : Decoder R) : Type 0 where
     pub textual : kind ≡ Text
     pub read : List ℕ
+    pub front : List ℕ
+    pub left : List ℕ
+    pub parts : kept ++ read ≡ front ++ left
+    pub sound : IsCharacters front
     pub within : length read ≤ unread
-    pub no_text : ((length read ≡ unread) × (IsCharacters (kept ++ read) → ⊥)) ⊎ BeginsNoText (kept ++ read)
+    pub no_text : IsNoText kept unread read
     pub passed : Passes source old read new
 
   -- the rest of a body at this place is read through a buffer of so much room
@@ -65,6 +74,15 @@ module _ {R E : Type 0} (source : Ghosts R E) (kind : Kind) (kept : List ℕ) (u
   EndsBody room place old (Err (e.Syntax at)) new = (at ≡ place) × RestDamaged old new
   EndsBody room place old (Err e.TooLong) new = RestPasses room old new
   EndsBody room place old (Err e.Waiting) new = ⊥
+
+  -- what was handed out of it by then
+  abbrev pub handed_out : (room place : ℕ) (old : Decoder R) (result : Result (Unit {0}) (Error E)) (new : Decoder R)
+      → EndsBody room place old result new → List ℕ
+  handed_out room place old (Ok done) new reads = kept ++ reads.read
+  handed_out room place old (Err (e.Io fault)) new fails = fails.part.front
+  handed_out room place old (Err (e.Syntax at)) new damaged = damaged.1.front
+  handed_out room place old (Err e.TooLong) new passes = passes.part.front
+  handed_out room place old (Err e.Waiting) new never = []
 
 module _ {R E P : Type 0} {parser : Parser P} (source : Ghosts R E) where
   -- the segment was found to be damaged before, and nothing is read

@@ -8,4 +8,5 @@ pub mod Lend
 pub mod Recoding
 pub mod RecodingTold
 pub mod Segments
+pub mod Sides
 pub mod StrictRecoding

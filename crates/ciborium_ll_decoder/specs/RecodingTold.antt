@@ -10,19 +10,19 @@ use Rattle.ciborium_ll_decoder.specs.declared.recode.RecodeError.TheVariants as 
 use Rattle.ciborium_ll_grammar.specs.Title.{shortest_title}
 use Rattle.ciborium_ll_grammar.specs.Strings.{kind_header, IsWritable, most_kept}
 use Rattle.ciborium_ll_grammar.specs.Elements.{Mark, spelling, IsRun}
-use Rattle.ciborium_ll_grammar.specs.Faults.{Place, Due, In, Body, Reaches, Answer, Short, Syntax, RunInFront, HasFault}
+use Rattle.ciborium_ll_grammar.specs.Faults.{Place, Due, In, BodyDue, Reaches, Answer, Short, Syntax, RunInFront}
+use Rattle.ciborium_ll_grammar.specs.Faults.{HasFault}
 use Rattle.ciborium_ll_decoder.specs.Decoding.{offset_limit, Begins, view, IsSteady}
 use Rattle.ciborium_ll_decoder.specs.Recoding.{IsUnderWay}
+use Rattle.ciborium_ll_decoder.specs.Sides.{Sides}
 
 -- A side failed at this place, with these bytes ahead. `more` is what is written of a body under way: its shortest
--- title,
--- and a front of it. The count is that of the bytes ahead that are consumed: of a title the first byte at most, of a
--- text
--- up to three more than are written
+-- title, and a front of it. The count is that of the bytes ahead that are consumed: of a title the first byte at most,
+-- of a text up to three more than are written
 abbrev pub StopsAt : Place → List ℕ → List ℕ → ℕ → Type 0
 StopsAt Due ahead more consumed = (more ≡ []) × (consumed ≤ min 1 (length ahead))
 StopsAt (In kind) ahead more consumed = (more ≡ []) × (consumed ≤ min 1 (length ahead))
-StopsAt (Body kind len start) ahead more consumed =
+StopsAt (BodyDue kind len start) ahead more consumed =
     (front : List ℕ) × (rest : List ℕ) × (ahead ≡ front ++ rest)
     × (more ≡ shortest_title (kind_header kind (Some len)) ++ front) × IsWritable kind front
     × (length front ≤ consumed) × (consumed ≤ length front + most_kept kind) × (consumed ≤ min len (length ahead))
@@ -43,8 +43,7 @@ pub record StopInReading (count : ℕ) (bytes : List ℕ) : Type 0 where
   pub spelled : written ≡ spelling marks ++ more
 
 -- a copy of so many elements stops there, since no more can be written: behind all of them or a part. What is written
--- of
--- it in all is a beginning of its spelling and of a body under way; what was read and not written yet is that body's
+-- of it in all is a beginning of its spelling and of a body under way; what was read and not written yet is that body's
 pub record StopInWriting (count : ℕ) (bytes : List ℕ) : Type 0 where
   pub before : List ℕ
   pub marks : List Mark
@@ -59,90 +58,89 @@ pub record StopInWriting (count : ℕ) (bytes : List ℕ) : Type 0 where
 
 module _ {R E W F : Type 0} (source : Reader R E) (sink : Writer W F) where
   -- the bytes that are due are told, and those that were written
-  pub record IsToldAs (strict : Bool) (decoder : Decoder R) (writer : W) (due written : List ℕ) : Type 0 where
-    pub mode : decoder.strict ≡ strict
-    pub due-told : view source decoder ≡ Some due
-    pub written-told : sink.written writer ≡ Some written
+  pub record IsToldAs (strict : Bool) (now : Sides R W) (due written : List ℕ) : Type 0 where
+    pub mode : now.decoder.strict ≡ strict
+    pub due-told : view source now.decoder ≡ Some due
+    pub written-told : sink.written now.writer ≡ Some written
 
   -- they are told, and the decoder isn't strict
-  abbrev pub IsTold : Decoder R → W → List ℕ → List ℕ → Type 0
-  IsTold decoder writer due written = IsToldAs false decoder writer due written
+  abbrev pub IsTold : Sides R W → List ℕ → List ℕ → Type 0
+  IsTold now due written = IsToldAs false now due written
 
   -- the reader gives the bytes that it tells, the writer has room, and the offset takes every read, through
   -- a buffer of so much room
-  pub record IsReadyAs (strict : Bool) (count room-in : ℕ) (decoder : Decoder R) (writer : W)
+  pub record IsReadyAs (strict : Bool) (count room-in : ℕ) (now : Sides R W)
       (due written : List ℕ) : Type 0 where
-    pub steady : IsSteady source decoder
-    pub told : IsToldAs strict decoder writer due written
+    pub steady : IsSteady source now.decoder
+    pub told : IsToldAs strict now due written
     pub room : ℕ
-    pub room-told : sink.room writer ≡ Some room
+    pub room-told : sink.room now.writer ≡ Some room
     -- for the spelling of the elements where they stand in front, else for as many bytes as are due
     pub enough : ((front : RunInFront count due) × (length (spelling front.marks) ≤ room)) ⊎ (length due ≤ room)
-    pub fits-title : decoder.offset + length due + 8 < offset_limit
-    pub fits-chunk : decoder.offset + length due + room-in < offset_limit
+    pub fits-title : now.decoder.offset + length due + 8 < offset_limit
+    pub fits-chunk : now.decoder.offset + length due + room-in < offset_limit
 
   -- all that, and the decoder isn't strict
-  abbrev pub IsReady : ℕ → ℕ → Decoder R → W → List ℕ → List ℕ → Type 0
-  IsReady count room-in decoder writer due written = IsReadyAs false count room-in decoder writer due written
+  abbrev pub IsReady : ℕ → ℕ → Sides R W → List ℕ → List ℕ → Type 0
+  IsReady count room-in now due written = IsReadyAs false count room-in now due written
+
+  -- ---- from the old decoder to both sides: of the old writer it is said what was written
 
   -- that many elements stood in front of what was due: just their shortest spelling was written and just what follows
   -- them is left. The spelling is the same elements again, so a copy of it changes nothing
-  pub record CopiesFront (count : ℕ) (due written : List ℕ) (old new : Decoder R) (writer' : W) : Type 0 where
+  pub record CopiesFront (count : ℕ) (due written : List ℕ) (old : Decoder R) (new : Sides R W) : Type 0 where
     pub front : RunInFront count due
-    pub output : sink.written writer' ≡ Some (written ++ spelling front.marks)
+    pub output : sink.written new.writer ≡ Some (written ++ spelling front.marks)
     pub again : IsRun count (spelling front.marks) front.marks
-    pub left : view source new ≡ Some front.rest
-    pub offset : new.offset ≡ old.offset + length front.elements
+    pub left : view source new.decoder ≡ Some front.rest
+    pub offset : new.decoder.offset ≡ old.offset + length front.elements
     -- behind an element no header waits; behind none one waits just where one waited
-    pub settled : 0 < count → new.waiting ≡ None
-    pub still : count ≡ 0 → new.waiting ≡ old.waiting
+    pub settled : 0 < count → new.decoder.waiting ≡ None
+    pub still : count ≡ 0 → new.decoder.waiting ≡ old.waiting
 
   -- a fault was met: the answer, what was written up to it and what is consumed are its own
-  pub record MeetsFault (count : ℕ) (due written : List ℕ) (answer : Answer) (old new : Decoder R) (writer' : W) :
+  pub record MeetsFault (count : ℕ) (due written : List ℕ) (answer : Answer) (old : Decoder R) (new : Sides R W) :
       Type 0 where
     pub fault : HasFault count due
     pub answered : fault.answer ≡ answer
-    pub output : sink.written writer' ≡ Some (written ++ fault.written)
-    pub left : view source new ≡ Some (drop fault.consumed fault.ahead)
-    pub offset : new.offset ≡ old.offset + length fault.before + fault.consumed
+    pub output : sink.written new.writer ≡ Some (written ++ fault.written)
+    pub left : view source new.decoder ≡ Some (drop fault.consumed fault.ahead)
+    pub offset : new.decoder.offset ≡ old.offset + length fault.before + fault.consumed
 
   -- `recode`: all elements are copied, or the first fault stops it
-  abbrev pub RecodesTold : ℕ → List ℕ → List ℕ → Decoder R → Result (Unit {0}) (RecodeError E F) → Decoder R → W
+  abbrev pub RecodesTold : ℕ → List ℕ → List ℕ → Decoder R → Result (Unit {0}) (RecodeError E F) → Sides R W
       → Type 0
-  RecodesTold count due written old (Ok done) new writer' = CopiesFront count due written old new writer'
-  RecodesTold count due written old (Err (r.Read (e.Io fault))) new writer' =
-      MeetsFault count due written Short old new writer'
-  RecodesTold count due written old (Err (r.Read (e.Syntax place))) new writer' =
-      (start : ℕ) × (place ≡ old.offset + start) × MeetsFault count due written (Syntax start) old new writer'
-  RecodesTold count due written old (Err (r.Read e.TooLong)) new writer' = ⊥
-  RecodesTold count due written old (Err (r.Read e.Waiting)) new writer' = ⊥
-  RecodesTold count due written old (Err (r.Write fault)) new writer' = ⊥
+  RecodesTold count due written old (Ok done) new = CopiesFront count due written old new
+  RecodesTold count due written old (Err (r.Read (e.Io fault))) new = MeetsFault count due written Short old new
+  RecodesTold count due written old (Err (r.Read (e.Syntax place))) new =
+      (start : ℕ) × (place ≡ old.offset + start) × MeetsFault count due written (Syntax start) old new
+  RecodesTold count due written old (Err (r.Read e.TooLong)) new = ⊥
+  RecodesTold count due written old (Err (r.Read e.Waiting)) new = ⊥
+  RecodesTold count due written old (Err (r.Write fault)) new = ⊥
 
   -- ---- where a side may fail by itself
 
   -- the reader failed, or the offset is full
-  pub record StopsShort (count : ℕ) (due written : List ℕ) (old new : Decoder R) (writer' : W) : Type 0 where
+  pub record StopsShort (count : ℕ) (due written : List ℕ) (old : Decoder R) (new : Sides R W) : Type 0 where
     pub stop : StopInReading count due
-    pub output : sink.written writer' ≡ Some (written ++ stop.written)
-    pub offset : new.offset ≡ old.offset + length stop.before + stop.consumed
+    pub output : sink.written new.writer ≡ Some (written ++ stop.written)
+    pub offset : new.decoder.offset ≡ old.offset + length stop.before + stop.consumed
 
   -- the writer failed
-  pub record StopsUnwritten (count : ℕ) (due written : List ℕ) (old new : Decoder R) (writer' : W) : Type 0 where
+  pub record StopsUnwritten (count : ℕ) (due written : List ℕ) (old : Decoder R) (new : Sides R W) : Type 0 where
     pub stop : StopInWriting count due
-    pub output : sink.written writer' ≡ Some (written ++ stop.written)
-    pub left : view source new ≡ Some stop.rest
-    pub offset : new.offset ≡ old.offset + length stop.before + length stop.read
+    pub output : sink.written new.writer ≡ Some (written ++ stop.written)
+    pub left : view source new.decoder ≡ Some stop.rest
+    pub offset : new.decoder.offset ≡ old.offset + length stop.before + length stop.read
 
   -- `recode` through a buffer of so much room, whatever fails: `Ok` and `Syntax` mean the same as where nothing does
-  abbrev pub RecodesAnyhow : ℕ → ℕ → List ℕ → List ℕ → Decoder R → Result (Unit {0}) (RecodeError E F) → Decoder R
-      → W → Type 0
-  RecodesAnyhow count room-in due written old (Ok done) new writer' = CopiesFront count due written old new writer'
-  RecodesAnyhow count room-in due written old (Err (r.Read (e.Io fault))) new writer' =
-      StopsShort count due written old new writer'
-  RecodesAnyhow count room-in due written old (Err (r.Read (e.Syntax place))) new writer' =
-      (start : ℕ) × (place ≡ old.offset + start) × MeetsFault count due written (Syntax start) old new writer'
-  RecodesAnyhow count room-in due written old (Err (r.Read e.TooLong)) new writer' =
-      StopsShort count due written old new writer' × (offset_limit ≤ new.offset + max 8 room-in)
-  RecodesAnyhow count room-in due written old (Err (r.Read e.Waiting)) new writer' = ⊥
-  RecodesAnyhow count room-in due written old (Err (r.Write fault)) new writer' =
-      StopsUnwritten count due written old new writer'
+  abbrev pub RecodesAnyhow : ℕ → ℕ → List ℕ → List ℕ → Decoder R → Result (Unit {0}) (RecodeError E F)
+      → Sides R W → Type 0
+  RecodesAnyhow count room-in due written old (Ok done) new = CopiesFront count due written old new
+  RecodesAnyhow count room-in due written old (Err (r.Read (e.Io fault))) new = StopsShort count due written old new
+  RecodesAnyhow count room-in due written old (Err (r.Read (e.Syntax place))) new =
+      (start : ℕ) × (place ≡ old.offset + start) × MeetsFault count due written (Syntax start) old new
+  RecodesAnyhow count room-in due written old (Err (r.Read e.TooLong)) new =
+      StopsShort count due written old new × (offset_limit ≤ new.decoder.offset + max 8 room-in)
+  RecodesAnyhow count room-in due written old (Err (r.Read e.Waiting)) new = ⊥
+  RecodesAnyhow count room-in due written old (Err (r.Write fault)) new = StopsUnwritten count due written old new

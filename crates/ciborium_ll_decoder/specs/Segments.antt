@@ -1,6 +1,6 @@
 -- What the calls on strings do, which lend a decoder piece by piece.
-use Rattle.std.specs.Prelude.{◌≡◌, ℕ, ◌≤◌, IsTrue, suc, ◌+◌, ◌-◌, ◌<◌, ◌^◌, ◌⊎◌, true, List, [], ◌++◌, length, Option}
-use Rattle.std.specs.Prelude.{Some, None, Result, Ok, Err}
+use Rattle.std.specs.Prelude.{◌≡◌, ℕ, ◌≤◌, Bool, IsTrue, suc, ◌+◌, ◌-◌, ◌<◌, ◌^◌, ◌⊎◌, true, List, [], ◌++◌, length}
+use Rattle.std.specs.Prelude.{Option, Some, None, Result, Ok, Err}
 use Rattle.std.specs.Borrow.{GName}
 use Rattle.ciborium_ll_io.specs.declared.io.Read.{Ghosts}
 use Rattle.ciborium_ll_grammar.specs.declared.hdr.Header.{Header}
@@ -37,8 +37,7 @@ module _ {R P : Type 0} where
 -- ---- opens and breaks in a row
 
 -- `Nests kind opens bytes left`: the bytes are opens of the kind and breaks in a row, which lead from so many opens
--- that
--- aren't closed to so many, and leave one at least behind each (RFC 7049, 2.2.2)
+-- that aren't closed to so many, and leave one at least behind each (RFC 7049, 2.2.2)
 pub data Nests (kind : Kind) (opens : ℕ) : List ℕ → ℕ → Type 0 where
   in_place : Nests kind opens [] opens
   deeper : {bytes title : List ℕ} {left : ℕ} → Nests kind opens bytes left → IsTitle title (kind_header kind None)
@@ -59,6 +58,11 @@ opens_of p.TooDeep = 0
 abbrev pub IsMisplacedAt : Kind → ℕ → Header → Type 0
 IsMisplacedAt kind opens header = ((opens ≡ 0) × (header ≡ h.Break)) ⊎ IsMisplaced kind header
 
+-- a header that a decoder refuses there: a strict one a further open too
+abbrev pub IsRefusedAt : Bool → Kind → ℕ → Header → Type 0
+IsRefusedAt strict kind opens header =
+    IsMisplacedAt kind opens header ⊎ ((0 < opens) × (strict ≡ true) × (header ≡ kind_header kind None))
+
 module _ {A E : Type 0} where
   -- an answer that stays is given again: that the string has ended, that it is damaged, that it is nested too deep
   abbrev pub GivesAgain : Progress → Result (Option A) (Error E) → Type 0
@@ -66,6 +70,14 @@ module _ {A E : Type 0} where
   GivesAgain p.Ended result = result ≡ Ok None
   GivesAgain (p.Damaged place) result = result ≡ Err (e.Syntax place)
   GivesAgain p.TooDeep result = result ≡ Err e.TooLong
+
+module _ {R E : Type 0} (source : Ghosts R E) where
+  -- a title was pulled at this offset, and its header may not stand there
+  pub record PullsOther (IsRefused : Header → Type 0) (old : Decoder R) (at : ℕ) (new : Decoder R) : Type 0 where
+    pub header : Header
+    pub pulled : PullsTitle source old header new
+    pub refused : IsRefused header
+    pub place : at ≡ old.offset
 
 module _ {R E : Type 0} (source : Ghosts R E) (kind : Kind) where
   -- a title with a length announces a segment; a lone string ends with it
@@ -83,11 +95,7 @@ module _ {R E : Type 0} (source : Ghosts R E) (kind : Kind) where
 
   -- a header that may not stand there damages the string at the place of its title
   pub record FindsOther (opens : ℕ) (old : Decoder R) (at : ℕ) (progress : Progress) (new : Decoder R) : Type 0 where
-    pub header : Header
-    pub pulled : PullsTitle source old header new
-    pub misplaced : IsMisplacedAt kind opens header ⊎ ((0 < opens) × (old.strict ≡ true)
-        × (header ≡ kind_header kind None))
-    pub place : at ≡ old.offset
+    pub other : PullsOther source (IsRefusedAt old.strict kind opens) old at new
     pub after : progress ≡ p.Damaged at
 
   -- an open behind as many as can be counted

@@ -12,10 +12,11 @@ use Rattle.ciborium_ll_decoder.specs.declared.recode.RecodeError.TheVariants as 
 use Rattle.ciborium_ll_grammar.specs.Title.{IsTitle, IsStrictTitle, shortest_title}
 use Rattle.ciborium_ll_grammar.specs.Strings.{Kind, kind_header}
 use Rattle.ciborium_ll_grammar.specs.Elements.{Mark, spelling, IsRun, IsMeant, IsStrictSpelling}
-use Rattle.ciborium_ll_grammar.specs.Faults.{Place, Due, In, Body, Reaches, IsAtTitle, Answer, Short, Syntax}
+use Rattle.ciborium_ll_grammar.specs.Faults.{Place, Due, In, BodyDue, Reaches, IsAtTitle, Answer, Short, Syntax}
 use Rattle.ciborium_ll_grammar.specs.Faults.{FirstFault}
 use Rattle.ciborium_ll_decoder.specs.Decoding.{offset_limit, view}
 use Rattle.ciborium_ll_decoder.specs.RecodingTold.{StopsShort, StopsUnwritten}
+use Rattle.ciborium_ll_decoder.specs.Sides.{Sides}
 
 -- ---- runs
 
@@ -39,7 +40,7 @@ pub record StrictRunInFront (count : ℕ) (bytes : List ℕ) : Type 0 where
 abbrev pub due_title : Place → List ℕ
 due_title Due = []
 due_title (In kind) = []
-due_title (Body kind len start) = shortest_title (kind_header kind (Some len))
+due_title (BodyDue kind len start) = shortest_title (kind_header kind (Some len))
 
 -- the bytes are a part of so many elements up to the place, in their shortest spelling, and no small simple value
 pub record StrictlyReaches (count : ℕ) (bytes : List ℕ) (marks : List Mark) (place : Place) : Type 0 where
@@ -79,45 +80,44 @@ pub record HasStrictFault (count : ℕ) (bytes : List ℕ) : Type 0 where
 module _ {R E W F : Type 0} (source : Reader R E) (sink : Writer W F) where
   -- that many elements in their shortest spelling stood in front of what was due: just these were written and just what
   -- follows them is left
-  pub record CopiesStrictly (count : ℕ) (due written : List ℕ) (old new : Decoder R) (writer' : W) : Type 0 where
+  pub record CopiesStrictly (count : ℕ) (due written : List ℕ) (old : Decoder R) (new : Sides R W) : Type 0 where
     pub front : StrictRunInFront count due
-    pub output : sink.written writer' ≡ Some (written ++ front.elements)
-    pub left : view source new ≡ Some front.rest
-    pub offset : new.offset ≡ old.offset + length front.elements
-    pub none_waits : new.waiting ≡ None
+    pub output : sink.written new.writer ≡ Some (written ++ front.elements)
+    pub left : view source new.decoder ≡ Some front.rest
+    pub offset : new.decoder.offset ≡ old.offset + length front.elements
+    pub none_waits : new.decoder.waiting ≡ None
 
   -- a fault was met: the answer, what was written up to it and what is consumed are its own
-  pub record MeetsStrictFault (count : ℕ) (due written : List ℕ) (answer : Answer) (old new : Decoder R)
-      (writer' : W) : Type 0 where
+  pub record MeetsStrictFault (count : ℕ) (due written : List ℕ) (answer : Answer) (old : Decoder R)
+      (new : Sides R W) : Type 0 where
     pub fault : HasStrictFault count due
     pub answered : fault.answer ≡ answer
-    pub output : sink.written writer' ≡ Some (written ++ fault.written)
-    pub left : view source new ≡ Some (drop fault.consumed fault.ahead)
-    pub offset : new.offset ≡ old.offset + length fault.before + fault.consumed
+    pub output : sink.written new.writer ≡ Some (written ++ fault.written)
+    pub left : view source new.decoder ≡ Some (drop fault.consumed fault.ahead)
+    pub offset : new.decoder.offset ≡ old.offset + length fault.before + fault.consumed
 
   -- `recode` on a strict decoder on which no header waits: all elements are copied, or the first fault stops it
-  abbrev pub RecodesStrictly : ℕ → List ℕ → List ℕ → Decoder R → Result (Unit {0}) (RecodeError E F) → Decoder R → W
+  abbrev pub RecodesStrictly : ℕ → List ℕ → List ℕ → Decoder R → Result (Unit {0}) (RecodeError E F) → Sides R W
       → Type 0
-  RecodesStrictly count due written old (Ok done) new writer' = CopiesStrictly count due written old new writer'
-  RecodesStrictly count due written old (Err (r.Read (e.Io fault))) new writer' =
-      MeetsStrictFault count due written Short old new writer'
-  RecodesStrictly count due written old (Err (r.Read (e.Syntax place))) new writer' =
-      (start : ℕ) × (place ≡ old.offset + start) × MeetsStrictFault count due written (Syntax start) old new writer'
-  RecodesStrictly count due written old (Err (r.Read e.TooLong)) new writer' = ⊥
-  RecodesStrictly count due written old (Err (r.Read e.Waiting)) new writer' = ⊥
-  RecodesStrictly count due written old (Err (r.Write fault)) new writer' = ⊥
+  RecodesStrictly count due written old (Ok done) new = CopiesStrictly count due written old new
+  RecodesStrictly count due written old (Err (r.Read (e.Io fault))) new =
+      MeetsStrictFault count due written Short old new
+  RecodesStrictly count due written old (Err (r.Read (e.Syntax place))) new =
+      (start : ℕ) × (place ≡ old.offset + start) × MeetsStrictFault count due written (Syntax start) old new
+  RecodesStrictly count due written old (Err (r.Read e.TooLong)) new = ⊥
+  RecodesStrictly count due written old (Err (r.Read e.Waiting)) new = ⊥
+  RecodesStrictly count due written old (Err (r.Write fault)) new = ⊥
 
   -- the same through a buffer of so much room, whatever fails: `Ok` and `Syntax` mean the same as where nothing does
   abbrev pub RecodesStrictlyAnyhow : ℕ → ℕ → List ℕ → List ℕ → Decoder R → Result (Unit {0}) (RecodeError E F)
-      → Decoder R → W → Type 0
-  RecodesStrictlyAnyhow count room-in due written old (Ok done) new writer' =
-      CopiesStrictly count due written old new writer'
-  RecodesStrictlyAnyhow count room-in due written old (Err (r.Read (e.Io fault))) new writer' =
-      StopsShort source sink count due written old new writer'
-  RecodesStrictlyAnyhow count room-in due written old (Err (r.Read (e.Syntax place))) new writer' =
-      (start : ℕ) × (place ≡ old.offset + start) × MeetsStrictFault count due written (Syntax start) old new writer'
-  RecodesStrictlyAnyhow count room-in due written old (Err (r.Read e.TooLong)) new writer' =
-      StopsShort source sink count due written old new writer' × (offset_limit ≤ new.offset + max 8 room-in)
-  RecodesStrictlyAnyhow count room-in due written old (Err (r.Read e.Waiting)) new writer' = ⊥
-  RecodesStrictlyAnyhow count room-in due written old (Err (r.Write fault)) new writer' =
-      StopsUnwritten source sink count due written old new writer'
+      → Sides R W → Type 0
+  RecodesStrictlyAnyhow count room-in due written old (Ok done) new = CopiesStrictly count due written old new
+  RecodesStrictlyAnyhow count room-in due written old (Err (r.Read (e.Io fault))) new =
+      StopsShort source sink count due written old new
+  RecodesStrictlyAnyhow count room-in due written old (Err (r.Read (e.Syntax place))) new =
+      (start : ℕ) × (place ≡ old.offset + start) × MeetsStrictFault count due written (Syntax start) old new
+  RecodesStrictlyAnyhow count room-in due written old (Err (r.Read e.TooLong)) new =
+      StopsShort source sink count due written old new × (offset_limit ≤ new.decoder.offset + max 8 room-in)
+  RecodesStrictlyAnyhow count room-in due written old (Err (r.Read e.Waiting)) new = ⊥
+  RecodesStrictlyAnyhow count room-in due written old (Err (r.Write fault)) new =
+      StopsUnwritten source sink count due written old new

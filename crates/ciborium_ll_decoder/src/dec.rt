@@ -148,8 +148,8 @@ impl<R: Read> Decoder<R> {
     pub fn pull(&mut self) -> Result<Header, Error<R::Error>>
         ensures header { PullsHeader R.Read self.old result self.new }
         ensures covered { IfOk result (λ header. title_len header ≤ offset_of self.new) }
-        ensures mode { strict_of self.new ≡ strict_of self.old }
         ensures full { waiting_of self.old ≡ None → offset_of self.old ≡ usize.MAX → IsErrOf result Error.TooLong }
+        ensures mode { strict_of self.new ≡ strict_of self.old }
         ensures moves_on { MovesOn R.Read self.old self.new }
     {
         // No call here takes `&mut self`: so in a loop over a slice the decoder's fields stay in registers.
@@ -172,8 +172,8 @@ impl<R: Read> Decoder<R> {
             (λ error. PullsHeader R.Read self.old (Err error) self.new) }
         ensures parts { IfOk result (λ pulled. IsParts pulled.1) }
         ensures title { IfOk result (λ pulled. IsTitle (title_bytes pulled.1) pulled.0) }
-        ensures mode { strict_of self.new ≡ strict_of self.old }
         ensures full { waiting_of self.old ≡ None → offset_of self.old ≡ usize.MAX → IsErrOf result Error.TooLong }
+        ensures mode { strict_of self.new ≡ strict_of self.old }
         ensures moves_on { MovesOn R.Read self.old self.new }
     {
         if let Some(header) = self.waiting {
@@ -190,8 +190,8 @@ impl<R: Read> Decoder<R> {
             (λ error. PullsHeader R.Read self.old (Err error) self.new) }
         ensures parts { IfOk result (λ pulled. IsParts pulled.1) }
         ensures title { IfOk result (λ pulled. IsTitle (title_bytes pulled.1) pulled.0) }
-        ensures mode { strict_of self.new ≡ strict_of self.old }
         ensures full { offset_of self.old ≡ usize.MAX → IsErrOf result Error.TooLong }
+        ensures mode { strict_of self.new ≡ strict_of self.old }
         ensures moves_on { MovesOn R.Read self.old self.new }
     {
         let start = self.offset;

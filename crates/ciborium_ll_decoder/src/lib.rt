@@ -1,6 +1,6 @@
 //! A decoder: headers, the bodies of strings piece by piece, and the copy of elements, each as its shortest spelling.
 //!
-//! This crate is a part of `ciborium_ll`, which hands on what users name. The three modules use each other's private
+//! This crate is a part of `ciborium_ll`, which hands on what users name. The modules use each other's private
 //! parts, so they stand together.
 #![tactic(auto)]
 
@@ -8,3 +8,4 @@ pub mod dec;
 mod messages;
 pub mod recode;
 pub mod seg;
+pub mod title;

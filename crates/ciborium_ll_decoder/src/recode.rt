@@ -12,6 +12,7 @@ ghost use Rattle.ciborium_ll_decoder.specs.RecodingTold.{RecodesTold};
 ghost use Rattle.ciborium_ll_decoder.specs.StrictRecoding.{RecodesStrictly, RecodesStrictlyAnyhow, StrictRunInFront};
 ghost use Rattle.ciborium_ll_decoder.specs.Recoding.{CopiesBehind, CopiesBody, CopiesElement, CopiesElements};
 ghost use Rattle.ciborium_ll_decoder.specs.Recoding.{CopiesSegments, WritesHeader};
+ghost use Rattle.ciborium_ll_decoder.specs.Sides.{sides_of};
 
 mod strict;
 
@@ -41,10 +42,10 @@ fn copy_body<R: Read, W: Write, P: Chunked>(
 ) -> Result<(), RecodeError<R::Error, W::Error>>
     requires room { 4 ≤ length buffer.old }
     requires whole { IsWhole body segment.old }
-    ensures same_reference { segment_reference segment.new ≡ segment_reference segment.old }
     ensures copied { CopiesBody R.Read W.Write P.kind body.length (length buffer.old) body.place
-        (segment_decoder segment.old) (writer_of encoder.old) result (segment_decoder segment.new)
-        (writer_of encoder.new) }
+        (sides_of (segment_decoder segment.old) encoder.old) result
+        (sides_of (segment_decoder segment.new) encoder.new) }
+    ensures same_reference { segment_reference segment.new ≡ segment_reference segment.old }
     ensures moves_on { MovesOn R.Read (segment_decoder segment.old) (segment_decoder segment.new) }
     ensures target { W.target (writer_of encoder.new) ≡ W.target (writer_of encoder.old) }
 {
@@ -87,7 +88,7 @@ fn copy_definite<R: Read, W: Write, P: Chunked>(
     requires none_waits { waiting_of decoder.old ≡ None }
     requires covered { title_len (kind_header P.kind (Some len)) ≤ offset_of decoder.old }
     ensures copied { CopiesBehind R.Read W.Write (kind_header P.kind (Some len)) (length buffer.old)
-        decoder.old (writer_of encoder.old) result decoder.new (writer_of encoder.new) }
+        (sides_of decoder.old encoder.old) result (sides_of decoder.new encoder.new) }
     ensures moves_on { MovesOn R.Read decoder.old decoder.new }
     ensures target { W.target (writer_of encoder.new) ≡ W.target (writer_of encoder.old) }
 {
@@ -110,7 +111,7 @@ fn copy_indefinite<R: Read, W: Write, P: Chunked>(
     requires room { 4 ≤ length buffer.old }
     requires none_waits { waiting_of decoder.old ≡ None }
     ensures copied { CopiesBehind R.Read W.Write (kind_header P.kind None) (length buffer.old)
-        decoder.old (writer_of encoder.old) result decoder.new (writer_of encoder.new) }
+        (sides_of decoder.old encoder.old) result (sides_of decoder.new encoder.new) }
     ensures moves_on { MovesOn R.Read decoder.old decoder.new }
     ensures target { W.target (writer_of encoder.new) ≡ W.target (writer_of encoder.old) }
 {
@@ -128,7 +129,7 @@ fn copy_segments<R: Read, W: Write, P: Chunked>(
     requires room { 4 ≤ length buffer.old }
     requires none_waits { waiting_of decoder.old ≡ None }
     ensures copied { CopiesSegments R.Read W.Write P.kind (length buffer.old)
-        decoder.old (writer_of encoder.old) result decoder.new (writer_of encoder.new) }
+        (sides_of decoder.old encoder.old) result (sides_of decoder.new encoder.new) }
     ensures moves_on { MovesOn R.Read decoder.old decoder.new }
     ensures target { W.target (writer_of encoder.new) ≡ W.target (writer_of encoder.old) }
 {
@@ -157,7 +158,7 @@ fn copy_string<R: Read, W: Write, P: Chunked>(
     requires none_waits { waiting_of decoder.old ≡ None }
     requires covered { title_len (kind_header P.kind len) ≤ offset_of decoder.old }
     ensures copied { CopiesBehind R.Read W.Write (kind_header P.kind len) (length buffer.old)
-        decoder.old (writer_of encoder.old) result decoder.new (writer_of encoder.new) }
+        (sides_of decoder.old encoder.old) result (sides_of decoder.new encoder.new) }
     ensures moves_on { MovesOn R.Read decoder.old decoder.new }
     ensures target { W.target (writer_of encoder.new) ≡ W.target (writer_of encoder.old) }
 {
@@ -175,7 +176,7 @@ fn copy_element<R: Read, W: Write>(
 ) -> Result<(), RecodeError<R::Error, W::Error>>
     requires room { 4 ≤ length buffer.old }
     ensures copied { CopiesElement R.Read W.Write (length buffer.old)
-        decoder.old (writer_of encoder.old) result decoder.new (writer_of encoder.new) }
+        (sides_of decoder.old encoder.old) result (sides_of decoder.new encoder.new) }
     ensures moves_on { MovesOn R.Read decoder.old decoder.new }
     ensures target { W.target (writer_of encoder.new) ≡ W.target (writer_of encoder.old) }
 {
@@ -223,31 +224,33 @@ pub fn recode<R: Read, W: Write>(
 ) -> Result<(), RecodeError<R::Error, W::Error>>
     requires room { 4 ≤ length buffer.old }
     ensures copied { CopiesElements R.Read W.Write count (length buffer.old)
-        decoder.old (writer_of encoder.old) result decoder.new (writer_of encoder.new) }
-    ensures moves_on { MovesOn R.Read decoder.old decoder.new }
-    ensures target { W.target (writer_of encoder.new) ≡ W.target (writer_of encoder.old) }
+        (sides_of decoder.old encoder.old) result (sides_of decoder.new encoder.new) }
     ensures told { (due written : List ℕ)
-        → IsReady R.Read W.Write count (length buffer.old) decoder.old (writer_of encoder.old) due written
-        → RecodesTold R.Read W.Write count due written decoder.old result decoder.new (writer_of encoder.new) }
+        → IsReady R.Read W.Write count (length buffer.old) (sides_of decoder.old encoder.old) due written
+        → RecodesTold R.Read W.Write count due written decoder.old result
+        (sides_of decoder.new encoder.new) }
     ensures exactly { (due written : List ℕ)
-        → IsReady R.Read W.Write count (length buffer.old) decoder.old (writer_of encoder.old) due written
+        → IsReady R.Read W.Write count (length buffer.old) (sides_of decoder.old encoder.old) due written
         → (IsOk result ↔ RunInFront count due) }
-    ensures anyhow { (due written : List ℕ) → IsTold R.Read W.Write decoder.old (writer_of encoder.old) due written
-        → RecodesAnyhow R.Read W.Write count (length buffer.old) due written decoder.old result decoder.new
-        (writer_of encoder.new) }
+    ensures anyhow { (due written : List ℕ) → IsTold R.Read W.Write (sides_of decoder.old encoder.old) due written
+        → RecodesAnyhow R.Read W.Write count (length buffer.old) due written decoder.old result
+        (sides_of decoder.new encoder.new) }
     ensures strictly { (due written : List ℕ)
-        → IsReadyAs R.Read W.Write true count (length buffer.old) decoder.old (writer_of encoder.old) due written
+        → IsReadyAs R.Read W.Write true count (length buffer.old) (sides_of decoder.old encoder.old) due written
         → waiting_of decoder.old ≡ None
-        → RecodesStrictly R.Read W.Write count due written decoder.old result decoder.new (writer_of encoder.new) }
+        → RecodesStrictly R.Read W.Write count due written decoder.old result
+        (sides_of decoder.new encoder.new) }
     ensures strictly_exactly { (due written : List ℕ)
-        → IsReadyAs R.Read W.Write true count (length buffer.old) decoder.old (writer_of encoder.old) due written
+        → IsReadyAs R.Read W.Write true count (length buffer.old) (sides_of decoder.old encoder.old) due written
         → waiting_of decoder.old ≡ None
         → (IsOk result ↔ StrictRunInFront count due) }
     ensures strictly_anyhow { (due written : List ℕ)
-        → IsToldAs R.Read W.Write true decoder.old (writer_of encoder.old) due written
+        → IsToldAs R.Read W.Write true (sides_of decoder.old encoder.old) due written
         → waiting_of decoder.old ≡ None
         → RecodesStrictlyAnyhow R.Read W.Write count (length buffer.old) due written decoder.old result
-        decoder.new (writer_of encoder.new) }
+        (sides_of decoder.new encoder.new) }
+    ensures moves_on { MovesOn R.Read decoder.old decoder.new }
+    ensures target { W.target (writer_of encoder.new) ≡ W.target (writer_of encoder.old) }
 {
     'elements: for _copied in 0..count {
         copy_element(decoder, encoder, buffer)?;

@@ -115,9 +115,9 @@ impl<'r, R: Read, P: Parser> Segments<'r, R, P> {
 
     /// The segments of the string whose header waits.
     pub(crate) fn new(decoder: &'r mut Decoder<R>) -> Segments<'r, R, P>
-        ensures same_reference { string_reference result ≡ decoder.entry.ghost_name }
         ensures lent { string_decoder result ≡ decoder.old }
         ensures fresh { IsAtBeginning result }
+        ensures same_reference { string_reference result ≡ decoder.entry.ghost_name }
     {
         Segments {
             decoder,
@@ -128,9 +128,9 @@ impl<'r, R: Read, P: Parser> Segments<'r, R, P> {
 
     /// The segments of a string of indefinite length whose open was pulled.
     pub(crate) fn opened(decoder: &'r mut Decoder<R>) -> Segments<'r, R, P>
-        ensures same_reference { string_reference result ≡ decoder.entry.ghost_name }
         ensures lent { string_decoder result ≡ decoder.old }
         ensures opened { progress_of result ≡ Open 1 }
+        ensures same_reference { string_reference result ≡ decoder.entry.ghost_name }
     {
         Segments {
             decoder,
@@ -147,11 +147,11 @@ impl<'r, R: Read, P: Parser> Segments<'r, R, P> {
     /// can't be counted, which stays. An answer that stays reads nothing.
     #[inline(always)]
     pub fn advance(&mut self) -> Result<Option<Body>, Error<R::Error>>
-        ensures same_reference { string_reference self.new ≡ string_reference self.old }
         ensures advances { AdvancesTo R.Read P.kind (progress_of self.old) (string_decoder self.old) result
             (progress_of self.new) (string_decoder self.new) }
         ensures opens { opens_of (progress_of self.new) + offset_of (string_decoder self.old)
             ≤ opens_of (progress_of self.old) + offset_of (string_decoder self.new) }
+        ensures same_reference { string_reference self.new ≡ string_reference self.old }
         ensures moves_on { MovesOn R.Read (string_decoder self.old) (string_decoder self.new) }
     {
         'titles: while let Progress::Open(opens) = self.progress {
@@ -213,12 +213,12 @@ impl<'r, R: Read, P: Parser> Segments<'r, R, P> {
     #[inline(always)]
     fn step(&mut self, opens: usize) -> Result<Option<Body>, Error<R::Error>>
         requires { progress_of self.old ≡ Open opens }
-        ensures same_reference { string_reference self.new ≡ string_reference self.old }
         ensures steps { StepsOver R.Read P.kind opens (string_decoder self.old) result (progress_of self.new)
             (string_decoder self.new) }
         ensures goes_on { OnOk result (offset_of (string_decoder self.old) < offset_of (string_decoder self.new)) }
         ensures opens { opens_of (progress_of self.new) + offset_of (string_decoder self.old)
             ≤ opens + offset_of (string_decoder self.new) }
+        ensures same_reference { string_reference self.new ≡ string_reference self.old }
         ensures moves_on { MovesOn R.Read (string_decoder self.old) (string_decoder self.new) }
     {
         let place = self.decoder.offset();
@@ -352,9 +352,9 @@ impl<'r, R: Read, P: Parser> Segment<'r, R, P> {
     /// The segment of a body that is next in the decoder's reader.
     pub(crate) fn new(decoder: &'r mut Decoder<R>, body: Body) -> Segment<'r, R, P>
         requires { waiting_of decoder.old ≡ None }
-        ensures same_reference { segment_reference result ≡ decoder.entry.ghost_name }
         ensures lent { segment_decoder result ≡ decoder.old }
         ensures whole { IsWhole body result }
+        ensures same_reference { segment_reference result ≡ decoder.entry.ghost_name }
     {
         Segment {
             decoder,
@@ -387,11 +387,11 @@ impl<'r, R: Read> Segment<'r, R, Bytes> {
     /// `Io` where the reader failed, and `TooLong` where the offset would pass `usize::MAX`; both leave the segment as
     /// it was.
     pub fn pull<'a>(&mut self, buffer: &'a mut [u8]) -> Result<Option<&'a [u8]>, Error<R::Error>>
-        ensures same_reference { segment_reference self.new ≡ segment_reference self.old }
         ensures chunk { PullsChunk R.Read (length buffer.old) self.old result self.new }
         ensures left { IfOk result (λ chunk. IfSome chunk (λ c. length c.now + left_of self.new ≡ left_of self.old)) }
         ensures rest { IfOk result (λ chunk. IfSome chunk
             (λ c. Consumes (rest R.Read self.old) (rest R.Read self.new) c.now)) }
+        ensures same_reference { segment_reference self.new ≡ segment_reference self.old }
         ensures moves_on { MovesOn R.Read (segment_decoder self.old) (segment_decoder self.new) }
     {
         if self.damaged {
@@ -422,11 +422,11 @@ impl<'r, R: Read> Segment<'r, R, Text> {
     /// `Io` where the reader failed, and `TooLong` where the offset would pass `usize::MAX`: both leave the segment as
     /// it was. A damaged end can give a chunk first, and its error on the next call.
     pub fn pull<'a>(&mut self, buffer: &'a mut [u8]) -> Result<Option<&'a str>, Error<R::Error>>
-        ensures same_reference { segment_reference self.new ≡ segment_reference self.old }
         ensures chunk { PullsChunk R.Read (length buffer.old) self.old result self.new }
         ensures left { IfOk result (λ chunk. IfSome chunk (λ c. length c.now + left_of self.new ≡ left_of self.old)) }
         ensures rest { IfOk result (λ chunk. IfSome chunk
             (λ c. Consumes (rest R.Read self.old) (rest R.Read self.new) c.now)) }
+        ensures same_reference { segment_reference self.new ≡ segment_reference self.old }
         ensures moves_on { MovesOn R.Read (segment_decoder self.old) (segment_decoder self.new) }
     {
         if self.damaged {
@@ -460,9 +460,9 @@ impl<'r, R: Read> Segment<'r, R, Text> {
 
     /// Reads no bytes, where none fit behind the kept ones. It is a call of the reader all the same.
     fn read_nothing(&mut self) -> Result<(), Error<R::Error>>
+        ensures read { ReadsBytes R.Read (segment_decoder self.old) result [] (segment_decoder self.new) }
         ensures same_reference { segment_reference self.new ≡ segment_reference self.old }
         ensures same { IsSame self.old self.new }
-        ensures read { ReadsBytes R.Read (segment_decoder self.old) result [] (segment_decoder self.new) }
         ensures moves_on { MovesOn R.Read (segment_decoder self.old) (segment_decoder self.new) }
     {
         self.decoder.read(&mut [])
@@ -471,10 +471,10 @@ impl<'r, R: Read> Segment<'r, R, Text> {
     /// Reads behind the kept bytes, which it writes to the front.
     fn fill(&mut self, filled: &mut [u8]) -> Result<(), Error<R::Error>>
         requires { length (kept_bytes self.old.kept) ≤ length filled.old }
-        ensures same_reference { segment_reference self.new ≡ segment_reference self.old }
-        ensures same { IsSame self.old self.new }
         ensures filled { FillsBehind R.Read (kept_bytes self.old.kept) (segment_decoder self.old) result filled.new
             (segment_decoder self.new) }
+        ensures same_reference { segment_reference self.new ≡ segment_reference self.old }
+        ensures same { IsSame self.old self.new }
         ensures moves_on { MovesOn R.Read (segment_decoder self.old) (segment_decoder self.new) }
     {
         let kept = self.kept.len();
@@ -484,13 +484,13 @@ impl<'r, R: Read> Segment<'r, R, Text> {
 
     /// The body is no text: nothing is kept any more, and the error stays.
     fn damage(&mut self) -> Error<R::Error>
+        ensures error { result ≡ Error.Syntax self.old.place }
+        ensures kept { kept_bytes self.new.kept ≡ [] }
+        ensures damaged { self.new.damaged ≡ true }
         ensures same_reference { segment_reference self.new ≡ segment_reference self.old }
         ensures same { segment_decoder self.new ≡ segment_decoder self.old }
         ensures unread { self.new.unread ≡ self.old.unread }
         ensures place { self.new.place ≡ self.old.place }
-        ensures kept { kept_bytes self.new.kept ≡ [] }
-        ensures damaged { self.new.damaged ≡ true }
-        ensures error { result ≡ Error.Syntax self.old.place }
     {
         self.kept = Kept::Nothing;
         self.state = State::Between;

@@ -11,9 +11,9 @@ use Rattle.std.specs.Option.{unwrap_or}
 use Rattle.std.specs.Str.{IsUtf8, IsCharBoundary}
 use Rattle.ciborium_ll_io.specs.declared.io.Write.{Ghosts}
 use Rattle.ciborium_ll_grammar.specs.Title.{shortest_title}
-use Rattle.ciborium_ll_grammar.specs.Strings.{Kind, Bytes, Text, kind_header}
+use Rattle.ciborium_ll_grammar.specs.Strings.{Kind, Bytes, Text, kind_header, IsWritable}
 use Rattle.ciborium_ll_text.specs.Text.{joined, IsCharacter, IsTail}
-use Rattle.ciborium_ll_grammar.specs.Elements.{IsSound, Whole, body_spelling, spelling, pieces, open_marks}
+use Rattle.ciborium_ll_grammar.specs.Elements.{Whole, body_spelling, spelling, pieces, open_marks}
 use Rattle.ciborium_ll_text.specs.Cuts.{IsFilled, AreFilled}
 use Rattle.ciborium_ll_grammar.specs.Values.{least_limit, value_limit, ArePieces, in_one, in_pieces}
 use Rattle.ciborium_ll_encoder.specs.Encoding.{WritesAll, WritesFront, WritesBytes, WritesPieces, WritesValue}
@@ -23,7 +23,7 @@ use Rattle.ciborium_ll_encoder.proofs.EncodingLaws.{WritesBytes-then, WritesByte
 use Rattle.ciborium_ll_text.proofs.TextLaws.{character_length}
 use Rattle.ciborium_ll_text.proofs.Utf8Laws.{written, from_std}
 use Rattle.ciborium_ll_text.proofs.CutLaws.{starts}
-use Rattle.ciborium_ll_grammar.proofs.ValueLaws.{chunk_first, pieces_exist, fewest_segments}
+use Rattle.ciborium_ll_grammar.proofs.ValueLaws.{full_piece_first, pieces_exist, fewest_segments}
 
 -- ---- pieces in front of a rest
 
@@ -43,7 +43,7 @@ Leads-then k limit value mid rest done more p q others o =
 pub bytes_lead : (limit : ℕ) (value piece behind : List ℕ) → value ≡ piece ++ behind → length piece ≡ limit
     → Leads Bytes limit value (piece ∷ []) behind
 bytes_lead limit value piece behind whole len others o =
-    (whole ∙ ap (λ (z : List ℕ). piece ++ z) o.0, chunk_first limit piece others len o.1)
+    (whole ∙ ap (λ (z : List ℕ). piece ++ z) o.0, full_piece_first limit piece others len o.1)
 
 -- ---- places of a text
 
@@ -261,7 +261,7 @@ module _ {W F : Type 0} (sink : Ghosts W F) where
   -- the writer failed at the open
   pub WritesValue-unopened : {T : Type 0} (result : Result T F) → IsErr result
       → (k : Kind) (segment : Option ℕ) (value : List ℕ) (limit : ℕ) (old new : W)
-      → IsSound k (value ∷ []) → least_limit k ≤ limit → limit ≡ value_limit k segment value → limit < length value
+      → IsWritable k value → least_limit k ≤ limit → limit ≡ value_limit k segment value → limit < length value
       → WritesFront sink old (shortest_title (kind_header k None)) new → WritesValue sink k segment value old result new
   WritesValue-unopened result e k segment value limit old new sound least same longer front =
       let p = pieces_exist k limit value least sound longer in

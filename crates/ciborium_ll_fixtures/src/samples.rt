@@ -203,8 +203,8 @@ const COPIES: [(usize, &str); 24] = [
     (1, "7f626162ff"),
 ];
 
-/// Titles of one header each, the shortest of that header, as hexadecimal digits. This and what follows fail where there
-/// is no memory.
+/// Titles of one header each, the shortest of that header, as hexadecimal digits. This and what follows fail where
+/// there is no memory.
 pub fn vectors(alloc: Global) -> Result<Vec<(&'static str, Header)>, AllocError> {
     Ok(Vec::from_array(alloc, VECTORS)?)
 }

@@ -1,6 +1,6 @@
 -- Titles by their first byte: how many bytes follow it, and that any bytes of that number make a title.
 use Rattle.std.proofs.Common.{◌≡◌, ℕ, zero, suc, ◌-◌, ◌/◌, ◌%◌, ◌<◌, ◌≤◌, ◌⊎◌, List, [], ◌∷◌, ◌++◌, length, take}
-use Rattle.std.proofs.Common.{Some, None, refl, sym, ap, subst, ◌∙◌, arith, inl, inr}
+use Rattle.std.proofs.Common.{slice_index, Some, None, refl, sym, ap, subst, ◌∙◌, arith, inl, inr}
 use Rattle.std.specs.Int.{w16, w32, w64, from_be_bytes}
 use Rattle.std.proofs.Math.ListN.{replicate}
 use Rattle.std.proofs.lemmas.Bool.{cases_lt, ne_eqb}
@@ -114,38 +114,47 @@ record Spelled (s : Size) (bytes : List ℕ) : Type 0 where
 spelled_one : (bytes : List ℕ) → AreBytes bytes → length bytes ≡ 1 → Spelled One bytes
 spelled_one [] f l = absurd (omega arith)
 spelled_one (b ∷ []) f l =
-    let p : b < 256 = f 0 in let e : b % 256 ≡ b = omega arith in
+    let p : b < 256 = f.0 in let e : b % 256 ≡ b = omega arith in
     record { number = b; below = p; is = ap (λ (z : ℕ). z ∷ []) e }
 spelled_one (b ∷ c ∷ bytes) f l = absurd (omega arith)
+
+-- each is a byte, and so is what stands behind them
+byte_at : (bytes : List ℕ) → AreBytes bytes → (i : ℕ) → slice_index bytes i < 256
+byte_at [] f i = omega arith
+byte_at (b ∷ bytes) f zero = f.0
+byte_at (b ∷ bytes) f (suc i) = byte_at bytes f.1 i
 
 -- two bytes are a number
 spelled_two : (bytes : List ℕ) → AreBytes bytes → length bytes ≡ 2 → Spelled Two bytes
 spelled_two bytes f l =
+    let at = byte_at bytes f in
     record {
       number = from_be_bytes w16 bytes;
-      below = omega (arith, f 0, f 1);
+      below = omega (arith, at 0, at 1);
       is =
-          be_bytes_2 bytes (from_be_bytes w16 bytes) l f refl;
+          be_bytes_2 bytes (from_be_bytes w16 bytes) l at refl;
     }
 
 -- four bytes are a number
 spelled_four : (bytes : List ℕ) → AreBytes bytes → length bytes ≡ 4 → Spelled Four bytes
 spelled_four bytes f l =
+    let at = byte_at bytes f in
     record {
       number = from_be_bytes w32 bytes;
-      below = omega (arith, f 0, f 1, f 2, f 3);
+      below = omega (arith, at 0, at 1, at 2, at 3);
       is = be_bytes_4 bytes
-          (from_be_bytes w32 bytes) l f refl;
+          (from_be_bytes w32 bytes) l at refl;
     }
 
 -- eight bytes are a number
 spelled_eight : (bytes : List ℕ) → AreBytes bytes → length bytes ≡ 8 → Spelled Eight bytes
 spelled_eight bytes f l =
+    let at = byte_at bytes f in
     record {
       number = from_be_bytes w64 bytes;
-      below = omega (arith, f 0, f 1, f 2, f 3, f 4, f 5, f 6, f 7);
+      below = omega (arith, at 0, at 1, at 2, at 3, at 4, at 5, at 6, at 7);
       is = be_bytes_8 bytes
-          (from_be_bytes w64 bytes) l f refl;
+          (from_be_bytes w64 bytes) l at refl;
     }
 
 -- the bytes behind this one make a title
@@ -219,22 +228,19 @@ title_or_refused b bytes lt f l =
 
 -- zeros are bytes
 pub AreBytes-zeros : (n : ℕ) → AreBytes (replicate n 0)
-AreBytes-zeros zero i = omega arith
-AreBytes-zeros (suc n) zero = omega arith
-AreBytes-zeros (suc n) (suc i) = AreBytes-zeros n i
+AreBytes-zeros zero = tt
+AreBytes-zeros (suc n) = (omega arith, AreBytes-zeros n)
 
 -- bytes joined are bytes
 pub AreBytes-append : (a b : List ℕ) → AreBytes a → AreBytes b → AreBytes (a ++ b)
-AreBytes-append [] b f g i = g i
-AreBytes-append (x ∷ a) b f g zero = f zero
-AreBytes-append (x ∷ a) b f g (suc i) = AreBytes-append a b (λ j. f (suc j)) g i
+AreBytes-append [] b f g = g
+AreBytes-append (x ∷ a) b f g = (f.0, AreBytes-append a b f.1 g)
 
 -- a beginning of bytes is bytes
 pub AreBytes-take : (n : ℕ) (a : List ℕ) → AreBytes a → AreBytes (take n a)
-AreBytes-take zero a f i = omega arith
-AreBytes-take (suc n) [] f i = f i
-AreBytes-take (suc n) (x ∷ a) f zero = f zero
-AreBytes-take (suc n) (x ∷ a) f (suc i) = AreBytes-take n a (λ j. f (suc j)) i
+AreBytes-take zero a f = tt
+AreBytes-take (suc n) [] f = tt
+AreBytes-take (suc n) (x ∷ a) f = (f.0, AreBytes-take n a f.1)
 
 -- a refused byte announces no bytes
 pub refused_affix : (b : ℕ) → IsRefused b → affix_len (b % 32) ≡ 0
@@ -261,7 +267,7 @@ cut_begins (b ∷ s) f c =
     let whole = s ++ replicate (suc k) 0 in
     let long : length whole ≡ affix_len (b % 32) = omega
     (arith, length-append s (replicate (suc k) 0), length-replicate {A = ℕ} k 0, c) in
-    elim (title_or_refused b whole (f 0) (AreBytes-append s (replicate (suc k) 0) (λ i. f (suc i))
+    elim (title_or_refused b whole f.0 (AreBytes-append s (replicate (suc k) 0) f.1
     (AreBytes-zeros (suc k))) long) [
       | inl r ↦ absurd (omega (arith, refused_affix b r, c))
       | inr t ↦ record { byte = 0; more = replicate k 0; header = t.0; title = t.1 }

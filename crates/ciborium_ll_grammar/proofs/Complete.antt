@@ -9,16 +9,16 @@ use Rattle.ciborium_ll_grammar.specs.Title.{Major, Other, first_byte, Size, Smal
 use Rattle.ciborium_ll_grammar.specs.Title.{IsTitle, numbered, alone, affix_len, IsCutTitle, BeginsRefused, AreBytes}
 use Rattle.ciborium_ll_grammar.specs.Title.{title_len, shortest_title}
 use Rattle.ciborium_ll_grammar.specs.Strings.{Kind, Bytes, Text, kind_header, none, IsMisplaced, IsWritable}
-use Rattle.ciborium_ll_grammar.specs.Strings.IsString.{definite as definite_str}
+use Rattle.ciborium_ll_grammar.specs.Strings.IsString.{definite}
 use Rattle.ciborium_ll_text.specs.Text.{IsCharacters}
-use Rattle.ciborium_ll_grammar.specs.Elements.{IsSound, Mark, Plain, Whole, Open, Close, pieces, spelling, IsPlain}
-use Rattle.ciborium_ll_grammar.specs.Elements.{plain, definite, IsRun, done}
-use Rattle.ciborium_ll_grammar.specs.Faults.{Due, In, Body, Reaches, due, inside, body, body_inside, CutTitle}
+use Rattle.ciborium_ll_grammar.specs.Elements.{AreWritable, Mark, Plain, Whole, Open, Close, pieces, spelling, IsPlain}
+use Rattle.ciborium_ll_grammar.specs.Elements.{plain, string, IsRun, done}
+use Rattle.ciborium_ll_grammar.specs.Faults.{Due, In, BodyDue, Reaches, due, inside, body, body_inside, CutTitle}
 use Rattle.ciborium_ll_grammar.specs.Faults.{NoTitle, OtherTitle, DamagedText, CutBody, RunInFront, HasFault, Short}
 use Rattle.ciborium_ll_grammar.specs.Faults.{Syntax}
 use Rattle.ciborium_ll_grammar.proofs.OpenStrings.{IsInsideAt, one_open}
 use Rattle.ciborium_ll_grammar.proofs.AffixLaws.{AreBytes-take, title_or_refused}
-use Rattle.ciborium_ll_grammar.proofs.ElementLaws.{IsSound-append}
+use Rattle.ciborium_ll_grammar.proofs.ElementLaws.{AreWritable-append}
 use Rattle.ciborium_ll_text.proofs.TextLaws.{IsCharacters-nil}
 use Rattle.ciborium_ll_text.proofs.Utf8Laws.{text_or_none}
 use Rattle.ciborium_ll_grammar.proofs.StepLaws.{add_string, add_open, close_inner, close_last, counted, add_element}
@@ -36,7 +36,7 @@ sight (b ∷ y) f =
     let n = affix_len (b % 32) in
     elim (cases_lt (length y) n) [
       | inl l ↦ ends l
-      | inr l ↦ elim (title_or_refused b (take n y) (f 0) (AreBytes-take n y (λ i. f (suc i))) (length-take-le n y l)) [
+      | inr l ↦ elim (title_or_refused b (take n y) f.0 (AreBytes-take n y f.1) (length-take-le n y l)) [
         | inl r ↦ refuses r
         | inr t ↦ titled (b ∷ take n y) (drop n y) t.0 t.1 (ap (λ (z : List ℕ). b ∷ z) (sym (take-append-drop n y)))
       ]
@@ -49,7 +49,7 @@ data Going (n : ℕ) : List ℕ → Type 0 where
   between : {u : List ℕ} (i left : ℕ) (ms : List Mark) → i + left ≡ n → IsRun i u ms → Going n u
   within : {u v : List ℕ} (i left j : ℕ) (ms : List Mark) (bs : List (List ℕ)) (k : Kind) → i + suc left ≡ n
       → IsRun i u ms
-      → IsInsideAt k (suc j) v bs → IsSound k bs → Going n (u ++ v)
+      → IsInsideAt k (suc j) v bs → AreWritable k bs → Going n (u ++ v)
 
 -- what one step over a title comes to: a run, a fault, or fewer bytes ahead
 data Step (n : ℕ) (u s : List ℕ) : Type 0 where
@@ -98,13 +98,13 @@ title_length t x (alone m y o) = omega arith
 data Bodied (k : Kind) (l : ℕ) (s : List ℕ) : Type 0 where
   too_few : length s < l → Bodied k l s
   is_bad : k ≡ Text → l ≤ length s → (IsCharacters (take l s) → ⊥) → Bodied k l s
-  is_good : (b rest : List ℕ) → s ≡ b ++ rest → length b ≡ l → IsSound k (b ∷ []) → Bodied k l s
+  is_good : (b rest : List ℕ) → s ≡ b ++ rest → length b ≡ l → IsWritable k b → Bodied k l s
 
 -- a body of a text that is long enough is a text or none
 bodied_text : (l : ℕ) (s : List ℕ) → l ≤ length s → Bodied Text l s
 bodied_text l s le =
     elim (text_or_none (take l s)) [
-      | inl u ↦ is_good (take l s) (drop l s) (sym (take-append-drop l s)) (omega (arith, length-take l s)) (u, tt)
+      | inl u ↦ is_good (take l s) (drop l s) (sym (take-append-drop l s)) (omega (arith, length-take l s)) u
       | inr n ↦ is_bad refl le n
     ]
 
@@ -124,12 +124,12 @@ part_nil Bytes = tt
 part_nil Text = IsCharacters-nil
 
 -- the bytes end within a body
-body_faulty : (n : ℕ) (v s : List ℕ) (ms : List Mark) (k : Kind) (l p : ℕ) → Reaches n v ms (Body k l p) → length s < l
-    → HasFault n (v ++ s)
+body_faulty : (n : ℕ) (v s : List ℕ) (ms : List Mark) (k : Kind) (l p : ℕ) → Reaches n v ms (BodyDue k l p)
+    → length s < l → HasFault n (v ++ s)
 body_faulty n v s ms k l p r lt = record {
   before = v;
   marks = ms;
-  place = Body k l p;
+  place = BodyDue k l p;
   ahead = s;
   answer = Short;
   written = spelling ms ++ (shortest_title (kind_header k (Some l)) ++ []);
@@ -140,18 +140,18 @@ body_faulty n v s ms k l p r lt = record {
 }
 
 -- a body of a text is no text
-text_faulty : (n : ℕ) (v s : List ℕ) (ms : List Mark) (k : Kind) (l p : ℕ) → Reaches n v ms (Body k l p) → k ≡ Text
+text_faulty : (n : ℕ) (v s : List ℕ) (ms : List Mark) (k : Kind) (l p : ℕ) → Reaches n v ms (BodyDue k l p) → k ≡ Text
     → l ≤ length s
     → (IsCharacters (take l s) → ⊥) → HasFault n (v ++ s)
 text_faulty n v s ms k l p r e le un = record {
   before = v;
   marks = ms;
-  place = Body Text l p;
+  place = BodyDue Text l p;
   ahead = s;
   answer = Syntax p;
   written = spelling ms ++ (shortest_title (h.Text (Some l)) ++ []);
   consumed = 0;
-  reach = subst (λ (j : Kind). Reaches n v ms (Body j l p)) e r;
+  reach = subst (λ (j : Kind). Reaches n v ms (BodyDue j l p)) e r;
   is = refl;
   fault = DamagedText [] (take l s) le un refl IsCharacters-nil (omega arith);
 }
@@ -208,8 +208,8 @@ due_step n i left u s ms e r (titled t rest x p q) =
           (shift u t s rest q) (less t rest s x p q)
       | is_definite k l o ↦
           (let pt = subst (IsTitle t) o p in
-          let reach : Reaches n (u ++ t) ms (Body k l (length (u ++ t) - title_len (kind_header k (Some l)))) = body k
-          (due (omega arith) r) pt in
+          let reach : Reaches n (u ++ t) ms (BodyDue k l (length (u ++ t) - title_len (kind_header k (Some l)))) =
+          body k (due (omega arith) r) pt in
           elim (bodied k l rest) [
             | too_few a ↦ fails (moved n (u ++ s) ((u ++ t) ++ rest) (shift u t s rest q)
                 (body_faulty n (u ++ t) rest ms k l _ reach a))
@@ -218,15 +218,14 @@ due_step n i left u s ms e r (titled t rest x p q) =
             | is_good b more is len ok ↦
                 goes (u ++ (t ++ b)) more (between (suc i) left (ms ++ Whole k b ∷ []) (omega arith)
                 (add_element i u ms r (t ++ b) (Whole k b ∷ [])
-                (definite k (subst (λ (z : ℕ). IsTitle t (kind_header k (Some z))) (sym len) pt) ok)))
+                (string k (definite (subst (λ (z : ℕ). IsTitle t (kind_header k (Some z))) (sym len) pt)) (ok, tt))))
                 (shift u (t ++ b) s more (q ∙ shift t b rest more is))
                 (omega (arith, less t rest s x p q, ap length is, length-append b more))
           ])
     ]
   where
-    no_bodies : (k : Kind) → IsSound k []
-    no_bodies Bytes = tt
-    no_bodies Text = tt
+    no_bodies : (k : Kind) → AreWritable k []
+    no_bodies k = tt
 
 -- no number is a break
 not_break_number : (m : Major) (s : Size) (n : ℕ) → numbered_header m s n ≡ h.Break → ⊥
@@ -246,7 +245,7 @@ break_is t x (alone m y o) e = break_alone m y o e
 -- the step over a break
 break_step : (n i left j : ℕ) (u v s rest : List ℕ) (ms : List Mark) (bs : List (List ℕ)) (k : Kind) → i + suc left
     ≡ n → IsRun i u ms
-    → IsInsideAt k (suc j) v bs → IsSound k bs → s ≡ 0xff ∷ rest → Step n (u ++ v) s
+    → IsInsideAt k (suc j) v bs → AreWritable k bs → s ≡ 0xff ∷ rest → Step n (u ++ v) s
 break_step n i left zero u v s rest ms bs k e r ia ok q =
     goes (u ++ (v ++ 0xff ∷ [])) rest (between (suc i) left (ms ++ (Open k ∷ (pieces k bs ++ Close ∷ []))) (omega arith)
     (add_element i u ms r (v ++ 0xff ∷ []) (Open k ∷ (pieces k bs ++ Close ∷ [])) (close_last k v bs ia ok)))
@@ -260,7 +259,7 @@ break_step n i left (suc j) u v s rest ms bs k e r ia ok q =
 -- the step within a string
 in_step : (n i left j : ℕ) (u v s : List ℕ) (ms : List Mark) (bs : List (List ℕ)) (k : Kind) → i + suc left ≡ n
     → IsRun i u ms
-    → IsInsideAt k (suc j) v bs → IsSound k bs → Sight s → Step n (u ++ v) s
+    → IsInsideAt k (suc j) v bs → AreWritable k bs → Sight s → Step n (u ++ v) s
 in_step n i left j u v s ms bs k e r ia ok (ends c) =
     fails (record {
       before = u ++ v;
@@ -317,7 +316,7 @@ in_step n i left j u v s ms bs k e r ia ok (titled t rest x p q) =
           (shift (u ++ v) t s rest q ∙ ap (λ (z : List ℕ). z ++ rest) (append_assoc u v t)) (less t rest s x p q)
       | in_definite l o ↦
           (let pt = subst (IsTitle t) o p in
-          let deep : Reaches n ((u ++ v) ++ t) (ms ++ Open k ∷ pieces k bs) (Body k l (length (u ++ v))) =
+          let deep : Reaches n ((u ++ v) ++ t) (ms ++ Open k ∷ pieces k bs) (BodyDue k l (length (u ++ v))) =
           body_inside reach pt in
           elim (bodied k l rest) [
             | too_few a ↦ fails (moved n ((u ++ v) ++ s) (((u ++ v) ++ t) ++ rest) (shift (u ++ v) t s rest q)
@@ -327,8 +326,8 @@ in_step n i left j u v s ms bs k e r ia ok (titled t rest x p q) =
             | is_good b more is len good ↦
                 goes (u ++ (v ++ (t ++ b))) more (within i left j ms (bs ++ b ∷ []) k e r
                 (add_string k (suc j) v (t ++ b) bs (b ∷ []) ia
-                (definite_str (subst (λ (z : ℕ). IsTitle t (kind_header k (Some z))) (sym len) pt)))
-                (IsSound-append k bs (b ∷ []) ok good))
+                (definite (subst (λ (z : ℕ). IsTitle t (kind_header k (Some z))) (sym len) pt)))
+                (AreWritable-append k bs (b ∷ []) ok (good, tt)))
                 (shift (u ++ v) (t ++ b) s more (q ∙ shift t b rest more is)
                 ∙ ap (λ (z : List ℕ). z ++ more) (append_assoc u v (t ++ b)))
                 (omega (arith, less t rest s x p q, ap length is, length-append b more))
@@ -351,16 +350,16 @@ step n u (within {u = a} {v} i left j ms bs k e r ia ok) s f = in_step n i left 
 
 -- ---- all steps
 
-IsBytes-rest : (a b : List ℕ) → AreBytes (a ++ b) → AreBytes b
-IsBytes-rest [] b f = f
-IsBytes-rest (x ∷ a) b f = IsBytes-rest a b (λ i. f (suc i))
+AreBytes-rest : (a b : List ℕ) → AreBytes (a ++ b) → AreBytes b
+AreBytes-rest [] b f = f
+AreBytes-rest (x ∷ a) b f = AreBytes-rest a b f.1
 
 -- all steps, by the bytes that are ahead
 all_steps : (fuel n : ℕ) (u s : List ℕ) → length s < fuel → Going n u → AreBytes (u ++ s)
     → RunInFront n (u ++ s) ⊎ HasFault n (u ++ s)
 all_steps zero n u s l g f = absurd (omega arith)
 all_steps (suc fuel) n u s l g f =
-    elim (step n u g s (IsBytes-rest u s f)) [
+    elim (step n u g s (AreBytes-rest u s f)) [
       | whole r ↦ inl r
       | fails r ↦ inr r
       | goes u' s' g' e m ↦ subst (λ (z : List ℕ). RunInFront n z ⊎ HasFault n z) (sym e)

@@ -5,10 +5,10 @@ use Rattle.std.proofs.lemmas.List.{append-nil, length-append}
 use Rattle.ciborium_ll_grammar.specs.declared.hdr.Header.{Header}
 use Rattle.ciborium_ll_grammar.specs.Title.{IsTitle, shortest_title}
 use Rattle.ciborium_ll_grammar.specs.Strings.{Kind, Bytes, Text, kind_header, IsString, AreStrings, none, more}
-use Rattle.ciborium_ll_grammar.specs.Strings.IsString.{definite as definite_str, indefinite as indefinite_str}
-use Rattle.ciborium_ll_grammar.specs.Elements.{IsSound, Mark, Plain, Whole, Open, Piece, Close, IsPlain}
-use Rattle.ciborium_ll_grammar.specs.Elements.{mark_spelling, spelling, pieces, IsElement, plain, definite}
-use Rattle.ciborium_ll_grammar.specs.Elements.{indefinite, IsRun, done, next}
+use Rattle.ciborium_ll_grammar.specs.Strings.IsString.{definite, indefinite}
+use Rattle.ciborium_ll_grammar.specs.Elements.{AreWritable, Mark, Plain, Whole, Open, Piece, Close, IsPlain}
+use Rattle.ciborium_ll_grammar.specs.Elements.{mark_spelling, spelling, pieces, IsElement, plain, string}
+use Rattle.ciborium_ll_grammar.specs.Elements.{IsRun, done, next}
 use Rattle.ciborium_ll_text.proofs.Lists.{same_front}
 use Rattle.ciborium_ll_grammar.proofs.TitleLaws.{one_title, title_in_range, IsTitle-shortest, shortest_no_longer}
 use Rattle.ciborium_ll_grammar.proofs.StringLaws.{some_is, mixed, fronts, one_strings_then}
@@ -54,15 +54,16 @@ one_element w w' v v' ms ms' (plain x p q) (plain x' p' q') e =
     let r = one_title w w' v v' x x' p p' e in
     let xx : x ≡ x' = r.1 in
     (r.0, rw xx refl, r.2)
-one_element w w' v v' ms ms' (plain x p q) (definite {title = t} {body = b} k r s) e =
+one_element w w' v v' ms ms' (plain x p q) (string k (definite {title = t} {body = b} r) s) e =
     absurd (plain_string w t (b ++ v') v x k (Some (length b)) p q r (e ∙ append_assoc t b v'))
-one_element w w' v v' ms ms' (plain x p q) (indefinite {title = t} {strings = y} k r s z) e =
+one_element w w' v v' ms ms' (plain x p q) (string k (indefinite {title = t} {strings = y} r s) z) e =
     absurd (plain_string w t ((y ++ 0xff ∷ []) ++ v') v x k None p q r (e ∙ append_assoc t (y ++ 0xff ∷ []) v'))
-one_element w w' v v' ms ms' (definite {title = t} {body = b} k r s) (plain x p q) e =
+one_element w w' v v' ms ms' (string k (definite {title = t} {body = b} r) s) (plain x p q) e =
     absurd (plain_string w' t (b ++ v) v' x k (Some (length b)) p q r (sym e ∙ append_assoc t b v))
-one_element w w' v v' ms ms' (indefinite {title = t} {strings = y} k r s z) (plain x p q) e =
+one_element w w' v v' ms ms' (string k (indefinite {title = t} {strings = y} r s) z) (plain x p q) e =
     absurd (plain_string w' t ((y ++ 0xff ∷ []) ++ v) v' x k None p q r (sym e ∙ append_assoc t (y ++ 0xff ∷ []) v))
-one_element w w' v v' ms ms' (definite {title = t} {body = b} k p s) (definite {title = t'} {body = b'} k' p' s') e =
+one_element w w' v v' ms ms' (string k (definite {title = t} {body = b} p) s)
+    (string k' (definite {title = t'} {body = b'} p') s') e =
     let r = string_fronts k k' t t' (b ++ v) (b' ++ v') (Some (length b)) (Some (length b')) p p'
     (sym (append_assoc t b v) ∙ (e ∙ append_assoc t' b' v')) in
     let f = same_front b b' v v' (some_is (length b) (length b') r.2) r.3 in
@@ -70,18 +71,18 @@ one_element w w' v v' ms ms' (definite {title = t} {body = b} k p s) (definite {
     let tt' : t ≡ t' = r.1 in
     let bb : b ≡ b' = f.0 in
     (rw (tt', bb) refl, rw (kk, bb) refl, f.1)
-one_element w w' v v' ms ms' (definite {title = t} {body = b} k p s)
-    (indefinite {title = t'} {strings = y} k' p' q' s') e =
+one_element w w' v v' ms ms' (string k (definite {title = t} {body = b} p) s)
+    (string k' (indefinite {title = t'} {strings = y} p' q') s') e =
     let r = string_fronts k k' t t' (b ++ v) ((y ++ 0xff ∷ []) ++ v') (Some (length b)) None p p'
     (sym (append_assoc t b v) ∙ (e ∙ append_assoc t' (y ++ 0xff ∷ []) v')) in
     absurd (mixed (length b) r.2)
-one_element w w' v v' ms ms' (indefinite {title = t} {strings = y} k p q s)
-    (definite {title = t'} {body = b'} k' p' s') e =
+one_element w w' v v' ms ms' (string k (indefinite {title = t} {strings = y} p q) s)
+    (string k' (definite {title = t'} {body = b'} p') s') e =
     let r = string_fronts k k' t t' ((y ++ 0xff ∷ []) ++ v) (b' ++ v') None (Some (length b')) p p'
     (sym (append_assoc t (y ++ 0xff ∷ []) v) ∙ (e ∙ append_assoc t' b' v')) in
     absurd (mixed (length b') (sym r.2))
-one_element w w' v v' ms ms' (indefinite {title = t} {strings = y} {bodies = bs} k p q s)
-    (indefinite {title = t'} {strings = y'} {bodies = bs'} k' p' q' s') e =
+one_element w w' v v' ms ms' (string k (indefinite {title = t} {strings = y} {bodies = bs} p q) s)
+    (string k' (indefinite {title = t'} {strings = y'} {bodies = bs'} p' q') s') e =
     let r = string_fronts k k' t t' ((y ++ 0xff ∷ []) ++ v) ((y' ++ 0xff ∷ []) ++ v') None None p p'
     (sym (append_assoc t (y ++ 0xff ∷ []) v) ∙ (e ∙ append_assoc t' (y' ++ 0xff ∷ []) v')) in
     let kk : k ≡ k' = r.0 in
@@ -107,25 +108,28 @@ one_run n w ms (next {first = x} {rest = y} {marks = ns} {others = os} a r) w' v
     let oo : os ≡ os' = g.1 in
     (rw (xx, yy) refl, rw (nn, oo) refl, g.2)
 
--- ---- sound bodies
+-- ---- bodies that may be written
 
--- the front of sound bodies is sound
-pub IsSound-left : (k : Kind) (bs cs : List (List ℕ)) → IsSound k (bs ++ cs) → IsSound k bs
-IsSound-left Bytes bs cs s = tt
-IsSound-left Text [] cs s = tt
-IsSound-left Text (b ∷ bs) cs s = (s.0, IsSound-left Text bs cs s.1)
+-- any bytes may be written
+pub bytes_writable : (bs : List (List ℕ)) → AreWritable Bytes bs
+bytes_writable [] = tt
+bytes_writable (b ∷ bs) = (tt, bytes_writable bs)
 
--- the rest of sound bodies is sound
-pub IsSound-right : (k : Kind) (bs cs : List (List ℕ)) → IsSound k (bs ++ cs) → IsSound k cs
-IsSound-right Bytes bs cs s = tt
-IsSound-right Text [] cs s = s
-IsSound-right Text (b ∷ bs) cs s = IsSound-right Text bs cs s.1
+-- the first ones of some
+pub AreWritable-left : (k : Kind) (bs cs : List (List ℕ)) → AreWritable k (bs ++ cs) → AreWritable k bs
+AreWritable-left k [] cs s = tt
+AreWritable-left k (b ∷ bs) cs s = (s.0, AreWritable-left k bs cs s.1)
 
--- sound bodies joined are sound
-pub IsSound-append : (k : Kind) (bs cs : List (List ℕ)) → IsSound k bs → IsSound k cs → IsSound k (bs ++ cs)
-IsSound-append Bytes bs cs p q = tt
-IsSound-append Text [] cs p q = q
-IsSound-append Text (b ∷ bs) cs p q = (p.0, IsSound-append Text bs cs p.1 q)
+-- those behind them
+pub AreWritable-right : (k : Kind) (bs cs : List (List ℕ)) → AreWritable k (bs ++ cs) → AreWritable k cs
+AreWritable-right k [] cs s = s
+AreWritable-right k (b ∷ bs) cs s = AreWritable-right k bs cs s.1
+
+-- both
+pub AreWritable-append : (k : Kind) (bs cs : List (List ℕ)) → AreWritable k bs → AreWritable k cs
+    → AreWritable k (bs ++ cs)
+AreWritable-append k [] cs p q = q
+AreWritable-append k (b ∷ bs) cs p q = (p.0, AreWritable-append k bs cs p.1 q)
 
 -- ---- the spelling
 
@@ -162,13 +166,13 @@ AreStrings-append k w bs (more {first = x} {rest = y} {bodies = ds} {others = es
 mutual
   -- a string is spelled again as its pieces, no longer
   pub respell_one : (k : Kind) (w : List ℕ) (bs : List (List ℕ)) → IsString k w bs → Respelled k w bs
-  respell_one k w bs (definite_str {title = t} {body = b} p) =
+  respell_one k w bs (definite {title = t} {body = b} p) =
       record {
-        strings = more (definite_str (IsTitle-shortest_of t (kind_header k (Some (length b))) p)) none;
+        strings = more (definite (IsTitle-shortest_of t (kind_header k (Some (length b))) p)) none;
         shorter = (let l = shortest_no_longer t (kind_header k (Some (length b))) p in
             simp (length-append, append-nil) (omega arith));
       }
-  respell_one k w bs (indefinite_str {title = t} {strings = x} {bodies = cs} p q) =
+  respell_one k w bs (indefinite {title = t} {strings = x} {bodies = cs} p q) =
       let r = respell_all k x cs q in
       record {
         strings = r.strings;
@@ -212,20 +216,20 @@ element_again w ms (plain x p q) =
           (plain x (IsTitle-shortest_of w x p) q);
       shorter = (let l = shortest_no_longer w x p in omega (arith, length-append (shortest_title x) []));
     }
-element_again w ms (definite {title = t} {body = b} k p s) =
+element_again w ms (string k (definite {title = t} {body = b} p) s) =
     let x = kind_header k (Some (length b)) in
     record {
       element = subst (λ (z : List ℕ). IsElement z (Whole k b ∷ [])) (sym (append-nil (shortest_title x ++ b)))
-          (definite k (IsTitle-shortest_of t x p) s);
+          (string k (definite (IsTitle-shortest_of t x p)) s);
       shorter = (let l = shortest_no_longer t x p in omega
           (arith, length-append (shortest_title x ++ b) [], length-append (shortest_title x) b, length-append t b));
     }
-element_again w ms (indefinite {title = t} {strings = y} {bodies = bs} k p q s) =
+element_again w ms (string k (indefinite {title = t} {strings = y} {bodies = bs} p q) s) =
     let x = kind_header k None in
     let r = respell_all k y bs q in
     record {
       element = subst (λ (z : List ℕ). IsElement z (Open k ∷ (pieces k bs ++ Close ∷ []))) (sym (open_spelled k bs))
-          (indefinite k (IsTitle-shortest_of t x p) r.strings s);
+          (string k (indefinite (IsTitle-shortest_of t x p) r.strings) s);
       shorter = (let l = shortest_no_longer t x p in let m = r.shorter in
           omega (
             arith,

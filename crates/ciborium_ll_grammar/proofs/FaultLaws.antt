@@ -2,7 +2,7 @@
 use Rattle.std.proofs.Common.{◌≡◌, ℕ, ◌<◌, List, ◌++◌, length, refl, sym, ◌∙◌, append_assoc, arith, inl, inr}
 use Rattle.ciborium_ll_grammar.specs.Strings.{Kind, Bytes, Text}
 use Rattle.ciborium_ll_grammar.specs.Elements.{Mark, IsElement, IsRun, done, next}
-use Rattle.ciborium_ll_grammar.specs.Faults.{Place, Due, In, Body, Reaches, due, inside, body, body_inside, Answer}
+use Rattle.ciborium_ll_grammar.specs.Faults.{Place, Due, In, BodyDue, Reaches, due, inside, body, body_inside, Answer}
 use Rattle.ciborium_ll_grammar.specs.Faults.{FirstFault, RunInFront, HasFault, CutTitle, NoTitle, OtherTitle}
 use Rattle.ciborium_ll_grammar.specs.Faults.{DamagedText, CutBody, CutDamagedText}
 use Rattle.ciborium_ll_grammar.proofs.ElementLaws.{one_element}
@@ -35,7 +35,7 @@ follows i u ms (next {count = j} {first = a} {rest = b} {marks = os} {others = p
 pub data Stuck : Place → List ℕ → Type 0 where
   stop : {s : List ℕ} → Stop s → Stuck Due s
   halt : {s : List ℕ} (k : Kind) → Halt k s → Stuck (In k) s
-  bad_body : {s : List ℕ} {k : Kind} {l p : ℕ} → IsBad k l s → Stuck (Body k l p) s
+  bad_body : {s : List ℕ} {k : Kind} {l p : ℕ} → IsBad k l s → Stuck (BodyDue k l p) s
 
 -- no run of n elements stands in front where what is due cannot come
 reach_stuck : (n : ℕ) (u : List ℕ) (ms : List Mark) (at : Place) → Reaches n u ms at → (s : List ℕ) → Stuck at s
@@ -63,10 +63,10 @@ pub stuck : (u : List ℕ) (ms : List Mark) (at : Place) (s : List ℕ) (a : Ans
     → Stuck at s
 stuck u ms at s a out c (CutTitle {place = Due} d f) = stop (stop_cut f)
 stuck u ms at s a out c (CutTitle {place = In k} d f) = halt k (halt_cut f)
-stuck u ms at s a out c (CutTitle {place = Body k l p} d f) = absurd d
+stuck u ms at s a out c (CutTitle {place = BodyDue k l p} d f) = absurd d
 stuck u ms at s a out c (NoTitle {place = Due} d f) = stop (stop_refused f)
 stuck u ms at s a out c (NoTitle {place = In k} d f) = halt k (halt_refused f)
-stuck u ms at s a out c (NoTitle {place = Body k l p} d f) = absurd d
+stuck u ms at s a out c (NoTitle {place = BodyDue k l p} d f) = absurd d
 stuck u ms at s a out c (OtherTitle {kind = k} x r p f e) = halt k (halt_misplaced r x p f e)
 stuck u ms at s a out c (DamagedText b r l f e g m) = bad_body (inr f)
 stuck u ms at s a out c (CutBody {kind = k} {len = l} b r f e g m m2 m3) = bad_body (too_short k l s f)

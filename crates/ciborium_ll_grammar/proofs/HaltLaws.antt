@@ -6,16 +6,16 @@ use Rattle.ciborium_ll_grammar.specs.declared.hdr.Header.{Header}
 use Rattle.ciborium_ll_grammar.specs.declared.hdr.Header.TheVariants as h
 use Rattle.ciborium_ll_grammar.specs.Title.{IsTitle, IsCutTitle, BeginsRefused}
 use Rattle.ciborium_ll_grammar.specs.Strings.{Kind, Bytes, Text, kind_header, IsString, AreStrings, none, more}
-use Rattle.ciborium_ll_grammar.specs.Strings.{IsMisplaced}
-use Rattle.ciborium_ll_grammar.specs.Strings.IsString.{definite as definite_str, indefinite as indefinite_str}
+use Rattle.ciborium_ll_grammar.specs.Strings.{IsMisplaced, IsWritable}
+use Rattle.ciborium_ll_grammar.specs.Strings.IsString.{definite, indefinite}
 use Rattle.ciborium_ll_text.specs.Text.{IsCharacters}
-use Rattle.ciborium_ll_grammar.specs.Elements.{IsSound, Mark, IsElement, plain, definite, indefinite, IsPlain}
+use Rattle.ciborium_ll_grammar.specs.Elements.{AreWritable, Mark, IsElement, plain, string, IsPlain}
 use Rattle.ciborium_ll_grammar.specs.Faults.{IsInside, opened, deeper}
 use Rattle.ciborium_ll_grammar.proofs.TitleLaws.{one_title, title_refused}
 use Rattle.ciborium_ll_grammar.proofs.AffixLaws.{title_not_cut}
 use Rattle.ciborium_ll_grammar.proofs.StringLaws.{some_is, mixed, fronts, not_break, break_title, string_not_break}
 use Rattle.ciborium_ll_grammar.proofs.StringLaws.{one_string}
-use Rattle.ciborium_ll_grammar.proofs.ElementLaws.{not_plain, string_fronts, IsSound-left, IsSound-right}
+use Rattle.ciborium_ll_grammar.proofs.ElementLaws.{not_plain, string_fronts, AreWritable-left, AreWritable-right}
 
 -- ---- where strings of the kind can't go on
 
@@ -42,19 +42,18 @@ break_not_misplaced : (k : Kind) → IsMisplaced k h.Break → ⊥
 break_not_misplaced Bytes f = f
 break_not_misplaced Text f = f
 
--- a sound body is not bad
-good_body : (k : Kind) (b v : List ℕ) (l : ℕ) → l ≡ length b → IsSound k (b ∷ []) → IsBad k l (b ++ v) → ⊥
+-- a body that may be written is not bad
+good_body : (k : Kind) (b v : List ℕ) (l : ℕ) → l ≡ length b → IsWritable k b → IsBad k l (b ++ v) → ⊥
 good_body Bytes b v l e s un = omega (arith, length-append b v)
 good_body Text b v l e s un =
     elim un [
       | inl lt ↦ omega (arith, length-append b v)
-      | inr fu ↦ fu (subst IsCharacters (sym (take_at b v l (sym e))) s.0)
+      | inr fu ↦ fu (subst IsCharacters (sym (take_at b v l (sym e))) s)
     ]
 
 -- no title that goes on stands there
 definite_halts : (k : Kind) (t b v : List ℕ) (y : List ℕ) → Halt k y → IsTitle t (kind_header k (Some (length b)))
-    → IsSound k (b ∷ [])
-    → y ≡ t ++ (b ++ v) → ⊥
+    → IsWritable k b → y ≡ t ++ (b ++ v) → ⊥
 definite_halts k t b v y (halt_cut c) p s e = title_not_cut t (b ++ v) (kind_header k (Some (length b))) p
     (subst IsCutTitle e c)
 definite_halts k t b v y (halt_refused r) p s e = title_refused t (b ++ v) (kind_header k (Some (length b))) p
@@ -115,13 +114,13 @@ record Goes (k : Kind) (x v : List ℕ) : Type 0 where
   strings : List ℕ
   bodies : List (List ℕ)
   ok : AreStrings k strings bodies
-  sound : IsSound k bodies
+  sound : AreWritable k bodies
   is : x ≡ strings ++ 0xff ∷ v
 
 -- strings in front of more strings and a break leave strings and a break
 goes_on : (k : Kind) (w : List ℕ) (bs : List (List ℕ)) → AreStrings k w bs → (w' x v : List ℕ) (bs' : List (List ℕ))
     → AreStrings k w' bs'
-    → IsSound k bs' → w ++ x ≡ w' ++ 0xff ∷ v → Goes k x v
+    → AreWritable k bs' → w ++ x ≡ w' ++ 0xff ∷ v → Goes k x v
 goes_on k w bs none w' x v bs' s' ok e = record { strings = w'; bodies = bs'; ok = s'; sound = ok; is = e }
 goes_on k w bs (more {first = a} {rest = y} {bodies = cs} {others = ds} s ss) w' x v bs' none ok e =
     absurd (string_not_break k a (y ++ x) v cs s (sym (append_assoc a y x) ∙ e))
@@ -129,24 +128,24 @@ goes_on k w bs (more {first = a} {rest = y} {bodies = cs} {others = ds} s ss) w'
     (more {first = a'} {rest = y'} {bodies = cs'} {others = ds'} s' ss') ok e =
     let o = one_string k a a' (y ++ x) (y' ++ 0xff ∷ v) cs cs' s s'
     (sym (append_assoc a y x) ∙ (e ∙ append_assoc a' y' (0xff ∷ v))) in
-    goes_on k y ds ss y' x v ds' ss' (IsSound-right k cs' ds' ok) o.2
+    goes_on k y ds ss y' x v ds' ss' (AreWritable-right k cs' ds' ok) o.2
 
 -- no string comes
-pub string_halts : (k : Kind) (w : List ℕ) (bs : List (List ℕ)) → IsString k w bs → IsSound k bs → (v y : List ℕ)
+pub string_halts : (k : Kind) (w : List ℕ) (bs : List (List ℕ)) → IsString k w bs → AreWritable k bs → (v y : List ℕ)
     → Halt k y → y ≡ w ++ v
     → ⊥
-string_halts k w bs (definite_str {title = t} {body = b} p) s v y f e =
-    definite_halts k t b v y f p s (e ∙ append_assoc t b v)
-string_halts k w bs (indefinite_str {title = t} {strings = x} p q) s v y f e =
+string_halts k w bs (definite {title = t} {body = b} p) s v y f e =
+    definite_halts k t b v y f p s.0 (e ∙ append_assoc t b v)
+string_halts k w bs (indefinite {title = t} {strings = x} p q) s v y f e =
     open_halts k t ((x ++ 0xff ∷ []) ++ v) y f p (e ∙ append_assoc t (x ++ 0xff ∷ []) v)
 
 -- no strings and a break come
-goes_halts : (k : Kind) (w : List ℕ) (bs : List (List ℕ)) → AreStrings k w bs → IsSound k bs → (v y : List ℕ)
+goes_halts : (k : Kind) (w : List ℕ) (bs : List (List ℕ)) → AreStrings k w bs → AreWritable k bs → (v y : List ℕ)
     → Halt k y → y ≡ w ++ 0xff ∷ v
     → ⊥
 goes_halts k w bs none s v y f e = break_halts k v y f e
 goes_halts k w bs (more {first = a} {rest = b} {bodies = cs} {others = ds} p q) s v y f e =
-    string_halts k a cs p (IsSound-left k cs ds s) (b ++ 0xff ∷ v) y f (e ∙ append_assoc a b (0xff ∷ v))
+    string_halts k a cs p (AreWritable-left k cs ds s) (b ++ 0xff ∷ v) y f (e ∙ append_assoc a b (0xff ∷ v))
 
 -- an open string in front of opens that halt
 pub opens_title : (k : Kind) (u : List ℕ) {os : List (List ℕ)} → Opens k u os
@@ -156,41 +155,42 @@ opens_title k u (link {t} {w} {u = x} p s c) = (t, w ++ x, p, append_assoc t w x
 
 -- behind the open t, sound strings W and a break would stand
 behind : (k : Kind) (t w x : List ℕ) (bs : List (List ℕ)) → IsTitle t (kind_header k None) → AreStrings k w bs
-    → (t' w' v : List ℕ) (bs' : List (List ℕ)) → IsTitle t' (kind_header k None) → AreStrings k w' bs' → IsSound k bs'
-    → (t ++ w) ++ x ≡ t' ++ (w' ++ 0xff ∷ v) → Goes k x v
+    → (t' w' v : List ℕ) (bs' : List (List ℕ)) → IsTitle t' (kind_header k None) → AreStrings k w' bs'
+    → AreWritable k bs' → (t ++ w) ++ x ≡ t' ++ (w' ++ 0xff ∷ v) → Goes k x v
 behind k t w x bs p s t' w' v bs' p' s' ok e =
     let o = fronts k t t' (w ++ x) (w' ++ 0xff ∷ v) None None p p' (sym (append_assoc t w x) ∙ e) in
     goes_on k w bs s w' x v bs' s' ok o.2
 
 -- no sound string comes behind opens that halt
 pub opens_string : (k : Kind) (u : List ℕ) {os : List (List ℕ)} → Opens k u os → (y : List ℕ)
-    → ((t w v : List ℕ) (bs : List (List ℕ)) → IsTitle t (kind_header k None) → AreStrings k w bs → IsSound k bs
+    → ((t w v : List ℕ) (bs : List (List ℕ)) → IsTitle t (kind_header k None) → AreStrings k w bs → AreWritable k bs
     → u ++ y ≡ t ++ (w ++ 0xff ∷ v) → ⊥)
-    → (a : List ℕ) (bs : List (List ℕ)) → IsString k a bs → IsSound k bs → (v : List ℕ) → u ++ y ≡ a ++ v → ⊥
-opens_string k u c y rec a bs (definite_str {title = t} {body = b} p) ok v e =
+    → (a : List ℕ) (bs : List (List ℕ)) → IsString k a bs → AreWritable k bs → (v : List ℕ) → u ++ y ≡ a ++ v → ⊥
+opens_string k u c y rec a bs (definite {title = t} {body = b} p) ok v e =
     let z = opens_title k u c in
     let o = fronts k z.0 t (z.1 ++ y) (b ++ v) None (Some (length b)) z.2 p
     (sym (append_assoc z.0 z.1 y) ∙ (ap (λ (x : List ℕ). x ++ y) (sym z.3) ∙ (e ∙ append_assoc t b v))) in
     mixed (length b) (sym o.1)
-opens_string k u c y rec a bs (indefinite_str {title = t} {strings = x} {bodies = cs} p q) ok v e =
+opens_string k u c y rec a bs (indefinite {title = t} {strings = x} {bodies = cs} p q) ok v e =
     rec t x v cs p q ok (e ∙ (append_assoc t (x ++ 0xff ∷ []) v ∙ ap (λ (z : List ℕ). t ++ z)
     (append_assoc x (0xff ∷ []) v)))
 
 -- no sound strings and a break come behind opens that halt
 opens_strings : (k : Kind) (u : List ℕ) {os : List (List ℕ)} → Opens k u os → (y : List ℕ)
-    → ((t w v : List ℕ) (bs : List (List ℕ)) → IsTitle t (kind_header k None) → AreStrings k w bs → IsSound k bs
+    → ((t w v : List ℕ) (bs : List (List ℕ)) → IsTitle t (kind_header k None) → AreStrings k w bs → AreWritable k bs
     → u ++ y ≡ t ++ (w ++ 0xff ∷ v) → ⊥)
-    → (w : List ℕ) (bs : List (List ℕ)) → AreStrings k w bs → IsSound k bs → (v : List ℕ) → u ++ y ≡ w ++ 0xff ∷ v → ⊥
+    → (w : List ℕ) (bs : List (List ℕ)) → AreStrings k w bs → AreWritable k bs → (v : List ℕ)
+    → u ++ y ≡ w ++ 0xff ∷ v → ⊥
 opens_strings k u c y rec w bs none ok v e =
     let z = opens_title k u c in
     not_break k None ((one_title z.0 (0xff ∷ []) (z.1 ++ y) v (kind_header k None) h.Break z.2 break_title
     (sym (append_assoc z.0 z.1 y) ∙ (ap (λ (x : List ℕ). x ++ y) (sym z.3) ∙ e))).1)
 opens_strings k u c y rec w bs (more {first = a} {rest = b} {bodies = cs} {others = ds} p q) ok v e =
-    opens_string k u c y rec a cs p (IsSound-left k cs ds ok) (b ++ 0xff ∷ v) (e ∙ append_assoc a b (0xff ∷ v))
+    opens_string k u c y rec a cs p (AreWritable-left k cs ds ok) (b ++ 0xff ∷ v) (e ∙ append_assoc a b (0xff ∷ v))
 
 -- no sound string of indefinite length begins with opens that halt
 pub opens_halt : (k : Kind) (u : List ℕ) {os : List (List ℕ)} → Opens k u os → (y : List ℕ) → Halt k y
-    → (t w v : List ℕ) (bs : List (List ℕ)) → IsTitle t (kind_header k None) → AreStrings k w bs → IsSound k bs
+    → (t w v : List ℕ) (bs : List (List ℕ)) → IsTitle t (kind_header k None) → AreStrings k w bs → AreWritable k bs
     → u ++ y ≡ t ++ (w ++ 0xff ∷ v) → ⊥
 opens_halt k u (last {t = t0} {w = w0} {bs = b0} p s) y f t w v bs q r ok e =
     let g = behind k t0 w0 y b0 p s t w v bs q r ok e in
@@ -227,10 +227,10 @@ same_kind k t u y o p e t' s j l q e' = (string_fronts j k t' t s u (Some l) o q
 
 -- no element comes where one is due and there is none
 pub element_stops : (w : List ℕ) (ms : List Mark) → IsElement w ms → (v y : List ℕ) → Stop y → y ≡ w ++ v → ⊥
-element_stops w ms (definite {title = t} {body = b} k p s) v y f e =
+element_stops w ms (string k (definite {title = t} {body = b} p) s) v y f e =
     let e2 = e ∙ append_assoc t b v in
-    definite_halts k t b v y (halt_of y f k (same_kind k t (b ++ v) y (Some (length b)) p e2)) p s e2
-element_stops w ms (indefinite {title = t} {strings = x} k p q s) v y f e =
+    definite_halts k t b v y (halt_of y f k (same_kind k t (b ++ v) y (Some (length b)) p e2)) p s.0 e2
+element_stops w ms (string k (indefinite {title = t} {strings = x} p q) s) v y f e =
     let e2 = e ∙ append_assoc t (x ++ 0xff ∷ []) v in
     open_halts k t ((x ++ 0xff ∷ []) ++ v) y (halt_of y f k (same_kind k t ((x ++ 0xff ∷ []) ++ v) y None p e2)) p e2
 element_stops w ms (plain x p q) v y (stop_cut c) e = title_not_cut w v x p (subst IsCutTitle e c)
@@ -248,12 +248,12 @@ element_inside w ms (plain x p q) k u y v c f e =
     let o = one_title w z.0 v (z.1 ++ y) x (kind_header k None) p z.2
     (sym e ∙ (ap (λ (x : List ℕ). x ++ y) z.3 ∙ append_assoc z.0 z.1 y)) in
     not_plain k None (subst IsPlain o.1 q)
-element_inside w ms (definite {title = t} {body = b} j p s) k u y v c f e =
+element_inside w ms (string j (definite {title = t} {body = b} p) s) k u y v c f e =
     let z = opens_title k u c in
     let o = string_fronts j k t z.0 (b ++ v) (z.1 ++ y) (Some (length b)) None p z.2
     (sym (append_assoc t b v) ∙ (sym e ∙ (ap (λ (x : List ℕ). x ++ y) z.3 ∙ append_assoc z.0 z.1 y))) in
     mixed (length b) o.2
-element_inside w ms (indefinite {title = t} {strings = x} {bodies = bs} j p q s) k u y v c f e =
+element_inside w ms (string j (indefinite {title = t} {strings = x} {bodies = bs} p q) s) k u y v c f e =
     let z = opens_title k u c in
     let e2 = e ∙ (append_assoc t (x ++ 0xff ∷ []) v ∙ ap (λ (r : List ℕ). t ++ r) (append_assoc x (0xff ∷ []) v)) in
     let o = string_fronts j k t z.0 (x ++ 0xff ∷ v) (z.1 ++ y) None None p z.2
@@ -261,4 +261,4 @@ element_inside w ms (indefinite {title = t} {strings = x} {bodies = bs} j p q s)
     let jk = o.0 in
     opens_halt k u c y f t x v bs (subst (λ (r : Kind). IsTitle t (kind_header r None)) jk p)
     (subst (λ (r : Kind). AreStrings r x bs) jk q)
-    (subst (λ (r : Kind). IsSound r bs) jk s) e2
+    (subst (λ (r : Kind). AreWritable r bs) jk s) e2

@@ -5,15 +5,15 @@ use Rattle.std.proofs.lemmas.Bool.{cases_order}
 use Rattle.ciborium_ll_grammar.specs.declared.hdr.Header.{Header}
 use Rattle.ciborium_ll_grammar.specs.Title.{IsTitle, IsCutTitle, BeginsRefused, title_len}
 use Rattle.ciborium_ll_grammar.specs.Strings.{Kind, kind_header, IsString, AreStrings, none, more, IsMisplaced}
-use Rattle.ciborium_ll_grammar.specs.Elements.{IsSound, Mark, Open, pieces, IsElement, IsRun}
-use Rattle.ciborium_ll_grammar.specs.Faults.{IsInside, Place, Due, In, Body, Reaches, due, inside, body, body_inside}
+use Rattle.ciborium_ll_grammar.specs.Elements.{AreWritable, Mark, Open, pieces, IsElement, IsRun}
+use Rattle.ciborium_ll_grammar.specs.Faults.{IsInside, Place, Due, In, BodyDue, Reaches, due, inside, body, body_inside}
 use Rattle.ciborium_ll_grammar.specs.Faults.{Answer, FirstFault, HasFault, CutTitle, NoTitle, OtherTitle, DamagedText}
 use Rattle.ciborium_ll_grammar.specs.Faults.{CutBody, CutDamagedText}
 use Rattle.ciborium_ll_text.specs.Text.{BeginsNoText}
 use Rattle.ciborium_ll_grammar.proofs.TitleLaws.{one_title, title_refused}
 use Rattle.ciborium_ll_grammar.proofs.AffixLaws.{title_not_cut, refused_affix}
 use Rattle.ciborium_ll_grammar.proofs.StringLaws.{some_is, fronts, one_string, SameString}
-use Rattle.ciborium_ll_grammar.proofs.ElementLaws.{one_run, string_fronts, IsSound-left, IsSound-right}
+use Rattle.ciborium_ll_grammar.proofs.ElementLaws.{one_run, string_fronts, AreWritable-left, AreWritable-right}
 use Rattle.ciborium_ll_grammar.proofs.HaltLaws.{IsBad, Halt, halt_cut, halt_refused, halt_misplaced, halt_bad, Opens}
 use Rattle.ciborium_ll_grammar.proofs.HaltLaws.{last, link, opens_of, opens_title, opens_string, opens_halt}
 use Rattle.ciborium_ll_grammar.proofs.HaltLaws.{string_halts, open_halts, Stop, stop_cut, stop_refused, stop_bad}
@@ -25,21 +25,21 @@ record Ahead (k : Kind) (x : List ℕ) : Type 0 where
   word : List ℕ
   bodies : List (List ℕ)
   ok : IsString k word bodies
-  sound : IsSound k bodies
+  sound : AreWritable k bodies
   rest : List ℕ
   is : x ≡ word ++ rest
 
 -- of strings in front of one list either both are the same, or a string comes behind one
 compare : (k : Kind) (w : List ℕ) (bs : List (List ℕ)) → AreStrings k w bs
     → (w' x x' : List ℕ) (bs' : List (List ℕ)) → AreStrings k w' bs'
-    → IsSound k bs → IsSound k bs' → w ++ x ≡ w' ++ x' → SameString w w' bs bs' x x' ⊎ (Ahead k x ⊎ Ahead k x')
+    → AreWritable k bs → AreWritable k bs' → w ++ x ≡ w' ++ x' → SameString w w' bs bs' x x' ⊎ (Ahead k x ⊎ Ahead k x')
 compare k w bs none w' x x' bs' none ok ok' e = inl (refl, refl, e)
 compare k w bs none w' x x' bs' (more {first = a} {rest = b} {bodies = cs} {others = ds} p q) ok ok' e =
     inr (inl (record {
       word = a;
       bodies = cs;
       ok = p;
-      sound = IsSound-left k cs ds ok';
+      sound = AreWritable-left k cs ds ok';
       rest = b ++ x';
       is = e
           ∙ append_assoc a b x';
@@ -49,7 +49,7 @@ compare k w bs (more {first = a} {rest = b} {bodies = cs} {others = ds} p q) w' 
       word = a;
       bodies = cs;
       ok = p;
-      sound = IsSound-left k cs ds ok;
+      sound = AreWritable-left k cs ds ok;
       rest = b ++ x;
       is = sym e
           ∙ append_assoc a b x;
@@ -60,7 +60,7 @@ compare k w bs (more {first = a} {rest = b} {bodies = cs} {others = ds} p q) w' 
     (sym (append_assoc a b x) ∙ (e ∙ append_assoc a' b' x')) in
     let aa : a ≡ a' = o.0 in
     let ccs : cs ≡ cs' = o.1 in
-    elim (compare k b ds q b' x x' ds' q' (IsSound-right k cs ds ok) (IsSound-right k cs' ds' ok') o.2) [
+    elim (compare k b ds q b' x x' ds' q' (AreWritable-right k cs ds ok) (AreWritable-right k cs' ds' ok') o.2) [
       | inl r ↦ (let bb : b ≡ b' = r.0 in let dd : ds ≡ ds' = r.1 in inl (rw (aa, bb) refl, rw (ccs, dd) refl, r.2))
       | inr r ↦ inr r
     ]
@@ -82,8 +82,8 @@ open_ahead k u y z c f e =
     (e ∙ (ap (λ (x : List ℕ). x ++ z) t.3 ∙ append_assoc t.0 t.1 z))
 
 -- two lists of opens that halt are the same
-opens_same : (k : Kind) (u : List ℕ) (bs : List (List ℕ)) → Opens k u bs → (y : List ℕ) → Halt k y → IsSound k bs
-    → (u' y' : List ℕ) (bs' : List (List ℕ)) → Opens k u' bs' → Halt k y' → IsSound k bs' → u ++ y ≡ u' ++ y'
+opens_same : (k : Kind) (u : List ℕ) (bs : List (List ℕ)) → Opens k u bs → (y : List ℕ) → Halt k y → AreWritable k bs
+    → (u' y' : List ℕ) (bs' : List (List ℕ)) → Opens k u' bs' → Halt k y' → AreWritable k bs' → u ++ y ≡ u' ++ y'
     → SameString u u' bs bs' y y'
 opens_same k u bs (last {t} {w} p s) y f ok u' y' bs' (last {t = t'} {w = w'} p' s') f' ok' e =
     let o = fronts k t t' (w ++ y) (w' ++ y') None None p p' (sym (append_assoc t w y) ∙ (e ∙ append_assoc t' w' y')) in
@@ -97,7 +97,7 @@ opens_same k u bs (last {t} {w} p s) y f ok u' y' bs'
     let o = fronts k t t' (w ++ y) (w' ++ (x' ++ y')) None None p p'
     (sym (append_assoc t w y) ∙ (e ∙ (append_assoc (t' ++ w') x' y' ∙ append_assoc t' w' (x' ++ y')))) in
     let c' = d' in
-    elim (compare k w bs s w' y (x' ++ y') cs' s' ok (IsSound-left k cs' ds' ok') o.2) [
+    elim (compare k w bs s w' y (x' ++ y') cs' s' ok (AreWritable-left k cs' ds' ok') o.2) [
       | inl r ↦ absurd (open_ahead k x' y y' c' f r.2)
       | inr r ↦ elim r [ inl a ↦ absurd (ahead_halts k y f a) | inr a ↦ absurd (ahead_opens k x' y' c' f' a) ]
     ]
@@ -106,7 +106,7 @@ opens_same k u bs (link {t} {w} {u = x} {bs = cs} {cs = ds} p s d) y f ok u' y' 
     let o = fronts k t t' (w ++ (x ++ y)) (w' ++ y') None None p p'
     (sym (append_assoc (t ++ w) x y ∙ append_assoc t w (x ++ y)) ∙ (e ∙ append_assoc t' w' y')) in
     let c = d in
-    elim (compare k w cs s w' (x ++ y) y' bs' s' (IsSound-left k cs ds ok) ok' o.2) [
+    elim (compare k w cs s w' (x ++ y) y' bs' s' (AreWritable-left k cs ds ok) ok' o.2) [
       | inl r ↦ absurd (open_ahead k x y' y c f' (sym r.2))
       | inr r ↦ elim r [ inl a ↦ absurd (ahead_opens k x y c f a) | inr a ↦ absurd (ahead_halts k y' f' a) ]
     ]
@@ -116,10 +116,11 @@ opens_same k u bs (link {t} {w} {u = x} {bs = cs} {cs = ds} p s d) y f ok u' y' 
     (sym (append_assoc (t ++ w) x y ∙ append_assoc t w (x ++ y))
     ∙ (e ∙ (append_assoc (t' ++ w') x' y' ∙ append_assoc t' w' (x' ++ y')))) in
     let tt' : t ≡ t' = o.0 in
-    elim (compare k w cs s w' (x ++ y) (x' ++ y') cs' s' (IsSound-left k cs ds ok) (IsSound-left k cs' ds' ok') o.2) [
+    elim (compare k w cs s w' (x ++ y) (x' ++ y') cs' s' (AreWritable-left k cs ds ok)
+    (AreWritable-left k cs' ds' ok') o.2) [
       | inl r ↦
-          (let g = opens_same k x ds d y f (IsSound-right k cs ds ok) x' y' ds' d' f' (IsSound-right k cs' ds' ok')
-          r.2 in
+          (let g = opens_same k x ds d y f (AreWritable-right k cs ds ok) x' y' ds' d' f'
+          (AreWritable-right k cs' ds' ok') r.2 in
           let ww : w ≡ w' = r.0 in let ccs : cs ≡ cs' = r.1 in let xx : x ≡ x' = g.0 in let dd : ds ≡ ds' = g.1 in
           (rw (tt', ww, xx) refl, rw (ccs, dd) refl, g.2))
       | inr r ↦ elim r [ inl a ↦ absurd (ahead_opens k x y d f a) | inr a ↦ absurd (ahead_opens k x' y' d' f' a) ]
@@ -146,7 +147,7 @@ same_run i i' u u' y y' ms ms' r r' f f' e =
 data Base (n : ℕ) : List ℕ → List Mark → Place → List ℕ → Type 0 where
   at_due : {i : ℕ} {u y : List ℕ} {ms : List Mark} → i < n → IsRun i u ms → Stop y → Base n u ms Due y
   at_in : {i : ℕ} {u v y : List ℕ} {ms : List Mark} {bs : List (List ℕ)} {k : Kind} → i < n → IsRun i u ms
-      → IsInside k v bs → IsSound k bs
+      → IsInside k v bs → AreWritable k bs
       → Halt k y → Base n (u ++ v) (ms ++ Open k ∷ pieces k bs) (In k) y
 
 -- the same bytes before, marks, place and bytes ahead
@@ -200,7 +201,7 @@ one_base n u ms at y (at_in {i} {u = a} {v = b} {ms = os} {bs} {k} l r q ok f) u
     ∙ (o.2 ∙ (ap (λ (x : List ℕ). x ++ y') z'.3 ∙ append_assoc z'.0 z'.1 y'))))).0 in
     let g = opens_same k b bs (opens_of k b bs q) y f ok b' y' bs'
     (subst (λ (j : Kind). Opens j b' bs') (sym kk) (opens_of k' b' bs' q'))
-    (subst (λ (j : Kind). Halt j y') (sym kk) f') (subst (λ (j : Kind). IsSound j bs') (sym kk) ok') o.2 in
+    (subst (λ (j : Kind). Halt j y') (sym kk) f') (subst (λ (j : Kind). AreWritable j bs') (sym kk) ok') o.2 in
     let aa : a ≡ a' = o.0 in
     let oo : os ≡ os' = o.1 in
     let bb : b ≡ b' = g.0 in
@@ -219,7 +220,7 @@ data Flat : Place → List ℕ → Type 0 where
 abbrev IsOf : Place → Kind → Type 0
 IsOf Due k = Unit {0}
 IsOf (In j) k = j ≡ k
-IsOf (Body j l p) k = ⊥
+IsOf (BodyDue j l p) k = ⊥
 
 -- no title of a string of the kind stands where none can come
 flat_deep : (at : Place) (y : List ℕ) → Flat at y → (t s : List ℕ) (k : Kind) (l : ℕ) → IsOf at k
@@ -233,13 +234,13 @@ flat_deep at y (flat_foreign {k = j} {t = t'} r x q f z) t s k l o p e =
 
 -- the place of a body behind a title that was due
 abbrev place_of : Place → Kind → ℕ → List ℕ → List ℕ → Place
-place_of Due k l u t = Body k l (length (u ++ t) - title_len (kind_header k (Some l)))
-place_of (In j) k l u t = Body k l (length u)
-place_of (Body j m p) k l u t = Due
+place_of Due k l u t = BodyDue k l (length (u ++ t) - title_len (kind_header k (Some l)))
+place_of (In j) k l u t = BodyDue k l (length u)
+place_of (BodyDue j m p) k l u t = Due
 
 -- the body at fault is bad
 bad_of : (k : Kind) (l p : ℕ) (s u : List ℕ) (ms : List Mark) (a : Answer) (out : List ℕ) (c : ℕ)
-    → FirstFault u ms (Body k l p) s a out c
+    → FirstFault u ms (BodyDue k l p) s a out c
     → IsBad k l s
 bad_of k l p s u ms a out c (CutTitle d f) = absurd d
 bad_of k l p s u ms a out c (NoTitle d f) = absurd d

@@ -3,8 +3,8 @@ use Rattle.std.proofs.Common.{ℕ, zero, suc, List, [], ◌∷◌, ◌++◌, Non
 use Rattle.std.proofs.lemmas.List.{append-nil}
 use Rattle.ciborium_ll_grammar.specs.Title.{IsTitle}
 use Rattle.ciborium_ll_grammar.specs.Strings.{Kind, kind_header, IsString, indefinite, AreStrings, none, more}
-use Rattle.ciborium_ll_grammar.specs.Elements.IsElement.{indefinite as open_element}
-use Rattle.ciborium_ll_grammar.specs.Elements.{IsSound, Mark, Open, Close, pieces, IsElement, IsRun, done, next}
+use Rattle.ciborium_ll_grammar.specs.Elements.{AreWritable, Mark, Open, Close, pieces, IsElement, string, IsRun, done}
+use Rattle.ciborium_ll_grammar.specs.Elements.{next}
 use Rattle.ciborium_ll_grammar.specs.Faults.{IsInside, opened, deeper}
 use Rattle.ciborium_ll_grammar.proofs.OpenStrings.{IsInsideAt, one_open, more_open}
 use Rattle.ciborium_ll_grammar.proofs.ElementLaws.{AreStrings-append}
@@ -51,10 +51,10 @@ close_inner k j u bs (more_open {outer = y} {title = t} {strings = x} {bodies = 
     (add_string k (suc j) y (t ++ (x ++ 0xff ∷ [])) ds es i (indefinite p s))
 
 -- the last break makes an element
-pub close_last : (k : Kind) (u : List ℕ) (bs : List (List ℕ)) → IsInsideAt k (suc zero) u bs → IsSound k bs
+pub close_last : (k : Kind) (u : List ℕ) (bs : List (List ℕ)) → IsInsideAt k (suc zero) u bs → AreWritable k bs
     → IsElement (u ++ 0xff ∷ []) (Open k ∷ (pieces k bs ++ Close ∷ []))
 close_last k u bs (one_open {title = t} {strings = x} p s) ok =
-    rw (append_assoc t x (0xff ∷ [])) (open_element k p s ok)
+    rw (append_assoc t x (0xff ∷ [])) (string k (indefinite p s) ok)
 close_last k u bs (more_open {outer = y} {bodies = ds} i p s) ok = absurd (never k y ds i)
 
 -- an element behind a run

@@ -4,8 +4,8 @@ use Rattle.std.proofs.Common.{arith, append-nil, length-append}
 use Rattle.ciborium_ll_grammar.specs.declared.hdr.Header.{Header}
 use Rattle.ciborium_ll_grammar.specs.Title.{IsTitle, shortest_title}
 use Rattle.ciborium_ll_grammar.specs.Strings.{Kind, kind_header, IsString, AreStrings, none, more}
-use Rattle.ciborium_ll_grammar.specs.Strings.IsString.{definite as definite_str, indefinite as indefinite_str}
-use Rattle.ciborium_ll_grammar.specs.Elements.{Mark, pieces, spelling, IsElement, plain, definite, indefinite, IsRun}
+use Rattle.ciborium_ll_grammar.specs.Strings.IsString.{definite, indefinite}
+use Rattle.ciborium_ll_grammar.specs.Elements.{Mark, pieces, spelling, IsElement, plain, string, IsRun}
 use Rattle.ciborium_ll_grammar.specs.Elements.{done, next}
 use Rattle.ciborium_ll_grammar.proofs.TitleLaws.{shortest_or_longer}
 use Rattle.ciborium_ll_grammar.proofs.ElementLaws.{respell_one, respell_all, pieces-append, spelling-append}
@@ -18,7 +18,7 @@ tight_title t x p l = elim (shortest_or_longer x t p) [ inl e ↦ e | inr less �
 mutual
   tight_one : (k : Kind) (w : List ℕ) (bs : List (List ℕ)) → IsString k w bs → length w
       ≤ length (spelling (pieces k bs)) → w ≡ spelling (pieces k bs)
-  tight_one k w bs (definite_str {title = t} {body = b} p) l =
+  tight_one k w bs (definite {title = t} {body = b} p) l =
       let x = kind_header k (Some (length b)) in
       let e = tight_title t x p (omega (
         arith,
@@ -28,7 +28,7 @@ mutual
         length-append (shortest_title x) b,
       )) in
       ap (λ (z : List ℕ). z ++ b) e ∙ sym (append-nil (shortest_title x ++ b))
-  tight_one k w bs (indefinite_str {title = t} {strings = x} {bodies = cs} p q) l =
+  tight_one k w bs (indefinite {title = t} {strings = x} {bodies = cs} p q) l =
       let r = respell_all k x cs q in
       absurd (let s = r.shorter in omega (arith, l, s, length-append t (x ++ 0xff ∷ []), length-append x (0xff ∷ [])))
 
@@ -68,8 +68,8 @@ mutual
 tight_element : (w : List ℕ) (ms : List Mark) → IsElement w ms → length w ≤ length (spelling ms) → w ≡ spelling ms
 tight_element w ms (plain x p q) l = tight_title w x p (omega (arith, l, length-append (shortest_title x) []))
     ∙ sym (append-nil (shortest_title x))
-tight_element w ms (definite {title = t} {body = b} k p s) l = tight_one k (t ++ b) (b ∷ []) (definite_str p) l
-tight_element w ms (indefinite {title = t} {strings = y} {bodies = bs} k p q s) l =
+tight_element w ms (string k (definite {title = t} {body = b} p) s) l = tight_one k (t ++ b) (b ∷ []) (definite p) l
+tight_element w ms (string k (indefinite {title = t} {strings = y} {bodies = bs} p q) s) l =
     let x = kind_header k None in
     let r = respell_all k y bs q in
     let m = r.shorter in

@@ -3,13 +3,13 @@ use Rattle.std.proofs.Common.{◌≡◌, ℕ, ◌/◌, ◌%◌, ◌<◌, Bool, t
 use Rattle.std.proofs.Common.{inr, eqb-true, ltb-true, leb-true, eq-eqb}
 use Rattle.std.proofs.lemmas.Bool.{agree_below_at, and_parts, or_cases, or_right, le-leb, not-true, both_ways}
 use Rattle.ciborium_ll_grammar.specs.declared.hdr.table.Row.{Row}
-use Rattle.ciborium_ll_grammar.specs.declared.hdr.table.Kind.{Kind}
-use Rattle.ciborium_ll_grammar.specs.declared.hdr.table.Kind.TheVariants as k
+use Rattle.ciborium_ll_grammar.specs.declared.hdr.table.TitleKind.{TitleKind}
+use Rattle.ciborium_ll_grammar.specs.declared.hdr.table.TitleKind.TheVariants as k
 use Rattle.ciborium_ll_grammar.specs.declared.hdr.table.Affix.{Affix}
 use Rattle.ciborium_ll_grammar.specs.declared.hdr.table.Affix.TheVariants as a
 use Rattle.ciborium_ll_grammar.specs.declared.hdr.table.TheConstants.{ROWS, POSITIVE}
-use Rattle.ciborium_ll_grammar.specs.Title.{IsReserved, IsNeverOpen}
-use Rattle.ciborium_ll_grammar.specs.TitleRows.{IsAffix, IsKind, IsRow, NamesNoTitle, NamesTitle}
+use Rattle.ciborium_ll_grammar.specs.Title.{IsReserved, IsNeverOpen, NamesNoTitle}
+use Rattle.ciborium_ll_grammar.specs.TitleRows.{IsAffix, IsTitleKind, IsRow, NamesTitle}
 
 -- the definitions as tests
 
@@ -25,7 +25,7 @@ no_title_test major minor = reserved_test minor || (eqb minor 31 && never_open_t
 abbrev title_test : ℕ → ℕ → ℕ → Bool
 title_test code major minor = eqb major code && not (no_title_test major minor)
 
-abbrev kind_test : Kind → ℕ → ℕ → Bool
+abbrev kind_test : TitleKind → ℕ → ℕ → Bool
 kind_test k.Positive major minor = title_test 0 major minor
 kind_test k.Negative major minor = title_test 1 major minor
 kind_test k.Bytes major minor = title_test 2 major minor
@@ -103,7 +103,7 @@ title_tells code major minor e =
           (no_title_told major minor none),
     )
 
-kind_tells : (kind : Kind) (major minor : ℕ) → kind_test kind major minor ≡ true → IsKind kind major minor
+kind_tells : (kind : TitleKind) (major minor : ℕ) → kind_test kind major minor ≡ true → IsTitleKind kind major minor
 kind_tells k.Positive major minor e = title_tells 0 major minor e
 kind_tells k.Negative major minor e = title_tells 1 major minor e
 kind_tells k.Bytes major minor e = title_tells 2 major minor e

@@ -6,44 +6,44 @@ use Rattle.std.proofs.lemmas.List.{append-nil, length-append, take-append-drop, 
 use Rattle.std.specs.List.{AllByRecursion}
 use Rattle.ciborium_ll_grammar.specs.declared.hdr.Header.TheVariants as h
 use Rattle.ciborium_ll_grammar.specs.Title.{IsTitle, shortest_title}
-use Rattle.ciborium_ll_grammar.specs.Strings.{Kind, Bytes, Text, kind_header, AreStrings, none, more}
-use Rattle.ciborium_ll_grammar.specs.Strings.IsString.{definite as definite_str}
+use Rattle.ciborium_ll_grammar.specs.Strings.{Kind, Bytes, Text, kind_header, AreStrings, none, more, IsWritable}
+use Rattle.ciborium_ll_grammar.specs.Strings.IsString.{definite, indefinite}
 use Rattle.ciborium_ll_text.specs.Text.{joined, IsCharacters}
-use Rattle.ciborium_ll_grammar.specs.Elements.{IsSound, Mark, Whole, Close, spelling, pieces, open_marks, IsElement}
-use Rattle.ciborium_ll_grammar.specs.Elements.{definite, indefinite}
+use Rattle.ciborium_ll_grammar.specs.Elements.{AreWritable, Mark, Whole, Close, spelling, pieces, open_marks, IsElement}
+use Rattle.ciborium_ll_grammar.specs.Elements.{string}
 use Rattle.ciborium_ll_text.specs.Cuts.{IsMember, IsNonempty, IsCut}
-use Rattle.ciborium_ll_grammar.specs.Values.{least_limit, AreChunks, AreBytePieces, ArePieces, IsWritten, in_one}
+use Rattle.ciborium_ll_grammar.specs.Values.{least_limit, AreFullPieces, AreBytePieces, ArePieces, IsWritten, in_one}
 use Rattle.ciborium_ll_grammar.specs.Values.{in_pieces, segments, HasFewestSegments}
 use Rattle.ciborium_ll_text.proofs.Lists.{same_front}
 use Rattle.ciborium_ll_grammar.proofs.TitleLaws.{IsTitle-shortest}
-use Rattle.ciborium_ll_grammar.proofs.ElementLaws.{open_spelled}
+use Rattle.ciborium_ll_grammar.proofs.ElementLaws.{open_spelled, bytes_writable}
 use Rattle.ciborium_ll_text.proofs.CutLaws.{fewest, one_full}
 use Rattle.ciborium_ll_text.proofs.FullCutLaws.{full_cut}
 
 -- ---- bytes
 
 -- a piece as long as the limit, in front of pieces
-pub chunk_first : (limit : ℕ) (piece : List ℕ) (members : List (List ℕ)) → length piece ≡ limit
-    → AreChunks limit members
-    → AreChunks limit (piece ∷ members)
-chunk_first limit piece [] l c = absurd c
-chunk_first limit piece (following ∷ others) l c = (l, c)
+pub full_piece_first : (limit : ℕ) (piece : List ℕ) (members : List (List ℕ)) → length piece ≡ limit
+    → AreFullPieces limit members
+    → AreFullPieces limit (piece ∷ members)
+full_piece_first limit piece [] l c = absurd c
+full_piece_first limit piece (following ∷ others) l c = (l, c)
 
 -- bytes have pieces, by their length
-chunks_of : (fuel limit : ℕ) (value : List ℕ) → length value < fuel → 0 < length value → 0 < limit
+full_pieces_of : (fuel limit : ℕ) (value : List ℕ) → length value < fuel → 0 < length value → 0 < limit
     → (members : List (List ℕ)) × AreBytePieces limit value members
-chunks_of zero limit value l some one = absurd (omega arith)
-chunks_of (suc fuel) limit value l some one =
+full_pieces_of zero limit value l some one = absurd (omega arith)
+full_pieces_of (suc fuel) limit value l some one =
     elim (cases_lt limit (length value)) [
       | inl longer ↦
           (let rest = drop limit value in
-          let c = chunks_of fuel limit rest (omega (arith, length-drop limit value))
+          let c = full_pieces_of fuel limit rest (omega (arith, length-drop limit value))
           (omega (arith, length-drop limit value)) one in
           let all = c.1 in (
             take limit value ∷ c.0,
             (
               sym (take-append-drop limit value) ∙ ap (λ (z : List ℕ). take limit value ++ z) all.0,
-              chunk_first limit (take limit value) c.0 (length-take-le limit value (omega arith)) all.1,
+              full_piece_first limit (take limit value) c.0 (length-take-le limit value (omega arith)) all.1,
             ),
           ))
       | inr fits ↦ (value ∷ [], (sym (append-nil value), (some, fits)))
@@ -52,43 +52,43 @@ chunks_of (suc fuel) limit value l some one =
 -- bytes have pieces for each limit of at least one
 pub byte_pieces : (value : List ℕ) (limit : ℕ) → 0 < length value → 0 < limit
     → (members : List (List ℕ)) × AreBytePieces limit value members
-byte_pieces value limit some one = chunks_of (suc (length value)) limit value (omega arith) some one
+byte_pieces value limit some one = full_pieces_of (suc (length value)) limit value (omega arith) some one
 
 -- ---- one list of pieces
 
 -- pieces joined aren't empty
-chunk_some : (limit : ℕ) (piece : List ℕ) (members : List (List ℕ)) → AreChunks limit (piece ∷ members)
+full_piece_some : (limit : ℕ) (piece : List ℕ) (members : List (List ℕ)) → AreFullPieces limit (piece ∷ members)
     → 0 < length (joined (piece ∷ members))
-chunk_some limit piece [] c = let l = c.0 in omega (arith, length-append piece [])
-chunk_some limit piece (x ∷ xs) c = let l = chunk_some limit x xs c.1 in
+full_piece_some limit piece [] c = let l = c.0 in omega (arith, length-append piece [])
+full_piece_some limit piece (x ∷ xs) c = let l = full_piece_some limit x xs c.1 in
     omega (arith, length-append piece (joined (x ∷ xs)))
 
 -- bytes have one list of pieces
-same_chunks : (limit : ℕ) (cs ds : List (List ℕ)) → AreChunks limit cs → AreChunks limit ds → joined cs ≡ joined ds
-    → cs ≡ ds
-same_chunks limit [] ds a b e = absurd a
-same_chunks limit (c ∷ []) [] a b e = absurd b
-same_chunks limit (c ∷ []) (d ∷ []) a b e =
+same_full_pieces : (limit : ℕ) (cs ds : List (List ℕ)) → AreFullPieces limit cs → AreFullPieces limit ds
+    → joined cs ≡ joined ds → cs ≡ ds
+same_full_pieces limit [] ds a b e = absurd a
+same_full_pieces limit (c ∷ []) [] a b e = absurd b
+same_full_pieces limit (c ∷ []) (d ∷ []) a b e =
     let same : c ≡ d = sym (append-nil c) ∙ (e ∙ append-nil d) in
     ap (λ (z : List ℕ). z ∷ []) same
-same_chunks limit (c ∷ []) (d ∷ x ∷ ds) a b e =
-    let some = chunk_some limit x ds b.1 in
+same_full_pieces limit (c ∷ []) (d ∷ x ∷ ds) a b e =
+    let some = full_piece_some limit x ds b.1 in
     absurd (omega (arith, a, b.0, some, ap length e, length-append c [], length-append d (x ++ joined ds)))
-same_chunks limit (c ∷ y ∷ cs) [] a b e = absurd b
-same_chunks limit (c ∷ y ∷ cs) (d ∷ []) a b e =
-    let some = chunk_some limit y cs a.1 in
+same_full_pieces limit (c ∷ y ∷ cs) [] a b e = absurd b
+same_full_pieces limit (c ∷ y ∷ cs) (d ∷ []) a b e =
+    let some = full_piece_some limit y cs a.1 in
     absurd (omega (arith, b, a.0, some, ap length e, length-append d [], length-append c (y ++ joined cs)))
-same_chunks limit (c ∷ y ∷ cs) (d ∷ x ∷ ds) a b e =
+same_full_pieces limit (c ∷ y ∷ cs) (d ∷ x ∷ ds) a b e =
     let f = same_front c d (y ++ joined cs) (x ++ joined ds) (a.0 ∙ sym b.0) e in
     let heads : c ≡ d = f.0 in
-    let tails : y ∷ cs ≡ x ∷ ds = same_chunks limit (y ∷ cs) (x ∷ ds) a.1 b.1 f.1 in
+    let tails : y ∷ cs ≡ x ∷ ds = same_full_pieces limit (y ∷ cs) (x ∷ ds) a.1 b.1 f.1 in
     cc (heads, tails)
 
 -- a value has one list of pieces
 same_pieces : (k : Kind) (limit : ℕ) (value : List ℕ) (cs ds : List (List ℕ)) → ArePieces k limit value cs
     → ArePieces k limit value ds
     → cs ≡ ds
-same_pieces Bytes limit value cs ds p q = same_chunks limit cs ds p.1 q.1 (sym p.0 ∙ q.0)
+same_pieces Bytes limit value cs ds p q = same_full_pieces limit cs ds p.1 q.1 (sym p.0 ∙ q.0)
 same_pieces Text limit value cs ds p q = one_full value limit cs ds p q
 
 -- ---- what is written
@@ -104,14 +104,14 @@ one_writing k limit value ms ns (in_pieces cs l p) (in_pieces ds m q) =
     ap (open_marks k) (same_pieces k limit value cs ds p q)
 
 -- a value longer than the limit has pieces
-pub pieces_exist : (k : Kind) (limit : ℕ) (value : List ℕ) → least_limit k ≤ limit → IsSound k (value ∷ [])
+pub pieces_exist : (k : Kind) (limit : ℕ) (value : List ℕ) → least_limit k ≤ limit → IsWritable k value
     → limit < length value
     → (members : List (List ℕ)) × ArePieces k limit value members
 pieces_exist Bytes limit value l s m = byte_pieces value limit (omega arith) l
-pieces_exist Text limit value l s m = full_cut value limit s.0 l
+pieces_exist Text limit value l s m = full_cut value limit s l
 
 -- each value is written
-pub some_writing : (k : Kind) (limit : ℕ) (value : List ℕ) → least_limit k ≤ limit → IsSound k (value ∷ [])
+pub some_writing : (k : Kind) (limit : ℕ) (value : List ℕ) → least_limit k ≤ limit → IsWritable k value
     → (ms : List Mark) × IsWritten k limit value ms
 some_writing k limit value l s =
     elim (cases_lt limit (length value)) [
@@ -138,33 +138,33 @@ piece_strings : (k : Kind) (members : List (List ℕ)) → length (joined member
 piece_strings k [] l = none
 piece_strings k (x ∷ xs) l =
     let n = length-append x (joined xs) in
-    more (definite_str (title_of_length k (length x) (omega arith))) (piece_strings k xs (omega arith))
+    more (definite (title_of_length k (length x) (omega arith))) (piece_strings k xs (omega arith))
 
 -- members are texts
 text_members : (limit : ℕ) (members : List (List ℕ)) → AllByRecursion (IsMember limit) members
-    → AllByRecursion IsCharacters members
+    → AreWritable Text members
 text_members limit [] all = tt
 text_members limit (x ∷ xs) all = (all.0.0, text_members limit xs all.1)
 
 -- pieces joined are the value, and they are sound
 pub sound_pieces : (k : Kind) (limit : ℕ) (value : List ℕ) (members : List (List ℕ)) → ArePieces k limit value members
-    → (value ≡ joined members) × IsSound k members
-sound_pieces Bytes limit value members p = (p.0, tt)
+    → (value ≡ joined members) × AreWritable k members
+sound_pieces Bytes limit value members p = (p.0, bytes_writable members)
 sound_pieces Text limit value members p = (p.cut.whole, text_members limit members p.cut.each)
 
 -- what is written is one element
 pub written_element : (k : Kind) (limit : ℕ) (value : List ℕ) (ms : List Mark) → IsWritten k limit value ms
-    → IsSound k (value ∷ [])
+    → IsWritable k value
     → length value < 2 ^ 64 → IsElement (spelling ms) ms
 written_element k limit value ms (in_one l) s n =
     let x = shortest_title (kind_header k (Some (length value))) in
     subst (λ (z : List ℕ). IsElement z (Whole k value ∷ [])) (sym (append-nil (x ++ value)))
-    (definite k (title_of_length k (length value) n) s)
+    (string k (definite (title_of_length k (length value) n)) (s, tt))
 written_element k limit value ms (in_pieces members l p) s n =
     let q = sound_pieces k limit value members p in
     let len = ap length q.0 in
     subst (λ (z : List ℕ). IsElement z (open_marks k members)) (sym (open_spelled k members))
-    (indefinite k (open_title k) (piece_strings k members (omega arith)) q.1)
+    (string k (indefinite (open_title k) (piece_strings k members (omega arith))) q.1)
 
 -- ---- fewest segments
 

@@ -4,13 +4,11 @@ use Rattle.std.specs.List.{AllByRecursion}
 use Rattle.ciborium_ll_grammar.specs.declared.hdr.Header.{Header}
 use Rattle.ciborium_ll_grammar.specs.declared.hdr.Header.TheVariants as h
 use Rattle.ciborium_ll_grammar.specs.Title.{IsTitle, IsSmallSimple, shortest_title}
-use Rattle.ciborium_ll_grammar.specs.Strings.{Kind, Bytes, Text, kind_header, AreStrings}
-use Rattle.ciborium_ll_text.specs.Text.{IsCharacters}
+use Rattle.ciborium_ll_grammar.specs.Strings.{Kind, kind_header, IsString, definite, indefinite, IsWritable}
 
--- the bodies of a text are each UTF-8 by itself (RFC 7049, 2.2.2)
-abbrev pub IsSound : Kind → List (List ℕ) → Type 0
-IsSound Bytes bodies = Unit {0}
-IsSound Text bodies = AllByRecursion IsCharacters bodies
+-- each body may be written by itself: any of bytes, and of a text those that are UTF-8 (RFC 7049, 2.2.2)
+abbrev pub AreWritable : Kind → List (List ℕ) → Type 0
+AreWritable kind bodies = AllByRecursion (IsWritable kind) bodies
 
 -- a header that begins no string (RFC 7049, 2.1)
 abbrev pub IsPlain : Header → Type 0
@@ -53,17 +51,19 @@ pieces kind (body ∷ bodies) = Piece kind body ∷ pieces kind bodies
 abbrev pub open_marks : Kind → List (List ℕ) → List Mark
 open_marks kind bodies = Open kind ∷ (pieces kind bodies ++ Close ∷ [])
 
--- the bytes are an element, and leave these marks: a title that begins no string, or a sound string (RFC 7049, 2.1 and
--- 2.2.2). Opens inside a string leave no mark
+-- the marks of a string, by its form (RFC 7049, 2.2.2)
+abbrev pub string_marks : {kind : Kind} {bytes : List ℕ} {bodies : List (List ℕ)} → IsString kind bytes bodies
+    → List Mark
+string_marks {kind = kind} (definite {body = body} is_title) = Whole kind body ∷ []
+string_marks {kind = kind} (indefinite {bodies = bodies} is_title strings) = open_marks kind bodies
+
+-- the bytes are an element, and leave these marks: a title that begins no string, or a string whose bodies may be
+-- written (RFC 7049, 2.1 and 2.2.2). Opens inside a string leave no mark
 pub data IsElement : List ℕ → List Mark → Type 0 where
   plain : {title : List ℕ} (header : Header) → IsTitle title header → IsPlain header
       → IsElement title (Plain header ∷ [])
-  definite : {title body : List ℕ} (kind : Kind) → IsTitle title (kind_header kind (Some (length body)))
-      → IsSound kind (body ∷ [])
-      → IsElement (title ++ body) (Whole kind body ∷ [])
-  indefinite : {title strings : List ℕ} {bodies : List (List ℕ)} (kind : Kind) → IsTitle title (kind_header kind None)
-      → AreStrings kind strings bodies → IsSound kind bodies → IsElement (title ++ (strings ++ 0xff ∷ []))
-      (open_marks kind bodies)
+  string : {bytes : List ℕ} {bodies : List (List ℕ)} (kind : Kind) (is_string : IsString kind bytes bodies)
+      → AreWritable kind bodies → IsElement bytes (string_marks is_string)
 
 -- the bytes are this many elements, joined, with these marks
 pub data IsRun : ℕ → List ℕ → List Mark → Type 0 where

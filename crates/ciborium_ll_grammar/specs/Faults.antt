@@ -5,7 +5,7 @@ use Rattle.ciborium_ll_grammar.specs.declared.hdr.Header.{Header}
 use Rattle.ciborium_ll_grammar.specs.Title.{IsTitle, shortest_title, title_len, IsCutTitle, BeginsRefused}
 use Rattle.ciborium_ll_grammar.specs.Strings.{Kind, Text, kind_header, AreStrings, IsMisplaced, IsWritable, most_kept}
 use Rattle.ciborium_ll_text.specs.Text.{IsCharacters, BeginsNoText}
-use Rattle.ciborium_ll_grammar.specs.Elements.{IsSound, Mark, Open, pieces, spelling, IsRun}
+use Rattle.ciborium_ll_grammar.specs.Elements.{AreWritable, Mark, Open, pieces, spelling, IsRun}
 
 -- ---- how far a copy comes
 
@@ -24,7 +24,7 @@ pub data IsInside (kind : Kind) : List ℕ → List (List ℕ) → Type 0 where
 pub data Place : Type 0 where
   Due : Place
   In : Kind → Place
-  Body : Kind → ℕ → ℕ → Place
+  BodyDue : Kind → ℕ → ℕ → Place
 
 -- `Reaches count bytes marks place`: the bytes are a part of so many elements, which left the marks, and what is due
 -- behind them is the place
@@ -33,16 +33,16 @@ pub data Reaches (count : ℕ) : List ℕ → List Mark → Place → Type 0 whe
       → Reaches count bytes marks Due
   inside : {before : ℕ} {bytes opens : List ℕ} {marks : List Mark} {bodies : List (List ℕ)} {kind : Kind}
       → before < count
-      → IsRun before bytes marks → IsInside kind opens bodies → IsSound kind bodies
+      → IsRun before bytes marks → IsInside kind opens bodies → AreWritable kind bodies
       → Reaches count (bytes ++ opens) (marks ++ Open kind ∷ pieces kind bodies) (In kind)
   -- the offset is the end of the title less the length of the shortest one: late, where the title is a longer one
   body : {bytes title : List ℕ} {marks : List Mark} {len : ℕ} (kind : Kind) → Reaches count bytes marks Due
       → IsTitle title (kind_header kind (Some len))
-      → Reaches count (bytes ++ title) marks (Body kind len
+      → Reaches count (bytes ++ title) marks (BodyDue kind len
       (length (bytes ++ title) - title_len (kind_header kind (Some len))))
   body_inside : {bytes title : List ℕ} {marks : List Mark} {len : ℕ} {kind : Kind} → Reaches count bytes marks (In kind)
       → IsTitle title (kind_header kind (Some len)) → Reaches count (bytes ++ title) marks
-      (Body kind len (length bytes))
+      (BodyDue kind len (length bytes))
 
 -- ---- the first fault
 
@@ -50,7 +50,7 @@ pub data Reaches (count : ℕ) : List ℕ → List Mark → Place → Type 0 whe
 abbrev pub IsAtTitle : Place → Type 0
 IsAtTitle Due = Unit {0}
 IsAtTitle (In kind) = Unit {0}
-IsAtTitle (Body kind len start) = ⊥
+IsAtTitle (BodyDue kind len start) = ⊥
 
 -- a header that a decoder refuses within a string of the kind: a strict one a further open too
 abbrev pub IsRefusedIn : Bool → Kind → Header → Type 0
@@ -66,8 +66,8 @@ abbrev pub with_front : List Mark → Kind → ℕ → List ℕ → List ℕ
 with_front marks kind len front = spelling marks ++ (shortest_title (kind_header kind (Some len)) ++ front)
 
 -- `FirstFault before marks place ahead answer written consumed`: behind the bytes before, which left the marks, the
--- bytes
--- ahead are at fault where the place is due. The answer, what is written in all, and how many bytes ahead are consumed
+-- bytes ahead are at fault where the place is due. The answer, what is written in all, and how many bytes ahead are
+-- consumed
 pub data FirstFault (before : List ℕ) (marks : List Mark) : Place → List ℕ → Answer → List ℕ → ℕ → Type 0 where
   -- a title is due, and the bytes end before it or within it
   CutTitle : {place : Place} {ahead : List ℕ} → IsAtTitle place → IsCutTitle ahead
@@ -84,18 +84,18 @@ pub data FirstFault (before : List ℕ) (marks : List Mark) : Place → List ℕ
   DamagedText : {len start consumed : ℕ} {ahead : List ℕ} (front rest : List ℕ) → len ≤ length ahead
       → (IsCharacters (take len ahead) → ⊥)
       → take len ahead ≡ front ++ rest → IsCharacters front → consumed ≤ len
-      → FirstFault before marks (Body Text len start) ahead (Syntax start) (with_front marks Text len front) consumed
+      → FirstFault before marks (BodyDue Text len start) ahead (Syntax start) (with_front marks Text len front) consumed
   -- the bytes end within a body
   CutBody : {kind : Kind} {len start consumed : ℕ} {ahead : List ℕ} (front rest : List ℕ) → length ahead < len
       → ahead ≡ front ++ rest
       → IsWritable kind front → length front ≤ consumed → consumed ≤ length front + most_kept kind → consumed
       ≤ length ahead
-      → FirstFault before marks (Body kind len start) ahead Short (with_front marks kind len front) consumed
+      → FirstFault before marks (BodyDue kind len start) ahead Short (with_front marks kind len front) consumed
   -- the bytes end within the body of a text, and no text begins as they do
   CutDamagedText : {len start consumed : ℕ} {ahead : List ℕ} (front rest : List ℕ) → length ahead < len
       → BeginsNoText ahead
       → ahead ≡ front ++ rest → IsCharacters front → consumed ≤ length ahead
-      → FirstFault before marks (Body Text len start) ahead (Syntax start) (with_front marks Text len front) consumed
+      → FirstFault before marks (BodyDue Text len start) ahead (Syntax start) (with_front marks Text len front) consumed
 
 -- ---- both over whole lists
 

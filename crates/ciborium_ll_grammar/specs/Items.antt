@@ -4,8 +4,8 @@ use Rattle.ciborium_ll_grammar.specs.declared.hdr.Header.{Header}
 use Rattle.ciborium_ll_grammar.specs.declared.hdr.Header.TheVariants as h
 use Rattle.ciborium_ll_grammar.specs.declared.hdr.Float.{Float}
 use Rattle.ciborium_ll_grammar.specs.Title.{IsTitle}
-use Rattle.ciborium_ll_grammar.specs.Strings.{Bytes, Text, AreStrings}
-use Rattle.ciborium_ll_grammar.specs.Elements.{IsSound}
+use Rattle.ciborium_ll_grammar.specs.Strings.{Bytes, Text, AreStrings, IsWritable}
+use Rattle.ciborium_ll_grammar.specs.Elements.{AreWritable}
 
 -- `Completes depth header rest`: behind a title of the header, the rest completes an item (RFC 7049, 2.1 to 2.4).
 -- `AreItems depth count bytes`: the bytes are so many items, joined
@@ -16,12 +16,12 @@ mutual
     float : {depth : ℕ} {value : Float} → Completes depth (h.Float value) []
     simple : {depth number : ℕ} → Completes depth (h.Simple number) []
     byte_string : {depth len : ℕ} {body : List ℕ} → length body ≡ len → Completes depth (h.Bytes (Some len)) body
-    text_string : {depth len : ℕ} {body : List ℕ} → length body ≡ len → IsSound Text (body ∷ [])
+    text_string : {depth len : ℕ} {body : List ℕ} → length body ≡ len → IsWritable Text body
         → Completes depth (h.Text (Some len)) body
     open_bytes : {depth : ℕ} {strings : List ℕ} {bodies : List (List ℕ)} → AreStrings Bytes strings bodies
         → Completes depth (h.Bytes None) (strings ++ 0xff ∷ [])
     open_text : {depth : ℕ} {strings : List ℕ} {bodies : List (List ℕ)} → AreStrings Text strings bodies
-        → IsSound Text bodies
+        → AreWritable Text bodies
         → Completes depth (h.Text None) (strings ++ 0xff ∷ [])
     tag : {depth number : ℕ} {item : List ℕ} → AreItems depth (suc zero) item
         → Completes (suc depth) (h.Tag number) item

@@ -1,27 +1,27 @@
 -- A title in the parts in which the code handles it.
-use Rattle.std.specs.Prelude.{ℕ, ◌+◌, ◌*◌, ◌<◌, ◌^◌, List, [], ◌∷◌, Option, Some, None, Bool, false, if◌then◌else◌}
+use Rattle.std.specs.Prelude.{ℕ, ◌<◌, List, [], ◌∷◌, Option, Some, None, Bool, false, if◌then◌else◌}
 use Rattle.std.specs.Prelude.{nat_lt, ◌==◌}
-use Rattle.std.specs.Int.{to_be_bytes, w8, w16, w32, w64}
 use Rattle.ciborium_ll_grammar.specs.declared.hdr.Minor.{Minor}
 use Rattle.ciborium_ll_grammar.specs.declared.hdr.Minor.TheVariants as m
 use Rattle.ciborium_ll_grammar.specs.declared.hdr.Title.{Title}
+use Rattle.ciborium_ll_grammar.specs.Title.{Small, One, Two, Four, Eight, size_limit, byte_of, minor_of, affix_of}
 
 -- the minor as it stands in the first byte
 abbrev pub minor_code : Minor → ℕ
-minor_code (m.Small n) = n
-minor_code (m.One n) = 24
-minor_code (m.Two n) = 25
-minor_code (m.Four n) = 26
-minor_code (m.Eight n) = 27
+minor_code (m.Small n) = minor_of Small n
+minor_code (m.One n) = minor_of One n
+minor_code (m.Two n) = minor_of Two n
+minor_code (m.Four n) = minor_of Four n
+minor_code (m.Eight n) = minor_of Eight n
 minor_code m.Open = 31
 
 -- the bytes behind a first byte (RFC 7049, 2.1)
 abbrev pub minor_affix : Minor → List ℕ
-minor_affix (m.Small n) = []
-minor_affix (m.One n) = to_be_bytes w8 n
-minor_affix (m.Two n) = to_be_bytes w16 n
-minor_affix (m.Four n) = to_be_bytes w32 n
-minor_affix (m.Eight n) = to_be_bytes w64 n
+minor_affix (m.Small n) = affix_of Small n
+minor_affix (m.One n) = affix_of One n
+minor_affix (m.Two n) = affix_of Two n
+minor_affix (m.Four n) = affix_of Four n
+minor_affix (m.Eight n) = affix_of Eight n
 minor_affix m.Open = []
 
 -- the number that a minor and its affix hold, which minor 31 has none of (RFC 7049, 2.1)
@@ -35,16 +35,16 @@ minor_number m.Open = None
 
 -- its number fits where it stands
 abbrev pub IsMinor : Minor → Type 0
-IsMinor (m.Small n) = n < 24
-IsMinor (m.One n) = n < 2 ^ 8
-IsMinor (m.Two n) = n < 2 ^ 16
-IsMinor (m.Four n) = n < 2 ^ 32
-IsMinor (m.Eight n) = n < 2 ^ 64
+IsMinor (m.Small n) = n < size_limit Small
+IsMinor (m.One n) = n < size_limit One
+IsMinor (m.Two n) = n < size_limit Two
+IsMinor (m.Four n) = n < size_limit Four
+IsMinor (m.Eight n) = n < size_limit Eight
 IsMinor m.Open = Unit {0}
 
 -- the first byte of a title in parts (RFC 7049, 2.1)
 abbrev pub parts_first : ℕ → Minor → ℕ
-parts_first major minor = 32 * major + minor_code minor
+parts_first major minor = byte_of major (minor_code minor)
 
 -- the bytes of a title in parts (RFC 7049, 2.1)
 abbrev pub parts_bytes : ℕ → Minor → List ℕ
@@ -63,7 +63,7 @@ pub record IsParts (t : Title) : Type 0 where
 abbrev pub longer_parts : ℕ → Minor → Bool
 longer_parts major (m.Small n) = false
 longer_parts major (m.One n) = nat_lt n (if major == 7 then 32 else 24)
-longer_parts major (m.Two n) = if major == 7 then false else nat_lt n (2 ^ 8)
-longer_parts major (m.Four n) = if major == 7 then false else nat_lt n (2 ^ 16)
-longer_parts major (m.Eight n) = if major == 7 then false else nat_lt n (2 ^ 32)
+longer_parts major (m.Two n) = if major == 7 then false else nat_lt n (size_limit One)
+longer_parts major (m.Four n) = if major == 7 then false else nat_lt n (size_limit Two)
+longer_parts major (m.Eight n) = if major == 7 then false else nat_lt n (size_limit Four)
 longer_parts major m.Open = false

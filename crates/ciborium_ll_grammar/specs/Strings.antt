@@ -16,8 +16,8 @@ kind_header Bytes len = h.Bytes len
 kind_header Text len = h.Text len
 
 -- `IsString kind bytes bodies`: the bytes are a title and as many bytes as it says, the one body; or an open, strings
--- of
--- the same kind and a break (RFC 7049, 2.2.2), and their bodies in order. `AreStrings`: any number of strings, joined
+-- of the same kind and a break (RFC 7049, 2.2.2), and their bodies in order. `AreStrings`: any number of strings,
+-- joined
 mutual
   pub data IsString (kind : Kind) : List ℕ → List (List ℕ) → Type 0 where
     definite : {title body : List ℕ} → IsTitle title (kind_header kind (Some (length body)))
@@ -39,7 +39,7 @@ IsMisplaced Text (h.Text len) = ⊥
 IsMisplaced kind h.Break = ⊥
 IsMisplaced kind header = Unit {0}
 
--- what may be written of a body that is cut: any bytes, of a text characters
+-- what may be written of a body, whole or cut: any bytes, of a text characters
 abbrev pub IsWritable : Kind → List ℕ → Type 0
 IsWritable Bytes front = Unit {0}
 IsWritable Text front = IsCharacters front

@@ -2,7 +2,8 @@
 --
 -- A number here has no range. `IsInRange header` says that a header's numbers are those of its Rust type.
 use Rattle.std.specs.Prelude.{◌≡◌, ℕ, ◌+◌, ◌*◌, ◌/◌, ◌%◌, ◌<◌, ◌≤◌, ◌^◌, ◌⊎◌, List, [], ◌∷◌, length, Option, Some}
-use Rattle.std.specs.Prelude.{None, IfSome, if◌then◌else◌, nat_lt, ◌==◌, slice_index}
+use Rattle.std.specs.Prelude.{None, IfSome, if◌then◌else◌, nat_lt, ◌==◌}
+use Rattle.std.specs.List.{AllByRecursion}
 use Rattle.std.specs.Int.{to_be_bytes, w8, w16, w32, w64}
 use Rattle.ciborium_ll_grammar.specs.declared.hdr.Header.{Header}
 use Rattle.ciborium_ll_grammar.specs.declared.hdr.Header.TheVariants as h
@@ -24,9 +25,14 @@ major_code Map = 5
 major_code Tag = 6
 major_code Other = 7
 
--- a first byte: the major type, and the minor in the lower five bits (RFC 7049, 2.1)
+-- a first byte by its two numbers: the major type in the upper three bits, and the minor in the lower five (RFC 7049,
+-- 2.1)
+abbrev pub byte_of : ℕ → ℕ → ℕ
+byte_of major minor = 32 * major + minor
+
+-- the first byte of a major type and a minor
 abbrev pub first_byte : Major → ℕ → ℕ
-first_byte major minor = 32 * major_code major + minor
+first_byte major minor = byte_of (major_code major) minor
 
 -- where the number of a title stands: in the minor itself, or in the 1, 2, 4 or 8 bytes behind it (RFC 7049, 2.1)
 pub data Size : Type 0 where
@@ -184,9 +190,14 @@ IsReserved minor = (28 ≤ minor) × (minor ≤ 30)
 abbrev pub IsNeverOpen : ℕ → Type 0
 IsNeverOpen major = (major ≡ 0) ⊎ ((major ≡ 1) ⊎ (major ≡ 6))
 
--- the first bytes with which no title begins: 27 of the 256
+-- no title has this major type and minor (RFC 7049, 2.1 and 2.2)
+abbrev pub NamesNoTitle : ℕ → ℕ → Type 0
+NamesNoTitle major minor = IsReserved minor ⊎ ((minor ≡ 31) × IsNeverOpen major)
+
+-- The first bytes with which no title begins: 27 of the 256. By the law `refused_first_bytes` they are those of the
+-- list `refused_bytes`
 abbrev pub IsRefused : ℕ → Type 0
-IsRefused byte = IsReserved (byte % 32) ⊎ ((byte % 32 ≡ 31) × IsNeverOpen (byte / 32))
+IsRefused byte = NamesNoTitle (byte / 32) (byte % 32)
 
 -- the bytes begin with one of those
 abbrev pub BeginsRefused : List ℕ → Type 0
@@ -206,7 +217,7 @@ IsCutTitle (byte ∷ rest) = length rest < affix_len (byte % 32)
 
 -- each element is a byte
 abbrev pub AreBytes : List ℕ → Type 0
-AreBytes bytes = (i : ℕ) → slice_index bytes i < 256
+AreBytes bytes = AllByRecursion (λ byte. byte < 256) bytes
 
 -- the 27 refused bytes, in order
 abbrev pub refused_bytes : List ℕ

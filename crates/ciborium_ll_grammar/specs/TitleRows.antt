@@ -1,31 +1,27 @@
 -- What the table says of each first byte: the kind of its titles, and where their number stands (RFC 7049, 2.1 to 2.3).
-use Rattle.std.specs.Prelude.{◌≡◌, ℕ, ◌/◌, ◌%◌, ◌<◌, ◌⊎◌}
+use Rattle.std.specs.Prelude.{◌≡◌, ℕ, ◌/◌, ◌%◌, ◌<◌}
 use Rattle.ciborium_ll_grammar.specs.declared.hdr.table.Row.{Row}
-use Rattle.ciborium_ll_grammar.specs.declared.hdr.table.Kind.{Kind}
-use Rattle.ciborium_ll_grammar.specs.declared.hdr.table.Kind.TheVariants as k
+use Rattle.ciborium_ll_grammar.specs.declared.hdr.table.TitleKind.{TitleKind}
+use Rattle.ciborium_ll_grammar.specs.declared.hdr.table.TitleKind.TheVariants as k
 use Rattle.ciborium_ll_grammar.specs.declared.hdr.table.Affix.{Affix}
 use Rattle.ciborium_ll_grammar.specs.declared.hdr.table.Affix.TheVariants as a
-use Rattle.ciborium_ll_grammar.specs.Title.{IsReserved, IsNeverOpen}
-
--- no title has this major type and minor: for a first byte, `IsRefused` (RFC 7049, 2.1 and 2.2)
-abbrev pub NamesNoTitle : ℕ → ℕ → Type 0
-NamesNoTitle major minor = IsReserved minor ⊎ ((minor ≡ 31) × IsNeverOpen major)
+use Rattle.ciborium_ll_grammar.specs.Title.{IsReserved, NamesNoTitle}
 
 -- some title has this major type and minor, and the major type is the one of this number
 abbrev pub NamesTitle : ℕ → ℕ → ℕ → Type 0
 NamesTitle code major minor = (major ≡ code) × ¬ (NamesNoTitle major minor)
 
 -- the kind of the titles with this major type and minor: refused where there are none (RFC 7049, 2.1)
-abbrev pub IsKind : Kind → ℕ → ℕ → Type 0
-IsKind k.Positive major minor = NamesTitle 0 major minor
-IsKind k.Negative major minor = NamesTitle 1 major minor
-IsKind k.Bytes major minor = NamesTitle 2 major minor
-IsKind k.Text major minor = NamesTitle 3 major minor
-IsKind k.Array major minor = NamesTitle 4 major minor
-IsKind k.Map major minor = NamesTitle 5 major minor
-IsKind k.Tag major minor = NamesTitle 6 major minor
-IsKind k.Other major minor = NamesTitle 7 major minor
-IsKind k.Refused major minor = NamesNoTitle major minor
+abbrev pub IsTitleKind : TitleKind → ℕ → ℕ → Type 0
+IsTitleKind k.Positive major minor = NamesTitle 0 major minor
+IsTitleKind k.Negative major minor = NamesTitle 1 major minor
+IsTitleKind k.Bytes major minor = NamesTitle 2 major minor
+IsTitleKind k.Text major minor = NamesTitle 3 major minor
+IsTitleKind k.Array major minor = NamesTitle 4 major minor
+IsTitleKind k.Map major minor = NamesTitle 5 major minor
+IsTitleKind k.Tag major minor = NamesTitle 6 major minor
+IsTitleKind k.Other major minor = NamesTitle 7 major minor
+IsTitleKind k.Refused major minor = NamesNoTitle major minor
 
 -- where the number of a title with this minor stands (RFC 7049, 2.1)
 abbrev pub IsAffix : Affix → ℕ → Type 0
@@ -39,5 +35,5 @@ IsAffix a.Reserved minor = IsReserved minor
 
 -- the row says what the first byte does, by its major type and its minor (RFC 7049, 2.1)
 pub record IsRow (first : ℕ) (row : Row) : Type 0 where
-  pub kind : IsKind row.kind (first / 32) (first % 32)
+  pub kind : IsTitleKind row.kind (first / 32) (first % 32)
   pub affix : IsAffix row.affix (first % 32)

@@ -17,14 +17,14 @@ value_limit kind (Some limit) value = max (least_limit kind) limit
 value_limit kind None value = max (least_limit kind) (length value)
 
 -- each piece has as many bytes as the limit, but for the last one, which has at most as many, and at least one
-abbrev pub AreChunks : ℕ → List (List ℕ) → Type 0
-AreChunks limit [] = ⊥
-AreChunks limit (piece ∷ []) = (0 < length piece) × (length piece ≤ limit)
-AreChunks limit (piece ∷ following ∷ others) = (length piece ≡ limit) × AreChunks limit (following ∷ others)
+abbrev pub AreFullPieces : ℕ → List (List ℕ) → Type 0
+AreFullPieces limit [] = ⊥
+AreFullPieces limit (piece ∷ []) = (0 < length piece) × (length piece ≤ limit)
+AreFullPieces limit (piece ∷ following ∷ others) = (length piece ≡ limit) × AreFullPieces limit (following ∷ others)
 
 -- the pieces of bytes that are longer than the limit
 abbrev pub AreBytePieces : ℕ → List ℕ → List (List ℕ) → Type 0
-AreBytePieces limit value members = (value ≡ joined members) × AreChunks limit members
+AreBytePieces limit value members = (value ≡ joined members) × AreFullPieces limit members
 
 -- the pieces of a text that is longer than the limit
 abbrev pub AreTextPieces : ℕ → List ℕ → List (List ℕ) → Type 0

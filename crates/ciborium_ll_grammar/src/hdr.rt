@@ -8,11 +8,11 @@ ghost use Rattle.ciborium_ll_grammar.specs.Parts.{IsMinor, IsParts, minor_affix,
 ghost use Rattle.ciborium_ll_grammar.specs.Parts.{minor_number, longer_parts, parts_bytes};
 ghost use Rattle.ciborium_ll_grammar.specs.Parts.{parts_first, title_bytes};
 ghost use Rattle.ciborium_ll_grammar.specs.Elements.{IsPlain};
-ghost use Rattle.ciborium_ll_grammar.specs.TitleRows.{IsKind};
+ghost use Rattle.ciborium_ll_grammar.specs.TitleRows.{IsTitleKind};
 
 pub mod table;
 
-use crate::hdr::table::Kind;
+use crate::hdr::table::TitleKind;
 
 /// A float by its width and its raw bits (RFC 7049, 2.3).
 ///
@@ -88,7 +88,7 @@ impl Minor {
 
     /// The length that the number is, or the indefinite form.
     #[inline(always)]
-    fn length(self) -> Option<usize>
+    pub fn length(self) -> Option<usize>
         ensures { result ≡ minor_number self }
     {
         match self.number() {
@@ -229,9 +229,9 @@ impl Title {
 
     /// What the title means, which is of this kind, or nothing for the minor 31 where it has no meaning.
     #[inline(always)]
-    pub fn header(self, kind: Kind) -> Option<Header>
+    pub fn header(self, kind: TitleKind) -> Option<Header>
         requires parts { IsParts self }
-        requires kind { IsKind kind self.major (minor_code self.minor) }
+        requires kind { IsTitleKind kind self.major (minor_code self.minor) }
         ensures some { IfSome result (IsTitle (title_bytes self)) }
         ensures none { IfNone result ((minor_code self.minor ≡ 31) × IsNeverOpen self.major) }
     {
@@ -240,15 +240,17 @@ impl Title {
             None => return open_header(kind),
         };
         Some(match kind {
-            Kind::Positive => Header::Positive(n),
-            Kind::Negative => Header::Negative(n),
-            Kind::Bytes => Header::Bytes(Some(n as usize)),
-            Kind::Text => Header::Text(Some(n as usize)),
-            Kind::Array => Header::Array(Some(n as usize)),
-            Kind::Map => Header::Map(Some(n as usize)),
-            Kind::Tag => Header::Tag(n),
-            Kind::Other => other_header(self.minor),
-            Kind::Refused => return None,
+            TitleKind::Positive => Header::Positive(n),
+            TitleKind::Negative => Header::Negative(n),
+            TitleKind::Bytes => Header::Bytes(Some(n as usize)),
+            TitleKind::Text => Header::Text(Some(n as usize)),
+            TitleKind::Array => Header::Array(Some(n as usize)),
+            TitleKind::Map => Header::Map(Some(n as usize)),
+            TitleKind::Tag => Header::Tag(n),
+            TitleKind::Other => other_header(self.minor),
+            // A first byte with which no title begins announces no number. As an arm that is never taken this one
+            // needs no look at the kind.
+            TitleKind::Refused => other_header(self.minor),
         })
     }
 
@@ -292,18 +294,18 @@ impl Title {
 
 /// What the minor 31 means in a title of this kind.
 #[inline(always)]
-fn open_header(kind: Kind) -> Option<Header>
-    ensures some { IfSome result (λ header. (major : ℕ) → IsKind kind major 31
+fn open_header(kind: TitleKind) -> Option<Header>
+    ensures some { IfSome result (λ header. (major : ℕ) → IsTitleKind kind major 31
         → IsTitle ((32 * major + 31) ∷ []) header) }
-    ensures none { IfNone result ((major : ℕ) → IsKind kind major 31 → IsNeverOpen major) }
+    ensures none { IfNone result ((major : ℕ) → IsTitleKind kind major 31 → IsNeverOpen major) }
 {
     match kind {
-        Kind::Bytes => Some(Header::Bytes(None)),
-        Kind::Text => Some(Header::Text(None)),
-        Kind::Array => Some(Header::Array(None)),
-        Kind::Map => Some(Header::Map(None)),
-        Kind::Other => Some(Header::Break),
-        Kind::Positive | Kind::Negative | Kind::Tag | Kind::Refused => None,
+        TitleKind::Bytes => Some(Header::Bytes(None)),
+        TitleKind::Text => Some(Header::Text(None)),
+        TitleKind::Array => Some(Header::Array(None)),
+        TitleKind::Map => Some(Header::Map(None)),
+        TitleKind::Other => Some(Header::Break),
+        TitleKind::Positive | TitleKind::Negative | TitleKind::Tag | TitleKind::Refused => None,
     }
 }
 

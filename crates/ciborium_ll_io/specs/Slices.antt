@@ -4,21 +4,21 @@ use Rattle.ciborium_ll_io.specs.declared.io.slices.SliceWriter.{SliceWriter}
 use Rattle.ciborium_ll_io.specs.Transfer.{Target}
 
 -- what was written so far
-abbrev pub written_of : SliceWriter → Option (List ℕ)
-written_of w = Some (take w.filled w.buffer.now)
+abbrev pub slice_written : SliceWriter → Option (List ℕ)
+slice_written w = Some (take w.filled w.buffer.now)
 
 -- how many bytes more fit
-abbrev pub room_of : SliceWriter → Option ℕ
-room_of w = Some (length w.buffer.now - w.filled)
+abbrev pub slice_room : SliceWriter → Option ℕ
+slice_room w = Some (length w.buffer.now - w.filled)
 
 -- how many writes were refused
-abbrev pub failures_of : SliceWriter → ℕ
-failures_of w = w.failures.count
+abbrev pub slice_failures : SliceWriter → ℕ
+slice_failures w = w.failures.count
 
 -- the bytes that stood in the slice when it was lent
-abbrev pub before_of : SliceWriter → List ℕ
-before_of w = w.before.bytes
+abbrev pub slice_before : SliceWriter → List ℕ
+slice_before w = w.before.bytes
 
 -- the slice that it writes into
-abbrev pub target_of : SliceWriter → Target
-target_of w = record { loan = w.buffer.ghost_name; before = before_of w }
+abbrev pub slice_target : SliceWriter → Target
+slice_target w = record { loan = w.buffer.ghost_name; before = slice_before w }

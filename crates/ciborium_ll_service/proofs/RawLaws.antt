@@ -1,5 +1,5 @@
 -- A copy between a reader and a writer of std, from the copy of elements and the flush behind it.
-use Rattle.std.proofs.Common.{◌≡◌, ℕ, false, ◌+◌, ◌≤◌, ◌^◌, ◌⊎◌, List, [], ◌++◌, length, Option, Some, None, Result}
+use Rattle.std.proofs.Common.{◌≡◌, ℕ, false, ◌+◌, ◌≤◌, ◌^◌, List, [], ◌++◌, length, Option, Some, None, Result}
 use Rattle.std.proofs.Common.{Ok, Err, OnOk, refl, sym, ap, ◌∙◌, inl, inr, arith}
 use Rattle.std.specs.Io.KnownBytes.{Keeps, append_known}
 use Rattle.std.proofs.lemmas.List.{append-nil}
@@ -16,6 +16,7 @@ use Rattle.ciborium_ll.specs.Elements.{spelling}
 use Rattle.ciborium_ll.specs.Faults.{Syntax}
 use Rattle.ciborium_ll.specs.Decoding.{Passes, view}
 use Rattle.ciborium_ll.specs.Recoding.{CopiesElements}
+use Rattle.ciborium_ll.specs.Sides.{sides}
 use Rattle.ciborium_ll.specs.RecodingTold.{IsTold, RecodesAnyhow, StopsShort}
 use Rattle.ciborium_ll.proofs.BodyLaws.{view_none}
 use Rattle.ciborium_ll_service.specs.Restoring.{Restores, RestoresCopy, RestoresFlush}
@@ -80,7 +81,7 @@ module _ {D S E F : Type 0} (source : Reader D E) (sink : Writer S F) where
   -- where no header waits, what is due is what the reader has ahead
   pub told_ahead : (old : Decoder D) (writer : S) (due written : List ℕ) → old.strict ≡ false → old.waiting ≡ None
       → source.ahead old.reader ≡ Some due → sink.written writer ≡ Some written
-      → IsTold source sink old writer due written
+      → IsTold source sink (sides old writer) due written
   told_ahead old writer due written lenient none ahead output =
       record {
         mode = lenient;
@@ -100,14 +101,14 @@ module _ {D S E F : Type 0} (source : Reader D E) (sink : Writer S F) where
 
   -- behind a copy that met a syntax no header waits
   none_behind : (count room place : ℕ) (old new : Decoder D) (writer writer' : S)
-      → CopiesElements source sink count room old writer (Err (r.Read (e.Syntax place))) new writer'
+      → CopiesElements source sink count room (sides old writer) (Err (r.Read (e.Syntax place))) (sides new writer')
       → old.waiting ≡ None → new.waiting ≡ None
   none_behind count room place old new writer writer' (inl stops) none =
       elim stops.fails [ inl refused ↦ refused.none_waits | inr longer ↦ longer.none_waits ]
-  none_behind count room place old new writer writer' (inr (inl stops)) none = stops.pulled.none_waits
+  none_behind count room place old new writer writer' (inr (inl stops)) none = stops.other.pulled.none_waits
   none_behind count room place old new writer writer' (inr (inr stops)) none =
-      still_none stops.between new stops.stopped.1.read stops.stopped.1.passed
-      (still_none old stops.between stops.bytes stops.copied.passed none)
+      still_none stops.between.decoder new stops.stopped.ends.1.read stops.stopped.ends.1.passed
+      (still_none old stops.between.decoder stops.bytes stops.copied.passed none)
 
   module _ {R W : Type 0} (left : R → List ℕ → Type 0) (got : W → List ℕ → Type 0) (count : ℕ)
       (due written : List ℕ) (old new : Decoder D) (writer writer' : S)
@@ -118,14 +119,15 @@ module _ {D S E F : Type 0} (source : Reader D E) (sink : Writer S F) where
     leaves_due : (bytes : List ℕ) → new.waiting ≡ None → view source new ≡ Some bytes → left reader bytes
     leaves_due bytes none told = leaves bytes (sym (view_none new.waiting (source.ahead new.reader) none) ∙ told)
 
-    abbrev short : StopsShort source sink count due written old new writer' → ReadsShort got count due written flushed
+    abbrev short : StopsShort source sink count due written old (sides new writer') → ReadsShort got count due written
+        flushed
     short stops = record { stop = stops.stop; output = gets _ stops.output }
 
     near : (offset consumed : ℕ) → offset ≡ consumed → 2 ^ 64 ≤ offset + 64 → 2 ^ 64 ≤ consumed + 64
     near offset consumed same full = omega (arith, same, full)
 
     -- all was written, and the flush behind it failed
-    pub raw_unflushed : RecodesAnyhow source sink count 64 due written old (Ok (tt {0})) new writer'
+    pub raw_unflushed : RecodesAnyhow source sink count 64 due written old (Ok (tt {0})) (sides new writer')
         → WritesShort got count due written flushed
     raw_unflushed told = record {
       stop = record {
@@ -143,8 +145,8 @@ module _ {D S E F : Type 0} (source : Reader D E) (sink : Writer S F) where
     }
 
     -- all was written, and the flush behind it succeeded
-    pub raw_all : CopiesElements source sink count 64 old writer (Ok (tt {0})) new writer'
-        → RecodesAnyhow source sink count 64 due written old (Ok (tt {0})) new writer'
+    pub raw_all : CopiesElements source sink count 64 (sides old writer) (Ok (tt {0})) (sides new writer')
+        → RecodesAnyhow source sink count 64 due written old (Ok (tt {0})) (sides new writer')
         → CopiesRaw {E = E} {F = F} left got count due written (Ok (tt {0})) reader flushed
     raw_all copied told = record {
       front = told.front;
@@ -153,8 +155,8 @@ module _ {D S E F : Type 0} (source : Reader D E) (sink : Writer S F) where
     }
 
     -- the copy stopped: its answer stands, whatever the flush behind it does
-    pub raw_stopped : (error : RecodeError E F) → CopiesElements source sink count 64 old writer (Err error) new
-        writer' → RecodesAnyhow source sink count 64 due written old (Err error) new writer'
+    pub raw_stopped : (error : RecodeError E F) → CopiesElements source sink count 64 (sides old writer) (Err error)
+        (sides new writer') → RecodesAnyhow source sink count 64 due written old (Err error) (sides new writer')
         → CopiesRaw left got count due written (Err error) reader flushed
     raw_stopped (r.Read (e.Io fault)) copied told = short told
     raw_stopped (r.Read (e.Syntax place)) copied told =
@@ -177,8 +179,8 @@ module _ {D S E F : Type 0} (source : Reader D E) (sink : Writer S F) where
 
     -- whatever the copy answered
     pub raw_any : (outcome : Result (Unit {0}) (RecodeError E F))
-        → CopiesElements source sink count 64 old writer outcome new writer'
-        → RecodesAnyhow source sink count 64 due written old outcome new writer'
+        → CopiesElements source sink count 64 (sides old writer) outcome (sides new writer')
+        → RecodesAnyhow source sink count 64 due written old outcome (sides new writer')
         → CopiesRaw left got count due written outcome reader flushed
     raw_any (Ok done) copied told = raw_all copied told
     raw_any (Err error) copied told = raw_stopped error copied told

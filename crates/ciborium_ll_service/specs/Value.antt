@@ -5,7 +5,7 @@ use Rattle.ciborium_ll.specs.Strings.{Kind}
 use Rattle.ciborium_ll.specs.Values.{IsWritten, value_limit}
 
 -- the bytes are a string of the kind that holds the value, in segments within the limit
-pub record IsSpelled (kind : Kind) (limit : Option ℕ) (value bytes : List ℕ) : Type 0 where
+pub record IsValueSpelling (kind : Kind) (limit : Option ℕ) (value bytes : List ℕ) : Type 0 where
   pub marks : List Mark
   pub written : IsWritten kind (value_limit kind limit value) value marks
   pub whole : bytes ≡ spelling marks

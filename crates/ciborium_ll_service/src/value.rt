@@ -2,7 +2,7 @@
 
 ghost use Rattle.std.specs.Prelude.{IfOk};
 ghost use Rattle.ciborium_ll.specs.Strings.{Bytes as byte_strings, Text as text_strings};
-ghost use Rattle.ciborium_ll_service.specs.Value.{IsSpelled};
+ghost use Rattle.ciborium_ll_service.specs.Value.{IsValueSpelling};
 
 use crate::memory::{OutOfMemory, VecWriter};
 use crate::service::ToolError;
@@ -40,7 +40,7 @@ pub fn text<T: Write>(
 
 /// The spelling of a byte string, in segments within the limit. The error says that there is no memory for it.
 fn spelled_bytes(alloc: Global, value: &[u8], limit: Option<usize>) -> Result<Vec<u8>, OutOfMemory>
-    ensures { IfOk result (λ bytes. IsSpelled byte_strings limit value.now bytes.items) }
+    ensures { IfOk result (λ bytes. IsValueSpelling byte_strings limit value.now bytes.items) }
 {
     let mut encoder = Encoder::from(VecWriter::new(alloc));
     encoder.bytes(value, limit)?;
@@ -49,7 +49,7 @@ fn spelled_bytes(alloc: Global, value: &[u8], limit: Option<usize>) -> Result<Ve
 
 /// The spelling of a text string, in segments within the limit. The error says that there is no memory for it.
 fn spelled_text(alloc: Global, value: &str, limit: Option<usize>) -> Result<Vec<u8>, OutOfMemory>
-    ensures { IfOk result (λ bytes. IsSpelled text_strings limit value.now bytes.items) }
+    ensures { IfOk result (λ bytes. IsValueSpelling text_strings limit value.now bytes.items) }
 {
     let mut encoder = Encoder::from(VecWriter::new(alloc));
     encoder.text(value, limit)?;

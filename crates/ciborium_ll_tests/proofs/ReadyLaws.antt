@@ -6,6 +6,7 @@ use Rattle.ciborium_ll.specs.Types.Decoder.{Decoder}
 use Rattle.ciborium_ll.specs.Decoding.{IsFresh, offset_limit, view}
 use Rattle.ciborium_ll.specs.Copying.{IsReadyForTitles}
 use Rattle.ciborium_ll.specs.RecodingTold.{IsReady}
+use Rattle.ciborium_ll.specs.Sides.{sides}
 use Rattle.ciborium_ll.proofs.BodyLaws.{view_none}
 
 module _ {D S E F : Type 0} (source : Reader D E) (sink : Writer S F) where
@@ -24,22 +25,24 @@ module _ {D S E F : Type 0} (source : Reader D E) (sink : Writer S F) where
       → source.ahead reader ≡ Some due → sink.written writer ≡ Some written → sink.room writer ≡ Some room
       → length due ≤ room
       → length due + 8 < offset_limit → length due + size < offset_limit
-      → IsReady source sink count size decoder writer due written
-  ready_for_elements count size room reader decoder writer due written fresh steady ahead output space enough title chunk = record {
-    steady = still_steady reader decoder fresh steady;
-    told = record { mode = fresh.mode; due-told = due_ahead reader decoder due fresh ahead; written-told = output };
-    room = room;
-    room-told = space;
-    enough = inr enough;
-    fits-title = omega (arith, fresh.offset, title);
-    fits-chunk = omega (arith, fresh.offset, chunk);
-  }
+      → IsReady source sink count size (sides decoder writer) due written
+  ready_for_elements count size room reader decoder writer due written fresh steady ahead output space enough title
+      chunk =
+      record {
+        steady = still_steady reader decoder fresh steady;
+        told = record { mode = fresh.mode; due-told = due_ahead reader decoder due fresh ahead; written-told = output };
+        room = room;
+        room-told = space;
+        enough = inr enough;
+        fits-title = omega (arith, fresh.offset, title);
+        fits-chunk = omega (arith, fresh.offset, chunk);
+      }
 
   pub ready_for_titles : (room : ℕ) (reader : D) (decoder : Decoder D) (writer : S) (due written : List ℕ)
       → IsFresh reader 0 decoder → IsTrue (source.steady reader)
       → source.ahead reader ≡ Some due → sink.written writer ≡ Some written → sink.room writer ≡ Some room
       → length due ≤ room
-      → length due + 8 < offset_limit → IsReadyForTitles source sink decoder writer due written
+      → length due + 8 < offset_limit → IsReadyForTitles source sink (sides decoder writer) due written
   ready_for_titles room reader decoder writer due written fresh steady ahead output space enough title = record {
     lenient = fresh.mode;
     steady = still_steady reader decoder fresh steady;

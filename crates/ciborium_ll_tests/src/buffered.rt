@@ -9,8 +9,8 @@ use std::io;
 use std::process::Abort;
 use std::test::Fail;
 
-// Reads the bytes 1 to 6 in parts of these lengths, with so many bytes lent: each read gives its part. It tells how many
-// calls that is, and what is then ahead and left.
+// Reads the bytes 1 to 6 in parts of these lengths, with so many bytes lent: each read gives its part. It tells how
+// many calls that is, and what is then ahead and left.
 fn reads_row(
     rt: &impl Abort,
     alloc: Global,

@@ -4,7 +4,8 @@ use Rattle.std.proofs.Common.{ap, subst, ◌∙◌, arith, append_assoc, append-
 use Rattle.std.proofs.lemmas.List.{length-take, take-append-drop}
 use Rattle.std.proofs.Math.Seq.{take-append_seam, take-length}
 use Rattle.std.specs.List.{AllByRecursion}
-use Rattle.ciborium_ll.specs.Elements.{Mark, IsElement, plain, definite, indefinite, IsRun, done, next, IsMeant}
+use Rattle.ciborium_ll.specs.Strings.IsString.{definite, indefinite}
+use Rattle.ciborium_ll.specs.Elements.{Mark, IsElement, plain, string, IsRun, done, next, IsMeant}
 use Rattle.ciborium_ll.specs.Elements.{spelling}
 use Rattle.ciborium_ll.specs.StrictRecoding.{IsStrictRun, StrictRunInFront}
 use Rattle.ciborium_ll.proofs.ElementLaws.{element_again, one_element, spelling-append}
@@ -176,9 +177,9 @@ no_shortest depth bytes rest len front counted so_far some none other shortest =
 
 element_some : (bytes : List ℕ) (marks : List Mark) → IsElement bytes marks → 0 < length bytes
 element_some bytes marks (plain {title = t} header title p) = title_some t header title
-element_some bytes marks (definite {title = t} {body = b} kind title sound) =
+element_some bytes marks (string kind (definite {title = t} {body = b} title) sound) =
     omega (arith, title_some t (kind_header kind (Some (length b))) title, length-append t b)
-element_some bytes marks (indefinite {title = t} {strings = x} kind title strings sound) =
+element_some bytes marks (string kind (indefinite {title = t} {strings = x} title strings) sound) =
     omega (arith, title_some t (kind_header kind None) title, length-append t (x ++ 0xff ∷ []))
 
 -- a strict run of one takes a byte at least

@@ -8,19 +8,19 @@ use Rattle.ciborium_ll.proofs.DecodingLaws.{Passes-none, Passes-pull}
 use Rattle.ciborium_ll.proofs.NestLaws.{title_some}
 use Rattle.ciborium_ll_uses.specs.declared.sums.SumError.{SumError}
 use Rattle.ciborium_ll_uses.specs.declared.sums.SumError.TheVariants as s
-use Rattle.ciborium_ll_uses.specs.Sums.{AddUp, none, more, AddsInteger, ReadsIntegers, SumsArray, SumsBehind}
+use Rattle.ciborium_ll_uses.specs.Sums.{HaveSum, none, more, AddsInteger, ReadsIntegers, SumsArray, SumsBehind}
 
 module _ {R E : Type 0} (source : Ghosts R E) where
   pub reads_none : (old : Decoder R) → ReadsIntegers source old 0 (pos 0) old
-  reads_none old = record { bytes = []; add_up = none; passed = Passes-none source old }
+  reads_none old = record { bytes = []; have_sum = none; passed = Passes-none source old }
 
   pub reads_more : (old now new : Decoder R) (count : ℕ) (total sum : ℤ) → ReadsIntegers source old count total now
       → AddsInteger source total now sum new → (IsSteady source now → IsSteady source new)
       → ReadsIntegers source old (suc count) sum new
   reads_more old now new count total sum reads adds steady = record {
     bytes = reads.bytes ++ adds.pulled.title;
-    add_up = subst (λ (z : ℤ). AddUp (suc count) (reads.bytes ++ adds.pulled.title) z) (sym adds.sum-is)
-        (more adds.number reads.add_up adds.pulled.is_title adds.is_integer);
+    have_sum = subst (λ (z : ℤ). HaveSum (suc count) (reads.bytes ++ adds.pulled.title) z) (sym adds.sum-is)
+        (more adds.number reads.have_sum adds.pulled.is_title adds.is_integer);
     passed = Passes-pull source old now new reads.bytes adds.header adds.pulled reads.passed steady;
   }
 

@@ -1,8 +1,8 @@
 -- Bodies that are read into a text.
-use Rattle.std.proofs.Common.{◌≡◌, ℕ, List, [], ◌++◌, Option, None, Some, Result, Ok, Err, IfOk, refl, ap, subst, sym}
-use Rattle.std.proofs.Common.{◌∙◌, arith, append-nil}
+use Rattle.std.proofs.Common.{◌≡◌, ℕ, List, [], ◌++◌, Option, None, Some, Result, Ok, Err, IfOk, refl, subst, sym}
 use Rattle.ciborium_ll.specs.Types.Read.{Ghosts as Reader}
 use Rattle.ciborium_ll.specs.Types.Write.{Ghosts as Writer}
+use Rattle.ciborium_ll.specs.Types.Body.{Body}
 use Rattle.ciborium_ll.specs.Types.Decoder.{Decoder}
 use Rattle.ciborium_ll.specs.Types.Parser.{Ghosts as Parser}
 use Rattle.ciborium_ll.specs.Types.Segment.{Segment}
@@ -10,10 +10,10 @@ use Rattle.ciborium_ll.specs.Types.Progress.{Progress}
 use Rattle.ciborium_ll.specs.Types.Progress.TheVariants as p
 use Rattle.ciborium_ll.specs.Types.Header.TheVariants as h
 use Rattle.ciborium_ll.specs.Strings.{Kind, Text, IsWritable}
-use Rattle.ciborium_ll.specs.Chunks.{SegmentEnds}
-use Rattle.ciborium_ll.specs.Decoding.{Passes, PullsTitle}
+use Rattle.ciborium_ll.specs.Chunks.{IsWhole, SegmentEnds}
+use Rattle.ciborium_ll.specs.Decoding.{PullsTitle}
 use Rattle.ciborium_ll.specs.Encoding.{WritesAll}
-use Rattle.ciborium_ll.proofs.BodyLaws.{BodySoFar}
+use Rattle.ciborium_ll.proofs.BodyCopyLaws.{BodySoFar, so_far_whole}
 use Rattle.ciborium_ll_uses.specs.Texts.{AppendsBody, Gathers, none, GathersAll, ReadsText}
 
 -- a text as a writer that takes all
@@ -32,20 +32,17 @@ pushes text chunk text' same = record { appended = same; room = tt; failures = r
 
 module _ {R E P : Type 0} {parser : Parser P} (source : Reader R E) where
   -- a body was read to its end
-  pub body_read : (len place : ℕ) (old : Decoder R) (text : List ℕ) (segment new : Segment R P parser) (text' : List ℕ)
-      → parser.kind ≡ Text → BodySoFar source onto_text len place old text segment text'
-      → SegmentEnds source segment new
-      → AppendsBody source len old text new.decoder.now text'
-  body_read len place old text segment new text' kind so_far ends =
-      let same : so_far.read ≡ so_far.front =
-      so_far.parts ∙ ap (λ (z : List ℕ). so_far.front ++ z) ends.none_kept ∙ append-nil so_far.front in
+  pub body_read : (body : Body) (first segment new : Segment R P parser) (text text' : List ℕ) → parser.kind ≡ Text
+      → IsWhole body first → BodySoFar source onto_text first text segment text' → SegmentEnds source segment new
+      → AppendsBody source body.length first.decoder.now text new.decoder.now text'
+  body_read body first segment new text text' kind whole so_far ends =
+      let copied = so_far_whole source onto_text body first segment text text' whole so_far 0 new ends in
       record {
-        body = so_far.read;
-        all = omega (arith, so_far.counted, ends.none_unread);
-        sound = subst (λ (k : Kind). IsWritable k so_far.read) kind
-            (subst (λ (z : List ℕ). IsWritable parser.kind z) (sym same) so_far.sound);
-        passed = subst (λ (d : Decoder R). Passes source old so_far.read d) (sym ends.decoder) so_far.passed;
-        appended = so_far.written.appended ∙ ap (λ (z : List ℕ). text ++ z) (sym same);
+        body = copied.ends.read;
+        all = copied.ends.all;
+        sound = subst (λ (k : Kind). IsWritable k copied.ends.read) kind copied.ends.sound;
+        passed = copied.ends.passed;
+        appended = copied.written.appended;
       }
 
 module _ {R E : Type 0} (source : Reader R E) where

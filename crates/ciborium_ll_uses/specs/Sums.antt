@@ -17,11 +17,11 @@ IsInteger (h.Positive n) number = number ≡ pos n
 IsInteger (h.Negative n) number = number ≡ negsuc n
 IsInteger header number = ⊥
 
--- `AddUp count bytes total`: the bytes are titles of so many integers, and the total is their sum
-pub data AddUp : ℕ → List ℕ → ℤ → Type 0 where
-  none : AddUp zero [] (pos 0)
-  more : {count : ℕ} {bytes title : List ℕ} {total : ℤ} {header : Header} (number : ℤ) → AddUp count bytes total
-      → IsTitle title header → IsInteger header number → AddUp (suc count) (bytes ++ title) (total +ℤ number)
+-- `HaveSum count bytes total`: the bytes are titles of so many integers, and the total is their sum
+pub data HaveSum : ℕ → List ℕ → ℤ → Type 0 where
+  none : HaveSum zero [] (pos 0)
+  more : {count : ℕ} {bytes title : List ℕ} {total : ℤ} {header : Header} (number : ℤ) → HaveSum count bytes total
+      → IsTitle title header → IsInteger header number → HaveSum (suc count) (bytes ++ title) (total +ℤ number)
 
 module _ {R E : Type 0} (source : Ghosts R E) where
   -- ---- one integer more
@@ -35,7 +35,7 @@ module _ {R E : Type 0} (source : Ghosts R E) where
     pub sum-is : sum ≡ total +ℤ number
 
   -- a header came that is no integer
-  pub record MeetsOther (old : Decoder R) (at : ℕ) (new : Decoder R) : Type 0 where
+  pub record MeetsNoInteger (old : Decoder R) (at : ℕ) (new : Decoder R) : Type 0 where
     pub header : Header
     pub pulled : PullsTitle source old header new
     pub place : at ≡ old.offset
@@ -54,7 +54,7 @@ module _ {R E : Type 0} (source : Ghosts R E) where
   abbrev pub StopsNext : ℤ → Decoder R → SumError E → Decoder R → Type 0
   StopsNext total old (s.Read error) new = PullsHeader source old (Err error) new
   StopsNext total old (s.NoArray at) new = ⊥
-  StopsNext total old (s.NoNumber at) new = MeetsOther old at new
+  StopsNext total old (s.NoNumber at) new = MeetsNoInteger old at new
   StopsNext total old (s.OutOfRange at) new = PassesRange total old at new
 
   -- the sum with one integer more, or a break
@@ -68,7 +68,7 @@ module _ {R E : Type 0} (source : Ghosts R E) where
   -- titles of so many integers were read, whose sum is the total
   pub record ReadsIntegers (old : Decoder R) (count : ℕ) (total : ℤ) (new : Decoder R) : Type 0 where
     pub bytes : List ℕ
-    pub add_up : AddUp count bytes total
+    pub have_sum : HaveSum count bytes total
     pub passed : Passes source old bytes new
 
   -- behind so many the array ends: as many as its header counts, or a break came (RFC 7049, 2.2.1)
@@ -78,10 +78,10 @@ module _ {R E : Type 0} (source : Ghosts R E) where
   EndsArray header count between new = ⊥
 
   -- behind so many one more may come
-  abbrev pub TakesMore : Header → ℕ → Type 0
-  TakesMore (h.Array (Some len)) count = count < len
-  TakesMore (h.Array None) count = Unit {0}
-  TakesMore header count = ⊥
+  abbrev pub ArrayGoesOn : Header → ℕ → Type 0
+  ArrayGoesOn (h.Array (Some len)) count = count < len
+  ArrayGoesOn (h.Array None) count = Unit {0}
+  ArrayGoesOn header count = ⊥
 
   -- all integers of the array were read
   pub record SumsAll (header : Header) (old : Decoder R) (total : ℤ) (new : Decoder R) : Type 0 where
@@ -95,7 +95,7 @@ module _ {R E : Type 0} (source : Ghosts R E) where
     pub count : ℕ
     pub total : ℤ
     pub between : Decoder R
-    pub takes_more : TakesMore header count
+    pub goes_on : ArrayGoesOn header count
     pub reads : ReadsIntegers old count total between
     pub stops : StopsNext total between error new
 

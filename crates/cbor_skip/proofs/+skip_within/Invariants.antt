@@ -1,4 +1,4 @@
-use Rattle.std.proofs.Common.{◌≡◌, ◌-◌, ◌^◌}
+use Rattle.std.proofs.Common.{◌-◌, ◌^◌}
 use Rattle.ciborium_ll.specs.Decoding.{MovesOn}
 use Rattle.cbor_skip.proofs.ItemSteps.{SoFar}
 use Rattle.cbor_skip.proofs.+skip_within.Given as goal

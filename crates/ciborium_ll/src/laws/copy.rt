@@ -4,6 +4,7 @@ ghost use Rattle.std.specs.Prelude.{◌≡◌, ℕ, List, ◌↔◌, IsOk};
 ghost use Rattle.ciborium_ll_decoder.specs.Decoding.{MovesOn};
 ghost use Rattle.ciborium_ll_encoder.specs.Encoding.{writer_of};
 ghost use Rattle.ciborium_ll_decoder.specs.Copying.{CopiesHeaders, CopiesTold, IsReadyForTitles, TitlesInFront};
+ghost use Rattle.ciborium_ll_decoder.specs.Sides.{sides_of};
 
 use ciborium_ll_decoder::dec::Decoder;
 use ciborium_ll_decoder::recode::RecodeError;
@@ -24,13 +25,13 @@ pub fn copy_headers<R: Read, W: Write>(
     encoder: &mut Encoder<W>,
     count: usize,
 ) -> Result<(), RecodeError<R::Error, W::Error>>
-    ensures copied { CopiesHeaders R.Read W.Write count decoder.old (writer_of encoder.old) result
-        decoder.new (writer_of encoder.new) }
+    ensures copied { CopiesHeaders R.Read W.Write count (sides_of decoder.old encoder.old) result
+        (sides_of decoder.new encoder.new) }
     ensures told { (due written : List ℕ)
-        → IsReadyForTitles R.Read W.Write decoder.old (writer_of encoder.old) due written
-        → CopiesTold R.Read W.Write count due written decoder.old result decoder.new (writer_of encoder.new) }
+        → IsReadyForTitles R.Read W.Write (sides_of decoder.old encoder.old) due written
+        → CopiesTold R.Read W.Write count due written decoder.old result (sides_of decoder.new encoder.new) }
     ensures exactly { (due written : List ℕ)
-        → IsReadyForTitles R.Read W.Write decoder.old (writer_of encoder.old) due written
+        → IsReadyForTitles R.Read W.Write (sides_of decoder.old encoder.old) due written
         → (IsOk result ↔ TitlesInFront count due) }
     ensures moves_on { MovesOn R.Read decoder.old decoder.new }
     ensures target { W.target (writer_of encoder.new) ≡ W.target (writer_of encoder.old) }

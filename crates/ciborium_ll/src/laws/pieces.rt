@@ -6,6 +6,7 @@ ghost use Rattle.ciborium_ll_grammar.specs.Strings.{Bytes, Text};
 ghost use Rattle.ciborium_ll_grammar.specs.Elements.{Mark, IsRun, spelling};
 ghost use Rattle.ciborium_ll_encoder.specs.Encoding.{writer_of};
 ghost use Rattle.ciborium_ll_decoder.specs.Decoding.{MovesOn};
+ghost use Rattle.ciborium_ll_decoder.specs.Sides.{sides_of};
 ghost use Rattle.ciborium_ll_decoder.specs.RecodingTold.{IsReady};
 ghost use Rattle.ciborium_ll.specs.Pieces.{AreSpelled, CopiesSame, HasMarks, IsPlainPiece, IsSpelled, WritesElements};
 ghost use Rattle.ciborium_ll.specs.Pieces.{WritesPiece};
@@ -107,7 +108,7 @@ pub fn copy_spelled<R: Read, W: Write>(
 ) -> Result<(), RecodeError<R::Error, W::Error>>
     requires room { 4 ≤ length buffer.old }
     ensures same { (marks : List Mark) (rest written : List ℕ) → IsRun count (spelling marks) marks
-        → IsReady R.Read W.Write count (length buffer.old) decoder.old (writer_of encoder.old)
+        → IsReady R.Read W.Write count (length buffer.old) (sides_of decoder.old encoder.old)
         (spelling marks ++ rest) written
         → CopiesSame R.Read W.Write (spelling marks) rest written result decoder.new (writer_of encoder.new) }
     ensures moves_on { MovesOn R.Read decoder.old decoder.new }

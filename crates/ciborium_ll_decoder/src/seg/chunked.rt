@@ -18,10 +18,10 @@ pub trait Chunked: Parser {
         segment: &mut Segment<'_, R, Self>,
         buffer: &'a mut [u8],
     ) -> Result<Option<&'a [u8]>, Error<R::Error>>
-        ensures same_reference { segment_reference segment.new ≡ segment_reference segment.old }
         ensures chunk { PullsChunk R.Read (length buffer.old) segment.old result segment.new }
         ensures left { IfOk result (λ chunk. IfSome chunk
             (λ c. length c.now + left_of segment.new ≡ left_of segment.old)) }
+        ensures same_reference { segment_reference segment.new ≡ segment_reference segment.old }
         ensures moves_on { MovesOn R.Read (segment_decoder segment.old) (segment_decoder segment.new) };
 }
 
@@ -84,8 +84,8 @@ impl<'r, R: Read, P: Chunked> Segment<'r, R, P> {
     #[tactic(auto, using(crate::proofs::FinishLaws::rest_pulled))]
     fn drain(&mut self, buffer: &mut [u8]) -> Result<(), Error<R::Error>>
         requires room { 4 ≤ length buffer.old }
-        ensures same_reference { segment_reference self.new ≡ segment_reference self.old }
         ensures finishes { Finishes R.Read (length buffer.old) self.old result (segment_decoder self.new) }
+        ensures same_reference { segment_reference self.new ≡ segment_reference self.old }
         ensures moves_on { MovesOn R.Read (segment_decoder self.old) (segment_decoder self.new) }
     {
         'chunks: loop {
@@ -108,10 +108,10 @@ impl<'r, R: Read, P: Chunked> Segments<'r, R, P> {
     pub fn finish(&mut self, body: Body, buffer: &mut [u8]) -> Result<(), Error<R::Error>>
         requires room { 4 ≤ length buffer.old }
         requires none_waits { waiting_of (string_decoder self.old) ≡ None }
-        ensures same_reference { string_reference self.new ≡ string_reference self.old }
-        ensures progress { progress_of self.new ≡ progress_of self.old }
         ensures finishes { EndsBody R.Read P.kind [] body.length (length buffer.old) body.place
             (string_decoder self.old) result (string_decoder self.new) }
+        ensures same_reference { string_reference self.new ≡ string_reference self.old }
+        ensures progress { progress_of self.new ≡ progress_of self.old }
         ensures moves_on { MovesOn R.Read (string_decoder self.old) (string_decoder self.new) }
     {
         Segment::<R, P>::new(&mut *self.decoder, body).finish(buffer)

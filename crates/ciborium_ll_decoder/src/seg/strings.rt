@@ -19,9 +19,9 @@ impl<R: Read> Decoder<R> {
     pub fn bytes(&mut self, len: Option<usize>) -> Segments<'_, R, Bytes>
         requires none_waits { waiting_of self.old ≡ None }
         requires covered { title_len (Header.Bytes len) ≤ offset_of self.old }
-        ensures same_reference { string_reference result ≡ self.entry.ghost_name }
         ensures back { TakesBack R.Read self.old (Header.Bytes len) (string_decoder result) }
         ensures fresh { IsAtBeginning result }
+        ensures same_reference { string_reference result ≡ self.entry.ghost_name }
         ensures refusals { refusals_of (string_decoder result) ≡ refusals_of self.old }
     {
         self.string(len)
@@ -34,9 +34,9 @@ impl<R: Read> Decoder<R> {
     pub fn text(&mut self, len: Option<usize>) -> Segments<'_, R, Text>
         requires none_waits { waiting_of self.old ≡ None }
         requires covered { title_len (Header.Text len) ≤ offset_of self.old }
-        ensures same_reference { string_reference result ≡ self.entry.ghost_name }
         ensures back { TakesBack R.Read self.old (Header.Text len) (string_decoder result) }
         ensures fresh { IsAtBeginning result }
+        ensures same_reference { string_reference result ≡ self.entry.ghost_name }
         ensures refusals { refusals_of (string_decoder result) ≡ refusals_of self.old }
     {
         self.string(len)
@@ -46,9 +46,9 @@ impl<R: Read> Decoder<R> {
     pub(crate) fn string<P: Parser>(&mut self, len: Option<usize>) -> Segments<'_, R, P>
         requires none_waits { waiting_of self.old ≡ None }
         requires covered { title_len (kind_header P.kind len) ≤ offset_of self.old }
-        ensures same_reference { string_reference result ≡ self.entry.ghost_name }
         ensures back { TakesBack R.Read self.old (kind_header P.kind len) (string_decoder result) }
         ensures fresh { IsAtBeginning result }
+        ensures same_reference { string_reference result ≡ self.entry.ghost_name }
         ensures refusals { refusals_of (string_decoder result) ≡ refusals_of self.old }
     {
         self.push(P::header(len));

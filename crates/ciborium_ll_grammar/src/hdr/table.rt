@@ -4,7 +4,7 @@ ghost use Rattle.ciborium_ll_grammar.specs.TitleRows.{IsRow};
 
 /// What a title means, but for its number: its major type (RFC 7049, 2.1).
 #[derive(Clone, Copy)]
-pub enum Kind {
+pub enum TitleKind {
     /// An unsigned integer: the major type 0.
     Positive,
     /// A negative integer: 1.
@@ -47,14 +47,14 @@ pub enum Affix {
 /// What a first byte says of its title.
 #[derive(Clone, Copy)]
 pub struct Row {
-    pub kind: Kind,
+    pub kind: TitleKind,
     pub affix: Affix,
 }
 
 macro_rules! row {
     ($kind:ident, $affix:ident) => {
         Row {
-            kind: Kind::$kind,
+            kind: TitleKind::$kind,
             affix: Affix::$affix,
         }
     };

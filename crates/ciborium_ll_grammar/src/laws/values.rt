@@ -1,20 +1,20 @@
 //! Laws of values that are written in pieces.
 
 ghost use Rattle.std.specs.Prelude.{◌≡◌, ◌≤◌, ◌<◌, ◌^◌, ℕ, List, [], ◌∷◌, length};
-ghost use Rattle.ciborium_ll_grammar.specs.Strings.{Kind, Text};
+ghost use Rattle.ciborium_ll_grammar.specs.Strings.{Kind, Text, IsWritable};
 ghost use Rattle.ciborium_ll_text.specs.Text.{IsCharacters};
-ghost use Rattle.ciborium_ll_grammar.specs.Elements.{Mark, IsSound, IsElement, spelling};
+ghost use Rattle.ciborium_ll_grammar.specs.Elements.{Mark, IsElement, spelling};
 ghost use Rattle.ciborium_ll_grammar.specs.Values.{least_limit, IsWritten, HasFewestSegments};
 
 /// Each value is written in just one way under a limit, and what is written is one element.
 pub fn written_values()
-    ensures exists { (kind : Kind) (limit : ℕ) (value : List ℕ) → least_limit kind ≤ limit → IsSound kind (value ∷ [])
+    ensures exists { (kind : Kind) (limit : ℕ) (value : List ℕ) → least_limit kind ≤ limit → IsWritable kind value
         → (marks : List Mark) × IsWritten kind limit value marks }
     ensures one { (kind : Kind) (limit : ℕ) (value : List ℕ) (marks others : List Mark)
         → IsWritten kind limit value marks
         → IsWritten kind limit value others → marks ≡ others }
     ensures element { (kind : Kind) (limit : ℕ) (value : List ℕ) (marks : List Mark) → IsWritten kind limit value marks
-        → IsSound kind (value ∷ []) → length value < 2 ^ 64 → IsElement (spelling marks) marks }
+        → IsWritable kind value → length value < 2 ^ 64 → IsElement (spelling marks) marks }
 {}
 
 /// What is written of a text that isn't empty has the fewest segments: they are texts that aren't empty, joined they

@@ -32,15 +32,16 @@ pub struct BufferedReader<'a, T> {
 }
 
 impl<'a, T: io::Read> BufferedReader<'a, T> {
-    ghost use Rattle.ciborium_ll_io.specs.Buffers.{ahead_of, read_ahead_of, read_failures_of, read_fault_of, source_of};
+    ghost use Rattle.ciborium_ll_io.specs.Buffers.{buffered_ahead, buffered_read_ahead, buffered_read_failures};
+    ghost use Rattle.ciborium_ll_io.specs.Buffers.{buffered_read_fault, buffered_source};
 
     /// A reader of all that is left within. Nothing is read yet.
     pub fn new(source: T, buffer: &'a mut [u8]) -> BufferedReader<'a, T>
-        ensures source { source_of result ≡ source }
-        ensures read_ahead { read_ahead_of result ≡ [] }
-        ensures ahead { ahead_of T.remaining result ≡ T.remaining source }
-        ensures fault { read_fault_of result ≡ None }
-        ensures failures { read_failures_of result ≡ 0 }
+        ensures source { buffered_source result ≡ source }
+        ensures read_ahead { buffered_read_ahead result ≡ [] }
+        ensures ahead { buffered_ahead T.remaining result ≡ T.remaining source }
+        ensures fault { buffered_read_fault result ≡ None }
+        ensures failures { buffered_read_failures result ≡ 0 }
     {
         BufferedReader {
             source,
@@ -52,19 +53,19 @@ impl<'a, T: io::Read> BufferedReader<'a, T> {
 
     /// The bytes that were read ahead and not handed out.
     pub fn buffer(&self) -> &[u8]
-        ensures { result.now ≡ read_ahead_of self.now }
+        ensures { result.now ≡ buffered_read_ahead self.now }
     {
         self.window.held()
     }
 
     /// Why the last call that failed did so, where one failed. It is kept no longer.
     pub fn take_fault(&mut self) -> Option<ReadFault>
-        ensures fault { result ≡ read_fault_of self.old }
-        ensures none { read_fault_of self.new ≡ None }
-        ensures source { source_of self.new ≡ source_of self.old }
-        ensures read_ahead { read_ahead_of self.new ≡ read_ahead_of self.old }
-        ensures ahead { ahead_of T.remaining self.new ≡ ahead_of T.remaining self.old }
-        ensures failures { read_failures_of self.new ≡ read_failures_of self.old }
+        ensures fault { result ≡ buffered_read_fault self.old }
+        ensures none { buffered_read_fault self.new ≡ None }
+        ensures source { buffered_source self.new ≡ buffered_source self.old }
+        ensures read_ahead { buffered_read_ahead self.new ≡ buffered_read_ahead self.old }
+        ensures ahead { buffered_ahead T.remaining self.new ≡ buffered_ahead T.remaining self.old }
+        ensures failures { buffered_read_failures self.new ≡ buffered_read_failures self.old }
     {
         self.fault.take()
     }
@@ -72,9 +73,9 @@ impl<'a, T: io::Read> BufferedReader<'a, T> {
     /// The reader within as the last call left it, the bytes that were read ahead and not handed out, and why the last
     /// call that failed did so.
     pub fn into_parts(self) -> (T, &'a [u8], Option<ReadFault>)
-        ensures source { result.0 ≡ source_of self.entry }
-        ensures read_ahead { result.1.now ≡ read_ahead_of self.entry }
-        ensures fault { result.2 ≡ read_fault_of self.entry }
+        ensures source { result.0 ≡ buffered_source self.entry }
+        ensures read_ahead { result.1.now ≡ buffered_read_ahead self.entry }
+        ensures fault { result.2 ≡ buffered_read_fault self.entry }
     {
         let BufferedReader {
             source,
@@ -90,15 +91,15 @@ impl<'a, T: io::Read> BufferedReader<'a, T> {
     #[inline(never)]
     fn read_on(&mut self, data: &mut [u8]) -> Result<(), FaultKept>
         ensures bytes { OnOk result
-            (Consumes (ahead_of T.remaining self.old) (ahead_of T.remaining self.new) «data».new) }
-        ensures ok { OnOk result (read_failures_of self.new ≡ read_failures_of self.old) }
-        ensures err { OnErr result (read_failures_of self.new ≡ read_failures_of self.old + 1) }
+            (Consumes (buffered_ahead T.remaining self.old) (buffered_ahead T.remaining self.new) «data».new) }
+        ensures ok { OnOk result (buffered_read_failures self.new ≡ buffered_read_failures self.old) }
+        ensures err { OnErr result (buffered_read_failures self.new ≡ buffered_read_failures self.old + 1) }
         ensures part { OnErr result
-            (ConsumesPart (ahead_of T.remaining self.old) (ahead_of T.remaining self.new) «data».new) }
-        ensures same { OnOk result (read_fault_of self.new ≡ read_fault_of self.old) }
-        ensures fault { OnErr result (IsSome (read_fault_of self.new)) }
-        ensures end { OnErr result (read_fault_of self.new ≡ Some ReadFault.End
-            → IsAtEnd (ahead_of T.remaining self.new)) }
+            (ConsumesPart (buffered_ahead T.remaining self.old) (buffered_ahead T.remaining self.new) «data».new) }
+        ensures same { OnOk result (buffered_read_fault self.new ≡ buffered_read_fault self.old) }
+        ensures fault { OnErr result (IsSome (buffered_read_fault self.new)) }
+        ensures end { OnErr result (buffered_read_fault self.new ≡ Some ReadFault.End
+            → IsAtEnd (buffered_ahead T.remaining self.new)) }
     {
         let mut filled = 0;
         while filled < data.len() {
@@ -115,14 +116,16 @@ impl<'a, T: io::Read> BufferedReader<'a, T> {
         requires { 0 < length «data».old }
         ensures bound { IfOk result (λ n. (0 < n) × (n ≤ length «data».new)) }
         ensures bytes { IfOk result
-            (λ n. Consumes (ahead_of T.remaining self.old) (ahead_of T.remaining self.new) (take n «data».new)) }
-        ensures ok { OnOk result (read_failures_of self.new ≡ read_failures_of self.old) }
-        ensures err { OnErr result (read_failures_of self.new ≡ read_failures_of self.old + 1) }
-        ensures keeps { OnErr result (Keeps (ahead_of T.remaining self.old) (ahead_of T.remaining self.new)) }
-        ensures same { OnOk result (read_fault_of self.new ≡ read_fault_of self.old) }
-        ensures fault { OnErr result (IsSome (read_fault_of self.new)) }
-        ensures end { OnErr result (read_fault_of self.new ≡ Some ReadFault.End
-            → IsAtEnd (ahead_of T.remaining self.new)) }
+            (λ n. Consumes (buffered_ahead T.remaining self.old) (buffered_ahead T.remaining self.new)
+            (take n «data».new)) }
+        ensures ok { OnOk result (buffered_read_failures self.new ≡ buffered_read_failures self.old) }
+        ensures err { OnErr result (buffered_read_failures self.new ≡ buffered_read_failures self.old + 1) }
+        ensures keeps { OnErr result (Keeps (buffered_ahead T.remaining self.old)
+            (buffered_ahead T.remaining self.new)) }
+        ensures same { OnOk result (buffered_read_fault self.new ≡ buffered_read_fault self.old) }
+        ensures fault { OnErr result (IsSome (buffered_read_fault self.new)) }
+        ensures end { OnErr result (buffered_read_fault self.new ≡ Some ReadFault.End
+            → IsAtEnd (buffered_ahead T.remaining self.new)) }
     {
         if self.window.len() == 0 {
             if self.window.capacity() <= data.len() {
@@ -142,17 +145,19 @@ impl<'a, T: io::Read> BufferedReader<'a, T> {
     /// Fills a front of `data` by one call of the reader within, where nothing was read ahead.
     fn read_past(&mut self, data: &mut [u8]) -> Result<usize, FaultKept>
         requires some { 0 < length «data».old }
-        requires none_ahead { read_ahead_of self.old ≡ [] }
+        requires none_ahead { buffered_read_ahead self.old ≡ [] }
         ensures bound { IfOk result (λ n. (0 < n) × (n ≤ length «data».new)) }
         ensures bytes { IfOk result
-            (λ n. Consumes (ahead_of T.remaining self.old) (ahead_of T.remaining self.new) (take n «data».new)) }
-        ensures ok { OnOk result (read_failures_of self.new ≡ read_failures_of self.old) }
-        ensures err { OnErr result (read_failures_of self.new ≡ read_failures_of self.old + 1) }
-        ensures keeps { OnErr result (Keeps (ahead_of T.remaining self.old) (ahead_of T.remaining self.new)) }
-        ensures same { OnOk result (read_fault_of self.new ≡ read_fault_of self.old) }
-        ensures fault { OnErr result (IsSome (read_fault_of self.new)) }
-        ensures end { OnErr result (read_fault_of self.new ≡ Some ReadFault.End
-            → IsAtEnd (ahead_of T.remaining self.new)) }
+            (λ n. Consumes (buffered_ahead T.remaining self.old) (buffered_ahead T.remaining self.new)
+            (take n «data».new)) }
+        ensures ok { OnOk result (buffered_read_failures self.new ≡ buffered_read_failures self.old) }
+        ensures err { OnErr result (buffered_read_failures self.new ≡ buffered_read_failures self.old + 1) }
+        ensures keeps { OnErr result (Keeps (buffered_ahead T.remaining self.old)
+            (buffered_ahead T.remaining self.new)) }
+        ensures same { OnOk result (buffered_read_fault self.new ≡ buffered_read_fault self.old) }
+        ensures fault { OnErr result (IsSome (buffered_read_fault self.new)) }
+        ensures end { OnErr result (buffered_read_fault self.new ≡ Some ReadFault.End
+            → IsAtEnd (buffered_ahead T.remaining self.new)) }
     {
         match self.source.read(data) {
             Ok(0) => self.failed(ReadFault::End),
@@ -164,9 +169,9 @@ impl<'a, T: io::Read> BufferedReader<'a, T> {
     /// Keeps a fault.
     fn failed(&mut self, fault: ReadFault) -> Result<usize, FaultKept>
         ensures failed { IsErr result }
-        ensures kept { read_fault_of self.new ≡ Some fault }
-        ensures ahead { ahead_of T.remaining self.new ≡ ahead_of T.remaining self.old }
-        ensures failures { read_failures_of self.new ≡ read_failures_of self.old + 1 }
+        ensures kept { buffered_read_fault self.new ≡ Some fault }
+        ensures ahead { buffered_ahead T.remaining self.new ≡ buffered_ahead T.remaining self.old }
+        ensures failures { buffered_read_failures self.new ≡ buffered_read_failures self.old + 1 }
     {
         self.failures.raise();
         self.fault = Some(fault);
@@ -175,16 +180,16 @@ impl<'a, T: io::Read> BufferedReader<'a, T> {
 }
 
 impl<'a, T: io::Read> Read for BufferedReader<'a, T> {
-    ghost use Rattle.ciborium_ll_io.specs.Buffers.{ahead_of, read_ahead_of, read_failures_of};
-    ghost use Rattle.ciborium_ll_io.specs.Buffers.{read_fault_of, source_of, steady_of};
+    ghost use Rattle.ciborium_ll_io.specs.Buffers.{buffered_ahead, buffered_read_ahead, buffered_read_failures};
+    ghost use Rattle.ciborium_ll_io.specs.Buffers.{buffered_read_fault, buffered_source, buffered_steady};
 
     type Error = FaultKept;
 
-    ghost ahead = { λ r. ahead_of T.remaining r };
+    ghost ahead = { λ r. buffered_ahead T.remaining r };
 
-    ghost steady = { λ r. steady_of r };
+    ghost steady = { λ r. buffered_steady r };
 
-    ghost failures = { λ r. read_failures_of r };
+    ghost failures = { λ r. buffered_read_failures r };
 
     ghost steady_is_told = { λ _ h. Prim.search rules };
 
@@ -196,24 +201,24 @@ impl<'a, T: io::Read> Read for BufferedReader<'a, T> {
     fn read_exact(&mut self, data: &mut [u8]) -> Result<(), FaultKept>
         // The trait's.
         ensures bytes { OnOk result
-            (Consumes (ahead_of T.remaining self.old) (ahead_of T.remaining self.new) «data».new) }
-        ensures ok { OnOk result (read_failures_of self.new ≡ read_failures_of self.old) }
-        ensures err { OnErr result (read_failures_of self.new ≡ read_failures_of self.old + 1) }
-        ensures stays_steady { IsTrue (steady_of self.old) → IsTrue (steady_of self.new) }
-        ensures kept { OnErr result (IsTrue (steady_of self.old)
-            → ahead_of T.remaining self.new ≡ ahead_of T.remaining self.old) }
-        ensures missing { OnErr result (IsTrue (steady_of self.old)
-            → IfSome (ahead_of T.remaining self.old) (λ bytes. length bytes < length «data».old)) }
+            (Consumes (buffered_ahead T.remaining self.old) (buffered_ahead T.remaining self.new) «data».new) }
+        ensures ok { OnOk result (buffered_read_failures self.new ≡ buffered_read_failures self.old) }
+        ensures err { OnErr result (buffered_read_failures self.new ≡ buffered_read_failures self.old + 1) }
+        ensures stays_steady { IsTrue (buffered_steady self.old) → IsTrue (buffered_steady self.new) }
+        ensures kept { OnErr result (IsTrue (buffered_steady self.old)
+            → buffered_ahead T.remaining self.new ≡ buffered_ahead T.remaining self.old) }
+        ensures missing { OnErr result (IsTrue (buffered_steady self.old)
+            → IfSome (buffered_ahead T.remaining self.old) (λ bytes. length bytes < length «data».old)) }
 
         // The reader's own.
-        ensures within { length «data».old ≤ length (read_ahead_of self.old)
-            → IsOk result × (source_of self.new ≡ source_of self.old) }
+        ensures within { length «data».old ≤ length (buffered_read_ahead self.old)
+            → IsOk result × (buffered_source self.new ≡ buffered_source self.old) }
         ensures part { OnErr result
-            (ConsumesPart (ahead_of T.remaining self.old) (ahead_of T.remaining self.new) «data».new) }
-        ensures same { OnOk result (read_fault_of self.new ≡ read_fault_of self.old) }
-        ensures fault { OnErr result (IsSome (read_fault_of self.new)) }
-        ensures end { OnErr result (read_fault_of self.new ≡ Some ReadFault.End
-            → IsAtEnd (ahead_of T.remaining self.new)) }
+            (ConsumesPart (buffered_ahead T.remaining self.old) (buffered_ahead T.remaining self.new) «data».new) }
+        ensures same { OnOk result (buffered_read_fault self.new ≡ buffered_read_fault self.old) }
+        ensures fault { OnErr result (IsSome (buffered_read_fault self.new)) }
+        ensures end { OnErr result (buffered_read_fault self.new ≡ Some ReadFault.End
+            → IsAtEnd (buffered_ahead T.remaining self.new)) }
     {
         if data.len() <= self.window.len() {
             self.window.take(data);
@@ -237,16 +242,16 @@ pub struct BufferedWriter<'a, T> {
 }
 
 impl<'a, T: io::Write> BufferedWriter<'a, T> {
-    ghost use Rattle.ciborium_ll_io.specs.Buffers.{kept_back_of, sink_of, write_failures_of};
-    ghost use Rattle.ciborium_ll_io.specs.Buffers.{write_fault_of, written_of};
+    ghost use Rattle.ciborium_ll_io.specs.Buffers.{buffered_kept_back, buffered_sink, buffered_write_failures};
+    ghost use Rattle.ciborium_ll_io.specs.Buffers.{buffered_write_fault, buffered_written};
 
     /// A writer behind all that was written within. Nothing is kept back yet.
     pub fn new(sink: T, buffer: &'a mut [u8]) -> BufferedWriter<'a, T>
-        ensures sink { sink_of result ≡ sink }
-        ensures kept_back { kept_back_of result ≡ [] }
-        ensures written { written_of T.contents result ≡ T.contents sink }
-        ensures fault { write_fault_of result ≡ None }
-        ensures failures { write_failures_of result ≡ 0 }
+        ensures sink { buffered_sink result ≡ sink }
+        ensures kept_back { buffered_kept_back result ≡ [] }
+        ensures written { buffered_written T.contents result ≡ T.contents sink }
+        ensures fault { buffered_write_fault result ≡ None }
+        ensures failures { buffered_write_failures result ≡ 0 }
     {
         BufferedWriter {
             sink,
@@ -258,19 +263,19 @@ impl<'a, T: io::Write> BufferedWriter<'a, T> {
 
     /// The bytes that were kept back and not passed on.
     pub fn buffer(&self) -> &[u8]
-        ensures { result.now ≡ kept_back_of self.now }
+        ensures { result.now ≡ buffered_kept_back self.now }
     {
         self.window.held()
     }
 
     /// Why the last call that failed did so, where one failed. It is kept no longer.
     pub fn take_fault(&mut self) -> Option<WriteFault>
-        ensures fault { result ≡ write_fault_of self.old }
-        ensures none { write_fault_of self.new ≡ None }
-        ensures sink { sink_of self.new ≡ sink_of self.old }
-        ensures kept_back { kept_back_of self.new ≡ kept_back_of self.old }
-        ensures written { written_of T.contents self.new ≡ written_of T.contents self.old }
-        ensures failures { write_failures_of self.new ≡ write_failures_of self.old }
+        ensures fault { result ≡ buffered_write_fault self.old }
+        ensures none { buffered_write_fault self.new ≡ None }
+        ensures sink { buffered_sink self.new ≡ buffered_sink self.old }
+        ensures kept_back { buffered_kept_back self.new ≡ buffered_kept_back self.old }
+        ensures written { buffered_written T.contents self.new ≡ buffered_written T.contents self.old }
+        ensures failures { buffered_write_failures self.new ≡ buffered_write_failures self.old }
     {
         self.fault.take()
     }
@@ -278,9 +283,9 @@ impl<'a, T: io::Write> BufferedWriter<'a, T> {
     /// The writer within as the last call left it, the bytes that were kept back and not passed on, and why the last
     /// call that failed did so.
     pub fn into_parts(self) -> (T, &'a [u8], Option<WriteFault>)
-        ensures sink { result.0 ≡ sink_of self.entry }
-        ensures kept_back { result.1.now ≡ kept_back_of self.entry }
-        ensures fault { result.2 ≡ write_fault_of self.entry }
+        ensures sink { result.0 ≡ buffered_sink self.entry }
+        ensures kept_back { result.1.now ≡ buffered_kept_back self.entry }
+        ensures fault { result.2 ≡ buffered_write_fault self.entry }
     {
         let BufferedWriter {
             sink,
@@ -297,13 +302,13 @@ impl<'a, T: io::Write> BufferedWriter<'a, T> {
     fn write_on(&mut self, data: &[u8]) -> Result<(), FaultKept>
         requires { 0 < length «data».now }
         ensures bytes { OnOk result
-            (Appends (written_of T.contents self.old) (written_of T.contents self.new) «data».now) }
+            (Appends (buffered_written T.contents self.old) (buffered_written T.contents self.new) «data».now) }
         ensures part { OnErr result
-            (AppendsPart (written_of T.contents self.old) (written_of T.contents self.new) «data».now) }
-        ensures ok { OnOk result (write_failures_of self.new ≡ write_failures_of self.old) }
-        ensures err { OnErr result (write_failures_of self.new ≡ write_failures_of self.old + 1) }
-        ensures same { OnOk result (write_fault_of self.new ≡ write_fault_of self.old) }
-        ensures fault { OnErr result (IsSome (write_fault_of self.new)) }
+            (AppendsPart (buffered_written T.contents self.old) (buffered_written T.contents self.new) «data».now) }
+        ensures ok { OnOk result (buffered_write_failures self.new ≡ buffered_write_failures self.old) }
+        ensures err { OnErr result (buffered_write_failures self.new ≡ buffered_write_failures self.old + 1) }
+        ensures same { OnOk result (buffered_write_fault self.new ≡ buffered_write_fault self.old) }
+        ensures fault { OnErr result (IsSome (buffered_write_fault self.new)) }
     {
         self.send()?;
         if data.len() <= self.window.room() {
@@ -318,12 +323,12 @@ impl<'a, T: io::Write> BufferedWriter<'a, T> {
 
     /// Writes what was kept back. What a failure leaves unwritten stays.
     fn send(&mut self) -> Result<(), FaultKept>
-        ensures bytes { Keeps (written_of T.contents self.old) (written_of T.contents self.new) }
-        ensures empty { OnOk result (kept_back_of self.new ≡ []) }
-        ensures ok { OnOk result (write_failures_of self.new ≡ write_failures_of self.old) }
-        ensures err { OnErr result (write_failures_of self.new ≡ write_failures_of self.old + 1) }
-        ensures same { OnOk result (write_fault_of self.new ≡ write_fault_of self.old) }
-        ensures fault { OnErr result (IsSome (write_fault_of self.new)) }
+        ensures bytes { Keeps (buffered_written T.contents self.old) (buffered_written T.contents self.new) }
+        ensures empty { OnOk result (buffered_kept_back self.new ≡ []) }
+        ensures ok { OnOk result (buffered_write_failures self.new ≡ buffered_write_failures self.old) }
+        ensures err { OnErr result (buffered_write_failures self.new ≡ buffered_write_failures self.old + 1) }
+        ensures same { OnOk result (buffered_write_fault self.new ≡ buffered_write_fault self.old) }
+        ensures fault { OnErr result (IsSome (buffered_write_fault self.new)) }
     {
         let (count, outcome) = write_calls(&mut self.sink, self.window.held());
         self.window.skip(count);
@@ -339,10 +344,10 @@ impl<'a, T: io::Write> BufferedWriter<'a, T> {
     /// Keeps a fault.
     fn failed(&mut self, fault: WriteFault) -> Result<(), FaultKept>
         ensures failed { IsErr result }
-        ensures kept { write_fault_of self.new ≡ Some fault }
-        ensures written { written_of T.contents self.new ≡ written_of T.contents self.old }
-        ensures kept_back { kept_back_of self.new ≡ kept_back_of self.old }
-        ensures failures { write_failures_of self.new ≡ write_failures_of self.old + 1 }
+        ensures kept { buffered_write_fault self.new ≡ Some fault }
+        ensures written { buffered_written T.contents self.new ≡ buffered_written T.contents self.old }
+        ensures kept_back { buffered_kept_back self.new ≡ buffered_kept_back self.old }
+        ensures failures { buffered_write_failures self.new ≡ buffered_write_failures self.old + 1 }
     {
         self.failures.raise();
         self.fault = Some(fault);
@@ -351,19 +356,19 @@ impl<'a, T: io::Write> BufferedWriter<'a, T> {
 }
 
 impl<'a, T: io::Write> Write for BufferedWriter<'a, T> {
-    ghost use Rattle.ciborium_ll_io.specs.Buffers.{kept_back_of, room_of, sink_of};
-    ghost use Rattle.ciborium_ll_io.specs.Buffers.{write_failures_of, write_fault_of, written_of};
+    ghost use Rattle.ciborium_ll_io.specs.Buffers.{buffered_kept_back, buffered_room, buffered_sink};
+    ghost use Rattle.ciborium_ll_io.specs.Buffers.{buffered_write_failures, buffered_write_fault, buffered_written};
 
     type Error = FaultKept;
 
-    ghost written = { λ w. written_of T.contents w };
+    ghost written = { λ w. buffered_written T.contents w };
 
-    ghost room = { λ w. room_of w };
+    ghost room = { λ w. buffered_room w };
 
-    ghost failures = { λ w. write_failures_of w };
+    ghost failures = { λ w. buffered_write_failures w };
 
-    ghost flushed = { λ old new. Keeps (written_of T.contents old) (written_of T.contents new)
-        × (kept_back_of new ≡ []) };
+    ghost flushed = { λ old new. Keeps (buffered_written T.contents old) (buffered_written T.contents new)
+        × (buffered_kept_back new ≡ []) };
 
     ghost target = { λ _. None };
 
@@ -376,20 +381,20 @@ impl<'a, T: io::Write> Write for BufferedWriter<'a, T> {
     fn write_all(&mut self, data: &[u8]) -> Result<(), FaultKept>
         // The trait's.
         ensures bytes { OnOk result
-            (Appends (written_of T.contents self.old) (written_of T.contents self.new) «data».now) }
-        ensures fills { OnOk result (Shrinks (room_of self.old) (room_of self.new) (length «data».now)) }
-        ensures front { OnErr result (AppendsFront (written_of T.contents self.old)
-            (written_of T.contents self.new) (room_of self.old) (room_of self.new) «data».now) }
-        ensures full { OnErr result (IfSome (room_of self.old) (λ n. n < length «data».now)) }
-        ensures ok { OnOk result (write_failures_of self.new ≡ write_failures_of self.old) }
-        ensures err { OnErr result (write_failures_of self.new ≡ write_failures_of self.old + 1) }
+            (Appends (buffered_written T.contents self.old) (buffered_written T.contents self.new) «data».now) }
+        ensures fills { OnOk result (Shrinks (buffered_room self.old) (buffered_room self.new) (length «data».now)) }
+        ensures front { OnErr result (AppendsFront (buffered_written T.contents self.old)
+            (buffered_written T.contents self.new) (buffered_room self.old) (buffered_room self.new) «data».now) }
+        ensures full { OnErr result (IfSome (buffered_room self.old) (λ n. n < length «data».now)) }
+        ensures ok { OnOk result (buffered_write_failures self.new ≡ buffered_write_failures self.old) }
+        ensures err { OnErr result (buffered_write_failures self.new ≡ buffered_write_failures self.old + 1) }
 
         // The writer's own.
-        ensures empty { length «data».now ≡ 0 → IsOk result × (sink_of self.new ≡ sink_of self.old) }
+        ensures empty { length «data».now ≡ 0 → IsOk result × (buffered_sink self.new ≡ buffered_sink self.old) }
         ensures part { OnErr result
-            (AppendsPart (written_of T.contents self.old) (written_of T.contents self.new) «data».now) }
-        ensures same { OnOk result (write_fault_of self.new ≡ write_fault_of self.old) }
-        ensures fault { OnErr result (IsSome (write_fault_of self.new)) }
+            (AppendsPart (buffered_written T.contents self.old) (buffered_written T.contents self.new) «data».now) }
+        ensures same { OnOk result (buffered_write_fault self.new ≡ buffered_write_fault self.old) }
+        ensures fault { OnErr result (IsSome (buffered_write_fault self.new)) }
     {
         if data.len() <= self.window.room() {
             self.window.put(data);
@@ -403,18 +408,19 @@ impl<'a, T: io::Write> Write for BufferedWriter<'a, T> {
     /// After an error the fault is kept. What could not be written is kept back still.
     fn flush(&mut self) -> Result<(), FaultKept>
         // The trait's.
-        ensures bytes { IsSome (room_of self.old) → written_of T.contents self.new ≡ written_of T.contents self.old }
-        ensures room { IsSome (room_of self.old) → room_of self.new ≡ room_of self.old }
-        ensures flushed { OnOk result (Keeps (written_of T.contents self.old) (written_of T.contents self.new)
-            × (kept_back_of self.new ≡ [])) }
-        ensures ok { OnOk result (write_failures_of self.new ≡ write_failures_of self.old) }
-        ensures err { OnErr result (write_failures_of self.new ≡ write_failures_of self.old + 1) }
+        ensures bytes { IsSome (buffered_room self.old)
+            → buffered_written T.contents self.new ≡ buffered_written T.contents self.old }
+        ensures room { IsSome (buffered_room self.old) → buffered_room self.new ≡ buffered_room self.old }
+        ensures flushed { OnOk result (Keeps (buffered_written T.contents self.old)
+            (buffered_written T.contents self.new) × (buffered_kept_back self.new ≡ [])) }
+        ensures ok { OnOk result (buffered_write_failures self.new ≡ buffered_write_failures self.old) }
+        ensures err { OnErr result (buffered_write_failures self.new ≡ buffered_write_failures self.old + 1) }
 
         // The writer's own.
-        ensures keeps { Keeps (written_of T.contents self.old) (written_of T.contents self.new) }
-        ensures sent { OnOk result (kept_back_of self.new ≡ []) }
-        ensures same { OnOk result (write_fault_of self.new ≡ write_fault_of self.old) }
-        ensures fault { OnErr result (IsSome (write_fault_of self.new)) }
+        ensures keeps { Keeps (buffered_written T.contents self.old) (buffered_written T.contents self.new) }
+        ensures sent { OnOk result (buffered_kept_back self.new ≡ []) }
+        ensures same { OnOk result (buffered_write_fault self.new ≡ buffered_write_fault self.old) }
+        ensures fault { OnErr result (IsSome (buffered_write_fault self.new)) }
     {
         self.send()?;
         match self.sink.flush() {

@@ -43,33 +43,33 @@ impl Write for Discard {
     ghost use Rattle.std.specs.Prelude.{◌≡◌, ◌+◌, ◌<◌, IsSome, IfSome, OnOk, OnErr, IsOk, length};
     ghost use Rattle.std.specs.Io.KnownBytes.{Appends};
     ghost use Rattle.ciborium_ll_io.specs.Transfer.{Shrinks, AppendsFront};
-    ghost use Rattle.ciborium_ll_io.specs.Discards.{taken_of, room_of, failures_of};
+    ghost use Rattle.ciborium_ll_io.specs.Discards.{discard_taken, discard_room, discard_failures};
 
     type Error = OutOfSpace;
 
-    ghost written = { λ w. taken_of w };
+    ghost written = { λ w. discard_taken w };
 
-    ghost room = { λ w. room_of w };
+    ghost room = { λ w. discard_room w };
 
-    ghost failures = { λ w. failures_of w };
+    ghost failures = { λ w. discard_failures w };
 
-    ghost flushed = { λ old new. taken_of new ≡ taken_of old };
+    ghost flushed = { λ old new. discard_taken new ≡ discard_taken old };
 
     ghost target = { λ _. None };
 
     /// Takes the whole of `data`, or nothing where the room is smaller.
     fn write_all(&mut self, data: &[u8]) -> Result<(), OutOfSpace>
         // The trait's.
-        ensures bytes { OnOk result (Appends (taken_of self.old) (taken_of self.new) «data».now) }
-        ensures fills { OnOk result (Shrinks (room_of self.old) (room_of self.new) (length «data».now)) }
-        ensures ok { OnOk result (failures_of self.new ≡ failures_of self.old) }
-        ensures front { OnErr result (AppendsFront (taken_of self.old) (taken_of self.new) (room_of self.old)
-            (room_of self.new) «data».now) }
-        ensures full { OnErr result (IfSome (room_of self.old) (λ n. n < length «data».now)) }
-        ensures err { OnErr result (failures_of self.new ≡ failures_of self.old + 1) }
+        ensures bytes { OnOk result (Appends (discard_taken self.old) (discard_taken self.new) «data».now) }
+        ensures fills { OnOk result (Shrinks (discard_room self.old) (discard_room self.new) (length «data».now)) }
+        ensures ok { OnOk result (discard_failures self.new ≡ discard_failures self.old) }
+        ensures front { OnErr result (AppendsFront (discard_taken self.old) (discard_taken self.new)
+            (discard_room self.old) (discard_room self.new) «data».now) }
+        ensures full { OnErr result (IfSome (discard_room self.old) (λ n. n < length «data».now)) }
+        ensures err { OnErr result (discard_failures self.new ≡ discard_failures self.old + 1) }
 
         // The writer's own.
-        ensures nothing { OnErr result (taken_of self.new ≡ taken_of self.old) }
+        ensures nothing { OnErr result (discard_taken self.new ≡ discard_taken self.old) }
     {
         if self.room < data.len() {
             self.failures.raise();
@@ -83,11 +83,11 @@ impl Write for Discard {
     /// Does nothing, and never fails.
     fn flush(&mut self) -> Result<(), OutOfSpace>
         // The trait's.
-        ensures bytes { IsSome (room_of self.old) → taken_of self.new ≡ taken_of self.old }
-        ensures room { IsSome (room_of self.old) → room_of self.new ≡ room_of self.old }
-        ensures flushed { OnOk result (taken_of self.new ≡ taken_of self.old) }
-        ensures ok { OnOk result (failures_of self.new ≡ failures_of self.old) }
-        ensures err { OnErr result (failures_of self.new ≡ failures_of self.old + 1) }
+        ensures bytes { IsSome (discard_room self.old) → discard_taken self.new ≡ discard_taken self.old }
+        ensures room { IsSome (discard_room self.old) → discard_room self.new ≡ discard_room self.old }
+        ensures flushed { OnOk result (discard_taken self.new ≡ discard_taken self.old) }
+        ensures ok { OnOk result (discard_failures self.new ≡ discard_failures self.old) }
+        ensures err { OnErr result (discard_failures self.new ≡ discard_failures self.old + 1) }
 
         // The writer's own.
         ensures done { IsOk result }

@@ -108,7 +108,7 @@ pub struct SliceWriter<'a> {
 }
 
 impl<'a> SliceWriter<'a> {
-    ghost use Rattle.ciborium_ll_io.specs.Slices.{before_of};
+    ghost use Rattle.ciborium_ll_io.specs.Slices.{slice_before};
 
     /// A writer with the whole slice as its room.
     pub fn new(buffer: &'a mut [u8]) -> SliceWriter<'a>
@@ -116,7 +116,7 @@ impl<'a> SliceWriter<'a> {
         ensures room { ⟦<SliceWriter<'a> as Write>⟧.room result ≡ Some (length buffer.old) }
         ensures failures { ⟦<SliceWriter<'a> as Write>⟧.failures result ≡ 0 }
         ensures same_reference { result.buffer.ghost_name ≡ buffer.entry.ghost_name }
-        ensures before { before_of result ≡ buffer.old }
+        ensures before { slice_before result ≡ buffer.old }
     {
         let mut before = Taken::new();
         before.append(buffer);
@@ -131,7 +131,7 @@ impl<'a> SliceWriter<'a> {
     /// The bytes written so far. Behind them the slice is as it was when it was lent.
     pub fn written(&self) -> &[u8]
         ensures written { ⟦<SliceWriter<'a> as Write>⟧.written self.now ≡ Some result.now }
-        ensures slice { self.now.buffer.now ≡ result.now ++ drop (length result.now) (before_of self.now) }
+        ensures slice { self.now.buffer.now ≡ result.now ++ drop (length result.now) (slice_before self.now) }
     {
         &self.buffer[..self.filled]
     }
@@ -148,36 +148,36 @@ impl<'a> Write for SliceWriter<'a> {
     ghost use Rattle.std.specs.Prelude.{◌≡◌, ◌+◌, ◌<◌, IsSome, IfSome, OnOk, OnErr, IsOk, length};
     ghost use Rattle.std.specs.Io.KnownBytes.{Appends};
     ghost use Rattle.ciborium_ll_io.specs.Transfer.{Shrinks, AppendsFront};
-    ghost use Rattle.ciborium_ll_io.specs.Slices.{written_of, room_of, failures_of, target_of};
+    ghost use Rattle.ciborium_ll_io.specs.Slices.{slice_written, slice_room, slice_failures, slice_target};
 
     type Error = OutOfSpace;
 
-    ghost written = { λ w. written_of w };
+    ghost written = { λ w. slice_written w };
 
-    ghost room = { λ w. room_of w };
+    ghost room = { λ w. slice_room w };
 
-    ghost failures = { λ w. failures_of w };
+    ghost failures = { λ w. slice_failures w };
 
-    ghost flushed = { λ old new. written_of new ≡ written_of old };
+    ghost flushed = { λ old new. slice_written new ≡ slice_written old };
 
-    ghost target = { λ w. Some (target_of w) };
+    ghost target = { λ w. Some (slice_target w) };
 
     /// Appends the whole of `data`, or nothing where the room is smaller. The slice is then as it was, behind what was
     /// written too.
     #[tactic(auto, using(crate::proofs::BufferLaws::behind_grown))]
     fn write_all(&mut self, data: &[u8]) -> Result<(), OutOfSpace>
         // The trait's.
-        ensures bytes { OnOk result (Appends (written_of self.old) (written_of self.new) «data».now) }
-        ensures fills { OnOk result (Shrinks (room_of self.old) (room_of self.new) (length «data».now)) }
-        ensures ok { OnOk result (failures_of self.new ≡ failures_of self.old) }
-        ensures front { OnErr result (AppendsFront (written_of self.old) (written_of self.new) (room_of self.old)
-            (room_of self.new) «data».now) }
-        ensures full { OnErr result (IfSome (room_of self.old) (λ n. n < length «data».now)) }
-        ensures err { OnErr result (failures_of self.new ≡ failures_of self.old + 1) }
-        ensures target { Some (target_of self.new) ≡ Some (target_of self.old) }
+        ensures bytes { OnOk result (Appends (slice_written self.old) (slice_written self.new) «data».now) }
+        ensures fills { OnOk result (Shrinks (slice_room self.old) (slice_room self.new) (length «data».now)) }
+        ensures ok { OnOk result (slice_failures self.new ≡ slice_failures self.old) }
+        ensures front { OnErr result (AppendsFront (slice_written self.old) (slice_written self.new)
+            (slice_room self.old) (slice_room self.new) «data».now) }
+        ensures full { OnErr result (IfSome (slice_room self.old) (λ n. n < length «data».now)) }
+        ensures err { OnErr result (slice_failures self.new ≡ slice_failures self.old + 1) }
+        ensures target { Some (slice_target self.new) ≡ Some (slice_target self.old) }
 
         // The slice's own.
-        ensures nothing { OnErr result (written_of self.new ≡ written_of self.old) }
+        ensures nothing { OnErr result (slice_written self.new ≡ slice_written self.old) }
         ensures untouched { OnErr result (self.new.buffer.now ≡ self.old.buffer.now) }
         ensures same_reference { self.new.buffer.ghost_name ≡ self.old.buffer.ghost_name }
     {
@@ -194,12 +194,12 @@ impl<'a> Write for SliceWriter<'a> {
     /// Does nothing, and never fails.
     fn flush(&mut self) -> Result<(), OutOfSpace>
         // The trait's.
-        ensures bytes { IsSome (room_of self.old) → written_of self.new ≡ written_of self.old }
-        ensures room { IsSome (room_of self.old) → room_of self.new ≡ room_of self.old }
-        ensures flushed { OnOk result (written_of self.new ≡ written_of self.old) }
-        ensures ok { OnOk result (failures_of self.new ≡ failures_of self.old) }
-        ensures err { OnErr result (failures_of self.new ≡ failures_of self.old + 1) }
-        ensures target { Some (target_of self.new) ≡ Some (target_of self.old) }
+        ensures bytes { IsSome (slice_room self.old) → slice_written self.new ≡ slice_written self.old }
+        ensures room { IsSome (slice_room self.old) → slice_room self.new ≡ slice_room self.old }
+        ensures flushed { OnOk result (slice_written self.new ≡ slice_written self.old) }
+        ensures ok { OnOk result (slice_failures self.new ≡ slice_failures self.old) }
+        ensures err { OnErr result (slice_failures self.new ≡ slice_failures self.old + 1) }
+        ensures target { Some (slice_target self.new) ≡ Some (slice_target self.old) }
 
         // The slice's own.
         ensures done { IsOk result }

@@ -4,7 +4,7 @@ ghost use Rattle.std.specs.Prelude.{false, IsTrue, ◌≡◌, ◌+◌, ◌<◌, 
 ghost use Rattle.std.specs.Io.KnownBytes.{Appends, Consumes, IsAtEnd, Keeps};
 ghost use Rattle.std.proofs.Common.{rules};
 ghost use Rattle.ciborium_ll_io.specs.Transfer.{AppendsFront, AppendsPart, ConsumesPart};
-ghost use Rattle.ciborium_ll_io.specs.Streams.{read_failures_of, sink_of, source_of, write_failures_of};
+ghost use Rattle.ciborium_ll_io.specs.Streams.{stream_read_failures, stream_sink, stream_source, stream_write_failures};
 
 use super::failures::Failures;
 use super::{Read, Write};
@@ -29,8 +29,8 @@ pub struct StdReader<T> {
 impl<T: io::Read> StdReader<T> {
     /// A reader of all that is left within.
     pub fn new(source: T) -> StdReader<T>
-        ensures source { source_of result ≡ source }
-        ensures failures { read_failures_of result ≡ 0 }
+        ensures source { stream_source result ≡ source }
+        ensures failures { stream_read_failures result ≡ 0 }
     {
         StdReader {
             source,
@@ -40,7 +40,7 @@ impl<T: io::Read> StdReader<T> {
 
     /// The reader within, as the last call left it.
     pub fn into_inner(self) -> T
-        ensures { result ≡ source_of self }
+        ensures { result ≡ stream_source self }
     {
         self.source
     }
@@ -50,8 +50,8 @@ impl<T: io::Read> StdReader<T> {
     #[inline(never)]
     fn ended(&mut self) -> Result<(), ReadFault>
         ensures fault { result ≡ Err ReadFault.End }
-        ensures same { source_of self.new ≡ source_of self.old }
-        ensures failures { read_failures_of self.new ≡ read_failures_of self.old + 1 }
+        ensures same { stream_source self.new ≡ stream_source self.old }
+        ensures failures { stream_read_failures self.new ≡ stream_read_failures self.old + 1 }
     {
         self.failures.raise();
         Err(ReadFault::End)
@@ -62,8 +62,8 @@ impl<T: io::Read> StdReader<T> {
     #[inline(never)]
     fn read_failed(&mut self, error: io::Error) -> Result<(), ReadFault>
         ensures fault { result ≡ Err (ReadFault.Failed error) }
-        ensures same { source_of self.new ≡ source_of self.old }
-        ensures failures { read_failures_of self.new ≡ read_failures_of self.old + 1 }
+        ensures same { stream_source self.new ≡ stream_source self.old }
+        ensures failures { stream_read_failures self.new ≡ stream_read_failures self.old + 1 }
     {
         self.failures.raise();
         Err(ReadFault::Failed(error))
@@ -73,11 +73,11 @@ impl<T: io::Read> StdReader<T> {
 impl<T: io::Read> Read for StdReader<T> {
     type Error = ReadFault;
 
-    ghost ahead = { λ r. T.remaining (source_of r) };
+    ghost ahead = { λ r. T.remaining (stream_source r) };
 
     ghost steady = { λ _. false };
 
-    ghost failures = { λ r. read_failures_of r };
+    ghost failures = { λ r. stream_read_failures r };
 
     ghost steady_is_told = { λ _ h. Prim.search rules };
 
@@ -87,16 +87,16 @@ impl<T: io::Read> Read for StdReader<T> {
     /// before it gave then stand at the front of `data`, and are fewer than `data` has room for.
     fn read_exact(&mut self, data: &mut [u8]) -> Result<(), ReadFault>
         // The trait's.
-        ensures bytes { OnOk result (Consumes (T.remaining (source_of self.old))
-            (T.remaining (source_of self.new)) «data».new) }
-        ensures ok { OnOk result (read_failures_of self.new ≡ read_failures_of self.old) }
-        ensures err { OnErr result (read_failures_of self.new ≡ read_failures_of self.old + 1) }
+        ensures bytes { OnOk result (Consumes (T.remaining (stream_source self.old))
+            (T.remaining (stream_source self.new)) «data».new) }
+        ensures ok { OnOk result (stream_read_failures self.new ≡ stream_read_failures self.old) }
+        ensures err { OnErr result (stream_read_failures self.new ≡ stream_read_failures self.old + 1) }
 
         // The adapter's own.
-        ensures empty { length «data».old ≡ 0 → IsOk result × (source_of self.new ≡ source_of self.old) }
-        ensures part { OnErr result (ConsumesPart (T.remaining (source_of self.old))
-            (T.remaining (source_of self.new)) «data».new) }
-        ensures end { IsErrOf result ReadFault.End → IsAtEnd (T.remaining (source_of self.new)) }
+        ensures empty { length «data».old ≡ 0 → IsOk result × (stream_source self.new ≡ stream_source self.old) }
+        ensures part { OnErr result (ConsumesPart (T.remaining (stream_source self.old))
+            (T.remaining (stream_source self.new)) «data».new) }
+        ensures end { IsErrOf result ReadFault.End → IsAtEnd (T.remaining (stream_source self.new)) }
     {
         let mut filled = 0;
         while filled < data.len() {
@@ -129,8 +129,8 @@ pub struct StdWriter<T> {
 impl<T: io::Write> StdWriter<T> {
     /// A writer behind all that was written within.
     pub fn new(sink: T) -> StdWriter<T>
-        ensures sink { sink_of result ≡ sink }
-        ensures failures { write_failures_of result ≡ 0 }
+        ensures sink { stream_sink result ≡ sink }
+        ensures failures { stream_write_failures result ≡ 0 }
     {
         StdWriter {
             sink,
@@ -140,7 +140,7 @@ impl<T: io::Write> StdWriter<T> {
 
     /// The writer within, as the last call left it. It is not flushed.
     pub fn into_inner(self) -> T
-        ensures { result ≡ sink_of self }
+        ensures { result ≡ stream_sink self }
     {
         self.sink
     }
@@ -150,8 +150,8 @@ impl<T: io::Write> StdWriter<T> {
     #[inline(never)]
     fn failed(&mut self, fault: WriteFault) -> Result<(), WriteFault>
         ensures fault { result ≡ Err fault }
-        ensures same { sink_of self.new ≡ sink_of self.old }
-        ensures failures { write_failures_of self.new ≡ write_failures_of self.old + 1 }
+        ensures same { stream_sink self.new ≡ stream_sink self.old }
+        ensures failures { stream_write_failures self.new ≡ stream_write_failures self.old + 1 }
     {
         self.failures.raise();
         Err(fault)
@@ -161,13 +161,13 @@ impl<T: io::Write> StdWriter<T> {
 impl<T: io::Write> Write for StdWriter<T> {
     type Error = WriteFault;
 
-    ghost written = { λ w. T.contents (sink_of w) };
+    ghost written = { λ w. T.contents (stream_sink w) };
 
     ghost room = { λ _. None };
 
-    ghost failures = { λ w. write_failures_of w };
+    ghost failures = { λ w. stream_write_failures w };
 
-    ghost flushed = { λ old new. Keeps (T.contents (sink_of old)) (T.contents (sink_of new)) };
+    ghost flushed = { λ old new. Keeps (T.contents (stream_sink old)) (T.contents (stream_sink new)) };
 
     ghost target = { λ _. None };
 
@@ -177,17 +177,17 @@ impl<T: io::Write> Write for StdWriter<T> {
     /// before it took are then a beginning of `data`, and not the whole of it.
     fn write_all(&mut self, data: &[u8]) -> Result<(), WriteFault>
         // The trait's.
-        ensures bytes { OnOk result (Appends (T.contents (sink_of self.old))
-            (T.contents (sink_of self.new)) «data».now) }
-        ensures front { OnErr result (AppendsFront (T.contents (sink_of self.old))
-            (T.contents (sink_of self.new)) None None «data».now) }
-        ensures ok { OnOk result (write_failures_of self.new ≡ write_failures_of self.old) }
-        ensures err { OnErr result (write_failures_of self.new ≡ write_failures_of self.old + 1) }
+        ensures bytes { OnOk result (Appends (T.contents (stream_sink self.old))
+            (T.contents (stream_sink self.new)) «data».now) }
+        ensures front { OnErr result (AppendsFront (T.contents (stream_sink self.old))
+            (T.contents (stream_sink self.new)) None None «data».now) }
+        ensures ok { OnOk result (stream_write_failures self.new ≡ stream_write_failures self.old) }
+        ensures err { OnErr result (stream_write_failures self.new ≡ stream_write_failures self.old + 1) }
 
         // The adapter's own.
-        ensures empty { length «data».now ≡ 0 → IsOk result × (sink_of self.new ≡ sink_of self.old) }
-        ensures part { OnErr result (AppendsPart (T.contents (sink_of self.old))
-            (T.contents (sink_of self.new)) «data».now) }
+        ensures empty { length «data».now ≡ 0 → IsOk result × (stream_sink self.new ≡ stream_sink self.old) }
+        ensures part { OnErr result (AppendsPart (T.contents (stream_sink self.old))
+            (T.contents (stream_sink self.new)) «data».now) }
     {
         match write_calls(&mut self.sink, data) {
             (_, Ok(())) => Ok(()),
@@ -198,12 +198,12 @@ impl<T: io::Write> Write for StdWriter<T> {
     /// Flushes the writer within. The error is `Failed`, where that failed.
     fn flush(&mut self) -> Result<(), WriteFault>
         // The trait's.
-        ensures flushed { OnOk result (Keeps (T.contents (sink_of self.old)) (T.contents (sink_of self.new))) }
-        ensures ok { OnOk result (write_failures_of self.new ≡ write_failures_of self.old) }
-        ensures err { OnErr result (write_failures_of self.new ≡ write_failures_of self.old + 1) }
+        ensures flushed { OnOk result (Keeps (T.contents (stream_sink self.old)) (T.contents (stream_sink self.new))) }
+        ensures ok { OnOk result (stream_write_failures self.new ≡ stream_write_failures self.old) }
+        ensures err { OnErr result (stream_write_failures self.new ≡ stream_write_failures self.old + 1) }
 
         // The adapter's own.
-        ensures keeps { Keeps (T.contents (sink_of self.old)) (T.contents (sink_of self.new)) }
+        ensures keeps { Keeps (T.contents (stream_sink self.old)) (T.contents (stream_sink self.new)) }
         ensures failed { IsErrOf result WriteFault.Zero → ⊥ }
     {
         match self.sink.flush() {

@@ -1,13 +1,12 @@
 use Rattle.std.proofs.Common.{◌≡◌}
 use Rattle.ciborium_ll_decoder.specs.Decoding.{MovesOn}
-use Rattle.ciborium_ll_decoder.proofs.BodyLaws.{BodySoFar}
+use Rattle.ciborium_ll_decoder.proofs.BodyCopyLaws.{BodySoFar}
 use Rattle.ciborium_ll_decoder.proofs.recode.copy_body.Given as goal
 
 abbrev pub invariant-chunks : goal.invariant-chunks
 invariant-chunks g l = record {
   same : l.segment.decoder.ghost_name ≡ l.initial.segment.decoder.ghost_name;
-  so_far : BodySoFar g.R.Read g.W.Write l.fn.body.length l.fn.body.place l.initial.segment.decoder.now
-      l.initial.encoder.writer l.segment l.encoder.writer;
+  so_far : BodySoFar g.R.Read g.W.Write l.initial.segment l.initial.encoder.writer l.segment l.encoder.writer;
   moves_on : MovesOn g.R.Read l.initial.segment.decoder.now l.segment.decoder.now;
   target : g.W.Write.target l.encoder.writer ≡ g.W.Write.target l.initial.encoder.writer;
 }

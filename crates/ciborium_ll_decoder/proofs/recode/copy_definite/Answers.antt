@@ -4,24 +4,25 @@ use Rattle.ciborium_ll_decoder.specs.declared.dec.Decoder.{Decoder}
 use Rattle.ciborium_ll_decoder.specs.Recoding.{CopiesBody, GoesOn}
 use Rattle.ciborium_ll_grammar.specs.Title.{title_len}
 use Rattle.ciborium_ll_grammar.specs.Strings.{kind_header}
+use Rattle.ciborium_ll_decoder.specs.Sides.{sides_of}
 use Rattle.ciborium_ll_decoder.proofs.RecodeLaws.{definite_goes_on, definite_unwritten, header_error}
 use Rattle.ciborium_ll_decoder.proofs.recode.copy_definite.Goals as goal
 
 pub returns-in_err-write_header-clause-copied : goal.returns-in_err-write_header-clause-copied
-returns-in_err-write_header-clause-copied g c = λ count before old writer title t taken behind.
+returns-in_err-write_header-clause-copied g c = λ count before old title t taken behind.
     let p = err_from_is_err_and c.from_residual.result c.from_residual.ensures.1 in
     let q = p.1 in
     let r = p.2 in
     let same : c.from_residual.result ≡ Err c.in_err-write_header.field-0.0 = cc in
     let wrote = c.in_err-write_header.ensures.header in
-    rw same (header_error g.R.Read g.W.Write count (length c.args.buffer.now) old c.args.decoder.now writer _ _ _
+    rw same (header_error g.R.Read g.W.Write count (length c.args.buffer.now) old
+    (sides_of c.args.decoder.now c.args.encoder.now) _ _
     c.in_err-write_header.field-0.0 (rw c.header.ensures at wrote) (λ fault stopped.
-    definite_unwritten g.R.Read g.W.Write count (length c.args.buffer.now) old writer before behind.bytes title
-    behind.marks g.P.Parser.kind c.args.len _ _ _ fault behind.due t behind.run behind.passed behind.written
-    stopped))
+    definite_unwritten g.R.Read g.W.Write count (length c.args.buffer.now) old before behind.bytes title behind.marks
+    g.P.Parser.kind c.args.len _ _ fault behind.due t behind.run behind.copied stopped))
 
 pub returns-clause-copied : goal.returns-clause-copied
-returns-clause-copied g c = λ count before old writer title t taken behind.
+returns-clause-copied g c = λ count before old title t taken behind.
     let k = g.P.Parser.kind in
     let lent = c.args.decoder.now in
     let titled = rw c.header.ensures at c.in_ok-write_header.ensures.header in
@@ -31,15 +32,15 @@ returns-clause-copied g c = λ count before old writer title t taken behind.
     let at : c.offset.result ≡ lent.offset = c.offset.ensures.value in
     let covered = c.requires.covered in
     let copied = subst (λ (d : Decoder g.row.R.Denot). CopiesBody g.R.Read g.W.Write k c.args.len
-    (length c.args.buffer.now) (c.offset.result - c.title_len.result) d c.write_header.new.encoder.writer
-    c.copy_body.result c.copy_body.new.segment.decoder.now c.copy_body.new.encoder.writer) start
+    (length c.args.buffer.now) (c.offset.result - c.title_len.result) (sides_of d c.write_header.new.encoder)
+    c.copy_body.result (sides_of c.copy_body.new.segment.decoder.now c.copy_body.new.encoder)) start
     c.copy_body.ensures.copied in
     let placed : (c.offset.result - c.title_len.result) + title_len (kind_header k (Some c.args.len))
     ≡ lent.offset = omega (arith, size, at, covered) in
     let ended = c.decoder-1.given.1 (sym c.new-segment.ensures.same_reference
     ∙ sym c.copy_body.ensures.same_reference) in
     subst (λ (d : Decoder g.row.R.Denot). GoesOn g.R.Read g.W.Write count before (length c.args.buffer.now) old
-    writer c.copy_body.result d c.copy_body.new.encoder.writer) (sym ended)
-    (definite_goes_on g.R.Read g.W.Write count (length c.args.buffer.now) old writer before behind.bytes title
-    behind.marks k c.args.len (c.offset.result - c.title_len.result) lent _ _ _ _ c.copy_body.result behind.due
-    t behind.run behind.passed placed behind.written titled copied taken behind.strict)
+    c.copy_body.result (sides_of d c.copy_body.new.encoder)) (sym ended)
+    (definite_goes_on g.R.Read g.W.Write count (length c.args.buffer.now) old before behind.bytes title behind.marks k
+    c.args.len (c.offset.result - c.title_len.result) (sides_of lent c.args.encoder.now) _ _ c.copy_body.result
+    behind.due t behind.run behind.copied placed titled copied taken behind.strict)

@@ -6,12 +6,13 @@ use Rattle.ciborium_ll_grammar.specs.Title.{title_len}
 use Rattle.ciborium_ll_encoder.specs.Encoding.{WritesAll, WritesFront}
 use Rattle.ciborium_ll_grammar.specs.Elements.{IsPlain}
 use Rattle.ciborium_ll_decoder.specs.Decoding.{PullsTitle}
+use Rattle.ciborium_ll_decoder.specs.Sides.{sides, sides_of}
 use Rattle.ciborium_ll_decoder.proofs.CopyLaws.{pulled_covers, behind_pulled, title_taken, pull_stops, plain_goes_on}
 use Rattle.ciborium_ll_decoder.proofs.recode.copy_element.Goals as goal
 
 pub returns-in-Err-clause-copied : goal.returns-in-Err-clause-copied
-returns-in-Err-clause-copied g c = λ count before old writer behind.
-    pull_stops g.R.Read g.W.Write count before old writer c.args.decoder.now c.args.encoder.now.writer
+returns-in-Err-clause-copied g c = λ count before old behind.
+    pull_stops g.R.Read g.W.Write count before old (sides_of c.args.decoder.now c.args.encoder.now)
     (length c.args.buffer.now) c.pull_title.new.self c.in-Err.error behind c.in-Err.ensures.header
 
 pub copy_string-requires-clause-covered : goal.copy_string-requires-clause-covered
@@ -31,43 +32,44 @@ copy_string-requires-in-Text-clause-covered g c =
     c.in-Ok.ensures.header)
 
 pub returns-in-Bytes-clause-copied : goal.returns-in-Bytes-clause-copied
-returns-in-Bytes-clause-copied g c = λ count before old writer behind.
+returns-in-Bytes-clause-copied g c = λ count before old behind.
     let arm = c.in-Bytes in
     let is : c.in-Ok.pulled.0 ≡ h.Bytes arm.len = c.element.ensures.bytes arm.len arm.is in
     let pulled = subst (λ (x : Header). PullsTitle g.R.Read c.args.decoder.now x c.pull_title.new.self) is
     c.in-Ok.ensures.header in
-    c.copy_string.ensures.copied count before old writer pulled.title pulled.is_title
-    (title_taken g.R.Read g.W.Write count before old writer c.args.decoder.now c.args.encoder.now.writer
+    c.copy_string.ensures.copied count before old pulled.title pulled.is_title
+    (title_taken g.R.Read g.W.Write count before old (sides_of c.args.decoder.now c.args.encoder.now)
     c.pull_title.new.self (h.Bytes arm.len) behind pulled)
-    (behind_pulled g.R.Read g.W.Write count before old writer c.args.decoder.now c.args.encoder.now.writer
+    (behind_pulled g.R.Read g.W.Write count before old (sides_of c.args.decoder.now c.args.encoder.now)
     c.pull_title.new.self (h.Bytes arm.len) behind pulled c.pull_title.ensures.moves_on.steady)
 
 pub returns-in-Text-clause-copied : goal.returns-in-Text-clause-copied
-returns-in-Text-clause-copied g c = λ count before old writer behind.
+returns-in-Text-clause-copied g c = λ count before old behind.
     let arm = c.in-Text in
     let is : c.in-Ok.pulled.0 ≡ h.Text arm.len = c.element.ensures.text arm.len arm.is in
     let pulled = subst (λ (x : Header). PullsTitle g.R.Read c.args.decoder.now x c.pull_title.new.self) is
     c.in-Ok.ensures.header in
-    c.copy_string-in-Text.ensures.copied count before old writer pulled.title pulled.is_title
-    (title_taken g.R.Read g.W.Write count before old writer c.args.decoder.now c.args.encoder.now.writer
+    c.copy_string-in-Text.ensures.copied count before old pulled.title pulled.is_title
+    (title_taken g.R.Read g.W.Write count before old (sides_of c.args.decoder.now c.args.encoder.now)
     c.pull_title.new.self (h.Text arm.len) behind pulled)
-    (behind_pulled g.R.Read g.W.Write count before old writer c.args.decoder.now c.args.encoder.now.writer
+    (behind_pulled g.R.Read g.W.Write count before old (sides_of c.args.decoder.now c.args.encoder.now)
     c.pull_title.new.self (h.Text arm.len) behind pulled c.pull_title.ensures.moves_on.steady)
 
 pub returns-in-Ok-push_title : goal.returns-in-Ok-push_title
 returns-in-Ok-push_title g c =
     record {
-      copied = λ count before old writer behind.
+      copied = λ count before old behind.
           let pulled = c.in-Ok.ensures.header in
           let plain : IsPlain c.in-Ok.pulled.0 = c.element.ensures.plain c.in-Plain.is in
           let wrote = subst (λ (bytes : List ℕ). WritesAll g.W.Write c.args.encoder.now.writer bytes
           c.push_title.new.encoder.writer) c.shortest.ensures.bytes c.in-Ok-push_title.ensures.title in
-          plain_goes_on g.R.Read g.W.Write count before old writer c.pull_title.new.self c.args.encoder.now.writer
+          plain_goes_on g.R.Read g.W.Write count before old (sides c.pull_title.new.self c.args.encoder.now.writer)
           (length c.args.buffer.now) c.in-Ok.pulled.0 pulled.title (Ok c.in-Ok-push_title.field-0)
           c.push_title.new.encoder.writer
-          plain pulled.is_title (title_taken g.R.Read g.W.Write count before old writer c.args.decoder.now
-          c.args.encoder.now.writer c.pull_title.new.self c.in-Ok.pulled.0 behind pulled)
-          (behind_pulled g.R.Read g.W.Write count before old writer c.args.decoder.now c.args.encoder.now.writer
+          plain pulled.is_title
+          (title_taken g.R.Read g.W.Write count before old (sides_of c.args.decoder.now c.args.encoder.now)
+          c.pull_title.new.self c.in-Ok.pulled.0 behind pulled)
+          (behind_pulled g.R.Read g.W.Write count before old (sides_of c.args.decoder.now c.args.encoder.now)
           c.pull_title.new.self c.in-Ok.pulled.0 behind pulled c.pull_title.ensures.moves_on.steady) wrote;
       moves_on = c.pull_title.ensures.moves_on;
       target = c.push_title.ensures.target;
@@ -76,17 +78,18 @@ returns-in-Ok-push_title g c =
 pub returns-in-Err-push_title : goal.returns-in-Err-push_title
 returns-in-Err-push_title g c =
     record {
-      copied = λ count before old writer behind.
+      copied = λ count before old behind.
           let pulled = c.in-Ok.ensures.header in
           let plain : IsPlain c.in-Ok.pulled.0 = c.element.ensures.plain c.in-Plain.is in
           let wrote = subst (λ (bytes : List ℕ). WritesFront g.W.Write c.args.encoder.now.writer bytes
           c.push_title.new.encoder.writer) c.shortest.ensures.bytes c.in-Err-push_title.ensures.title in
-          plain_goes_on g.R.Read g.W.Write count before old writer c.pull_title.new.self c.args.encoder.now.writer
+          plain_goes_on g.R.Read g.W.Write count before old (sides c.pull_title.new.self c.args.encoder.now.writer)
           (length c.args.buffer.now) c.in-Ok.pulled.0 pulled.title (Err (r.Write c.in-Err-push_title.fault))
           c.push_title.new.encoder.writer
-          plain pulled.is_title (title_taken g.R.Read g.W.Write count before old writer c.args.decoder.now
-          c.args.encoder.now.writer c.pull_title.new.self c.in-Ok.pulled.0 behind pulled)
-          (behind_pulled g.R.Read g.W.Write count before old writer c.args.decoder.now c.args.encoder.now.writer
+          plain pulled.is_title
+          (title_taken g.R.Read g.W.Write count before old (sides_of c.args.decoder.now c.args.encoder.now)
+          c.pull_title.new.self c.in-Ok.pulled.0 behind pulled)
+          (behind_pulled g.R.Read g.W.Write count before old (sides_of c.args.decoder.now c.args.encoder.now)
           c.pull_title.new.self c.in-Ok.pulled.0 behind pulled c.pull_title.ensures.moves_on.steady) wrote;
       moves_on = c.pull_title.ensures.moves_on;
       target = c.push_title.ensures.target;

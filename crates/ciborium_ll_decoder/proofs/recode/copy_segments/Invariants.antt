@@ -1,13 +1,14 @@
 use Rattle.std.proofs.Common.{◌≡◌, ◌-◌, ◌^◌}
 use Rattle.ciborium_ll_decoder.specs.Decoding.{MovesOn}
+use Rattle.ciborium_ll_decoder.specs.Sides.{sides_of}
 use Rattle.ciborium_ll_decoder.proofs.SegmentLaws.{StringSoFar}
 use Rattle.ciborium_ll_decoder.proofs.recode.copy_segments.Given as goal
 
 abbrev pub invariant-segments : goal.invariant-segments
 invariant-segments g l = record {
   same : l.segments.decoder.ghost_name ≡ l.initial.segments.decoder.ghost_name;
-  so_far : StringSoFar g.R.Read g.W.Write g.P.Parser.kind l.fn.decoder l.fn.encoder.writer l.segments.progress
-      l.segments.decoder.now l.encoder.writer;
+  so_far : StringSoFar g.R.Read g.W.Write g.P.Parser.kind (sides_of l.fn.decoder l.fn.encoder) l.segments.progress
+      (sides_of l.segments.decoder.now l.encoder);
   moves_on : MovesOn g.R.Read l.fn.decoder l.segments.decoder.now;
   target : g.W.Write.target l.encoder.writer ≡ g.W.Write.target l.fn.encoder.writer;
 }

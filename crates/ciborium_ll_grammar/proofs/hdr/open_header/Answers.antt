@@ -1,14 +1,14 @@
 use Rattle.std.proofs.Common.{◌≡◌, ℕ, ◌⊎◌, refl, None, inl, inr, arith}
 use Rattle.ciborium_ll_grammar.specs.declared.hdr.Header.TheVariants as h
-use Rattle.ciborium_ll_grammar.specs.declared.hdr.table.Kind.{Kind}
-use Rattle.ciborium_ll_grammar.specs.declared.hdr.table.Kind.TheVariants as k
+use Rattle.ciborium_ll_grammar.specs.declared.hdr.table.TitleKind.{TitleKind}
+use Rattle.ciborium_ll_grammar.specs.declared.hdr.table.TitleKind.TheVariants as k
 use Rattle.ciborium_ll_grammar.specs.Title.{IsNeverOpen, alone, ByteString, TextString, Array, Map, Other}
-use Rattle.ciborium_ll_grammar.specs.TitleRows.{IsKind}
+use Rattle.ciborium_ll_grammar.specs.TitleRows.{IsTitleKind}
 use Rattle.ciborium_ll_grammar.proofs.hdr.open_header.Goals as goal
 
 -- kinds with no indefinite form
-never_open : (kind : Kind) (major : ℕ) → (kind ≡ k.Positive) ⊎
-    ((kind ≡ k.Negative) ⊎ ((kind ≡ k.Tag) ⊎ (kind ≡ k.Refused))) → IsKind kind major 31
+never_open : (kind : TitleKind) (major : ℕ) → (kind ≡ k.Positive) ⊎
+    ((kind ≡ k.Negative) ⊎ ((kind ≡ k.Tag) ⊎ (kind ≡ k.Refused))) → IsTitleKind kind major 31
     → IsNeverOpen major
 never_open kind major (inl e) is = let named = rw e at is in inl named.0
 never_open kind major (inr (inl e)) is = let named = rw e at is in inr (inl named.0)

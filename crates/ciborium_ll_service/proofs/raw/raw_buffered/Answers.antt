@@ -1,5 +1,5 @@
 use Rattle.std.proofs.Common.{◌≡◌, List, ℕ, Some, subst, sym, ap, ◌∙◌}
-use Rattle.ciborium_ll.specs.Buffers.{ahead_of, kept_back_of, written_of}
+use Rattle.ciborium_ll.specs.Buffers.{buffered_ahead, buffered_kept_back, buffered_written}
 use Rattle.ciborium_ll_service.specs.Raw.{TellsFlushed, Untold}
 use Rattle.ciborium_ll_service.proofs.RawLaws.{flushed_known, kept_known, raw_any, restored_outcome, told_ahead}
 use Rattle.ciborium_ll_service.proofs.raw.raw_buffered.Goals as goal
@@ -16,19 +16,19 @@ returns g c = λ due written told-due told-written.
     let reader = c.into_parts-reader.result.0 in
     let writer = c.into_parts-writer.result.0 in
     let got = TellsFlushed contents c.restored_flush.result in
-    let ahead = ap (ahead_of remaining) c.from-decoder.ensures.reader ∙ c.new.ensures.ahead ∙ told-due in
-    let output = ap (written_of contents) c.from-encoder.ensures ∙ c.new-2.ensures.written ∙ told-written in
+    let ahead = ap (buffered_ahead remaining) c.from-decoder.ensures.reader ∙ c.new.ensures.ahead ∙ told-due in
+    let output = ap (buffered_written contents) c.from-encoder.ensures ∙ c.new-2.ensures.written ∙ told-written in
     let told = told_ahead _ _ old first due written c.from-decoder.ensures.mode c.from-decoder.ensures.none_waits
     ahead output in
     let copied = c.recode-copied.ensures.copied in
     let anyhow = c.recode-copied.ensures.anyhow due written told in
-    let leaves = λ (bytes : List ℕ) (is : ahead_of remaining new.reader ≡ Some bytes). tt {0} in
-    let behind = λ (bytes : List ℕ) (is : written_of contents last ≡ Some bytes).
+    let leaves = λ (bytes : List ℕ) (is : buffered_ahead remaining new.reader ≡ Some bytes). tt {0} in
+    let behind = λ (bytes : List ℕ) (is : buffered_written contents last ≡ Some bytes).
     kept_known _ _ bytes c.flush-flushed.ensures.keeps
-    (c.take_fault-write_fault.ensures.written ∙ ap (written_of contents) c.into_inner-writer.ensures ∙ is) in
-    let gets = λ (bytes : List ℕ) (is : written_of contents last ≡ Some bytes).
+    (c.take_fault-write_fault.ensures.written ∙ ap (buffered_written contents) c.into_inner-writer.ensures ∙ is) in
+    let gets = λ (bytes : List ℕ) (is : buffered_written contents last ≡ Some bytes).
     subst (λ (w : g.row.W.Denot). got w bytes) (sym c.into_parts-writer.ensures.sink)
-    (flushed_known contents _ c.flush-flushed.result c.restored_flush.result end.sink (kept_back_of end) bytes
+    (flushed_known contents _ c.flush-flushed.result c.restored_flush.result end.sink (buffered_kept_back end) bytes
     c.restored_flush.ensures c.flush-flushed.ensures.sent (behind bytes is)) in
     restored_outcome Untold got c.args.count due written reader writer _ _ c.recode-copied.result
     c.restored_copy.result c.restored_copy.ensures

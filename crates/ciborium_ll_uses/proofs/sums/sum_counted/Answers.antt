@@ -19,7 +19,7 @@ returns-in-None g c =
         count = c.numbers._read;
         total = to_z w64 c.numbers.total-bits;
         between = c.numbers.decoder;
-        takes_more = omega (arith, c.numbers-test.true);
+        goes_on = omega (arith, c.numbers-test.true);
         reads = c.numbers.invariant;
         stops = record {
           header = h.Break;
@@ -41,7 +41,7 @@ returns-in_err-sum g c =
         count = c.numbers._read;
         total = to_z w64 c.numbers.total-bits;
         between = c.numbers.decoder;
-        takes_more = omega (arith, c.numbers-test.true);
+        goes_on = omega (arith, c.numbers-test.true);
         reads = c.numbers.invariant;
         stops = rw c.offset-place.ensures.same at c.in_err-sum.ensures.adds;
       };

@@ -49,7 +49,7 @@ returns-in_err-sum g c =
         count = c.numbers.invariant.0;
         total = to_z w64 c.numbers.total-bits;
         between = c.numbers.decoder;
-        takes_more = tt;
+        goes_on = tt;
         reads = c.numbers.invariant.1;
         stops = c.in_err-sum.ensures.adds;
       };

@@ -1,14 +1,21 @@
 use Rattle.std.proofs.Common.{rules, string_bytes, arith, refl}
 use Rattle.ciborium_ll_uses.proofs.TextLaws.{body_read, onto_text, pushes}
-use Rattle.ciborium_ll.proofs.BodyLaws.{so_far_chunk}
+use Rattle.ciborium_ll.proofs.BodyCopyLaws.{so_far_start, so_far_chunk}
 use Rattle.ciborium_ll_uses.proofs.texts.read_body.Goals as goal
+
+pub chunks-init : goal.chunks-init
+chunks-init g c = record {
+  same = refl;
+  so_far = so_far_start g.R.Read onto_text c.args.segment.now (string_bytes c.args.text.now);
+  counted = refl;
+  steady = λ s. s;
+}
 
 pub returns-clause-appends : goal.returns-clause-appends
 returns-clause-appends g c = λ body whole.
     let ends = rw c.in_default.is at c.in_ok-chunk.ensures.chunk in
-    body_read g.R.Read body.length body.place c.args.segment.now.decoder.now (string_bytes c.args.text.now)
-    c.chunks.segment c.pull.new.self (string_bytes c.chunks.text) refl
-    (c.chunks.invariant.so_far body whole) ends
+    body_read g.R.Read body c.args.segment.now c.chunks.segment c.pull.new.self (string_bytes c.args.text.now)
+    (string_bytes c.chunks.text) refl whole c.chunks.invariant.so_far ends
 
 pub chunks-preserved : goal.chunks-preserved
 chunks-preserved g c =
@@ -18,10 +25,8 @@ chunks-preserved g c =
     let left = rw c.in-Some.is at pulled.left in
     record {
       same = search rules;
-      so_far = λ body whole.
-          so_far_chunk g.R.Read onto_text body.length body.place c.args.segment.now.decoder.now
-          (string_bytes c.args.text.now) c.chunks.segment (string_bytes c.chunks.text) (kept.so_far body whole)
-          _ _ c.pull.new.self _ gives pulled.moves_on.steady
+      so_far = so_far_chunk g.R.Read onto_text c.args.segment.now c.chunks.segment (string_bytes c.args.text.now)
+          (string_bytes c.chunks.text) kept.so_far _ _ c.pull.new.self _ gives pulled.moves_on.steady
           (pushes (string_bytes c.chunks.text) c.in-Some.chunk.now _ c.in-Ok.ensures.bytes);
       counted = omega (arith, left, kept.counted, c.in-Ok.ensures.len);
       steady = λ s. pulled.moves_on.steady (kept.steady s);

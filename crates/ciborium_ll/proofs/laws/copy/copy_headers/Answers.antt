@@ -1,6 +1,7 @@
-use Rattle.std.proofs.Common.{[], ◌∷◌, ◌++◌, Ok, Err, refl, ◌∙◌, arith, length-append}
+use Rattle.std.proofs.Common.{[], ◌∷◌, ◌++◌, Ok, Err, refl, arith, length-append, ◌∙◌}
 use Rattle.ciborium_ll_decoder.specs.declared.recode.RecodeError.TheVariants as r
 use Rattle.ciborium_ll_decoder.specs.Copying.{CopiesEach, StopsAtPull, StopsAtPush}
+use Rattle.ciborium_ll_decoder.specs.Sides.{sides_of}
 use Rattle.ciborium_ll_decoder.proofs.DecodingLaws.{MovesOn-none, MovesOn-then}
 use Rattle.ciborium_ll_decoder.proofs.CopyingLaws.{Copies-none, Copies-push, AreTitles-shortest}
 use Rattle.ciborium_ll_decoder.proofs.CopyingTold.{told, exactly}
@@ -10,7 +11,7 @@ pub headers-init : goal.headers-init
 headers-init g c = (
   [],
   refl,
-  Copies-none g.R.Read g.W.Write c.args.decoder.now c.args.encoder.now.writer,
+  Copies-none g.R.Read g.W.Write (sides_of c.args.decoder.now c.args.encoder.now),
   MovesOn-none g.R.Read c.args.decoder.now,
   refl,
 )
@@ -21,16 +22,17 @@ headers-preserved g c =
     let pulled = c.in-Ok.ensures in (
       headers ++ c.in-Ok.header ∷ [],
       omega (arith, c.headers.invariant.1, length-append headers (c.in-Ok.header ∷ [])),
-      Copies-push g.R.Read g.W.Write headers c.in-Ok.header _ _ _ _ _ _ c.headers.invariant.2 pulled.header
-          pulled.moves_on.steady c.in_default.ensures.title,
+      Copies-push g.R.Read g.W.Write headers c.in-Ok.header (sides_of c.args.decoder.now c.args.encoder.now)
+          (sides_of c.headers.decoder c.headers.encoder) (sides_of c.pull.new.self c.push.new.self)
+          c.headers.invariant.2 pulled.header pulled.moves_on.steady c.in_default.ensures.title,
       MovesOn-then g.R.Read _ _ _ c.headers.invariant.3 pulled.moves_on,
       c.in_default.ensures.target ∙ c.headers.invariant.4,
     )
 
 pub returns-in-Err : goal.returns-in-Err
 returns-in-Err g c =
-    let copied : StopsAtPull g.R.Read g.W.Write c.args.count c.args.decoder.now c.args.encoder.now.writer
-    c.in-Err.error c.pull.new.self c.headers.encoder.writer =
+    let copied : StopsAtPull g.R.Read g.W.Write c.args.count (sides_of c.args.decoder.now c.args.encoder.now)
+    c.in-Err.error (sides_of c.pull.new.self c.headers.encoder) =
     record {
       headers = c.headers.invariant.0;
       fewer = omega (arith, c.headers.invariant.1, c.headers-test.true);
@@ -40,9 +42,9 @@ returns-in-Err g c =
     } in
     record {
       copied = copied;
-      told = λ due written ready. told g.R.Read g.W.Write c.args.count _ _ _ _ due written
+      told = λ due written ready. told g.R.Read g.W.Write c.args.count _ _ due written
           (Err (r.Read c.in-Err.error)) ready copied;
-      exactly = λ due written ready. exactly g.R.Read g.W.Write c.args.count _ _ _ _ due written
+      exactly = λ due written ready. exactly g.R.Read g.W.Write c.args.count _ _ due written
           (Err (r.Read c.in-Err.error)) ready copied;
       moves_on = MovesOn-then g.R.Read _ _ _ c.headers.invariant.3 c.in-Err.ensures.moves_on;
       target = c.headers.invariant.4;
@@ -50,13 +52,12 @@ returns-in-Err g c =
 
 pub returns-in-Err-push : goal.returns-in-Err-push
 returns-in-Err-push g c =
-    let copied : StopsAtPush g.R.Read g.W.Write c.args.count c.args.decoder.now c.args.encoder.now.writer
-    c.pull.new.self c.push.new.self.writer =
+    let copied : StopsAtPush g.R.Read g.W.Write c.args.count (sides_of c.args.decoder.now c.args.encoder.now)
+    (sides_of c.pull.new.self c.push.new.self) =
     record {
       headers = c.headers.invariant.0;
       fewer = omega (arith, c.headers.invariant.1, c.headers-test.true);
-      between = c.headers.decoder;
-      writer-between = c.headers.encoder.writer;
+      between = sides_of c.headers.decoder c.headers.encoder;
       copied = c.headers.invariant.2;
       last = c.in-Ok.header;
       pulled = c.in-Ok.ensures.header;
@@ -64,9 +65,9 @@ returns-in-Err-push g c =
     } in
     record {
       copied = copied;
-      told = λ due written ready. told g.R.Read g.W.Write c.args.count _ _ _ _ due written
+      told = λ due written ready. told g.R.Read g.W.Write c.args.count _ _ due written
           (Err (r.Write c.in-Err-push.fault)) ready copied;
-      exactly = λ due written ready. exactly g.R.Read g.W.Write c.args.count _ _ _ _ due written
+      exactly = λ due written ready. exactly g.R.Read g.W.Write c.args.count _ _ due written
           (Err (r.Write c.in-Err-push.fault)) ready copied;
       moves_on = MovesOn-then g.R.Read _ _ _ c.headers.invariant.3 c.in-Ok.ensures.moves_on;
       target = c.in-Err-push.ensures.target ∙ c.headers.invariant.4;
@@ -74,8 +75,8 @@ returns-in-Err-push g c =
 
 pub returns : goal.returns
 returns g c =
-    let copied : CopiesEach g.R.Read g.W.Write c.args.count c.args.decoder.now c.args.encoder.now.writer
-    c.headers.decoder c.headers.encoder.writer =
+    let copied : CopiesEach g.R.Read g.W.Write c.args.count (sides_of c.args.decoder.now c.args.encoder.now)
+    (sides_of c.headers.decoder c.headers.encoder) =
     record {
       headers = c.headers.invariant.0;
       all = omega (arith, c.headers.invariant.1, c.headers-test.false, c.headers.auto._copied-end);
@@ -84,8 +85,8 @@ returns g c =
     } in
     record {
       copied = copied;
-      told = λ due written ready. told g.R.Read g.W.Write c.args.count _ _ _ _ due written (Ok (tt {0})) ready copied;
-      exactly = λ due written ready. exactly g.R.Read g.W.Write c.args.count _ _ _ _ due written (Ok (tt {0})) ready
+      told = λ due written ready. told g.R.Read g.W.Write c.args.count _ _ due written (Ok (tt {0})) ready copied;
+      exactly = λ due written ready. exactly g.R.Read g.W.Write c.args.count _ _ due written (Ok (tt {0})) ready
           copied;
       moves_on = c.headers.invariant.3;
       target = c.headers.invariant.4;

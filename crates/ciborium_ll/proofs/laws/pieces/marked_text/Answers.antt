@@ -5,5 +5,5 @@ use Rattle.ciborium_ll.proofs.PiecesWritten.{some_marks}
 use Rattle.ciborium_ll.proofs.laws.pieces.marked_text.Goals as goal
 
 pub returns : goal.returns
-returns c = λ segment. some_marks Text segment c.args.value.now (from_std c.args.value.now c.utf8.value, tt)
+returns c = λ segment. some_marks Text segment c.args.value.now (from_std c.args.value.now c.utf8.value)
     (search rules)

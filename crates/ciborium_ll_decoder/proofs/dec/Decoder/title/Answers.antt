@@ -1,6 +1,6 @@
 use Rattle.std.proofs.Common.{◌≡◌, ◌/◌, length, rules, sym, refl, subst, inl, inr, get_or, ◌<◌, ℕ}
 use Rattle.ciborium_ll_grammar.specs.Parts.{parts_bytes}
-use Rattle.ciborium_ll_grammar.specs.TitleRows.{IsKind}
+use Rattle.ciborium_ll_grammar.specs.TitleRows.{IsTitleKind}
 use Rattle.ciborium_ll_decoder.proofs.StrictLaws.{parts_header, parts_taken, parts_refused, first_parts}
 use Rattle.ciborium_ll_decoder.proofs.StrictLaws.{first_refused, title_read}
 use Rattle.ciborium_ll_decoder.proofs.dec.Decoder.title.Goals as goal
@@ -65,5 +65,5 @@ returns-in-Some-header-clause-header g c =
 pub header-requires-clause-kind : goal.header-requires-clause-kind
 header-requires-clause-kind g c =
     let affix = rw c.in-Some.is at c.in_ok-minor.ensures.minor in
-    subst (λ (z : ℕ). IsKind c.row_of-row.result.kind (get_or c.read.new.data 0 0 / 32) z) affix.code
+    subst (λ (z : ℕ). IsTitleKind c.row_of-row.result.kind (get_or c.read.new.data 0 0 / 32) z) affix.code
     c.row_of-row.ensures.kind

@@ -408,15 +408,15 @@ module _ (R P E : RattleType) (R-laws : Laws R) (P-laws : Laws P) (E-laws : Laws
         ‵ (Advance'.own_val answer (value ∷ []))) ⊛
         some (λ (news : State × Unit {0}). ‵ (lasts (advance.ended R P E reads reads_dict kind kind_dict)
         given_advance.0.0 given_advance.0.3 news) ⊛
-        raw (fact 𝓤 (news.0.decoder.ghost_name ≡ old.decoder.ghost_name)) ⊛
         raw (fact 𝓤 (AdvancesTo reads kind.kind old.progress old.decoder.now answer news.0.progress
         news.0.decoder.now)) ⊛
         raw (fact 𝓤 (opens_of news.0.progress + offset_of old.decoder.now
         ≤ opens_of old.progress + offset_of news.0.decoder.now)) ⊛
+        raw (fact 𝓤 (news.0.decoder.ghost_name ≡ old.decoder.ghost_name)) ⊛
         raw (fact 𝓤 (MovesOn reads old.decoder.now news.0.decoder.now)))))) (id⊢ 𝓤 _) $
         await ! tt $ pick ! (λ answer. split ! $ split ! $ move ! (2 ∷ []) $ pick ! (λ news. split ! $ move ! (1 ∷ []) $
-        split ! $ heard ! _ (λ same_reference. split ! $ heard ! _
-        (λ advanced_to. split ! $ heard ! _ (λ opens. heard ! _ (λ moves_on.
+        split ! $ heard ! _ (λ advanced_to. split ! $ heard ! _
+        (λ opens. split ! $ heard ! _ (λ same_reference. heard ! _ (λ moves_on.
         let new : State = news.0 in
         let promised : IsAdvanced reads kind.kind old answer new = record
         { same_reference = same_reference; advances = advanced_to; opens = opens; moves_on = moves_on } in

@@ -27,8 +27,7 @@ returns-in_err-push-clause-value g c =
     let value = c.args.value.now in
     let limit = limit_is Text c.args.segment value _ c.limit-limit.ensures in
     WritesValue-unopened g.W.Write c.from_residual.result c.from_residual.ensures.0 Text c.args.segment value _ _ _
-    (from_std value c.utf8.value, tt)
-    (omega arith) limit c.if-value-limit.false c.in_err-push.ensures.title
+    (from_std value c.utf8.value) (omega arith) limit c.if-value-limit.false c.in_err-push.ensures.title
 
 pub returns-in_err-text_pieces-clause-value : goal.returns-in_err-text_pieces-clause-value
 returns-in_err-text_pieces-clause-value g c =

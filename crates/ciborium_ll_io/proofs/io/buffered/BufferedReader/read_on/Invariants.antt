@@ -1,6 +1,6 @@
 use Rattle.std.proofs.Common.{length, ◌-◌, ◌≡◌, ◌≤◌, take}
 use Rattle.std.specs.Io.KnownBytes.{Consumes}
-use Rattle.ciborium_ll_io.specs.Buffers.{ahead_of}
+use Rattle.ciborium_ll_io.specs.Buffers.{buffered_ahead}
 use Rattle.ciborium_ll_io.proofs.io.buffered.BufferedReader.read_on.Given as goal
 
 abbrev pub invariant-loop-filled : goal.invariant-loop-filled
@@ -8,7 +8,7 @@ invariant-loop-filled g l = record {
   within : l.filled ≤ length l.«data»;
   failures : l.self.failures.count ≡ l.initial.self.failures.count;
   fault : l.self.fault ≡ l.initial.self.fault;
-  bytes : Consumes (ahead_of g.T.Read.remaining l.initial.self) (ahead_of g.T.Read.remaining l.self)
+  bytes : Consumes (buffered_ahead g.T.Read.remaining l.initial.self) (buffered_ahead g.T.Read.remaining l.self)
       (take l.filled l.«data»);
 }
 
