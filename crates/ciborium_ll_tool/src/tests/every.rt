@@ -4,103 +4,147 @@ use super::answers;
 use ciborium_ll::io::{SliceReader, SliceWriter};
 use ciborium_ll::recode::recode;
 use ciborium_ll::{Decoder, Encoder, Error, Float, Header, RecodeError};
+use std::alloc::AllocError;
 use std::fmt::Write;
+use std::process::Abort;
 use std::test::Fail;
 
-// Adds what a header is called, with its value.
-pub fn add_header(text: &mut String, header: Header) -> Result<(), Fail> {
-    let (name, length) = match header {
-        Header::Bytes(length) => ("bytes", length),
-        Header::Text(length) => ("text", length),
-        Header::Array(length) => ("array", length),
-        Header::Map(length) => ("map", length),
-        Header::Positive(n) => return Ok(write!(text, "positive {n}")?),
-        Header::Negative(n) => return Ok(write!(text, "negative {n}")?),
-        Header::Tag(n) => return Ok(write!(text, "tag {n}")?),
-        Header::Simple(n) => return Ok(write!(text, "simple {n}")?),
-        Header::Float(Float::Half(bits)) => return Ok(write!(text, "half {bits:04x}")?),
-        Header::Float(Float::Single(bits)) => return Ok(write!(text, "single {bits:08x}")?),
-        Header::Float(Float::Double(bits)) => return Ok(write!(text, "double {bits:016x}")?),
-        Header::Break => return Ok(text.push_str("break")?),
-    };
+// Adds a word and a number behind it.
+pub fn add_number(text: &mut String, name: &str, number: u64) -> Result<(), AllocError> {
+    write!(text, "{name} {number}")
+}
+
+fn add_length(text: &mut String, name: &str, length: Option<usize>) -> Result<(), AllocError> {
     match length {
-        Some(n) => write!(text, "{name} {n}")?,
-        None => write!(text, "{name} *")?,
+        Some(n) => write!(text, "{name} {n}"),
+        None => write!(text, "{name} *"),
     }
-    Ok(())
+}
+
+fn add_float(text: &mut String, float: Float) -> Result<(), AllocError> {
+    match float {
+        Float::Half(bits) => write!(text, "half {bits:04x}"),
+        Float::Single(bits) => write!(text, "single {bits:08x}"),
+        Float::Double(bits) => write!(text, "double {bits:016x}"),
+    }
+}
+
+// Adds what a header is called, with its value.
+pub fn add_header(text: &mut String, header: Header) -> Result<(), AllocError> {
+    match header {
+        Header::Bytes(length) => add_length(text, "bytes", length),
+        Header::Text(length) => add_length(text, "text", length),
+        Header::Array(length) => add_length(text, "array", length),
+        Header::Map(length) => add_length(text, "map", length),
+        Header::Positive(n) => add_number(text, "positive", n),
+        Header::Negative(n) => add_number(text, "negative", n),
+        Header::Tag(n) => add_number(text, "tag", n),
+        Header::Simple(n) => add_number(text, "simple", u64::from(n)),
+        Header::Float(float) => add_float(text, float),
+        Header::Break => text.push_str("break"),
+    }
+}
+
+// Adds the line on one title.
+pub fn add_title(text: &mut String, offset: usize, header: Header) -> Result<(), AllocError> {
+    write!(text, "{offset} ")?;
+    add_header(text, header)?;
+    text.push_str("\n")
+}
+
+// Adds a line that ends in an offset.
+pub fn add_end(text: &mut String, word: &str, offset: usize) -> Result<(), AllocError> {
+    writeln!(text, "{word} {offset}")
 }
 
 // Adds what `heads` answers.
-fn add_heads(text: &mut String, bytes: &[u8]) -> Result<(), Fail> {
+fn add_heads(text: &mut String, bytes: &[u8]) -> Result<(), AllocError> {
     let mut decoder = Decoder::from(SliceReader::new(bytes));
     for _ in 0..=bytes.len() {
         let start = decoder.offset();
-        match decoder.pull() {
+        let (word, place) = match decoder.pull() {
             Ok(header) => {
-                write!(text, "{start} ")?;
-                add_header(text, header)?;
-                text.push_str("\n")?;
+                add_title(text, start, header)?;
+                continue;
             }
-            Err(Error::Syntax(place)) => {
-                writeln!(text, "syntax {place}")?;
-                break;
-            }
-            Err(error) => {
-                let word = match error {
-                    Error::Io(_) if start == bytes.len() => "end",
-                    Error::Io(_) => "short",
-                    _ => "another fault at",
-                };
-                writeln!(text, "{word} {}", decoder.offset())?;
-                break;
-            }
-        }
+            Err(Error::Syntax(place)) => ("syntax", place),
+            Err(Error::Io(_)) if start == bytes.len() => ("end", decoder.offset()),
+            Err(Error::Io(_)) => ("short", decoder.offset()),
+            Err(_) => ("another fault at", decoder.offset()),
+        };
+        return add_end(text, word, place);
     }
     Ok(())
+}
+
+fn add_byte(text: &mut String, byte: u8) -> Result<(), AllocError> {
+    write!(text, "{byte:02x}")
 }
 
 // Adds bytes in digits, or a dash for none.
-pub fn add_bytes(text: &mut String, bytes: &[u8]) -> Result<(), Fail> {
+pub fn add_bytes(text: &mut String, bytes: &[u8]) -> Result<(), AllocError> {
     if bytes.is_empty() {
-        text.push_str("-")?;
+        return text.push_str("-");
     }
     for byte in bytes {
-        write!(text, "{byte:02x}")?;
+        add_byte(text, *byte)?;
     }
     Ok(())
 }
 
+// Adds the end of a line on a copy that is whole.
+pub fn add_rest(text: &mut String, rest: &[u8]) -> Result<(), AllocError> {
+    text.push_str(" rest ")?;
+    add_bytes(text, rest)?;
+    text.push_str("\n")
+}
+
 // Adds what `recode 1` answers.
-fn add_copy(text: &mut String, bytes: &[u8]) -> Result<(), Fail> {
+fn add_copy(text: &mut String, bytes: &[u8]) -> Result<(), AllocError> {
     let mut space = [0; 2];
     let mut decoder = Decoder::from(SliceReader::new(bytes));
     let mut encoder = Encoder::from(SliceWriter::new(&mut space));
     let outcome = recode(&mut decoder, &mut encoder, 1, &mut [0; 4]);
     let offset = decoder.offset();
-    let writer = encoder.into_inner();
-    add_bytes(text, writer.written())?;
+    add_bytes(text, encoder.into_inner().written())?;
     match outcome {
-        Ok(()) => {
-            text.push_str(" rest ")?;
-            add_bytes(text, decoder.into_inner().left())?;
-            text.push_str("\n")?;
-        }
-        Err(RecodeError::Read(Error::Syntax(place))) => writeln!(text, " syntax {place}")?,
-        Err(RecodeError::Read(Error::Io(_))) => writeln!(text, " short {offset}")?,
-        Err(_) => text.push_str(" another fault\n")?,
+        Ok(()) => add_rest(text, decoder.into_inner().left()),
+        Err(RecodeError::Read(Error::Syntax(place))) => add_end(text, " syntax", place),
+        Err(RecodeError::Read(Error::Io(_))) => add_end(text, " short", offset),
+        Err(_) => text.push_str(" another fault\n"),
+    }
+}
+
+// Adds a line of a word and some bytes.
+pub fn add_line(input: &mut String, word: &str, bytes: &[u8]) -> Result<(), AllocError> {
+    input.push_str(word)?;
+    add_bytes(input, bytes)?;
+    input.push_str("\n")
+}
+
+// Adds the two lines on some bytes, and what they are answered.
+fn add_lines(input: &mut String, want: &mut String, bytes: &[u8]) -> Result<(), AllocError> {
+    add_line(input, "heads ", bytes)?;
+    add_line(input, "recode 1 ", bytes)?;
+    add_heads(want, bytes)?;
+    add_copy(want, bytes)
+}
+
+// Adds the lines on a byte alone and with each byte behind it, and what they are answered.
+fn add_lines_from(input: &mut String, want: &mut String, first: u8) -> Result<(), AllocError> {
+    add_lines(input, want, &[first])?;
+    for second in 0..=u8::MAX {
+        add_lines(input, want, &[first, second])?;
     }
     Ok(())
 }
 
-// Adds the two lines on some bytes, and what they are answered.
-fn add_lines(input: &mut String, want: &mut String, bytes: &[u8]) -> Result<(), Fail> {
-    for word in ["heads ", "recode 1 "] {
-        input.push_str(word)?;
-        add_bytes(input, bytes)?;
-        input.push_str("\n")?;
+// Compares line by line, for a short message.
+fn assert_same(rt: &impl Abort, output: &str, want: &str) {
+    for (got, due) in output.lines().zip(want.lines()) {
+        assert_eq!(rt; got, due);
     }
-    add_heads(want, bytes)?;
-    add_copy(want, bytes)
+    assert_eq!(rt; output.len(), want.len());
 }
 
 #[test]
@@ -108,17 +152,10 @@ fn every_list_of_one_and_two_bytes(rt: HostRuntime) -> Result<(), Fail> {
     let mut input = String::new(rt.alloc());
     let mut want = String::new(rt.alloc());
     for first in 0..=u8::MAX {
-        add_lines(&mut input, &mut want, &[first])?;
-        for second in 0..=u8::MAX {
-            add_lines(&mut input, &mut want, &[first, second])?;
-        }
+        add_lines_from(&mut input, &mut want, first)?;
     }
     let output = answers(rt.alloc(), input.as_bytes())?;
-    let output = std::str::from_utf8(output.as_slice())?;
-    for (got, due) in output.lines().zip(want.lines()) {
-        assert_eq!(rt; got, due);
-    }
-    assert_eq!(rt; output.len(), want.len());
+    assert_same(&rt, std::str::from_utf8(output.as_slice())?, want.as_str());
     // Of the lists of one byte, 197 are answered by a title and an end, and 32 and 27 by one line. Of those of two, a
     // title may come first, which adds a line, or have the second byte as its affix, or need more, or be refused.
     let of_one = 2 * 197 + 32 + 27;

@@ -1,12 +1,9 @@
 // Copies of raw bytes between streams that move few bytes a call, or fail at one, beside a plain reading.
 
-use super::copies::long_elements;
-use ciborium_ll::io::{ReadFault, WriteFault};
-use ciborium_ll::{Error, RecodeError};
+use super::copies::{self, End, long_elements};
 use ciborium_ll_fixtures::plain::{self, Fault};
 use ciborium_ll_fixtures::samples;
 use ciborium_ll_fixtures::streams::{PartReader, PartWriter};
-use ciborium_ll_service::raw::{raw, raw_buffered};
 use std::alloc::Global;
 use std::io;
 use std::process::Abort;
@@ -14,13 +11,11 @@ use std::test::Fail;
 
 const INTERRUPTED: io::ErrorKind = io::ErrorKind::Interrupted;
 
-type Outcome = Result<(), RecodeError<ReadFault, WriteFault>>;
-
 // How a copy ended, and what was written, given and flushed by then.
 #[derive(Drop)]
 struct Ended {
-    copied: Outcome,
-    flushed: Result<(), WriteFault>,
+    copied: End,
+    flushed: End,
     reads: usize,
     given: usize,
     sink: PartWriter,
@@ -34,49 +29,35 @@ fn copies(
     source: PartReader<'_>,
     sink: PartWriter,
 ) -> Ended {
-    if is_buffered {
-        let copy = raw_buffered(source, sink, count);
-        return Ended {
-            copied: copy.copied,
-            flushed: copy.flushed,
-            reads: copy.reader.calls,
-            given: bytes.len().saturating_sub(copy.reader.left.len()),
-            sink: copy.writer,
-        };
-    }
-    let (source, sink, copied) = raw(source, sink, count);
+    let copy = if is_buffered {
+        copies::copies_buffered(source, sink, count)
+    } else {
+        copies::copies(source, sink, count)
+    };
     Ended {
-        copied,
-        flushed: Ok(()),
-        reads: source.calls,
-        given: bytes.len().saturating_sub(source.left.len()),
-        sink,
+        copied: copy.copied,
+        flushed: copy.flushed,
+        reads: copy.source.calls,
+        given: bytes.len().saturating_sub(copy.source.left.len()),
+        sink: copy.sink,
     }
 }
 
 // A copy ended as a plain reading says.
-fn is_answer(copied: &Outcome, want: Option<Fault>) -> bool {
+fn is_answer(copied: End, want: Option<Fault>) -> bool {
     match copied {
-        Ok(()) => want.is_none(),
-        Err(RecodeError::Read(Error::Syntax(place))) => want == Some(Fault::Syntax(*place)),
-        Err(RecodeError::Read(Error::Io(ReadFault::End))) => {
-            matches!(want, Some(Fault::Short | Fault::ShortAndDamaged))
-        }
-        Err(_) => false,
-    }
-}
-
-fn is_interrupted_read(copied: &Outcome) -> bool {
-    match copied {
-        Err(RecodeError::Read(Error::Io(ReadFault::Failed(error)))) => error.kind() == INTERRUPTED,
+        End::Done => want.is_none(),
+        End::Syntax(place) => want == Some(Fault::Syntax(place)),
+        End::Short => matches!(want, Some(Fault::Short | Fault::ShortAndDamaged)),
         _ => false,
     }
 }
 
-fn is_fault(fault: &WriteFault, kind: Option<io::ErrorKind>) -> bool {
-    match fault {
-        WriteFault::Zero => kind.is_none(),
-        WriteFault::Failed(error) => kind == Some(error.kind()),
+// How a write ends that is interrupted, or takes no byte.
+fn end_of_write(kind: Option<io::ErrorKind>) -> End {
+    match kind {
+        None => End::Zero,
+        Some(kind) => End::Write(kind),
     }
 }
 
@@ -107,20 +88,20 @@ fn stops_reading(
         "at {call} of {bytes:?}"
     );
     assert_eq!(rt; ended.sink.flushes, 1);
-    assert!(rt; ended.flushed.is_ok());
+    assert!(rt; ended.flushed == End::Done);
     if has_failed {
         assert!(rt;
-            is_interrupted_read(&ended.copied),
+            ended.copied == End::Read(INTERRUPTED),
             "at {call} of {bytes:?}"
         );
         assert!(rt; matches!(want.fault, Some(Fault::Short | Fault::ShortAndDamaged)));
     } else {
         assert!(rt;
-            is_answer(&ended.copied, want.fault),
+            is_answer(ended.copied, want.fault),
             "at {call} of {bytes:?}"
         );
         // No byte behind the last element is gone but those that were read ahead.
-        let is_whole = ended.copied.is_ok() && !is_buffered;
+        let is_whole = ended.copied == End::Done && !is_buffered;
         assert!(rt; !is_whole || ended.given == want.offset, "in {bytes:?}");
     }
     Ok(has_failed)
@@ -151,14 +132,12 @@ fn stops_writing(
         "at {call} of {bytes:?}"
     );
     // So few bytes are kept back to the end, so that the flush has the fault, and not the copy.
-    let is_right = match (&ended.copied, &ended.flushed) {
-        (Err(RecodeError::Write(fault)), Ok(())) => {
-            has_failed && !is_buffered && is_fault(fault, kind)
-        }
-        (copied, Err(fault)) => {
-            has_failed && is_buffered && is_fault(fault, kind) && is_answer(copied, want.fault)
-        }
-        (copied, Ok(())) => !has_failed && is_answer(copied, want.fault),
+    let is_right = if !has_failed {
+        ended.flushed == End::Done && is_answer(ended.copied, want.fault)
+    } else if is_buffered {
+        ended.flushed == end_of_write(kind) && is_answer(ended.copied, want.fault)
+    } else {
+        ended.flushed == End::Done && ended.copied == end_of_write(kind)
     };
     assert!(rt; is_right, "at {call} of {bytes:?}");
     Ok(has_failed)
@@ -219,14 +198,14 @@ fn each_call_of_a_long_copy_fails(rt: HostRuntime) -> Result<(), Fail> {
         let sink = PartWriter::new(rt.alloc(), 1_000);
         let ended = copies(true, 5_001, bytes, source, sink);
         let taken = ended.sink.taken.as_slice();
-        assert!(rt; bytes.starts_with(taken) && ended.flushed.is_ok());
+        assert!(rt; bytes.starts_with(taken) && ended.flushed == End::Done);
         if ended.reads >= call {
             last[0] = call;
-            assert!(rt; is_interrupted_read(&ended.copied));
+            assert!(rt; ended.copied == End::Read(INTERRUPTED));
             // A title is of at most three bytes, and a part of the body of 64.
             assert!(rt; ended.given.saturating_sub(taken.len()) < 64);
         } else {
-            assert!(rt; ended.copied.is_ok() && taken == bytes);
+            assert!(rt; ended.copied == End::Done && taken == bytes);
         }
     }
     for call in 1..100usize {
@@ -239,10 +218,9 @@ fn each_call_of_a_long_copy_fails(rt: HostRuntime) -> Result<(), Fail> {
         if has_failed {
             last[1] = call;
         }
-        let is_right = match (&ended.copied, &ended.flushed) {
-            (Ok(()), Ok(())) => !has_failed && taken == bytes,
-            (Err(RecodeError::Write(fault)), Ok(())) => is_fault(fault, Some(INTERRUPTED)),
-            (Ok(()), Err(fault)) => is_fault(fault, Some(INTERRUPTED)),
+        let is_right = match (ended.copied, ended.flushed) {
+            (End::Done, End::Done) => !has_failed && taken == bytes,
+            (End::Write(kind), End::Done) | (End::Done, End::Write(kind)) => kind == INTERRUPTED,
             _ => false,
         };
         assert!(rt; is_right, "at {call}");
