@@ -1,40 +1,54 @@
-use ciborium_ll::io::{
-    BufferedReader, BufferedWriter, FaultKept, Read, ReadFault, Write, WriteFault,
-};
+use crate::streams::{Failure, read_failure, write_failure};
+use ciborium_ll::io::{BufferedReader, BufferedWriter, Read, Write};
 use ciborium_ll::recode::recode;
 use ciborium_ll::{Decoder, Encoder};
 use ciborium_ll_fixtures::streams::{PartReader, PartWriter};
 use std::alloc::Global;
 use std::io;
 use std::process::Abort;
-use std::test::Fail;
 
-// Reads the bytes 1 to 6 in parts of these lengths, with so many bytes lent: each read gives its part. It tells how
-// many calls that is, and what is then ahead and left.
+// Reads bytes.
+fn fills<'a>(reader: &mut BufferedReader<'a, PartReader<'a>>, data: &mut [u8]) -> bool {
+    reader.read_exact(data).is_ok()
+}
+
+// Reads at most eight bytes, and compares them.
+fn gives<'a>(reader: &mut BufferedReader<'a, PartReader<'a>>, want: &[u8]) -> bool {
+    let mut space = [0; 8];
+    let data = &mut space[..want.len().min(8)];
+    fills(reader, data) && *data == *want
+}
+
+// Reads the bytes 1 to 6 in parts, with at most four bytes lent: each read gives its part. It compares how many calls
+// that is, and what is then ahead and left.
 fn reads_row(
     rt: &impl Abort,
-    alloc: Global,
     room: usize,
     parts: &[&[u8]],
-) -> Result<(usize, Vec<u8>, Vec<u8>), Fail> {
-    let mut lent = vec![in alloc; 0u8; room]?;
+    calls: usize,
+    ahead: &[u8],
+    left: &[u8],
+) {
+    let mut lent = [0; 4];
     let source = PartReader::new(&[1, 2, 3, 4, 5, 6], usize::MAX);
-    let mut reader = BufferedReader::new(source, lent.as_mut_slice());
+    let mut reader = BufferedReader::new(source, &mut lent[..room.min(4)]);
     for part in parts {
-        let mut data = vec![in alloc; 0u8; part.len()]?;
-        reader.read_exact(data.as_mut_slice())?;
-        assert!(rt; data.as_slice() == *part);
+        assert!(rt; gives(&mut reader, part), "at {room}, {parts:?}");
     }
-    let ahead = reader.buffer().to_vec(alloc)?;
+    assert!(rt; reader.buffer() == ahead, "at {room}, {parts:?}");
     let (source, buffer, fault) = reader.into_parts();
-    assert!(rt; buffer == ahead.as_slice());
-    assert!(rt; fault.is_none());
-    Ok((source.calls, ahead, source.left.to_vec(alloc)?))
+    assert!(rt;
+        read_failure(fault) == Failure::Never,
+        "at {room}, {parts:?}"
+    );
+    assert!(rt; buffer == ahead, "at {room}, {parts:?}");
+    assert!(rt; source.calls == calls, "at {room}, {parts:?}");
+    assert!(rt; source.left == left, "at {room}, {parts:?}");
 }
 
 // How many bytes are lent, what each read gives, how many calls that is, and what is then ahead and left.
 #[test]
-fn reads_ahead(rt: HostRuntime) -> Result<(), Fail> {
+fn reads_ahead(rt: HostRuntime) {
     let rows: [(usize, &[&[u8]], usize, &[u8], &[u8]); 8] = [
         (4, &[], 0, &[], &[1, 2, 3, 4, 5, 6]),
         (4, &[&[], &[]], 0, &[], &[1, 2, 3, 4, 5, 6]),
@@ -46,65 +60,111 @@ fn reads_ahead(rt: HostRuntime) -> Result<(), Fail> {
         (0, &[&[1], &[2, 3], &[], &[4, 5, 6]], 3, &[], &[]),
     ];
     for (room, parts, calls, ahead, left) in rows {
-        let (got_calls, got_ahead, got_left) = reads_row(&rt, rt.alloc(), room, parts)?;
-        assert_eq!(rt; got_calls, calls, "at {room}, {parts:?}");
-        assert_eq!(rt; got_ahead.as_slice(), ahead, "at {room}, {parts:?}");
-        assert_eq!(rt; got_left.as_slice(), left, "at {room}, {parts:?}");
+        reads_row(&rt, room, parts, calls, ahead, left);
     }
-    Ok(())
+}
+
+// Reads two bytes from a reader whose first read fails, and then three, of which two are there.
+fn keeps_faults(rt: &impl Abort, room: usize) {
+    let mut lent = [0; 8];
+    let source = PartReader::new(&[1, 2, 3, 4], usize::MAX);
+    let source = source.failing_at(1, io::ErrorKind::Interrupted);
+    let mut reader = BufferedReader::new(source, &mut lent[..room.min(8)]);
+    let mut two = [0; 2];
+    assert!(rt; !fills(&mut reader, &mut two), "at {room}");
+    // A success keeps the fault that there was.
+    assert!(rt; fills(&mut reader, &mut two), "at {room}");
+    assert_eq!(rt; two, [1, 2]);
+    let interrupted = Failure::Failed(io::ErrorKind::Interrupted);
+    assert!(rt; read_fault(&mut reader) == interrupted, "at {room}");
+    assert!(rt; read_fault(&mut reader) == Failure::Never, "at {room}");
+    let mut three = [0; 3];
+    assert!(rt; !fills(&mut reader, &mut three), "at {room}");
+    assert_eq!(rt; three, [3, 4, 0]);
+    let (_, _, fault) = reader.into_parts();
+    assert!(rt; read_failure(fault) == Failure::Stopped, "at {room}");
 }
 
 #[test]
-fn a_fault_of_a_reader_is_kept(rt: HostRuntime) -> Result<(), Fail> {
+fn a_fault_of_a_reader_is_kept(rt: HostRuntime) {
     for room in [0, 3, 8] {
-        let source = PartReader::new(&[1, 2, 3, 4], usize::MAX);
-        let source = source.failing_at(1, io::ErrorKind::Interrupted);
-        let mut lent = vec![in rt.alloc(); 0u8; room]?;
-        let mut reader = BufferedReader::new(source, lent.as_mut_slice());
-        let mut two = [0; 2];
-        assert!(rt; matches!(reader.read_exact(&mut two), Err(FaultKept)));
-        // A success keeps the fault that there was.
-        reader.read_exact(&mut two)?;
-        assert_eq!(rt; two, [1, 2]);
-        match reader.take_fault() {
-            Some(ReadFault::Failed(error)) => {
-                assert!(rt; error.kind() == io::ErrorKind::Interrupted);
-            }
-            _ => panic!(rt; "not interrupted"),
-        }
-        assert!(rt; reader.take_fault().is_none());
-        let mut three = [0; 3];
-        assert!(rt; matches!(reader.read_exact(&mut three), Err(FaultKept)));
-        assert_eq!(rt; three, [3, 4, 0]);
-        let (_, _, fault) = reader.into_parts();
-        assert!(rt; matches!(fault, Some(ReadFault::End)));
+        keeps_faults(&rt, room);
     }
-    Ok(())
 }
 
-// Writes these parts, with so many bytes lent. It tells what was written, byte by byte, and what is kept back.
+// Takes the fault that a reader keeps.
+fn read_fault<'a>(reader: &mut BufferedReader<'a, PartReader<'a>>) -> Failure {
+    read_failure(reader.take_fault())
+}
+
+// Takes the fault that a writer keeps.
+fn write_fault(writer: &mut BufferedWriter<PartWriter>) -> Failure {
+    write_failure(writer.take_fault())
+}
+
+// Writes bytes.
+fn takes(writer: &mut BufferedWriter<PartWriter>, data: &[u8]) -> bool {
+    writer.write_all(data).is_ok()
+}
+
+// Passes on what is kept back.
+fn passes_on(writer: &mut BufferedWriter<PartWriter>) -> bool {
+    writer.flush().is_ok()
+}
+
+// What a writer comes to: what the sink took, in how many calls and flushes, what is kept back, and the failure.
+#[derive(Drop)]
+struct Parts<'a> {
+    taken: Vec<u8>,
+    calls: usize,
+    flushes: usize,
+    kept: &'a [u8],
+    failure: Failure,
+}
+
+// Takes a writer apart.
+fn take_apart<'a>(writer: BufferedWriter<'a, PartWriter>) -> Parts<'a> {
+    let (sink, kept, fault) = writer.into_parts();
+    Parts {
+        taken: sink.taken,
+        calls: sink.calls,
+        flushes: sink.flushes,
+        kept,
+        failure: write_failure(fault),
+    }
+}
+
+// A writer that never failed came to this: what was taken and kept, and the calls and flushes.
+fn came_to(parts: &Parts, taken: &[u8], kept: &[u8], calls: (usize, usize)) -> bool {
+    parts.taken.as_slice() == taken
+        && parts.kept == kept
+        && (parts.calls, parts.flushes) == calls
+        && parts.failure == Failure::Never
+}
+
+// Writes these parts, with at most four bytes lent. It compares what is then written, byte by byte, and kept back.
 fn keeps_row(
     rt: &impl Abort,
     alloc: Global,
     room: usize,
     parts: &[&[u8]],
-) -> Result<(Vec<u8>, Vec<u8>), Fail> {
-    let mut lent = vec![in alloc; 0u8; room]?;
-    let mut writer = BufferedWriter::new(PartWriter::new(alloc, 1), lent.as_mut_slice());
+    written: &[u8],
+    kept: &[u8],
+) {
+    let mut lent = [0; 4];
+    let mut writer = BufferedWriter::new(PartWriter::new(alloc, 1), &mut lent[..room.min(4)]);
     for part in parts {
-        writer.write_all(*part)?;
+        assert!(rt; takes(&mut writer, part), "at {room}, {parts:?}");
     }
-    let kept = writer.buffer().to_vec(alloc)?;
-    let (sink, buffer, fault) = writer.into_parts();
-    assert!(rt; buffer == kept.as_slice());
-    assert!(rt; sink.calls == sink.taken.len() && sink.flushes == 0);
-    assert!(rt; fault.is_none());
-    Ok((sink.taken, kept))
+    assert!(rt; writer.buffer() == kept, "at {room}, {parts:?}");
+    let end = take_apart(writer);
+    let calls = (written.len(), 0);
+    assert!(rt; came_to(&end, written, kept, calls), "at {room}, {parts:?}");
 }
 
 // How many bytes are lent, what each write brings, and what is then written and kept back.
 #[test]
-fn keeps_back(rt: HostRuntime) -> Result<(), Fail> {
+fn keeps_back(rt: HostRuntime) {
     let rows: [(usize, &[&[u8]], &[u8], &[u8]); 7] = [
         (4, &[], &[], &[]),
         (4, &[&[1], &[2, 3, 4]], &[], &[1, 2, 3, 4]),
@@ -115,103 +175,91 @@ fn keeps_back(rt: HostRuntime) -> Result<(), Fail> {
         (0, &[&[1], &[], &[2, 3]], &[1, 2, 3], &[]),
     ];
     for (room, parts, written, kept) in rows {
-        let (got_written, got_kept) = keeps_row(&rt, rt.alloc(), room, parts)?;
-        assert_eq!(rt; got_written.as_slice(), written, "at {room}, {parts:?}");
-        assert_eq!(rt; got_kept.as_slice(), kept, "at {room}, {parts:?}");
+        keeps_row(&rt, rt.alloc(), room, parts, written, kept);
     }
-    Ok(())
 }
 
 #[test]
-fn a_flush_passes_on_what_was_kept_back(rt: HostRuntime) -> Result<(), Fail> {
+fn a_flush_passes_on_what_was_kept_back(rt: HostRuntime) {
     let mut lent = [0; 4];
     let mut writer = BufferedWriter::new(PartWriter::new(rt.alloc(), 1), &mut lent);
-    writer.write_all(&[1, 2, 3])?;
-    writer.flush()?;
+    assert!(rt; takes(&mut writer, &[1, 2, 3]));
+    assert!(rt; passes_on(&mut writer));
     assert!(rt; writer.buffer().is_empty());
-    writer.write_all(&[4])?;
-    writer.flush()?;
-    let (sink, _, _) = writer.into_parts();
-    assert_eq!(rt; sink.taken.as_slice(), [1, 2, 3, 4].as_slice());
-    assert_eq!(rt; (sink.calls, sink.flushes), (4, 2));
-    Ok(())
+    assert!(rt; takes(&mut writer, &[4]));
+    assert!(rt; passes_on(&mut writer));
+    let parts = take_apart(writer);
+    assert_eq!(rt; parts.taken.as_slice(), [1, 2, 3, 4].as_slice());
+    assert_eq!(rt; (parts.calls, parts.flushes), (4, 2));
 }
 
 // What a failed write could not pass on is kept back still.
 #[test]
-fn nothing_that_was_kept_back_is_lost(rt: HostRuntime) -> Result<(), Fail> {
+fn nothing_that_was_kept_back_is_lost(rt: HostRuntime) {
     let mut lent = [0; 4];
     let sink = PartWriter::new(rt.alloc(), 1).within(3);
     let sink = sink.failing_at(2, Some(io::ErrorKind::Interrupted));
     let mut writer = BufferedWriter::new(sink, &mut lent);
-    writer.write_all(&[1, 2, 3, 4])?;
-    assert!(rt; matches!(writer.write_all(&[5]), Err(FaultKept)));
+    assert!(rt; takes(&mut writer, &[1, 2, 3, 4]));
+    assert!(rt; !takes(&mut writer, &[5]));
     assert_eq!(rt; writer.buffer(), [2, 3, 4].as_slice());
-    match writer.take_fault() {
-        Some(WriteFault::Failed(error)) => {
-            assert!(rt; error.kind() == io::ErrorKind::Interrupted);
-        }
-        _ => panic!(rt; "not interrupted"),
-    }
-    assert!(rt; writer.take_fault().is_none());
-    assert!(rt; matches!(writer.flush(), Err(FaultKept)));
-    let (sink, buffer, fault) = writer.into_parts();
-    assert!(rt; matches!(fault, Some(WriteFault::Zero)));
-    assert_eq!(rt; buffer, [4].as_slice());
-    assert_eq!(rt;
-        (sink.taken.as_slice(), sink.flushes),
-        ([1, 2, 3].as_slice(), 0)
-    );
-    Ok(())
+    let interrupted = Failure::Failed(io::ErrorKind::Interrupted);
+    assert!(rt; write_fault(&mut writer) == interrupted);
+    assert!(rt; write_fault(&mut writer) == Failure::Never);
+    assert!(rt; !passes_on(&mut writer));
+    let parts = take_apart(writer);
+    assert!(rt; parts.failure == Failure::Stopped);
+    assert_eq!(rt; parts.kept, [4].as_slice());
+    assert_eq!(rt; parts.taken.as_slice(), [1, 2, 3].as_slice());
+    assert_eq!(rt; parts.flushes, 0);
 }
 
 #[test]
-fn a_flush_within_that_fails(rt: HostRuntime) -> Result<(), Fail> {
+fn a_flush_within_that_fails(rt: HostRuntime) {
     let mut lent = [0; 4];
     let sink = PartWriter::new(rt.alloc(), 1).failing_to_flush();
     let mut writer = BufferedWriter::new(sink, &mut lent);
-    writer.write_all(&[1, 2])?;
-    assert!(rt; matches!(writer.flush(), Err(FaultKept)));
-    let (sink, buffer, fault) = writer.into_parts();
-    match fault {
-        Some(WriteFault::Failed(error)) => {
-            assert!(rt; error.kind() == io::ErrorKind::Other);
-        }
-        _ => panic!(rt; "not failed"),
-    }
-    assert!(rt; buffer.is_empty());
-    assert_eq!(rt;
-        (sink.taken.as_slice(), sink.flushes),
-        ([1, 2].as_slice(), 1)
-    );
-    Ok(())
+    assert!(rt; takes(&mut writer, &[1, 2]));
+    assert!(rt; !passes_on(&mut writer));
+    let parts = take_apart(writer);
+    assert!(rt; parts.failure == Failure::Failed(io::ErrorKind::Other));
+    assert!(rt; parts.kept.is_empty());
+    assert_eq!(rt; parts.taken.as_slice(), [1, 2].as_slice());
+    assert_eq!(rt; parts.flushes, 1);
 }
 
-// Titles of several lengths and strings, in their shortest spelling: 120 elements.
-fn elements(alloc: Global) -> Result<Vec<u8>, Fail> {
-    let mut bytes = Vec::new(alloc);
+// An array's title, a number and a byte string, in their shortest spelling: three elements.
+fn three_elements(number: u8) -> [u8; 16] {
+    [
+        0x9b, 1, 2, 3, 4, 5, 6, 7, number, 0x39, 1, number, 0x43, number, 0, 1,
+    ]
+}
+
+// 120 elements.
+fn elements() -> [u8; 640] {
+    let mut bytes = [0; 640];
     for number in 0..40_u8 {
-        bytes.extend_from_slice(&[0x9b, 1, 2, 3, 4, 5, 6, 7, number])?;
-        bytes.extend_from_slice(&[0x39, 1, number, 0x43, number, 0, 1])?;
+        let start = 16 * usize::from(number);
+        bytes[start..start + 16].copy_from_slice(&three_elements(number));
     }
-    Ok(bytes)
+    bytes
 }
 
 #[test]
-fn copies_through_any_room(rt: HostRuntime) -> Result<(), Fail> {
-    let bytes = elements(rt.alloc())?;
-    for (ahead, back) in [(0, 0), (1, 64), (7, 1), (8, 9), (64, 64)] {
-        let mut lent_ahead = vec![in rt.alloc(); 0u8; ahead]?;
-        let mut lent_back = vec![in rt.alloc(); 0u8; back]?;
-        let source = PartReader::new(bytes.as_slice(), usize::MAX);
+fn copies_through_any_room(rt: HostRuntime) {
+    let bytes = elements();
+    for (ahead, back) in [(0usize, 0usize), (1, 64), (7, 1), (8, 9), (64, 64)] {
+        let mut lent_ahead = [0; 64];
+        let mut lent_back = [0; 64];
+        let source = PartReader::new(&bytes, usize::MAX);
+        let reader = BufferedReader::new(source, &mut lent_ahead[..ahead.min(64)]);
         let sink = Vec::new(rt.alloc());
-        let mut decoder = Decoder::from(BufferedReader::new(source, lent_ahead.as_mut_slice()));
-        let mut encoder = Encoder::from(BufferedWriter::new(sink, lent_back.as_mut_slice()));
-        let copied = recode(&mut decoder, &mut encoder, 120, &mut [0; 4]);
-        assert!(rt; copied.is_ok());
-        encoder.flush()?;
+        let writer = BufferedWriter::new(sink, &mut lent_back[..back.min(64)]);
+        let mut decoder = Decoder::from(reader);
+        let mut encoder = Encoder::from(writer);
+        assert!(rt; recode(&mut decoder, &mut encoder, 120, &mut [0; 4]).is_ok());
+        assert!(rt; encoder.flush().is_ok());
         let (taken, _, _) = encoder.into_inner().into_parts();
         assert!(rt; taken.as_slice() == bytes.as_slice(), "at {ahead}, {back}");
     }
-    Ok(())
 }

@@ -1,5 +1,6 @@
-use ciborium_ll::io::{EndOfFile, OutOfSpace, SliceReader, SliceWriter};
-use ciborium_ll::{Decoder, Encoder, Error, Float, Header, RecodeError, laws, simple, tag};
+use crate::elements::{Stop, stop_of};
+use ciborium_ll::io::{SliceReader, SliceWriter};
+use ciborium_ll::{Decoder, Encoder, Float, Header, laws, simple, tag};
 use std::process::Abort;
 
 // Copies so many headers into this much space, and compares what was written, the offset after and what is left.
@@ -12,30 +13,30 @@ fn copies(
     written: &[u8],
     offset: usize,
     left: &[u8],
-) -> Option<RecodeError<EndOfFile, OutOfSpace>> {
+) -> Stop {
     let mut space = [0; 8];
     let mut decoder = Decoder::from(SliceReader::new(bytes));
     let mut encoder = Encoder::from(SliceWriter::new(&mut space[..room.min(8)]));
-    let outcome = laws::copy_headers(&mut decoder, &mut encoder, count);
+    let stopped = stop_of(&laws::copy_headers(&mut decoder, &mut encoder, count));
     assert!(rt; encoder.into_inner().written() == written);
     assert_eq!(rt; decoder.offset(), offset);
     assert!(rt; decoder.into_inner().left() == left);
-    outcome.err()
+    stopped
 }
 
 #[test]
 fn headers_are_copied(rt: HostRuntime) {
     let all = [0x18, 5, 0x58, 3, 0xf8, 0x10, 0];
     let stopped = copies(&rt, 3, &all, 8, &[5, 0x43, 0xf0], 6, &[0]);
-    assert!(rt; stopped.is_none());
+    assert!(rt; stopped == Stop::Never);
     let stopped = copies(&rt, 0, &all, 8, &[], 0, &all);
-    assert!(rt; stopped.is_none());
+    assert!(rt; stopped == Stop::Never);
     let stopped = copies(&rt, 2, &[0x18, 5, 0x1f], 8, &[5], 3, &[]);
-    assert!(rt; matches!(stopped, Some(RecodeError::Read(Error::Syntax(2)))));
+    assert!(rt; stopped == Stop::Syntax(2));
     let stopped = copies(&rt, 1, &[0x1a, 0, 0], 8, &[], 1, &[0, 0]);
-    assert!(rt; matches!(stopped, Some(RecodeError::Read(Error::Io(EndOfFile)))));
+    assert!(rt; stopped == Stop::Short);
     let stopped = copies(&rt, 3, &all, 1, &[5], 4, &[0xf8, 0x10, 0]);
-    assert!(rt; matches!(stopped, Some(RecodeError::Write(OutOfSpace))));
+    assert!(rt; stopped == Stop::Full);
 }
 
 #[test]

@@ -4,6 +4,41 @@ use ciborium_ll::{Decoder, Encoder, Error, RecodeError};
 use std::process::Abort;
 use std::test::Fail;
 
+// Why a copy between slices stopped, if it did.
+#[derive(Clone, Copy, PartialEq, Eq)]
+pub enum Stop {
+    Never,
+    Syntax(usize),
+    TooLong,
+    Waiting,
+    Short,
+    Full,
+}
+
+// What the outcome of a copy says.
+pub fn stop_of(outcome: &Result<(), RecodeError<EndOfFile, OutOfSpace>>) -> Stop {
+    match outcome {
+        Ok(()) => Stop::Never,
+        Err(RecodeError::Read(Error::Syntax(place))) => Stop::Syntax(*place),
+        Err(RecodeError::Read(Error::TooLong)) => Stop::TooLong,
+        Err(RecodeError::Read(Error::Waiting)) => Stop::Waiting,
+        Err(RecodeError::Read(Error::Io(_))) => Stop::Short,
+        Err(RecodeError::Write(_)) => Stop::Full,
+    }
+}
+
+// Copies so many elements by a buffer of four bytes at least.
+pub fn recodes(
+    rt: &impl Abort,
+    decoder: &mut Decoder<SliceReader>,
+    encoder: &mut Encoder<SliceWriter>,
+    count: usize,
+    buffer: &mut [u8],
+) -> Stop {
+    assert!(rt; buffer.len() >= 4);
+    stop_of(&recode(decoder, encoder, count, buffer))
+}
+
 // Copies so many elements into this much space, and compares what was written, the offset after and what is left.
 // It tells why the copy stopped.
 fn copies(
@@ -15,15 +50,14 @@ fn copies(
     written: &[u8],
     offset: usize,
     left: &[u8],
-) -> Option<RecodeError<EndOfFile, OutOfSpace>> {
+) -> Stop {
     let mut space = [0; 16];
     let mut encoder = Encoder::from(SliceWriter::new(&mut space[..room.min(16)]));
-    assert!(rt; buffer.len() >= 4);
-    let outcome = recode(&mut decoder, &mut encoder, count, buffer);
+    let stopped = recodes(rt, &mut decoder, &mut encoder, count, buffer);
     assert!(rt; encoder.into_inner().written() == written);
     assert_eq!(rt; decoder.offset(), offset);
     assert!(rt; decoder.into_inner().left() == left);
-    outcome.err()
+    stopped
 }
 
 #[test]
@@ -32,13 +66,13 @@ fn elements_are_copied(rt: HostRuntime) {
     let written = [5, 0x41, 1, 0x5f, 0x42, 2, 3, 0xff];
     let decoder = Decoder::from(SliceReader::new(&all));
     let stopped = copies(&rt, decoder, 3, &mut [0; 4], 16, &written, 12, &[0]);
-    assert!(rt; stopped.is_none());
+    assert!(rt; stopped == Stop::Never);
     let decoder = Decoder::from(SliceReader::new(&all));
     let stopped = copies(&rt, decoder, 0, &mut [0; 4], 16, &[], 0, &all);
-    assert!(rt; stopped.is_none());
+    assert!(rt; stopped == Stop::Never);
     let decoder = Decoder::from(SliceReader::new(&all));
     let stopped = copies(&rt, decoder, 3, &mut [0; 64], 2, &[5, 0x41], 5, &all[5..]);
-    assert!(rt; matches!(stopped, Some(RecodeError::Write(OutOfSpace))));
+    assert!(rt; stopped == Stop::Full);
 }
 
 #[test]
@@ -46,10 +80,10 @@ fn a_text_that_is_cut_off(rt: HostRuntime) {
     let bytes = [0x66, 0xff, 0x61, 0x62, 0x63];
     let decoder = Decoder::from(SliceReader::new(&bytes));
     let stopped = copies(&rt, decoder, 1, &mut [0; 64], 16, &[0x66], 1, &bytes[1..]);
-    assert!(rt; matches!(stopped, Some(RecodeError::Read(Error::Io(EndOfFile)))));
+    assert!(rt; stopped == Stop::Short);
     let decoder = Decoder::from(SliceReader::new(&bytes));
     let stopped = copies(&rt, decoder, 1, &mut [0; 4], 16, &[0x66], 5, &[]);
-    assert!(rt; matches!(stopped, Some(RecodeError::Read(Error::Syntax(0)))));
+    assert!(rt; stopped == Stop::Syntax(0));
 }
 
 #[test]
@@ -66,7 +100,7 @@ fn an_offset_with_no_room(rt: HostRuntime) {
         usize::MAX,
         &[1, 2, 3],
     );
-    assert!(rt; matches!(stopped, Some(RecodeError::Read(Error::TooLong))));
+    assert!(rt; stopped == Stop::TooLong);
 }
 
 #[test]
@@ -84,6 +118,6 @@ fn many_opens_and_breaks(rt: HostRuntime) -> Result<(), Fail> {
         200_000,
         &[],
     );
-    assert!(rt; stopped.is_none());
+    assert!(rt; stopped == Stop::Never);
     Ok(())
 }

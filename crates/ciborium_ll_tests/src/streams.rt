@@ -1,4 +1,4 @@
-use crate::calls::{pulls, pushes, reads, writes};
+use crate::calls::{flushes, pulls, pushes, reads, writes};
 use ciborium_ll::io::{ReadFault, StdReader, StdWriter, Write, WriteFault};
 use ciborium_ll::{Decoder, Encoder, Header};
 use ciborium_ll_fixtures::streams::{PartReader, PartWriter};
@@ -31,130 +31,148 @@ impl io::Write for Failing {
     }
 }
 
-// Passes on what was written.
-fn flushes<W: Write>(writer: &mut W) -> Result<(), W::Error> {
-    writer.flush()
+// How a call failed, if it did: with an error of std, or since no byte moved.
+#[derive(Clone, Copy, PartialEq, Eq)]
+pub enum Failure {
+    Never,
+    Failed(io::ErrorKind),
+    Stopped,
+}
+
+// The failure that a fault of a reader tells.
+pub fn read_failure(fault: Option<ReadFault>) -> Failure {
+    match fault {
+        None => Failure::Never,
+        Some(ReadFault::Failed(error)) => Failure::Failed(error.kind()),
+        Some(ReadFault::End) => Failure::Stopped,
+    }
+}
+
+// The failure that a fault of a writer tells.
+pub fn write_failure(fault: Option<WriteFault>) -> Failure {
+    match fault {
+        None => Failure::Never,
+        Some(WriteFault::Failed(error)) => Failure::Failed(error.kind()),
+        Some(WriteFault::Zero) => Failure::Stopped,
+    }
+}
+
+// Reads bytes from a reader of std.
+fn reads_std<T: io::Read>(reader: &mut StdReader<T>, data: &mut [u8]) -> Failure {
+    read_failure(reads(reader, data).err())
+}
+
+// Writes bytes to a writer of std.
+fn writes_std<T: io::Write>(writer: &mut StdWriter<T>, data: &[u8]) -> Failure {
+    write_failure(writer.write_all(data).err())
+}
+
+// Passes on what was written to a writer of std.
+fn flushes_std<T: io::Write>(writer: &mut StdWriter<T>) -> Failure {
+    write_failure(flushes(writer).err())
 }
 
 #[test]
-fn a_reader_in_memory(rt: HostRuntime) -> Result<(), Fail> {
+fn a_reader_in_memory(rt: HostRuntime) {
     let mut decoder = Decoder::from(StdReader::new([0x18, 24, 1, 2].as_slice()));
     pulls(&rt, &mut decoder, Header::Positive(24), 2);
     let mut one = [0; 1];
-    reads(&mut decoder, &mut one)?;
+    assert!(rt; reads(&mut decoder, &mut one).is_ok());
     assert_eq!(rt; one, [1]);
     let left = decoder.into_inner().into_inner();
     assert_eq!(rt; left, [2].as_slice());
-    Ok(())
 }
 
 #[test]
-fn one_byte_a_read(rt: HostRuntime) -> Result<(), Fail> {
-    let inner = PartReader::new(&[1, 2, 3, 4], 1);
-    let inner = inner.failing_at(4, io::ErrorKind::Interrupted);
+fn one_byte_a_read(rt: HostRuntime) {
+    let interrupted = io::ErrorKind::Interrupted;
+    let inner = PartReader::new(&[1, 2, 3, 4], 1).failing_at(4, interrupted);
     let mut reader = StdReader::new(inner);
     let mut two = [0; 2];
-    reads(&mut reader, &mut two)?;
+    assert!(rt; reads_std(&mut reader, &mut two) == Failure::Never);
     assert_eq!(rt; two, [1, 2]);
-    reads(&mut reader, &mut [])?;
-    match reads(&mut reader, &mut two) {
-        Err(ReadFault::Failed(error)) => {
-            assert!(rt; error.kind() == io::ErrorKind::Interrupted);
-        }
-        _ => panic!(rt; "not interrupted"),
-    }
-    assert!(rt; matches!(reads(&mut reader, &mut two), Err(ReadFault::End)));
+    assert!(rt; reads_std(&mut reader, &mut []) == Failure::Never);
+    assert!(rt; reads_std(&mut reader, &mut two) == Failure::Failed(interrupted));
+    assert!(rt; reads_std(&mut reader, &mut two) == Failure::Stopped);
     let inner = reader.into_inner();
     assert_eq!(rt; inner.calls, 6);
     assert!(rt; inner.left.is_empty());
-    Ok(())
+}
+
+// A read of a reader that fails, and how many calls came to it.
+fn failed_read(kind: io::ErrorKind) -> (Failure, usize) {
+    let mut reader = StdReader::new(Failing { kind, calls: 0 });
+    let failure = reads_std(&mut reader, &mut [0; 2]);
+    (failure, reader.into_inner().calls)
+}
+
+// A write and a flush of a writer that fails, and how many calls came to it.
+fn failed_write(kind: io::ErrorKind) -> (Failure, Failure, usize) {
+    let mut writer = StdWriter::new(Failing { kind, calls: 0 });
+    let failure = writes_std(&mut writer, &[1, 2]);
+    let flush_failure = flushes_std(&mut writer);
+    (failure, flush_failure, writer.into_inner().calls)
 }
 
 // The first call that fails ends a read, a write or a flush, and its error is handed on.
 #[test]
-fn an_error_of_std_is_handed_on(rt: HostRuntime) -> Result<(), Fail> {
+fn an_error_of_std_is_handed_on(rt: HostRuntime) {
     for kind in [
         io::ErrorKind::Interrupted,
         io::ErrorKind::UnexpectedEof,
         io::ErrorKind::WriteZero,
         io::ErrorKind::Other,
     ] {
-        let mut reader = StdReader::new(Failing { kind, calls: 0 });
-        match reads(&mut reader, &mut [0; 2]) {
-            Err(ReadFault::Failed(error)) => assert!(rt; error.kind() == kind),
-            _ => panic!(rt; "not failed"),
-        }
-        assert_eq!(rt; reader.into_inner().calls, 1);
-
-        let mut writer = StdWriter::new(Failing { kind, calls: 0 });
-        match writer.write_all(&[1, 2]) {
-            Err(WriteFault::Failed(error)) => assert!(rt; error.kind() == kind),
-            _ => panic!(rt; "not failed"),
-        }
-        match flushes(&mut writer) {
-            Err(WriteFault::Failed(error)) => assert!(rt; error.kind() == kind),
-            _ => panic!(rt; "not failed"),
-        }
-        assert_eq!(rt; writer.into_inner().calls, 2);
+        let failed = Failure::Failed(kind);
+        assert!(rt; failed_read(kind) == (failed, 1));
+        assert!(rt; failed_write(kind) == (failed, failed, 2));
     }
-    Ok(())
 }
 
 #[test]
 fn more_than_a_million_bytes(rt: HostRuntime) -> Result<(), Fail> {
     let bytes = vec![in rt.alloc(); 7u8; 1_100_000]?;
-    let mut reader = StdReader::new(bytes.as_slice());
     let mut data = vec![in rt.alloc(); 0u8; 1_100_000]?;
-    reads(&mut reader, data.as_mut_slice())?;
+    let mut reader = StdReader::new(bytes.as_slice());
+    assert!(rt; reads_std(&mut reader, data.as_mut_slice()) == Failure::Never);
     assert!(rt; data.as_slice() == bytes.as_slice());
     let mut writer = StdWriter::new(Vec::new(rt.alloc()));
-    writer.write_all(bytes.as_slice())?;
+    assert!(rt; writes_std(&mut writer, bytes.as_slice()) == Failure::Never);
     assert!(rt; writer.into_inner().as_slice() == bytes.as_slice());
     Ok(())
 }
 
 #[test]
-fn a_writer_in_memory(rt: HostRuntime) -> Result<(), Fail> {
+fn a_writer_in_memory(rt: HostRuntime) {
     let mut encoder = Encoder::from(StdWriter::new(Vec::new(rt.alloc())));
-    pushes(&mut encoder, Header::Bytes(Some(2)))?;
-    writes(&mut encoder, &[1, 2])?;
+    assert!(rt; pushes(&mut encoder, Header::Bytes(Some(2))).is_ok());
+    assert!(rt; writes(&mut encoder, &[1, 2]).is_ok());
     let taken = encoder.into_inner().into_inner();
     assert_eq!(rt; taken.as_slice(), [0x42, 1, 2].as_slice());
-    Ok(())
 }
 
 #[test]
-fn one_byte_a_write(rt: HostRuntime) -> Result<(), Fail> {
+fn one_byte_a_write(rt: HostRuntime) {
+    let interrupted = io::ErrorKind::Interrupted;
     let inner = PartWriter::new(rt.alloc(), 1).within(4);
-    let inner = inner.failing_at(4, Some(io::ErrorKind::Interrupted));
-    let mut writer = StdWriter::new(inner);
-    writer.write_all(&[1, 2])?;
-    writer.write_all(&[])?;
-    match writer.write_all(&[3, 4]) {
-        Err(WriteFault::Failed(error)) => {
-            assert!(rt; error.kind() == io::ErrorKind::Interrupted);
-        }
-        _ => panic!(rt; "not interrupted"),
-    }
-    assert!(rt; matches!(writer.write_all(&[5, 6]), Err(WriteFault::Zero)));
+    let mut writer = StdWriter::new(inner.failing_at(4, Some(interrupted)));
+    assert!(rt; writes_std(&mut writer, &[1, 2]) == Failure::Never);
+    assert!(rt; writes_std(&mut writer, &[]) == Failure::Never);
+    assert!(rt; writes_std(&mut writer, &[3, 4]) == Failure::Failed(interrupted));
+    assert!(rt; writes_std(&mut writer, &[5, 6]) == Failure::Stopped);
     let inner = writer.into_inner();
     assert_eq!(rt; inner.taken.as_slice(), [1, 2, 3, 5].as_slice());
     assert_eq!(rt; (inner.calls, inner.flushes), (6, 0));
-    Ok(())
 }
 
 #[test]
-fn a_flush_is_passed_on(rt: HostRuntime) -> Result<(), Fail> {
+fn a_flush_is_passed_on(rt: HostRuntime) {
     let mut writer = StdWriter::new(PartWriter::new(rt.alloc(), 1));
-    flushes(&mut writer)?;
+    assert!(rt; flushes_std(&mut writer) == Failure::Never);
     let inner = writer.into_inner();
     assert_eq!(rt; (inner.calls, inner.flushes), (0, 1));
 
     let mut writer = StdWriter::new(inner.failing_to_flush());
-    match flushes(&mut writer) {
-        Err(WriteFault::Failed(error)) => assert!(rt; error.kind() == io::ErrorKind::Other),
-        _ => panic!(rt; "not failed"),
-    }
+    assert!(rt; flushes_std(&mut writer) == Failure::Failed(io::ErrorKind::Other));
     assert_eq!(rt; writer.into_inner().flushes, 2);
-    Ok(())
 }

@@ -1,74 +1,58 @@
 use crate::calls::pulls;
-use ciborium_ll::io::{EndOfFile, OutOfSpace, Read, SliceReader, SliceWriter};
-use ciborium_ll::recode::{recode, strict_len};
-use ciborium_ll::{Decoder, Encoder, Error, Header, RecodeError};
+use crate::elements::{Stop, recodes};
+use crate::strings::refused_at;
+use crate::vectors::{Next, next_header};
+use ciborium_ll::io::{Read, SliceReader, SliceWriter};
+use ciborium_ll::recode::strict_len;
+use ciborium_ll::{Decoder, Encoder, Header};
 use ciborium_ll_fixtures::samples;
 use std::alloc::Global;
 use std::process::Abort;
 use std::test::Fail;
 
-// How a copy ends.
-#[derive(Clone, Copy)]
-enum End {
-    Copied,
-    Syntax(usize),
-    Short,
-}
-
-// A copy ended as is wanted.
-fn is_end(outcome: Result<(), RecodeError<EndOfFile, OutOfSpace>>, want: End) -> bool {
-    match outcome {
-        Ok(()) => matches!(want, End::Copied),
-        Err(RecodeError::Read(Error::Syntax(place))) => {
-            matches!(want, End::Syntax(at) if at == place)
-        }
-        Err(RecodeError::Read(Error::Io(_))) => matches!(want, End::Short),
-        Err(_) => false,
-    }
-}
-
 // Copies so many elements, each from a strict decoder, and compares what was written, the answer and the offset.
-fn copy_row(rt: &impl Abort, bytes: &[u8], count: usize, written: &[u8], end: End, offset: usize) {
+fn copy_row(rt: &impl Abort, bytes: &[u8], count: usize, written: &[u8], end: Stop, offset: usize) {
     let mut space = [0; 16];
     let mut decoder = Decoder::strict(SliceReader::new(bytes));
     let mut encoder = Encoder::from(SliceWriter::new(&mut space));
-    let outcome = recode(&mut decoder, &mut encoder, count, &mut [0; 64]);
-    assert!(rt; is_end(outcome, end), "at {bytes:?}");
+    let stopped = recodes(rt, &mut decoder, &mut encoder, count, &mut [0; 64]);
+    assert!(rt; stopped == end, "at {bytes:?}");
     assert_eq!(rt; decoder.offset(), offset, "at {bytes:?}");
     assert!(rt; encoder.into_inner().written() == written, "at {bytes:?}");
-    let want = match end {
-        End::Copied => Some(offset),
-        End::Syntax(_) | End::Short => None,
+    let want = if end == Stop::Never {
+        Some(offset)
+    } else {
+        None
     };
     assert!(rt; strict_len(bytes, count) == want, "at {bytes:?}");
 }
 
 #[test]
 fn titles_in_their_shortest_spelling(rt: HostRuntime) {
-    copy_row(&rt, &[0x18, 5], 1, &[], End::Syntax(0), 2);
-    copy_row(&rt, &[0x18, 0x17], 1, &[], End::Syntax(0), 2);
-    copy_row(&rt, &[0x18, 0x18], 1, &[0x18, 0x18], End::Copied, 2);
-    copy_row(&rt, &[0x19, 0, 0x18], 1, &[], End::Syntax(0), 3);
-    copy_row(&rt, &[0xf8, 0x18], 1, &[], End::Syntax(0), 2);
-    copy_row(&rt, &[0xf8, 0x1f], 1, &[], End::Syntax(0), 2);
-    copy_row(&rt, &[0xf8, 0x20], 1, &[0xf8, 0x20], End::Copied, 2);
-    copy_row(&rt, &[0xf9, 0, 0], 1, &[0xf9, 0, 0], End::Copied, 3);
-    copy_row(&rt, &[5, 0x18, 5], 2, &[5], End::Syntax(1), 3);
-    copy_row(&rt, &[0x1c], 1, &[], End::Syntax(0), 1);
-    copy_row(&rt, &[0x19, 0], 1, &[], End::Short, 1);
-    copy_row(&rt, &[0x18, 5], 0, &[], End::Copied, 0);
+    copy_row(&rt, &[0x18, 5], 1, &[], Stop::Syntax(0), 2);
+    copy_row(&rt, &[0x18, 0x17], 1, &[], Stop::Syntax(0), 2);
+    copy_row(&rt, &[0x18, 0x18], 1, &[0x18, 0x18], Stop::Never, 2);
+    copy_row(&rt, &[0x19, 0, 0x18], 1, &[], Stop::Syntax(0), 3);
+    copy_row(&rt, &[0xf8, 0x18], 1, &[], Stop::Syntax(0), 2);
+    copy_row(&rt, &[0xf8, 0x1f], 1, &[], Stop::Syntax(0), 2);
+    copy_row(&rt, &[0xf8, 0x20], 1, &[0xf8, 0x20], Stop::Never, 2);
+    copy_row(&rt, &[0xf9, 0, 0], 1, &[0xf9, 0, 0], Stop::Never, 3);
+    copy_row(&rt, &[5, 0x18, 5], 2, &[5], Stop::Syntax(1), 3);
+    copy_row(&rt, &[0x1c], 1, &[], Stop::Syntax(0), 1);
+    copy_row(&rt, &[0x19, 0], 1, &[], Stop::Short, 1);
+    copy_row(&rt, &[0x18, 5], 0, &[], Stop::Never, 0);
 }
 
 #[test]
 fn strings_in_their_shortest_spelling(rt: HostRuntime) {
     let segments = [0x5f, 0x41, 1, 0xff];
-    copy_row(&rt, &segments, 1, &segments, End::Copied, 4);
+    copy_row(&rt, &segments, 1, &segments, Stop::Never, 4);
     copy_row(
         &rt,
         &[0x5f, 0x5f, 0x41, 1, 0xff, 0xff],
         1,
         &[0x5f],
-        End::Syntax(1),
+        Stop::Syntax(1),
         2,
     );
     copy_row(
@@ -76,7 +60,7 @@ fn strings_in_their_shortest_spelling(rt: HostRuntime) {
         &[0x5f, 0x5f, 0xff, 0xff],
         1,
         &[0x5f],
-        End::Syntax(1),
+        Stop::Syntax(1),
         2,
     );
     copy_row(
@@ -84,20 +68,20 @@ fn strings_in_their_shortest_spelling(rt: HostRuntime) {
         &[0x7f, 0x78, 1, 0x61, 0xff],
         1,
         &[0x7f],
-        End::Syntax(1),
+        Stop::Syntax(1),
         3,
     );
-    copy_row(&rt, &[0x78, 2, 0x61, 0xff], 1, &[], End::Syntax(0), 2);
+    copy_row(&rt, &[0x78, 2, 0x61, 0xff], 1, &[], Stop::Syntax(0), 2);
     copy_row(
         &rt,
         &[0x62, 0x61, 0xff],
         1,
         &[0x62, 0x61],
-        End::Syntax(0),
+        Stop::Syntax(0),
         3,
     );
-    copy_row(&rt, &[0x5f, 0x7f, 0xff], 1, &[0x5f], End::Syntax(1), 2);
-    copy_row(&rt, &[0x43, 1], 1, &[0x43], End::Short, 1);
+    copy_row(&rt, &[0x5f, 0x7f, 0xff], 1, &[0x5f], Stop::Syntax(1), 2);
+    copy_row(&rt, &[0x43, 1], 1, &[0x43], Stop::Short, 1);
 }
 
 #[test]
@@ -146,12 +130,12 @@ fn longer_titles(alloc: Global, title: &[u8]) -> Result<Vec<Vec<u8>>, Fail> {
 
 // Pulls a title by a decoder of either kind: the header, where it is taken whole.
 fn pulled(rt: &impl Abort, mut decoder: Decoder<SliceReader>, title: &[u8]) -> Option<Header> {
-    let answer = decoder.pull();
+    let answer = next_header(&mut decoder);
     assert_eq!(rt; decoder.offset(), title.len(), "at {title:?}");
     match answer {
-        Ok(header) => Some(header),
-        Err(error) => {
-            assert!(rt; matches!(error, Error::Syntax(0)), "at {title:?}");
+        Next::Header(header) => Some(header),
+        _ => {
+            assert!(rt; answer == Next::Syntax(0), "at {title:?}");
             None
         }
     }
@@ -213,22 +197,21 @@ fn is_strict(first: u8, second: Option<u8>) -> bool {
 }
 
 // Copies one element, and says whether that succeeds and writes just what it consumes.
-fn is_copied(mut decoder: Decoder<SliceReader>, bytes: &[u8]) -> (bool, bool) {
+fn is_copied(rt: &impl Abort, mut decoder: Decoder<SliceReader>, bytes: &[u8]) -> (bool, bool) {
     let mut space = [0; 2];
     let mut encoder = Encoder::from(SliceWriter::new(&mut space));
-    let outcome = recode(&mut decoder, &mut encoder, 1, &mut [0; 4]);
-    let writer = encoder.into_inner();
-    let is_same = match bytes.get(..decoder.offset()) {
-        Some(consumed) => consumed == writer.written(),
-        None => false,
-    };
-    (outcome.is_ok(), is_same)
+    let stopped = recodes(rt, &mut decoder, &mut encoder, 1, &mut [0; 4]);
+    let consumed = bytes.get(..decoder.offset());
+    (
+        stopped == Stop::Never,
+        consumed == Some(encoder.into_inner().written()),
+    )
 }
 
 // Compares both decoders on a list of one byte or two.
 fn both_decoders(rt: &impl Abort, bytes: &[u8], first: u8, second: Option<u8>) {
-    let plain = is_copied(Decoder::from(SliceReader::new(bytes)), bytes);
-    let strict = is_copied(Decoder::strict(SliceReader::new(bytes)), bytes);
+    let plain = is_copied(rt, Decoder::from(SliceReader::new(bytes)), bytes);
+    let strict = is_copied(rt, Decoder::strict(SliceReader::new(bytes)), bytes);
     let is_small = first == 0xf8 && matches!(second, Some(24..=31));
     assert_eq!(rt; strict.0, is_strict(first, second), "at {bytes:?}");
     assert_eq!(rt; strict.0, plain.0 && plain.1 && !is_small, "at {bytes:?}");
@@ -254,14 +237,12 @@ fn first_bytes_that_neither_takes(rt: HostRuntime) {
         let mut plain = Decoder::from(SliceReader::new(&bytes));
         let mut strict = Decoder::strict(SliceReader::new(&bytes));
         // No number is greater than these, so each title that is one is the shortest.
-        if plain.pull().is_err() {
-            assert!(rt;
-                matches!(strict.pull(), Err(Error::Syntax(0))),
-                "at {first}"
-            );
-            refused = refused.saturating_add(1);
+        let strict_answer = next_header(&mut strict);
+        if let Next::Header(_) = next_header(&mut plain) {
+            assert!(rt; matches!(strict_answer, Next::Header(_)), "at {first}");
         } else {
-            assert!(rt; strict.pull().is_ok(), "at {first}");
+            assert!(rt; strict_answer == Next::Syntax(0), "at {first}");
+            refused = refused.saturating_add(1);
         }
         assert_eq!(rt; strict.offset(), plain.offset(), "at {first}");
     }
@@ -278,11 +259,7 @@ where
     assert!(rt; Header::Bytes(None).title_len() <= decoder.offset());
     let mut segments = decoder.bytes(None);
     for _ in 0..2 {
-        let is_refused = match segments.pull() {
-            Err(error) => matches!(error, Error::Syntax(1)),
-            Ok(_) => false,
-        };
-        assert!(rt; is_refused);
+        assert!(rt; refused_at(&mut segments) == Some(1));
     }
     assert_eq!(rt; decoder.offset(), 2);
 }

@@ -4,7 +4,7 @@ ghost use Rattle.ciborium_ll.specs.Title.{title_len};
 
 use crate::calls::pulls;
 use ciborium_ll::io::{Read, SliceReader};
-use ciborium_ll::{Bytes, Decoder, Error, Header, Text};
+use ciborium_ll::{Bytes, Decoder, Error, Header, Segment, Segments, Text};
 use std::process::Abort;
 
 // What a call on a segment of text answers.
@@ -13,6 +13,20 @@ enum Answer {
     Chunk(&'static str),
     Ended,
     Syntax(usize),
+}
+
+// Pulls from a segment of text by a buffer of at most eight bytes, and compares the answer.
+fn pulls_chunk<R: Read>(segment: &mut Segment<'_, R, Text>, size: usize, want: Answer) -> bool
+where
+    R::Error: Drop,
+{
+    let mut space = [0; 8];
+    match segment.pull(&mut space[..size.min(8)]) {
+        Ok(Some(chunk)) => matches!(want, Answer::Chunk(text) if text == chunk),
+        Ok(None) => matches!(want, Answer::Ended),
+        Err(Error::Syntax(place)) => matches!(want, Answer::Syntax(at) if at == place),
+        Err(_) => false,
+    }
 }
 
 // Reads the only segment of a text by buffers of these sizes, and compares answers and what is left.
@@ -37,15 +51,10 @@ where
     };
     assert_eq!(rt; segment.left(), length);
     for (size, want, left) in steps {
-        let mut space = [0; 8];
-        let size = (*size).min(8);
-        let is_right = match segment.pull(&mut space[..size]) {
-            Ok(Some(chunk)) => matches!(*want, Answer::Chunk(text) if text == chunk),
-            Ok(None) => matches!(*want, Answer::Ended),
-            Err(Error::Syntax(place)) => matches!(*want, Answer::Syntax(at) if at == place),
-            Err(_) => false,
-        };
-        assert!(rt; is_right, "by a buffer of {size}");
+        assert!(rt;
+            pulls_chunk(&mut segment, *size, *want),
+            "by a buffer of {size}"
+        );
         assert_eq!(rt; segment.left(), *left);
     }
 }
@@ -110,6 +119,45 @@ fn segments_that_are_never_asked_for(rt: HostRuntime) {
     pulls(&rt, &mut decoder, Header::Bytes(Some(5)), 2);
 }
 
+// Pulls a byte from a segment by a buffer of one byte, and compares it.
+fn pulls_byte<R: Read>(segment: &mut Segment<'_, R, Bytes>, want: u8) -> bool
+where
+    R::Error: Drop,
+{
+    let mut one = [0; 1];
+    match segment.pull(&mut one) {
+        Ok(Some(chunk)) => chunk == [want].as_slice(),
+        _ => false,
+    }
+}
+
+// Reads the next segment of a byte string to its end, byte by byte.
+fn reads_next<R: Read>(rt: &impl Abort, segments: &mut Segments<'_, R, Bytes>, body: &[u8])
+where
+    R::Error: Drop,
+{
+    let found = match segments.pull() {
+        Ok(found) => found,
+        Err(_) => panic!(rt; "no segment"),
+    };
+    let Some(mut segment) = found else {
+        panic!(rt; "no segment");
+    };
+    assert_eq!(rt; segment.left(), body.len());
+    for byte in body {
+        assert!(rt; pulls_byte(&mut segment, *byte), "at {byte}");
+    }
+    assert!(rt; matches!(segment.pull(&mut [0; 1]), Ok(None)));
+}
+
+// Asks for a segment behind the last one.
+fn has_ended<R: Read>(segments: &mut Segments<'_, R, Bytes>) -> bool
+where
+    R::Error: Drop,
+{
+    matches!(segments.pull(), Ok(None))
+}
+
 // Reads segments of bytes by a buffer of one byte, and then the string's end, again and again.
 fn reads_bodies<R: Read>(rt: &impl Abort, decoder: &mut Decoder<R>, bodies: &[&[u8]])
 where
@@ -119,26 +167,10 @@ where
 {
     let mut segments = decoder.bytes(None);
     for body in bodies {
-        let found = match segments.pull() {
-            Ok(found) => found,
-            Err(_) => panic!(rt; "no segment"),
-        };
-        let Some(mut segment) = found else {
-            panic!(rt; "no segment");
-        };
-        assert_eq!(rt; segment.left(), body.len());
-        for byte in *body {
-            let mut one = [0; 1];
-            let is_right = match segment.pull(&mut one) {
-                Ok(Some(chunk)) => chunk == [*byte].as_slice(),
-                _ => false,
-            };
-            assert!(rt; is_right, "at {byte}");
-        }
-        assert!(rt; matches!(segment.pull(&mut [0; 1]), Ok(None)));
+        reads_next(rt, &mut segments, body);
     }
     for _ in 0..2 {
-        assert!(rt; matches!(segments.pull(), Ok(None)));
+        assert!(rt; has_ended(&mut segments));
     }
     assert!(rt; matches!(segments.advance(), Ok(None)));
 }
@@ -151,6 +183,32 @@ fn bodies_of_nested_strings(rt: HostRuntime) {
     reads_bodies(&rt, &mut decoder, &[&[1], &[2]]);
     assert_eq!(rt; decoder.offset(), 8);
     assert_eq!(rt; decoder.into_inner().left(), [0].as_slice());
+}
+
+// Pulls a segment, and drops it. It tells how long its body is.
+fn dropped_len<R: Read>(segments: &mut Segments<'_, R, Bytes>) -> Option<usize>
+where
+    R::Error: Drop,
+{
+    let found = match segments.pull() {
+        Ok(found) => found,
+        Err(_) => return None,
+    };
+    match found {
+        Some(segment) => Some(segment.left()),
+        None => None,
+    }
+}
+
+// Asks for a segment. It tells where a title stands that may not stand there.
+pub fn refused_at<R: Read>(segments: &mut Segments<'_, R, Bytes>) -> Option<usize>
+where
+    R::Error: Drop,
+{
+    match segments.pull() {
+        Err(Error::Syntax(place)) => Some(place),
+        _ => None,
+    }
 }
 
 // Drops so many segments that have three bytes, and then finds twice a title that may not stand there.
@@ -167,21 +225,10 @@ where
 {
     let mut segments = decoder.bytes(None);
     for _ in 0..dropped {
-        let found = match segments.pull() {
-            Ok(found) => found,
-            Err(_) => panic!(rt; "no segment"),
-        };
-        let Some(segment) = found else {
-            panic!(rt; "no segment");
-        };
-        assert_eq!(rt; segment.left(), 3);
+        assert!(rt; dropped_len(&mut segments) == Some(3));
     }
     for _ in 0..2 {
-        let is_right = match segments.pull() {
-            Err(Error::Syntax(at)) => at == place,
-            _ => false,
-        };
-        assert!(rt; is_right);
+        assert!(rt; refused_at(&mut segments) == Some(place));
     }
 }
 
@@ -199,7 +246,7 @@ fn a_title_that_may_not_stand_in_a_string(rt: HostRuntime) {
 }
 
 // Goes on to the first body of an open text, and reads it in one chunk.
-fn reads_body<R: Read>(rt: &impl Abort, decoder: &mut Decoder<R>, place: usize, want: &str)
+fn reads_body<R: Read>(rt: &impl Abort, decoder: &mut Decoder<R>, place: usize, want: &'static str)
 where
     R::Error: Drop,
     requires none_waits { waiting_of decoder.old ≡ None }
@@ -211,11 +258,7 @@ where
     };
     assert_eq!(rt; (body.length, body.place), (want.len(), place));
     let mut segment = segments.segment(body);
-    let is_right = match segment.pull(&mut [0; 8]) {
-        Ok(Some(chunk)) => chunk == want,
-        _ => false,
-    };
-    assert!(rt; is_right);
+    assert!(rt; pulls_chunk(&mut segment, 8, Answer::Chunk(want)));
     assert_eq!(rt; segment.left(), 0);
 }
 

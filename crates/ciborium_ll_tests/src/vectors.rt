@@ -5,17 +5,36 @@ use std::alloc::Global;
 use std::process::Abort;
 use std::test::Fail;
 
+// What a decoder of a slice answers.
+#[derive(Clone, Copy, PartialEq, Eq)]
+pub enum Next {
+    Header(Header),
+    Short,
+    Syntax(usize),
+    Other,
+}
+
+// Pulls a header.
+pub fn next_header(decoder: &mut Decoder<SliceReader>) -> Next {
+    match decoder.pull() {
+        Ok(header) => Next::Header(header),
+        Err(Error::Io(_)) => Next::Short,
+        Err(Error::Syntax(place)) => Next::Syntax(place),
+        Err(_) => Next::Other,
+    }
+}
+
 // The headers of bytes that end at a title's end.
-fn pulled(alloc: Global, hex: &str) -> Result<Vec<Header>, Fail> {
+fn pulled(rt: &impl Abort, alloc: Global, hex: &str) -> Result<Vec<Header>, Fail> {
     let bytes = hex::decode(alloc, hex)?;
     let mut decoder = Decoder::from(SliceReader::new(bytes.as_slice()));
     let mut headers = Vec::new(alloc);
     for _ in 0..=bytes.len() {
         let start = decoder.offset();
-        match decoder.pull() {
-            Ok(header) => headers.push(header)?,
-            Err(Error::Io(_)) if start == bytes.len() => break,
-            Err(error) => return Err(error)?,
+        match next_header(&mut decoder) {
+            Next::Header(header) => headers.push(header)?,
+            Next::Short if start == bytes.len() => break,
+            _ => panic!(rt; "no header at {start} of {hex}"),
         }
     }
     Ok(headers)
@@ -40,7 +59,7 @@ fn goes_both_ways(
     hex: &str,
     headers: &[Header],
 ) -> Result<(), Fail> {
-    let read = pulled(alloc, hex)?;
+    let read = pulled(rt, alloc, hex)?;
     assert!(rt; read.as_slice() == headers, "read at {hex}");
     let text = pushed(alloc, headers)?;
     assert!(rt; text.as_str() == hex, "written at {hex}");
@@ -79,40 +98,56 @@ fn twenty_five_items(rt: HostRuntime) -> Result<(), Fail> {
     Ok(())
 }
 
-#[test]
-fn longer_titles(rt: HostRuntime) -> Result<(), Fail> {
-    for (hex, header, shortest) in samples::longer_titles(rt.alloc())? {
-        let headers = pulled(rt.alloc(), hex)?;
-        assert!(rt; headers.as_slice() == [header].as_slice(), "at {hex}");
-        let text = pushed(rt.alloc(), headers.as_slice())?;
-        assert_eq!(rt; text.as_str(), shortest);
-    }
+// Reads a header from a longer title, and writes the shortest.
+fn becomes_shortest(
+    rt: &impl Abort,
+    alloc: Global,
+    hex: &str,
+    header: Header,
+    shortest: &str,
+) -> Result<(), Fail> {
+    let headers = pulled(rt, alloc, hex)?;
+    assert!(rt; headers.as_slice() == [header].as_slice(), "at {hex}");
+    let text = pushed(alloc, headers.as_slice())?;
+    assert!(rt; text.as_str() == shortest, "at {hex}");
     Ok(())
 }
 
 #[test]
-fn first_bytes_that_begin_no_title(rt: HostRuntime) -> Result<(), Fail> {
+fn longer_titles(rt: HostRuntime) -> Result<(), Fail> {
+    for (hex, header, shortest) in samples::longer_titles(rt.alloc())? {
+        becomes_shortest(&rt, rt.alloc(), hex, header, shortest)?;
+    }
+    Ok(())
+}
+
+// What is answered to a first byte with nothing but zeros behind it, and how many bytes are taken.
+fn first_answer(first: u8) -> (Next, usize) {
+    let bytes = [first, 0, 0, 0, 0, 0, 0, 0, 0];
+    let mut decoder = Decoder::from(SliceReader::new(&bytes));
+    let answer = next_header(&mut decoder);
+    (answer, decoder.offset())
+}
+
+#[test]
+fn first_bytes_that_begin_no_title(rt: HostRuntime) {
     let mut refused = 0u8;
     for first in 0..=u8::MAX {
-        let bytes = [first, 0, 0, 0, 0, 0, 0, 0, 0];
-        let mut decoder = Decoder::from(SliceReader::new(&bytes));
-        if let Err(error) = decoder.pull() {
-            assert!(rt; matches!(error, Error::Syntax(0)), "at {first}");
-            assert_eq!(rt; decoder.offset(), 1, "at {first}");
+        let (answer, offset) = first_answer(first);
+        if !matches!(answer, Next::Header(_)) {
+            assert!(rt; answer == Next::Syntax(0), "at {first}");
+            assert_eq!(rt; offset, 1, "at {first}");
             refused = refused.saturating_add(1);
         }
     }
     assert_eq!(rt; refused, 27);
-    Ok(())
 }
 
 // How many bytes are taken for the title that begins with a byte, if one does.
 fn taken(first: u8) -> Option<usize> {
-    let bytes = [first, 0, 0, 0, 0, 0, 0, 0, 0];
-    let mut decoder = Decoder::from(SliceReader::new(&bytes));
-    match decoder.pull() {
-        Ok(_) => Some(decoder.offset()),
-        Err(_) => None,
+    match first_answer(first) {
+        (Next::Header(_), offset) => Some(offset),
+        _ => None,
     }
 }
 
