@@ -1,8 +1,8 @@
+use crate::calls::{failing_decoder, failing_encoder, holds, recodes};
 use ciborium_ll::laws::copy_headers;
-use ciborium_ll::recode::recode;
 use ciborium_ll::{Decoder, Encoder, Error, RecodeError};
 use ciborium_ll_fixtures::devices::{DeviceFault, Failing, FailingReader, FailingWriter};
-use ciborium_ll_fixtures::plain::{self, Fault};
+use ciborium_ll_fixtures::plain::{self, Copied, Fault};
 use ciborium_ll_fixtures::samples::{self, LISTS, TWENTY_FIVE, TWENTY_FIVE_AND_BREAK};
 use std::alloc::Global;
 use std::process::Abort;
@@ -15,47 +15,83 @@ pub enum Kind {
     Elements,
 }
 
+// How a copy ended.
+#[derive(Clone, Copy)]
+pub enum Answer {
+    Done,
+    Syntax(usize),
+    Short,
+    // The reader failed, as it was told to.
+    Unread,
+    // The writer did.
+    Unwritten,
+    // It ended as no copy here may end.
+    Wrong,
+}
+
 // What a copy gave.
 #[derive(Drop)]
 pub struct Outcome {
-    pub error: Option<RecodeError<DeviceFault, DeviceFault>>,
+    pub answer: Answer,
     pub written: Vec<u8>,
     pub offset: usize,
     pub left: usize,
     pub has_failed: bool,
 }
 
-// The copy of either kind.
-fn copies_by(
-    kind: Kind,
+// The answer that is in an outcome.
+fn answer_of(outcome: Result<(), RecodeError<DeviceFault, DeviceFault>>) -> Answer {
+    match outcome {
+        Ok(()) => Answer::Done,
+        Err(RecodeError::Read(Error::Syntax(place))) => Answer::Syntax(place),
+        Err(RecodeError::Read(Error::Io(DeviceFault::Short))) => Answer::Short,
+        Err(RecodeError::Read(Error::Io(DeviceFault::Planned))) => Answer::Unread,
+        Err(RecodeError::Write(DeviceFault::Planned)) => Answer::Unwritten,
+        Err(_) => Answer::Wrong,
+    }
+}
+
+// The copy of titles.
+fn copies_headers(
     decoder: &mut Decoder<FailingReader<'_>>,
     encoder: &mut Encoder<FailingWriter<'_>>,
     count: usize,
-) -> Result<(), RecodeError<DeviceFault, DeviceFault>> {
-    match kind {
-        Kind::Headers => copy_headers(decoder, encoder, count),
-        Kind::Elements => recode(decoder, encoder, count, &mut [0; 64]),
-    }
+) -> Answer {
+    answer_of(copy_headers(decoder, encoder, count))
+}
+
+// The copy of elements.
+fn copies_elements(
+    rt: &impl Abort,
+    decoder: &mut Decoder<FailingReader<'_>>,
+    encoder: &mut Encoder<FailingWriter<'_>>,
+    count: usize,
+    buffer: &mut [u8],
+) -> Answer {
+    answer_of(recodes(rt, decoder, encoder, count, buffer))
 }
 
 // Copies by a reader and a writer that fail where they are told to.
 pub fn copies(
+    rt: &impl Abort,
     alloc: Global,
     kind: Kind,
     count: usize,
     bytes: &[u8],
-    reading: Failing,
-    writing: Failing,
+    failing: (Failing, Failing),
 ) -> Result<Outcome, Fail> {
     let mut space = [0; 64];
-    let mut decoder = Decoder::from(FailingReader::new(bytes, reading));
-    let mut encoder = Encoder::from(FailingWriter::new(&mut space, writing));
-    let outcome = copies_by(kind, &mut decoder, &mut encoder, count);
+    let mut decoder = failing_decoder(bytes, failing.0);
+    let mut encoder = failing_encoder(&mut space, failing.1);
+    let answer = match kind {
+        Kind::Headers => copies_headers(&mut decoder, &mut encoder, count),
+        Kind::Elements => copies_elements(rt, &mut decoder, &mut encoder, count, &mut [0; 64]),
+    };
     let offset = decoder.offset();
     let reader = decoder.into_inner();
     let writer = encoder.into_inner();
     Ok(Outcome {
-        error: outcome.err(),
+        answer,
         written: writer.written().to_vec(alloc)?,
         offset,
         left: reader.left().len(),
@@ -63,16 +99,35 @@ pub fn copies(
     })
 }
 
-// An error is the fault that is wanted, if one is.
-fn is_fault(error: &Option<RecodeError<DeviceFault, DeviceFault>>, want: Option<Fault>) -> bool {
-    match error {
-        None => want.is_none(),
-        Some(RecodeError::Read(Error::Syntax(place))) => want == Some(Fault::Syntax(*place)),
-        Some(RecodeError::Read(Error::Io(DeviceFault::Short))) => {
-            matches!(want, Some(Fault::Short | Fault::ShortAndDamaged))
-        }
-        Some(_) => false,
+// What a plain reading of bytes gives.
+fn copies_plainly(alloc: Global, kind: Kind, count: usize, bytes: &[u8]) -> Result<Copied, Fail> {
+    plain::copy(alloc, matches!(kind, Kind::Headers), count, bytes)
+}
+
+// An answer is the fault that is wanted, if one is.
+fn is_fault(answer: Answer, want: Option<Fault>) -> bool {
+    match answer {
+        Answer::Done => want.is_none(),
+        Answer::Syntax(place) => want == Some(Fault::Syntax(place)),
+        Answer::Short => matches!(want, Some(Fault::Short | Fault::ShortAndDamaged)),
+        Answer::Unread | Answer::Unwritten | Answer::Wrong => false,
     }
+}
+
+// No byte of so many is gone: what was not read is left.
+fn keeps(got: &Outcome, length: usize) -> bool {
+    got.offset.saturating_add(got.left) == length
+}
+
+// All that is due was written.
+fn is_written(got: &Outcome, want: &Copied) -> bool {
+    got.written.as_slice() == want.output.as_slice()
+}
+
+// What was written begins what is due, and is not all of it.
+fn is_begun(got: &Outcome, want: &Copied) -> bool {
+    let written = got.written.as_slice();
+    written.len() < want.output.len() && want.output.as_slice().starts_with(written)
 }
 
 // What is written is what a plain reading of the bytes gives, and so is the answer.
@@ -83,12 +138,18 @@ pub fn agrees(
     count: usize,
     bytes: &[u8],
 ) -> Result<(), Fail> {
-    let got = copies(alloc, kind, count, bytes, Failing::Never, Failing::Never)?;
-    let want = plain::copy(alloc, matches!(kind, Kind::Headers), count, bytes)?;
-    assert!(rt; got.written.as_slice() == want.output.as_slice());
-    assert_eq!(rt; got.offset, want.offset);
-    assert_eq!(rt; got.offset.saturating_add(got.left), bytes.len());
-    assert!(rt; is_fault(&got.error, want.fault), "answer to {bytes:?}");
+    let got = copies(
+        rt,
+        alloc,
+        kind,
+        count,
+        bytes,
+        (Failing::Never, Failing::Never),
+    )?;
+    let want = copies_plainly(alloc, kind, count, bytes)?;
+    let is_right = is_written(&got, &want) && is_fault(got.answer, want.fault);
+    let is_read = got.offset == want.offset && keeps(&got, bytes.len());
+    assert!(rt; is_right && is_read, "answer to {bytes:?}");
     Ok(())
 }
 
@@ -102,31 +163,16 @@ fn stops_reading(
     bytes: &[u8],
     call: usize,
 ) -> Result<bool, Fail> {
-    let got = copies(
-        alloc,
-        kind,
-        count,
-        bytes,
-        Failing::Call(call),
-        Failing::Never,
-    )?;
+    let failing = (Failing::Call(call), Failing::Never);
+    let got = copies(rt, alloc, kind, count, bytes, failing)?;
     if !got.has_failed {
         return Ok(false);
     }
-    assert!(rt;
-        matches!(
-            got.error,
-            Some(RecodeError::Read(Error::Io(DeviceFault::Planned)))
-        )
-    );
-    assert_eq!(rt; got.offset.saturating_add(got.left), bytes.len());
     let front = bytes.get(..got.offset).unwrap_or(&[]);
-    let want = plain::copy(alloc, matches!(kind, Kind::Headers), count, front)?;
-    assert!(rt; matches!(want.fault, Some(Fault::Short)));
-    assert!(rt;
-        got.written.as_slice() == want.output.as_slice(),
-        "at {call} of {bytes:?}"
-    );
+    let want = copies_plainly(alloc, kind, count, front)?;
+    let has_stopped = matches!(got.answer, Answer::Unread) && keeps(&got, bytes.len());
+    let is_due = matches!(want.fault, Some(Fault::Short)) && is_written(&got, &want);
+    holds(rt, has_stopped && is_due, call, bytes);
     Ok(true)
 }
 
@@ -140,29 +186,17 @@ fn stops_writing(
     bytes: &[u8],
     call: usize,
 ) -> Result<bool, Fail> {
-    let got = copies(
-        alloc,
-        kind,
-        count,
-        bytes,
-        Failing::Never,
-        Failing::Call(call),
-    )?;
+    let failing = (Failing::Never, Failing::Call(call));
+    let got = copies(rt, alloc, kind, count, bytes, failing)?;
     if !got.has_failed {
         return Ok(false);
     }
-    assert!(rt; matches!(got.error, Some(RecodeError::Write(DeviceFault::Planned))));
-    assert_eq!(rt; got.offset.saturating_add(got.left), bytes.len());
-    for end in [got.offset, bytes.len()] {
-        let front = bytes.get(..end).unwrap_or(&[]);
-        let want = plain::copy(alloc, matches!(kind, Kind::Headers), count, front)?;
-        let written = got.written.as_slice();
-        assert!(rt; written.len() < want.output.len());
-        assert!(rt;
-            want.output.as_slice().starts_with(written),
-            "at {call} of {bytes:?}"
-        );
-    }
+    let front = bytes.get(..got.offset).unwrap_or(&[]);
+    let due = copies_plainly(alloc, kind, count, front)?;
+    let whole = copies_plainly(alloc, kind, count, bytes)?;
+    let has_stopped = matches!(got.answer, Answer::Unwritten) && keeps(&got, bytes.len());
+    let is_right = has_stopped && is_begun(&got, &due) && is_begun(&got, &whole);
+    holds(rt, is_right, call, bytes);
     Ok(true)
 }
 
@@ -192,7 +226,7 @@ fn each_call_fails(
         last_write = call;
     }
     // The last calls came, and each one that was to move a byte failed.
-    let want = plain::copy(alloc, matches!(kind, Kind::Headers), count, bytes)?;
+    let want = copies_plainly(alloc, kind, count, bytes)?;
     let is_written = !want.output.is_empty();
     assert!(rt; last_read < 99 && last_write < 99, "at {hex}");
     assert!(rt;
@@ -240,10 +274,13 @@ fn string_row(
     failing: (Failing, Failing),
     want: (usize, usize),
 ) -> Result<(), Fail> {
-    let got = copies(alloc, Kind::Elements, 1, &STRING, failing.0, failing.1)?;
-    assert_eq!(rt; (got.written.len(), got.offset), want);
+    let got = copies(rt, alloc, Kind::Elements, 1, &STRING, failing)?;
+    let is_whole = matches!(got.answer, Answer::Done);
+    assert_eq!(rt;
+        (got.written.len(), got.offset, is_whole),
+        (want.0, want.1, want.0 == 5)
+    );
     assert!(rt; STRING.starts_with(got.written.as_slice()));
-    assert_eq!(rt; got.error.is_some(), want.0 < 5);
     Ok(())
 }
 
@@ -273,16 +310,10 @@ fn a_string_by_hand(rt: HostRuntime) -> Result<(), Fail> {
 #[test]
 fn a_copy_is_asked_for_once_more(rt: HostRuntime) {
     let mut space = [0; 8];
-    let mut buffer = [0; 4];
-    let mut decoder = Decoder::from(FailingReader::new(&STRING, Failing::Call(1)));
-    let mut encoder = Encoder::from(FailingWriter::new(&mut space, Failing::Never));
-    let outcome = recode(&mut decoder, &mut encoder, 1, &mut buffer);
-    assert!(rt;
-        matches!(
-            outcome,
-            Err(RecodeError::Read(Error::Io(DeviceFault::Planned)))
-        )
-    );
-    assert!(rt; recode(&mut decoder, &mut encoder, 1, &mut buffer).is_ok());
+    let mut decoder = failing_decoder(&STRING, Failing::Call(1));
+    let mut encoder = failing_encoder(&mut space, Failing::Never);
+    let first = copies_elements(&rt, &mut decoder, &mut encoder, 1, &mut [0; 4]);
+    let second = copies_elements(&rt, &mut decoder, &mut encoder, 1, &mut [0; 4]);
+    assert!(rt; matches!((first, second), (Answer::Unread, Answer::Done)));
     assert!(rt; encoder.into_inner().written() == STRING.as_slice());
 }

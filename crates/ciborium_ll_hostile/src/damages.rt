@@ -1,7 +1,7 @@
+use crate::calls::{self, drains_text, pulls, recodes, text_of};
 use ciborium_ll::io::{SliceReader, SliceWriter};
-use ciborium_ll::laws::{End, drain_text};
-use ciborium_ll::recode::recode;
-use ciborium_ll::{Decoder, Encoder, Error, Header, RecodeError};
+use ciborium_ll::laws::End;
+use ciborium_ll::{Encoder, Error, Header, RecodeError, Segment, Text};
 use ciborium_ll_fixtures::plain::{self, Fault};
 use std::process::Abort;
 use std::test::Fail;
@@ -9,10 +9,9 @@ use std::test::Fail;
 // Why a copy of one element through this buffer stops.
 fn fault_by(rt: &impl Abort, bytes: &[u8], buffer: &mut [u8]) -> Option<Fault> {
     let mut space = [0; 64];
-    let mut decoder = Decoder::from(SliceReader::new(bytes));
-    let mut encoder = Encoder::from(SliceWriter::new(&mut space));
-    assert!(rt; buffer.len() >= 4);
-    match recode(&mut decoder, &mut encoder, 1, buffer) {
+    let mut decoder = calls::decoder(bytes);
+    let mut encoder = calls::encoder(&mut space);
+    match recodes(rt, &mut decoder, &mut encoder, 1, buffer) {
         Ok(()) => None,
         Err(RecodeError::Read(Error::Syntax(place))) => Some(Fault::Syntax(place)),
         Err(RecodeError::Read(Error::Io(_))) => Some(Fault::Short),
@@ -53,38 +52,62 @@ fn each_byte_is_replaced(rt: HostRuntime) -> Result<(), Fail> {
     Ok(())
 }
 
+// How a drain ended, and after how many calls or at which place.
+#[derive(Clone, Copy)]
+enum Ending {
+    Ended(usize),
+    OutOfSizes(usize),
+    Damaged(usize),
+    Wrong,
+}
+
+// Drains a text through buffers of these sizes, which are at most 4.
+fn ending_by(
+    rt: &impl Abort,
+    segment: &mut Segment<'_, SliceReader<'_>, Text>,
+    sizes: &[usize],
+    sink: &mut Encoder<SliceWriter<'_>>,
+) -> Ending {
+    match drains_text(rt, segment, sizes, &mut [0; 4], sink) {
+        Ok(drained) if drained.end == End::OutOfSizes => Ending::OutOfSizes(drained.calls),
+        Ok(drained) => Ending::Ended(drained.calls),
+        Err(RecodeError::Read(Error::Syntax(place))) => Ending::Damaged(place),
+        Err(_) => Ending::Wrong,
+    }
+}
+
+// A drain of a body by so many sizes ended as it may where this is written and so much is left.
+fn is_right(ending: Ending, sizes: usize, body: &[u8], written: &[u8], left: usize) -> bool {
+    match ending {
+        // No byte is lost: what was not handed out is left.
+        Ending::OutOfSizes(calls) => {
+            calls == sizes && written.len().saturating_add(left) == body.len()
+        }
+        Ending::Ended(calls) => calls <= sizes && written == body && left == 0,
+        Ending::Damaged(place) => place == 0 && std::str::from_utf8(body).is_err(),
+        Ending::Wrong => false,
+    }
+}
+
 // Drains a text of a short length through buffers of these sizes, and compares what was written and what is left.
 fn drains(rt: &impl Abort, bytes: &[u8], sizes: &[usize]) {
     let mut space = [0; 16];
     let body = bytes.get(1..).unwrap_or(&[]);
     let length = body.len();
-    let mut decoder = Decoder::from(SliceReader::new(bytes));
-    let mut sink = Encoder::from(SliceWriter::new(&mut space));
-    assert!(rt; matches!(decoder.pull(), Ok(Header::Text(Some(told))) if told == length));
-    assert!(rt; !decoder.is_waiting());
-    assert!(rt; Header::Text(Some(length)).title_len() <= decoder.offset());
-    assert!(rt; sizes.iter().all(|size| *size <= 4));
-    let mut segments = decoder.text(Some(length));
+    let mut decoder = calls::decoder(bytes);
+    let mut sink = calls::encoder(&mut space);
+    assert!(rt; matches!(pulls(&mut decoder), Ok(Header::Text(Some(told))) if told == length));
+    let mut segments = text_of(rt, &mut decoder, Some(length));
     let Ok(Some(mut segment)) = segments.pull() else {
         panic!(rt; "no segment");
     };
-    let outcome = drain_text(&mut segment, sizes, &mut [0; 4], &mut sink);
+    let ending = ending_by(rt, &mut segment, sizes, &mut sink);
     let left = segment.left();
     let writer = sink.into_inner();
     let written = writer.written();
-    let is_right = match outcome {
-        // No byte is lost: what was not handed out is left.
-        Ok(drained) if drained.end == End::OutOfSizes => {
-            drained.calls == sizes.len() && written.len().saturating_add(left) == length
-        }
-        Ok(drained) => drained.calls <= sizes.len() && written == body && left == 0,
-        Err(RecodeError::Read(Error::Syntax(place))) => {
-            place == 0 && std::str::from_utf8(body).is_err()
-        }
-        Err(_) => false,
-    };
+    let is_front = body.starts_with(written) && std::str::from_utf8(written).is_ok();
+    let is_right = is_front && is_right(ending, sizes.len(), body, written, left);
     assert!(rt; is_right, "{bytes:?} by {sizes:?}");
-    assert!(rt; body.starts_with(written) && std::str::from_utf8(written).is_ok());
 }
 
 #[test]

@@ -1,7 +1,9 @@
-use ciborium_ll::io::{EndOfFile, SliceReader, SliceWriter};
-use ciborium_ll::recode::recode;
-use ciborium_ll::{Decoder, Encoder, Error, Header, RecodeError};
+use crate::calls::{self, bytes_of, pulls, recodes};
+use ciborium_ll::io::{EndOfFile, Read, SliceReader, Write};
+use ciborium_ll::{Bytes, Decoder, Encoder, Error, Header, RecodeError, Segment, Segments};
 use ciborium_ll_fixtures::devices::EndlessReader;
+use ciborium_ll_fixtures::plain::Fault;
+use std::process::Abort;
 use std::test::Fail;
 
 // Opens within opens take no memory: they are counted.
@@ -12,54 +14,77 @@ fn a_hundred_thousand_opens(rt: HostRuntime) -> Result<(), Fail> {
         *byte = 0xff;
     }
     let mut space = [0; 2];
-    let mut decoder = Decoder::from(SliceReader::new(bytes.as_slice()));
-    let mut encoder = Encoder::from(SliceWriter::new(&mut space));
-    assert!(rt; recode(&mut decoder, &mut encoder, 1, &mut [0; 64]).is_ok());
+    let mut decoder = calls::decoder(bytes.as_slice());
+    let mut encoder = calls::encoder(&mut space);
+    assert!(rt; recodes(&rt, &mut decoder, &mut encoder, 1, &mut [0; 64]).is_ok());
     assert!(rt; encoder.into_inner().written() == [0x5f, 0xff].as_slice());
     assert_eq!(rt; decoder.offset(), 200_000);
     assert!(rt; decoder.into_inner().left().is_empty());
     Ok(())
 }
 
+// Whether a pull of a chunk passes the greatest offset.
+fn chunk_is_too_long(segment: &mut Segment<'_, SliceReader<'_>, Bytes>, buffer: &mut [u8]) -> bool {
+    matches!(segment.pull(buffer), Err(Error::TooLong))
+}
+
+// Whether a pull of a chunk by an empty buffer gives none of it.
+fn chunk_is_empty(segment: &mut Segment<'_, SliceReader<'_>, Bytes>) -> bool {
+    matches!(segment.pull(&mut []), Ok(Some([])))
+}
+
 #[test]
 fn a_body_that_passes_the_greatest_offset(rt: HostRuntime) {
     let mut decoder = Decoder::with_offset(SliceReader::new(&[0x41, 1]), usize::MAX - 1);
-    assert!(rt; matches!(decoder.pull(), Ok(Header::Bytes(Some(1)))));
-    assert!(rt; !decoder.is_waiting());
-    assert!(rt; Header::Bytes(Some(1)).title_len() <= decoder.offset());
-    let mut segments = decoder.bytes(Some(1));
+    assert!(rt; matches!(pulls(&mut decoder), Ok(Header::Bytes(Some(1)))));
+    let mut segments = bytes_of(&rt, &mut decoder, Some(1));
     let Ok(Some(mut segment)) = segments.pull() else {
         panic!(rt; "no segment");
     };
     for _ in 0..2 {
-        assert!(rt; matches!(segment.pull(&mut [0; 1]), Err(Error::TooLong)));
-        assert_eq!(rt; segment.left(), 1);
+        assert!(rt; chunk_is_too_long(&mut segment, &mut [0; 1]) && segment.left() == 1);
     }
-    assert!(rt; matches!(segment.pull(&mut []), Ok(Some([]))));
-    assert_eq!(rt; segment.left(), 1);
+    assert!(rt; chunk_is_empty(&mut segment) && segment.left() == 1);
     assert!(rt; decoder.into_inner().left() == [1].as_slice());
+}
+
+// Whether a copy of elements passes the greatest offset.
+fn copy_is_too_long<R: Read, W: Write>(
+    rt: &impl Abort,
+    decoder: &mut Decoder<R>,
+    encoder: &mut Encoder<W>,
+    count: usize,
+) -> bool
+where
+    R::Error: Drop,
+    W::Error: Drop,
+{
+    let outcome = recodes(rt, decoder, encoder, count, &mut [0; 64]);
+    matches!(outcome, Err(RecodeError::Read(Error::TooLong)))
 }
 
 #[test]
 fn a_copy_that_passes_the_greatest_offset(rt: HostRuntime) {
     let mut space = [0; 4];
     let mut decoder = Decoder::with_offset(SliceReader::new(&[0x43]), usize::MAX - 1);
-    let mut encoder = Encoder::from(SliceWriter::new(&mut space));
-    let outcome = recode(&mut decoder, &mut encoder, 1, &mut [0; 64]);
-    assert!(rt; matches!(outcome, Err(RecodeError::Read(Error::TooLong))));
+    let mut encoder = calls::encoder(&mut space);
+    assert!(rt; copy_is_too_long(&rt, &mut decoder, &mut encoder, 1));
     assert!(rt; encoder.into_inner().written() == [0x43].as_slice());
     assert_eq!(rt; decoder.offset(), usize::MAX);
+}
+
+// Whether a pull of a segment passes the greatest offset.
+fn segment_is_too_long(segments: &mut Segments<'_, EndlessReader, Bytes>) -> bool {
+    matches!(segments.pull(), Err(Error::TooLong))
 }
 
 #[test]
 fn opens_without_an_end(rt: HostRuntime) {
     let mut decoder = Decoder::with_offset(EndlessReader::new(0x5f), usize::MAX - 1000);
-    assert!(rt; matches!(decoder.pull(), Ok(Header::Bytes(None))));
-    assert!(rt; !decoder.is_waiting());
-    assert!(rt; Header::Bytes(None).title_len() <= decoder.offset());
-    let mut segments = decoder.bytes(None);
+    assert!(rt; matches!(pulls(&mut decoder), Ok(Header::Bytes(None))));
+    let mut segments = bytes_of(&rt, &mut decoder, None);
     for _ in 0..2 {
-        assert!(rt; matches!(segments.pull(), Err(Error::TooLong)));
+        assert!(rt; segment_is_too_long(&mut segments));
     }
     assert_eq!(rt; decoder.offset(), usize::MAX);
     assert_eq!(rt; decoder.into_inner().given(), 1000);
@@ -69,30 +94,31 @@ fn opens_without_an_end(rt: HostRuntime) {
 fn numbers_without_an_end(rt: HostRuntime) {
     let mut space = [1; 2000];
     let mut decoder = Decoder::with_offset(EndlessReader::new(0), usize::MAX - 1000);
-    let mut encoder = Encoder::from(SliceWriter::new(&mut space));
-    let outcome = recode(&mut decoder, &mut encoder, usize::MAX, &mut [0; 64]);
-    assert!(rt; matches!(outcome, Err(RecodeError::Read(Error::TooLong))));
+    let mut encoder = calls::encoder(&mut space);
+    assert!(rt; copy_is_too_long(&rt, &mut decoder, &mut encoder, usize::MAX));
     assert!(rt; encoder.into_inner().written() == [0; 1000].as_slice());
     assert_eq!(rt; decoder.offset(), usize::MAX);
     assert_eq!(rt; decoder.into_inner().given(), 1000);
 }
 
+// A copy of a damaged body that is cut stops through this buffer by this fault, at this offset.
+fn cut_body(rt: &impl Abort, buffer: &mut [u8], want: Fault, offset: usize) {
+    let mut space = [0; 8];
+    let mut decoder = calls::decoder(b"\x66\xffabc");
+    let mut encoder = calls::encoder(&mut space);
+    let fault = match recodes(rt, &mut decoder, &mut encoder, 1, buffer) {
+        Err(RecodeError::Read(Error::Io(EndOfFile))) => Some(Fault::Short),
+        Err(RecodeError::Read(Error::Syntax(place))) => Some(Fault::Syntax(place)),
+        _ => None,
+    };
+    assert!(rt; fault == Some(want));
+    assert!(rt; encoder.into_inner().written() == [0x66].as_slice());
+    assert_eq!(rt; decoder.offset(), offset);
+}
+
 // Where a damaged body is cut, a small buffer finds the damage, and a great one the end.
 #[test]
 fn a_damaged_body_that_is_cut(rt: HostRuntime) {
-    let bytes = b"\x66\xffabc";
-    let mut space = [0; 8];
-    let mut decoder = Decoder::from(SliceReader::new(bytes));
-    let mut encoder = Encoder::from(SliceWriter::new(&mut space));
-    let outcome = recode(&mut decoder, &mut encoder, 1, &mut [0; 64]);
-    assert!(rt; matches!(outcome, Err(RecodeError::Read(Error::Io(EndOfFile)))));
-    assert!(rt; encoder.into_inner().written() == [0x66].as_slice());
-    assert_eq!(rt; decoder.offset(), 1);
-
-    let mut decoder = Decoder::from(SliceReader::new(bytes));
-    let mut encoder = Encoder::from(SliceWriter::new(&mut space));
-    let outcome = recode(&mut decoder, &mut encoder, 1, &mut [0; 4]);
-    assert!(rt; matches!(outcome, Err(RecodeError::Read(Error::Syntax(0)))));
-    assert!(rt; encoder.into_inner().written() == [0x66].as_slice());
-    assert_eq!(rt; decoder.offset(), 5);
+    cut_body(&rt, &mut [0; 64], Fault::Short, 1);
+    cut_body(&rt, &mut [0; 4], Fault::Syntax(0), 5);
 }

@@ -1,5 +1,8 @@
+use crate::calls::{
+    bytes_of, drains_bytes, drains_text, failing_decoder, failing_encoder, text_of,
+};
 use crate::tape::{Body, Drained, Sink, Stop, Tape, Walk};
-use ciborium_ll::laws::{self, End, drain_bytes, drain_text};
+use ciborium_ll::laws::{self, End};
 use ciborium_ll::{Bytes, Decoder, Encoder, Error, Header, RecodeError, Segment, Text};
 use ciborium_ll_fixtures::devices::{DeviceFault, Failing, FailingReader, FailingWriter};
 use ciborium_ll_fixtures::samples;
@@ -107,8 +110,7 @@ impl Chunks for Segment<'_, FailingReader<'_>, Bytes> {
         sizes: [usize; 2],
         sink: &mut Encoder<FailingWriter<'_>>,
     ) -> Drain {
-        assert!(rt; sizes.iter().all(|size| *size <= 64));
-        drain_bytes(self, &sizes, &mut [0; 64], sink)
+        drains_bytes(rt, self, &sizes, &mut [0; 64], sink)
     }
 }
 
@@ -127,8 +129,7 @@ impl Chunks for Segment<'_, FailingReader<'_>, Text> {
         sizes: [usize; 2],
         sink: &mut Encoder<FailingWriter<'_>>,
     ) -> Drain {
-        assert!(rt; sizes.iter().all(|size| *size <= 64));
-        drain_text(self, &sizes, &mut [0; 64], sink)
+        drains_text(rt, self, &sizes, &mut [0; 64], sink)
     }
 }
 
@@ -213,9 +214,7 @@ fn reads_text(
     run: &mut Run<'_>,
     writer: &mut Encoder<FailingWriter<'_>>,
 ) -> Result<(), Fail> {
-    assert!(rt; !decoder.is_waiting());
-    assert!(rt; Header::Text(length).title_len() <= decoder.offset());
-    let mut segments = decoder.text(length);
+    let mut segments = text_of(rt, decoder, length);
     let mut errors = 0usize;
     for _ in 0..256usize {
         match (segments.pull(), walk.next(&mut run.tape)) {
@@ -250,9 +249,7 @@ fn reads_bytes(
     run: &mut Run<'_>,
     writer: &mut Encoder<FailingWriter<'_>>,
 ) -> Result<(), Fail> {
-    assert!(rt; !decoder.is_waiting());
-    assert!(rt; Header::Bytes(length).title_len() <= decoder.offset());
-    let mut segments = decoder.bytes(length);
+    let mut segments = bytes_of(rt, decoder, length);
     let mut errors = 0usize;
     for _ in 0..256usize {
         match (segments.pull(), walk.next(&mut run.tape)) {
@@ -330,8 +327,8 @@ fn reads(
 ) -> Result<Seen, Fail> {
     let [read, write] = failing;
     let mut space = [0; 64];
-    let mut decoder = Decoder::from(FailingReader::new(bytes, Failing::Call(read)));
-    let mut encoder = Encoder::from(FailingWriter::new(&mut space, Failing::Call(write)));
+    let mut decoder = failing_decoder(bytes, Failing::Call(read));
+    let mut encoder = failing_encoder(&mut space, Failing::Call(write));
     let mut run = Run {
         way,
         tape: Tape::new(bytes, read),

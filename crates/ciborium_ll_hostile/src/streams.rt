@@ -1,5 +1,5 @@
+use crate::calls::{holds, recodes};
 use ciborium_ll::io::{ReadFault, StdReader, StdWriter, WriteFault};
-use ciborium_ll::recode::recode;
 use ciborium_ll::{Decoder, Encoder, Error, RecodeError};
 use ciborium_ll_fixtures::plain::{self, Fault};
 use ciborium_ll_fixtures::samples;
@@ -54,7 +54,7 @@ fn stops_reading(
     let source = PartReader::new(bytes, most).failing_at(call, io::ErrorKind::Interrupted);
     let mut decoder = Decoder::from(StdReader::new(source));
     let mut encoder = Encoder::from(StdWriter::new(PartWriter::new(alloc, most)));
-    let outcome = recode(&mut decoder, &mut encoder, count, &mut [0; 64]);
+    let outcome = recodes(rt, &mut decoder, &mut encoder, count, &mut [0; 64]);
     let offset = decoder.offset();
     let has_failed = decoder.into_inner().into_inner().calls >= call;
     let front = if has_failed {
@@ -66,8 +66,12 @@ fn stops_reading(
     let taken = encoder.into_inner().into_inner().taken;
     assert!(rt; taken.as_slice() == want.output.as_slice());
     assert_eq!(rt; offset, want.offset);
-    let is_right = is_read_answer(outcome, has_failed, want.fault);
-    assert!(rt; is_right, "at {call} of {bytes:?}");
+    holds(
+        rt,
+        is_read_answer(outcome, has_failed, want.fault),
+        call,
+        bytes,
+    );
     Ok(has_failed)
 }
 
@@ -84,7 +88,7 @@ fn stops_writing(
     let mut decoder = Decoder::from(StdReader::new(bytes));
     let sink = PartWriter::new(alloc, 1).failing_at(call, kind);
     let mut encoder = Encoder::from(StdWriter::new(sink));
-    let outcome = recode(&mut decoder, &mut encoder, count, &mut [0; 64]);
+    let outcome = recodes(rt, &mut decoder, &mut encoder, count, &mut [0; 64]);
     let sink = encoder.into_inner().into_inner();
     if sink.calls < call {
         return Ok(false);
@@ -92,8 +96,7 @@ fn stops_writing(
     let want = plain::copy(alloc, false, count, bytes)?;
     assert!(rt; want.output.as_slice().starts_with(sink.taken.as_slice()));
     assert_eq!(rt; sink.taken.len().saturating_add(1), call);
-    let is_right = is_write_answer(outcome, kind);
-    assert!(rt; is_right, "at {call} of {bytes:?}");
+    holds(rt, is_write_answer(outcome, kind), call, bytes);
     Ok(true)
 }
 

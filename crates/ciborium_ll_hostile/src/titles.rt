@@ -1,6 +1,7 @@
-use ciborium_ll::io::{SliceReader, Write};
-use ciborium_ll::{Decoder, Encoder, Error, Header};
-use ciborium_ll_fixtures::devices::{DeviceFault, Failing, FailingReader, FailingWriter};
+use crate::calls::{decoder, failing_decoder, failing_encoder, pull_fails, pulls};
+use ciborium_ll::io::Write;
+use ciborium_ll::{Error, Header};
+use ciborium_ll_fixtures::devices::{DeviceFault, Failing};
 use ciborium_ll_fixtures::plain::{self, Fault};
 use ciborium_ll_fixtures::samples;
 use std::process::Abort;
@@ -9,11 +10,11 @@ use std::test::Fail;
 // Reads bytes as titles by a reader that fails at one call, and compares each answer with a plain reading from the
 // offset at which that call begins. It tells whether the call that fails has come.
 pub fn reads_titles(rt: &impl Abort, bytes: &[u8], failing: usize) -> bool {
-    let mut decoder = Decoder::from(FailingReader::new(bytes, Failing::Call(failing)));
+    let mut decoder = failing_decoder(bytes, Failing::Call(failing));
     let mut calls = 0usize;
     for _ in 0..bytes.len().saturating_add(3) {
         let start = decoder.offset();
-        let answer = decoder.pull();
+        let answer = pulls(&mut decoder);
         let mut behind = start;
         let want = plain::next_title(bytes, &mut behind);
         let is_right = match answer {
@@ -57,32 +58,39 @@ fn each_read_fails_under_pull(rt: HostRuntime) -> Result<(), Fail> {
 #[test]
 fn an_empty_affix_is_a_call(rt: HostRuntime) {
     let bytes = [5, 0xff, 0x1f, 0x3f, 0xdf, 0x1c];
-    let mut decoder = Decoder::from(FailingReader::new(&bytes, Failing::Empty));
+    let mut decoder = failing_decoder(&bytes, Failing::Empty);
     for offset in 1..=5 {
-        assert!(rt; matches!(decoder.pull(), Err(Error::Io(DeviceFault::Planned))));
+        assert!(rt; pull_fails(&mut decoder));
         assert_eq!(rt; decoder.offset(), offset);
     }
-    assert!(rt; matches!(decoder.pull(), Err(Error::Syntax(5))));
-    for (header, first) in [(Header::Positive(5), 5), (Header::Break, 0xff)] {
-        let mut space = [0; 1];
-        let mut encoder = Encoder::from(FailingWriter::new(&mut space, Failing::Empty));
-        assert!(rt; matches!(encoder.push(header), Err(DeviceFault::Planned)));
-        assert!(rt; matches!(encoder.write_all(&[]), Err(DeviceFault::Planned)));
-        assert!(rt; encoder.into_inner().written() == [first].as_slice());
-    }
+    assert!(rt; matches!(pulls(&mut decoder), Err(Error::Syntax(5))));
+    an_empty_affix_is_written(&rt, Header::Positive(5), 5);
+    an_empty_affix_is_written(&rt, Header::Break, 0xff);
+}
+
+// A write of a header of this one byte is two calls too, and the second one moves no byte.
+fn an_empty_affix_is_written(rt: &impl Abort, header: Header, first: u8) {
+    let mut space = [0; 1];
+    let mut encoder = failing_encoder(&mut space, Failing::Empty);
+    assert!(rt; matches!(encoder.push(header), Err(DeviceFault::Planned)));
+    assert!(rt; matches!(encoder.write_all(&[]), Err(DeviceFault::Planned)));
+    assert!(rt; encoder.into_inner().written() == [first].as_slice());
+}
+
+// Asks for a title whose read of this number fails, and once more. The first pull reads up to this
+// offset, and the next one gives this number.
+fn asks_once_more(rt: &impl Abort, bytes: &[u8], call: usize, offset: usize, want: u64) {
+    let mut decoder = failing_decoder(bytes, Failing::Call(call));
+    assert!(rt; pull_fails(&mut decoder));
+    assert_eq!(rt; decoder.offset(), offset);
+    assert!(rt; matches!(pulls(&mut decoder), Ok(Header::Positive(number)) if number == want));
 }
 
 // A failure at the first byte loses nothing, so that the next call gives the title. One at the affix lost that byte.
 #[test]
 fn a_title_is_asked_for_once_more(rt: HostRuntime) {
     let bytes = [0x19, 0x18, 0x18];
-    let mut decoder = Decoder::from(FailingReader::new(&bytes, Failing::Call(1)));
-    assert!(rt; matches!(decoder.pull(), Err(Error::Io(DeviceFault::Planned))));
-    assert_eq!(rt; decoder.offset(), 0);
-    assert!(rt; matches!(decoder.pull(), Ok(Header::Positive(0x1818))));
-    let mut decoder = Decoder::from(FailingReader::new(&bytes, Failing::Call(2)));
-    assert!(rt; matches!(decoder.pull(), Err(Error::Io(DeviceFault::Planned))));
-    assert_eq!(rt; decoder.offset(), 1);
-    assert!(rt; matches!(decoder.pull(), Ok(Header::Positive(0x18))));
-    assert!(rt; Decoder::from(SliceReader::new(&bytes)).pull().is_ok());
+    asks_once_more(&rt, &bytes, 1, 0, 0x1818);
+    asks_once_more(&rt, &bytes, 2, 1, 0x18);
+    assert!(rt; pulls(&mut decoder(&bytes)).is_ok());
 }

@@ -1,0 +1,111 @@
+// Calls of the library, each in a function that ensures nothing. What a call ensures is much, and a
+// proof of who makes several such calls would read all of it again.
+
+ghost use Rattle.std.specs.Prelude.{All, IsTrue, ◌≤◌};
+
+use ciborium_ll::io::{Read, SliceReader, SliceWriter, Write};
+use ciborium_ll::laws::{Drained, drain_bytes, drain_text};
+use ciborium_ll::recode::recode;
+use ciborium_ll::{Bytes, Decoder, Encoder, Error, Header, RecodeError, Segment, Segments, Text};
+use ciborium_ll_fixtures::devices::{DeviceFault, Failing, FailingReader, FailingWriter};
+use std::process::Abort;
+
+// A decoder of bytes.
+pub fn decoder(bytes: &[u8]) -> Decoder<SliceReader<'_>> {
+    Decoder::from(SliceReader::new(bytes))
+}
+
+// An encoder into a space.
+pub fn encoder(space: &mut [u8]) -> Encoder<SliceWriter<'_>> {
+    Encoder::from(SliceWriter::new(space))
+}
+
+// A decoder whose reader fails where it is told to.
+pub fn failing_decoder(bytes: &[u8], failing: Failing) -> Decoder<FailingReader<'_>> {
+    Decoder::from(FailingReader::new(bytes, failing))
+}
+
+// An encoder whose writer fails where it is told to.
+pub fn failing_encoder(space: &mut [u8], failing: Failing) -> Encoder<FailingWriter<'_>> {
+    Encoder::from(FailingWriter::new(space, failing))
+}
+
+// Copies elements. The buffer has 4 bytes or more.
+pub fn recodes<R: Read, W: Write>(
+    rt: &impl Abort,
+    decoder: &mut Decoder<R>,
+    encoder: &mut Encoder<W>,
+    count: usize,
+    buffer: &mut [u8],
+) -> Result<(), RecodeError<R::Error, W::Error>> {
+    assert!(rt; buffer.len() >= 4);
+    recode(decoder, encoder, count, buffer)
+}
+
+// The next title.
+pub fn pulls<R: Read>(decoder: &mut Decoder<R>) -> Result<Header, Error<R::Error>> {
+    decoder.pull()
+}
+
+// Whether the reader fails, as it was told to, under the next title.
+pub fn pull_fails(decoder: &mut Decoder<FailingReader<'_>>) -> bool {
+    matches!(decoder.pull(), Err(Error::Io(DeviceFault::Planned)))
+}
+
+// The byte string whose title was read.
+pub fn bytes_of<'a, R: Read>(
+    rt: &impl Abort,
+    decoder: &'a mut Decoder<R>,
+    length: Option<usize>,
+) -> Segments<'a, R, Bytes> {
+    assert!(rt; !decoder.is_waiting());
+    assert!(rt; Header::Bytes(length).title_len() <= decoder.offset());
+    decoder.bytes(length)
+}
+
+// The text whose title was read.
+pub fn text_of<'a, R: Read>(
+    rt: &impl Abort,
+    decoder: &'a mut Decoder<R>,
+    length: Option<usize>,
+) -> Segments<'a, R, Text> {
+    assert!(rt; !decoder.is_waiting());
+    assert!(rt; Header::Text(length).title_len() <= decoder.offset());
+    decoder.text(length)
+}
+
+// Whether a buffer of this length has room for each size.
+fn fit(sizes: &[usize], length: usize) -> bool
+    ensures { IsTrue result → All (λ size. size ≤ length) sizes.now }
+{
+    sizes.iter().all(|size| *size <= length)
+}
+
+// Drains a segment of bytes. The buffer has room for each size.
+pub fn drains_bytes<R: Read, W: Write>(
+    rt: &impl Abort,
+    segment: &mut Segment<'_, R, Bytes>,
+    sizes: &[usize],
+    buffer: &mut [u8],
+    sink: &mut Encoder<W>,
+) -> Result<Drained, RecodeError<R::Error, W::Error>> {
+    assert!(rt; fit(sizes, buffer.len()));
+    drain_bytes(segment, sizes, buffer, sink)
+}
+
+// Drains a segment of text. The buffer has room for each size.
+pub fn drains_text<R: Read, W: Write>(
+    rt: &impl Abort,
+    segment: &mut Segment<'_, R, Text>,
+    sizes: &[usize],
+    buffer: &mut [u8],
+    sink: &mut Encoder<W>,
+) -> Result<Drained, RecodeError<R::Error, W::Error>> {
+    assert!(rt; fit(sizes, buffer.len()));
+    drain_text(segment, sizes, buffer, sink)
+}
+
+// A row holds. The message says at which call, and in which bytes.
+pub fn holds(rt: &impl Abort, is_right: bool, call: usize, bytes: &[u8]) {
+    assert!(rt; is_right, "at {call} of {bytes:?}");
+}
