@@ -1,7 +1,8 @@
-//! Inputs and devices that the tests of other crates share.
+//! Inputs, devices and plain readings that the tests of other crates share.
 #![tactic(auto)]
 
 pub mod devices;
 pub mod plain;
 pub mod samples;
 pub mod streams;
+pub mod tape;

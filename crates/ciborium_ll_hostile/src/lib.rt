@@ -18,8 +18,6 @@ mod streams;
 #[cfg(test)]
 mod strings;
 #[cfg(test)]
-mod tape;
-#[cfg(test)]
 mod titles;
 #[cfg(test)]
 mod values;

@@ -1,11 +1,11 @@
 use crate::calls::{
     bytes_of, drains_bytes, drains_text, failing_decoder, failing_encoder, text_of,
 };
-use crate::tape::{Body, Drained, Sink, Stop, Tape, Walk};
 use ciborium_ll::laws::{self, End};
 use ciborium_ll::{Bytes, Decoder, Encoder, Error, Header, RecodeError, Segment, Text};
 use ciborium_ll_fixtures::devices::{DeviceFault, Failing, FailingReader, FailingWriter};
 use ciborium_ll_fixtures::samples;
+use ciborium_ll_fixtures::tape::{Body, Drained, Sink, Stop, Tape, Walk};
 use std::alloc::Global;
 use std::process::Abort;
 use std::test::Fail;

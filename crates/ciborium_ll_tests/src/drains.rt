@@ -1,12 +1,10 @@
-ghost use Rattle.std.specs.Prelude.{◌≡◌, ◌≤◌, All, IsTrue, None, Some};
-ghost use Rattle.ciborium_ll.specs.Decoding.{offset_of, waiting_of};
-ghost use Rattle.ciborium_ll.specs.Title.{title_len};
+ghost use Rattle.std.specs.Prelude.{◌≤◌, All, IsTrue};
 
 use crate::calls::pulls;
-use ciborium_ll::io::{Read, SliceReader, SliceWriter, Write};
-use ciborium_ll::laws::{self, Drained, End};
+use ciborium_ll::io::{Read, SliceReader, SliceWriter};
+use ciborium_ll::laws::{Drained, End, drain_bytes, drain_text};
 use ciborium_ll::recode::RecodeError;
-use ciborium_ll::{Decoder, Encoder, Error, Header};
+use ciborium_ll::{Chunked, Decoder, Encoder, Error, Header, Segment, Segments};
 use std::process::Abort;
 
 // Whether a buffer of 64 bytes is enough for each of these sizes.
@@ -24,54 +22,18 @@ fn ends_so<E>(drained: &Result<Drained, E>, calls: usize, end: &End) -> bool {
     }
 }
 
-// Drains the only segment of a text.
-fn drains_text<R: Read, W: Write>(
+// The segment that a string has next.
+fn next_segment<'a, R: Read, P: Chunked>(
     rt: &impl Abort,
-    decoder: &mut Decoder<R>,
-    length: usize,
-    sizes: &[usize],
-    sink: &mut Encoder<W>,
-) -> Result<Drained, RecodeError<R::Error, W::Error>>
+    segments: &'a mut Segments<'_, R, P>,
+) -> Segment<'a, R, P>
 where
     R::Error: Drop,
-    requires none_waits { waiting_of decoder.old ≡ None }
-    requires covered { title_len (Header.Text (Some length)) ≤ offset_of decoder.old }
 {
-    assert!(rt; fit(sizes));
-    let mut segments = decoder.text(Some(length));
-    let found = match segments.pull() {
-        Ok(found) => found,
-        Err(_) => panic!(rt; "no segment"),
-    };
-    let Some(mut segment) = found else {
-        panic!(rt; "no segment");
-    };
-    laws::drain_text(&mut segment, sizes, &mut [0; 64], sink)
-}
-
-// Drains the only segment of a byte string.
-fn drains_bytes<R: Read, W: Write>(
-    rt: &impl Abort,
-    decoder: &mut Decoder<R>,
-    length: usize,
-    sizes: &[usize],
-    sink: &mut Encoder<W>,
-) -> Result<Drained, RecodeError<R::Error, W::Error>>
-where
-    R::Error: Drop,
-    requires none_waits { waiting_of decoder.old ≡ None }
-    requires covered { title_len (Header.Bytes (Some length)) ≤ offset_of decoder.old }
-{
-    assert!(rt; fit(sizes));
-    let mut segments = decoder.bytes(Some(length));
-    let found = match segments.pull() {
-        Ok(found) => found,
-        Err(_) => panic!(rt; "no segment"),
-    };
-    let Some(mut segment) = found else {
-        panic!(rt; "no segment");
-    };
-    laws::drain_bytes(&mut segment, sizes, &mut [0; 64], sink)
+    match segments.pull() {
+        Ok(Some(segment)) => segment,
+        _ => panic!(rt; "no segment"),
+    }
 }
 
 // Drains a text of a single segment, whose body is written whole, and compares how the drain ended.
@@ -83,7 +45,10 @@ fn text_row(rt: &impl Abort, bytes: &[u8], sizes: &[usize], calls: usize, end: &
         panic!(rt; "no title");
     };
     pulls(rt, &mut decoder, Header::Text(Some(body.len())), 1);
-    let drained = drains_text(rt, &mut decoder, body.len(), sizes, &mut sink);
+    let mut segments = decoder.text(Some(body.len()));
+    let mut segment = next_segment(rt, &mut segments);
+    assert!(rt; fit(sizes));
+    let drained = drain_text(&mut segment, sizes, &mut [0; 64], &mut sink);
     assert!(rt; ends_so(&drained, calls, end), "at {bytes:?}, {sizes:?}");
     assert!(rt;
         sink.into_inner().written() == body,
@@ -114,7 +79,9 @@ fn a_body_that_is_no_text(rt: HostRuntime) {
     let mut decoder = Decoder::from(SliceReader::new(b"\x62a\xff"));
     let mut sink = Encoder::from(SliceWriter::new(&mut space));
     pulls(&rt, &mut decoder, Header::Text(Some(2)), 1);
-    let drained = drains_text(&rt, &mut decoder, 2, &[4, 4], &mut sink);
+    let mut segments = decoder.text(Some(2));
+    let mut segment = next_segment(&rt, &mut segments);
+    let drained = drain_text(&mut segment, &[4, 4], &mut [0; 64], &mut sink);
     assert!(rt; matches!(drained, Err(RecodeError::Read(Error::Syntax(0)))));
     assert_eq!(rt; sink.into_inner().written(), b"a".as_slice());
 }
@@ -131,7 +98,10 @@ fn bytes_by_any_sizes(rt: HostRuntime) {
         let mut decoder = Decoder::from(SliceReader::new(b"\x43\x01\x02\x03"));
         let mut sink = Encoder::from(SliceWriter::new(&mut space));
         pulls(&rt, &mut decoder, Header::Bytes(Some(3)), 1);
-        let drained = drains_bytes(&rt, &mut decoder, 3, sizes, &mut sink);
+        let mut segments = decoder.bytes(Some(3));
+        let mut segment = next_segment(&rt, &mut segments);
+        assert!(rt; fit(sizes));
+        let drained = drain_bytes(&mut segment, sizes, &mut [0; 64], &mut sink);
         assert!(rt; ends_so(&drained, *calls, end), "by {sizes:?}");
         assert_eq!(rt; sink.into_inner().written(), *want);
     }

@@ -1,6 +1,6 @@
 // What calls on bytes and their strings give where one read fails, read plainly, with no call of the library.
 
-use ciborium_ll_fixtures::plain::{Fault, Title, affix_len, length_title_len, next_title};
+use crate::plain::{Fault, Title, affix_len, length_title_len, next_title};
 use std::alloc::{AllocError, Global};
 
 // Why a call gives nothing.
