@@ -1,11 +1,11 @@
 //! A text of any length, read whole.
 
-ghost use Rattle.std.specs.Prelude.{◌≡◌, ◌≤◌, ◌+◌, IfOk, OnOk, string_bytes, string_len};
+ghost use Rattle.std.specs.Prelude.{◌≡◌, ◌≤◌, ◌+◌, IfErr, IfOk, OnOk, string_bytes, string_len};
 ghost use Rattle.ciborium_ll.specs.Types.Body.{Body as AnyBody};
 ghost use Rattle.ciborium_ll.specs.Chunks.{IsWhole, segment_decoder, segment_reference};
 ghost use Rattle.ciborium_ll.specs.Decoding.{IsSteady};
 ghost use Rattle.ciborium_ll.specs.Segments.{progress_of, string_decoder, string_reference};
-ghost use Rattle.ciborium_ll_uses.specs.Texts.{AppendsBody, GathersAll, ReadsText};
+ghost use Rattle.ciborium_ll_uses.specs.Texts.{AppendsBody, BodyStops, GathersAll, ReadsText, SegmentsStop, StopsText};
 
 use ciborium_ll::io::Read;
 use ciborium_ll::{Decoder, Error, Header, Segment, Segments, Text};
@@ -46,7 +46,8 @@ pub fn read_string<R: Read>(
     limit: usize,
 ) -> Result<String, TextError<R::Error>>
     ensures limited { IfOk result (λ text. string_len text ≤ limit) }
-    ensures whole { IfOk result (λ text. ReadsText R.Read decoder.old (string_bytes text) decoder.new) }
+    ensures whole { IfOk result (λ text. ReadsText R.Read limit decoder.old (string_bytes text) decoder.new) }
+    ensures stops { IfErr result (λ error. StopsText R.Read limit decoder.old error decoder.new) }
 {
     let place = decoder.offset();
     let Header::Text(len) = decoder.pull()? else {
@@ -63,13 +64,15 @@ fn read_segments<R: Read>(
     limit: usize,
 ) -> Result<String, TextError<R::Error>>
     ensures limited { IfOk result (λ text. string_len text ≤ limit) }
-    ensures gathers { IfOk result (λ text. GathersAll R.Read (progress_of segments.old) (string_bytes text)
+    ensures gathers { IfOk result (λ text. GathersAll R.Read limit (progress_of segments.old) (string_bytes text)
+        (string_decoder segments.new)) }
+    ensures stops { IfErr result (λ error. SegmentsStop R.Read limit (progress_of segments.old) error
         (string_decoder segments.new)) }
     ensures same_reference { string_reference segments.new ≡ string_reference segments.old }
 {
     let mut text = String::new(alloc);
     // Empty segments could come without an end.
-    'segments: for _read in 0..=limit.saturating_add(1) {
+    'segments: for _read in 0..limit.saturating_add(2) {
         let Some(body) = segments.advance()? else {
             return Ok(text);
         };
@@ -89,6 +92,8 @@ fn read_body<R: Read>(
 ) -> Result<(), TextError<R::Error>>
     ensures appends { (body : AnyBody) → IsWhole body segment.old → OnOk result (AppendsBody R.Read body.length
         (segment_decoder segment.old) (string_bytes text.old) (segment_decoder segment.new) (string_bytes text.new)) }
+    ensures stops { (body : AnyBody) → IsWhole body segment.old → IfErr result (λ error. BodyStops R.Read body
+        (segment_decoder segment.old) error (segment_decoder segment.new)) }
     ensures grows { (body : AnyBody) → IsWhole body segment.old
         → OnOk result (string_len text.new ≡ string_len text.old + body.length) }
     ensures same_reference { segment_reference segment.new ≡ segment_reference segment.old }

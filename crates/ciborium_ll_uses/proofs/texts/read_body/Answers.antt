@@ -1,5 +1,7 @@
-use Rattle.std.proofs.Common.{rules, string_bytes, arith, refl}
-use Rattle.ciborium_ll_uses.proofs.TextLaws.{body_read, onto_text, pushes}
+use Rattle.std.proofs.Common.{rules, ◌≡◌, Err, string_bytes, arith, refl}
+use Rattle.std.proofs.lemmas.Result.{err_from_is_err_and}
+use Rattle.ciborium_ll_uses.specs.declared.texts.TextError.TheVariants as t
+use Rattle.ciborium_ll_uses.proofs.TextLaws.{body_read, body_fails, body_lacks, onto_text, pushes}
 use Rattle.ciborium_ll.proofs.BodyCopyLaws.{so_far_start, so_far_chunk}
 use Rattle.ciborium_ll_uses.proofs.texts.read_body.Goals as goal
 
@@ -31,3 +33,20 @@ chunks-preserved g c =
       counted = omega (arith, left, kept.counted, c.in-Ok.ensures.len);
       steady = λ s. pulled.moves_on.steady (kept.steady s);
     }
+
+pub returns-in_err-chunk-clause-stops : goal.returns-in_err-chunk-clause-stops
+returns-in_err-chunk-clause-stops g c = λ body whole.
+    let failed = err_from_is_err_and c.from_residual.result c.from_residual.ensures.1 in
+    let is_error = failed.1 in
+    let is_same = failed.2 in
+    let same : c.from_residual.result ≡ Err (t.Read c.in_err-chunk.field-0.0) = cc in
+    rw same (body_fails g.R.Read body c.args.segment.now c.chunks.segment c.pull.new.self
+    (string_bytes c.args.text.now) (string_bytes c.chunks.text) refl whole c.chunks.invariant.so_far
+    c.in_err-chunk.ensures.moves_on.steady c.in_err-chunk.field-0.0 _ (search rules) c.in_err-chunk.ensures.chunk)
+
+pub returns-in-Err-clause-stops : goal.returns-in-Err-clause-stops
+returns-in-Err-clause-stops g c = λ body whole.
+    let gives = rw c.in-Some.is at c.in_ok-chunk.ensures.chunk in
+    body_lacks g.R.Read body c.args.segment.now c.chunks.segment c.pull.new.self (string_bytes c.args.text.now)
+    (string_bytes c.chunks.text) refl whole c.chunks.invariant.so_far c.in_ok-chunk.ensures.moves_on.steady
+    c.in-Some.chunk.now _ gives (search rules)
