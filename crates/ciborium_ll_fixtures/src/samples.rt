@@ -3,7 +3,7 @@
 use ciborium_ll::{Float, Header};
 use std::alloc::{AllocError, Global};
 
-const VECTORS: [(&str, Header); 54] = [
+static VECTORS: [(&str, Header); 54] = [
     ("00", Header::Positive(0)),
     ("01", Header::Positive(1)),
     ("0a", Header::Positive(10)),
@@ -79,7 +79,7 @@ const VECTORS: [(&str, Header); 54] = [
 ];
 
 /// Titles in a row, the shortest of these headers.
-pub const LISTS: [(&str, &[Header]); 9] = [
+pub static LISTS: [(&str, &[Header]); 9] = [
     ("80", &[Header::Array(Some(0))]),
     (
         "83010203",
@@ -168,7 +168,7 @@ pub const TWENTY_FIVE: &str = "98190102030405060708090a0b0c0d0e0f101112131415161
 pub const TWENTY_FIVE_AND_BREAK: &str =
     "9f0102030405060708090a0b0c0d0e0f101112131415161718181819ff";
 
-const LONGER_TITLES: [(&str, Header, &str); 5] = [
+static LONGER_TITLES: [(&str, Header, &str); 5] = [
     ("1805", Header::Positive(5), "05"),
     ("f810", Header::Simple(16), "f0"),
     ("5805", Header::Bytes(Some(5)), "45"),
@@ -176,7 +176,7 @@ const LONGER_TITLES: [(&str, Header, &str); 5] = [
     ("780d", Header::Text(Some(13)), "6d"),
 ];
 
-const COPIES: [(usize, &str); 24] = [
+static COPIES: [(usize, &str); 24] = [
     (1, "5f5f580101ffff"),
     (0, "5f5f580101ffff"),
     (1, "7f61615fff"),
@@ -206,19 +206,25 @@ const COPIES: [(usize, &str); 24] = [
 /// Titles of one header each, the shortest of that header, as hexadecimal digits. This and what follows fail where
 /// there is no memory.
 pub fn vectors(alloc: Global) -> Result<Vec<(&'static str, Header)>, AllocError> {
-    Ok(Vec::from_array(alloc, VECTORS)?)
+    let mut rows = Vec::new(alloc);
+    rows.extend_from_slice(&VECTORS)?;
+    Ok(rows)
 }
 
 /// Titles that are longer than their headers need, and the shortest ones.
 pub fn longer_titles(
     alloc: Global,
 ) -> Result<Vec<(&'static str, Header, &'static str)>, AllocError> {
-    Ok(Vec::from_array(alloc, LONGER_TITLES)?)
+    let mut rows = Vec::new(alloc);
+    rows.extend_from_slice(&LONGER_TITLES)?;
+    Ok(rows)
 }
 
 /// Bytes, whole and broken, and how many elements a copy of them is asked for.
 pub fn copies(alloc: Global) -> Result<Vec<(usize, &'static str)>, AllocError> {
-    Ok(Vec::from_array(alloc, COPIES)?)
+    let mut rows = Vec::new(alloc);
+    rows.extend_from_slice(&COPIES)?;
+    Ok(rows)
 }
 
 /// The digits of all of these, each with how many elements a copy of it is asked for: those that it has, or those of
@@ -228,7 +234,7 @@ pub fn all(alloc: Global) -> Result<Vec<(usize, &'static str)>, AllocError> {
     for (hex, _) in vectors(alloc)? {
         all.push((1, hex))?;
     }
-    for (hex, headers) in LISTS {
+    for &(hex, headers) in &LISTS {
         all.push((headers.len(), hex))?;
     }
     for (hex, _, _) in longer_titles(alloc)? {
