@@ -5,6 +5,7 @@ use super::{
 };
 use std::process::Abort;
 
+// What a report says before a call.
 fn nothing() -> CllReport {
     CllReport {
         consumed: 7,
@@ -13,36 +14,63 @@ fn nothing() -> CllReport {
     }
 }
 
-fn says(
-    rt: &impl Abort,
-    report: &CllReport,
-    consumed: u64,
-    written: u64,
-    place: u64,
-    bytes: &[u8],
-) {
-    assert_eq!(rt; report.consumed, consumed, "at {bytes:?}");
-    assert_eq!(rt; report.written, written, "at {bytes:?}");
-    assert_eq!(rt; report.place, place, "at {bytes:?}");
+// How many bytes a report says were consumed and written, and the place.
+fn told(report: &CllReport) -> [u64; 3] {
+    [report.consumed, report.written, report.place]
+}
+
+// What a pull gives: its number, then kind, form and value of the header, and its report.
+fn pulled(bytes: &[u8]) -> (u32, [u64; 3], [u64; 3]) {
+    let mut header = CllHeader {
+        value: 99,
+        kind: 98,
+        indefinite: 97,
+    };
+    let mut report = nothing();
+    let code = cll_pull(bytes, &mut header, &mut report);
+    let parts = [
+        u64::from(header.kind),
+        u64::from(header.indefinite),
+        header.value,
+    ];
+    (code, parts, told(&report))
+}
+
+// What a push into the first of 16 bytes gives: its number, its report and the 16 bytes.
+fn pushed(kind: u8, indefinite: u8, value: u64, room: usize) -> (u32, [u64; 3], [u8; 16]) {
+    let header = CllHeader {
+        value,
+        kind,
+        indefinite,
+    };
+    let mut out = [0xee; 16];
+    let mut report = nothing();
+    let code = cll_push(&header, &mut out[..room.min(16)], &mut report);
+    (code, told(&report), out)
+}
+
+// What a copy into the first of 16 bytes gives.
+fn copied(bytes: &[u8], count: u64, room: usize) -> (u32, [u64; 3], [u8; 16]) {
+    let mut out = [0xee; 16];
+    let mut report = nothing();
+    let code = cll_recode(bytes, count, &mut out[..room.min(16)], &mut report);
+    (code, told(&report), out)
+}
+
+// The bytes, and behind them what stood in the 16 bytes before.
+fn in_front(bytes: &[u8]) -> [u8; 16] {
+    let mut out = [0xee; 16];
+    for (place, byte) in out.iter_mut().zip(bytes) {
+        *place = *byte;
+    }
+    out
 }
 
 // A title, and the kind, the form and the value that C is told.
 fn title_row(rt: &impl Abort, bytes: &[u8], kind: u8, indefinite: u8, value: u64) {
-    let mut header = CllHeader {
-        value: 99,
-        kind: 99,
-        indefinite: 99,
-    };
-    let mut report = nothing();
-    assert_eq!(rt;
-        cll_pull(bytes, &mut header, &mut report),
-        0,
-        "at {bytes:?}"
-    );
-    assert_eq!(rt; header.kind, kind, "at {bytes:?}");
-    assert_eq!(rt; header.indefinite, indefinite, "at {bytes:?}");
-    assert_eq!(rt; header.value, value, "at {bytes:?}");
-    says(rt, &report, bytes.len() as u64, 0, 0, bytes);
+    let parts = [u64::from(kind), u64::from(indefinite), value];
+    let report = [bytes.len() as u64, 0, 0];
+    assert!(rt; pulled(bytes) == (0, parts, report), "at {bytes:?}");
 }
 
 #[test]
@@ -80,22 +108,8 @@ fn titles(rt: HostRuntime) {
 
 // No title: the answer, and how many bytes were consumed.
 fn no_title_row(rt: &impl Abort, bytes: &[u8], answer: CllAnswer, consumed: u64) {
-    let mut header = CllHeader {
-        value: 99,
-        kind: 98,
-        indefinite: 97,
-    };
-    let mut report = nothing();
-    assert_eq!(rt;
-        cll_pull(bytes, &mut header, &mut report),
-        answer.code(),
-        "at {bytes:?}"
-    );
-    assert_eq!(rt;
-        (header.value, header.kind, header.indefinite),
-        (99, 98, 97)
-    );
-    says(rt, &report, consumed, 0, 0, bytes);
+    let want = (answer.code(), [98, 97, 99], [consumed, 0, 0]);
+    assert!(rt; pulled(bytes) == want, "at {bytes:?}");
 }
 
 #[test]
@@ -109,29 +123,15 @@ fn no_titles(rt: HostRuntime) {
 
 // A header in its parts, and the title that is written into 16 bytes; and into a byte less than it has, nothing.
 fn push_row(rt: &impl Abort, kind: u8, indefinite: u8, value: u64, want: &[u8]) {
-    assert!(rt; !want.is_empty() && want.len() <= 9);
-    let header = CllHeader {
-        value,
-        kind,
-        indefinite,
-    };
-    let mut out = [0xee; 16];
-    let mut report = nothing();
-    let code = cll_push(&header, &mut out, &mut report);
-    assert_eq!(rt; code, 0, "at {want:?}");
-    says(rt, &report, 0, want.len() as u64, 0, want);
-    assert!(rt; &out[..want.len()] == want, "at {want:?}: {out:?}");
+    let report = [0, want.len() as u64, 0];
+    let whole = pushed(kind, indefinite, value, 16);
+    assert!(rt; whole == (0, report, in_front(want)), "at {want:?}");
+    let room = want.len().saturating_sub(1);
+    let none = (CllAnswer::Room.code(), [0, 0, 0], in_front(&[]));
     assert!(rt;
-        out[want.len()..].iter().all(|byte| *byte == 0xee),
-        "at {want:?}: {out:?}"
+        pushed(kind, indefinite, value, room) == none,
+        "at {want:?}"
     );
-
-    let mut out = [0xee; 16];
-    let mut report = nothing();
-    let code = cll_push(&header, &mut out[..want.len() - 1], &mut report);
-    assert_eq!(rt; code, CllAnswer::Room.code(), "at {want:?}");
-    says(rt, &report, 0, 0, 0, want);
-    assert!(rt; out == [0xee; 16], "at {want:?}: {out:?}");
 }
 
 #[test]
@@ -166,21 +166,11 @@ fn shortest_titles(rt: HostRuntime) {
 
 // Parts that no header has.
 fn no_header_row(rt: &impl Abort, kind: u8, indefinite: u8, value: u64) {
-    let header = CllHeader {
-        value,
-        kind,
-        indefinite,
-    };
-    let mut out = [0xee; 16];
-    let mut report = nothing();
-    let code = cll_push(&header, &mut out, &mut report);
-    assert_eq!(rt;
-        code,
-        CllAnswer::Argument.code(),
+    let none = (CllAnswer::Argument.code(), [0, 0, 0], in_front(&[]));
+    assert!(rt;
+        pushed(kind, indefinite, value, 16) == none,
         "at {kind} {indefinite} {value}"
     );
-    says(rt, &report, 0, 0, 0, &[kind, indefinite]);
-    assert!(rt; out == [0xee; 16], "at {kind} {indefinite} {value}");
 }
 
 #[test]
@@ -208,17 +198,9 @@ fn copy_row(
     place: u64,
     want: &[u8],
 ) {
-    assert!(rt; room <= 16 && want.len() <= room);
-    let mut out = [0xee; 16];
-    let mut report = nothing();
-    let code = cll_recode(bytes, count, &mut out[..room], &mut report);
-    assert_eq!(rt; code, answer.code(), "at {bytes:?}");
-    says(rt, &report, consumed, want.len() as u64, place, bytes);
-    assert!(rt; &out[..want.len()] == want, "at {bytes:?}: {out:?}");
-    assert!(rt;
-        out[want.len()..].iter().all(|byte| *byte == 0xee),
-        "at {bytes:?}: {out:?}"
-    );
+    let report = [consumed, want.len() as u64, place];
+    let stands = (answer.code(), report, in_front(want));
+    assert!(rt; copied(bytes, count, room) == stands, "at {bytes:?}");
 }
 
 #[test]
@@ -302,12 +284,9 @@ fn skip_row(
     place: u64,
 ) {
     let mut report = nothing();
-    assert_eq!(rt;
-        cll_skip(bytes, depth, &mut report),
-        answer.code(),
-        "at {bytes:?}"
-    );
-    says(rt, &report, consumed, 0, place, bytes);
+    let code = cll_skip(bytes, depth, &mut report);
+    let want = (answer.code(), [consumed, 0, place]);
+    assert!(rt; (code, told(&report)) == want, "at {bytes:?}");
 }
 
 #[test]
@@ -335,12 +314,9 @@ fn strict_row(
     place: u64,
 ) {
     let mut report = nothing();
-    assert_eq!(rt;
-        cll_strict(bytes, count, &mut report),
-        answer.code(),
-        "at {bytes:?}"
-    );
-    says(rt, &report, consumed, 0, place, bytes);
+    let code = cll_strict(bytes, count, &mut report);
+    let want = (answer.code(), [consumed, 0, place]);
+    assert!(rt; (code, told(&report)) == want, "at {bytes:?}");
 }
 
 #[test]
