@@ -19,31 +19,61 @@ fn gives<'a>(reader: &mut BufferedReader<'a, PartReader<'a>>, want: &[u8]) -> bo
     fills(reader, data) && *data == *want
 }
 
+// A reader of the bytes 1 to 6, with so many of four bytes lent.
+fn reader_of_six<'a>(lent: &'a mut [u8; 4], room: usize) -> BufferedReader<'a, PartReader<'a>> {
+    let source = PartReader::new(&[1, 2, 3, 4, 5, 6], usize::MAX);
+    BufferedReader::new(source, &mut lent[..room.min(4)])
+}
+
+// Reads in parts. It tells whether each read gives its part.
+fn gives_all<'a>(reader: &mut BufferedReader<'a, PartReader<'a>>, parts: &[&[u8]]) -> bool {
+    let mut are_given = true;
+    for part in parts {
+        are_given = gives(reader, part) && are_given;
+    }
+    are_given
+}
+
+// Compares what is ahead.
+fn has_ahead<'a>(reader: &BufferedReader<'a, PartReader<'a>>, ahead: &[u8]) -> bool {
+    reader.buffer() == ahead
+}
+
+// What a reader comes to: the calls to its source, what is then left and ahead, and the failure.
+#[derive(Drop)]
+struct ReadParts<'a> {
+    calls: usize,
+    left: &'a [u8],
+    ahead: &'a [u8],
+    failure: Failure,
+}
+
+// Takes a reader apart.
+fn take_reader_apart<'a>(reader: BufferedReader<'a, PartReader<'a>>) -> ReadParts<'a> {
+    let (source, ahead, fault) = reader.into_parts();
+    ReadParts {
+        calls: source.calls,
+        left: source.left,
+        ahead,
+        failure: read_failure(fault),
+    }
+}
+
+// A reader that never failed came to this: so many calls, and what is then ahead and left.
+fn has_read(parts: &ReadParts, calls: usize, ahead: &[u8], left: &[u8]) -> bool {
+    parts.failure == Failure::Never
+        && parts.ahead == ahead
+        && parts.calls == calls
+        && parts.left == left
+}
+
 // Reads the bytes 1 to 6 in parts, with at most four bytes lent: each read gives its part. It compares how many calls
 // that is, and what is then ahead and left.
-fn reads_row(
-    rt: &impl Abort,
-    room: usize,
-    parts: &[&[u8]],
-    calls: usize,
-    ahead: &[u8],
-    left: &[u8],
-) {
+fn reads_row(room: usize, parts: &[&[u8]], calls: usize, ahead: &[u8], left: &[u8]) -> bool {
     let mut lent = [0; 4];
-    let source = PartReader::new(&[1, 2, 3, 4, 5, 6], usize::MAX);
-    let mut reader = BufferedReader::new(source, &mut lent[..room.min(4)]);
-    for part in parts {
-        assert!(rt; gives(&mut reader, part), "at {room}, {parts:?}");
-    }
-    assert!(rt; reader.buffer() == ahead, "at {room}, {parts:?}");
-    let (source, buffer, fault) = reader.into_parts();
-    assert!(rt;
-        read_failure(fault) == Failure::Never,
-        "at {room}, {parts:?}"
-    );
-    assert!(rt; buffer == ahead, "at {room}, {parts:?}");
-    assert!(rt; source.calls == calls, "at {room}, {parts:?}");
-    assert!(rt; source.left == left, "at {room}, {parts:?}");
+    let mut reader = reader_of_six(&mut lent, room);
+    let is_read = gives_all(&mut reader, parts) && has_ahead(&reader, ahead);
+    has_read(&take_reader_apart(reader), calls, ahead, left) && is_read
 }
 
 // How many bytes are lent, what each read gives, how many calls that is, and what is then ahead and left.
@@ -60,7 +90,10 @@ fn reads_ahead(rt: HostRuntime) {
         (0, &[&[1], &[2, 3], &[], &[4, 5, 6]], 3, &[], &[]),
     ];
     for (room, parts, calls, ahead, left) in rows {
-        reads_row(&rt, room, parts, calls, ahead, left);
+        assert!(rt;
+            reads_row(room, parts, calls, ahead, left),
+            "at {room}, {parts:?}"
+        );
     }
 }
 
@@ -142,24 +175,35 @@ fn came_to(parts: &Parts, taken: &[u8], kept: &[u8], calls: (usize, usize)) -> b
         && parts.failure == Failure::Never
 }
 
-// Writes these parts, with at most four bytes lent. It compares what is then written, byte by byte, and kept back.
-fn keeps_row(
-    rt: &impl Abort,
+// A writer to a sink that takes one byte a call, with so many of four bytes lent.
+fn slow_writer<'a>(
     alloc: Global,
+    lent: &'a mut [u8; 4],
     room: usize,
-    parts: &[&[u8]],
-    written: &[u8],
-    kept: &[u8],
-) {
-    let mut lent = [0; 4];
-    let mut writer = BufferedWriter::new(PartWriter::new(alloc, 1), &mut lent[..room.min(4)]);
+) -> BufferedWriter<'a, PartWriter> {
+    BufferedWriter::new(PartWriter::new(alloc, 1), &mut lent[..room.min(4)])
+}
+
+// Writes in parts. It tells whether each was taken.
+fn takes_all(writer: &mut BufferedWriter<PartWriter>, parts: &[&[u8]]) -> bool {
+    let mut are_taken = true;
     for part in parts {
-        assert!(rt; takes(&mut writer, part), "at {room}, {parts:?}");
+        are_taken = takes(writer, part) && are_taken;
     }
-    assert!(rt; writer.buffer() == kept, "at {room}, {parts:?}");
-    let end = take_apart(writer);
-    let calls = (written.len(), 0);
-    assert!(rt; came_to(&end, written, kept, calls), "at {room}, {parts:?}");
+    are_taken
+}
+
+// Compares what is kept back.
+fn keeps(writer: &BufferedWriter<PartWriter>, kept: &[u8]) -> bool {
+    writer.buffer() == kept
+}
+
+// Writes these parts, with at most four bytes lent. It compares what is then written, byte by byte, and kept back.
+fn keeps_row(alloc: Global, room: usize, parts: &[&[u8]], written: &[u8], kept: &[u8]) -> bool {
+    let mut lent = [0; 4];
+    let mut writer = slow_writer(alloc, &mut lent, room);
+    let is_taken = takes_all(&mut writer, parts) && keeps(&writer, kept);
+    came_to(&take_apart(writer), written, kept, (written.len(), 0)) && is_taken
 }
 
 // How many bytes are lent, what each write brings, and what is then written and kept back.
@@ -175,7 +219,10 @@ fn keeps_back(rt: HostRuntime) {
         (0, &[&[1], &[], &[2, 3]], &[1, 2, 3], &[]),
     ];
     for (room, parts, written, kept) in rows {
-        keeps_row(&rt, rt.alloc(), room, parts, written, kept);
+        assert!(rt;
+            keeps_row(rt.alloc(), room, parts, written, kept),
+            "at {room}, {parts:?}"
+        );
     }
 }
 

@@ -10,6 +10,20 @@ use std::process::Abort;
 use std::test::Fail;
 
 // Pulls a header that has to be there. It may be pushed back.
+fn pulled<R: Read>(rt: &impl Abort, decoder: &mut Decoder<R>) -> Header
+where
+    R::Error: Drop,
+    ensures none_waits { waiting_of decoder.new ≡ None }
+    ensures covered { title_len result ≤ offset_of decoder.new }
+    ensures steady { IsSteady R.Read decoder.old → IsSteady R.Read decoder.new }
+{
+    match decoder.pull() {
+        Ok(header) => header,
+        Err(_) => panic!(rt; "no header"),
+    }
+}
+
+// Pulls the header that is wanted.
 pub fn pulls<R: Read>(rt: &impl Abort, decoder: &mut Decoder<R>, want: Header, offset: usize)
 where
     R::Error: Drop,
@@ -17,9 +31,7 @@ where
     ensures covered { title_len want ≤ offset_of decoder.new }
     ensures steady { IsSteady R.Read decoder.old → IsSteady R.Read decoder.new }
 {
-    let Ok(header) = decoder.pull() else {
-        panic!(rt; "no header");
-    };
+    let header = pulled(rt, decoder);
     assert!(rt; header == want);
     assert_eq!(rt; decoder.offset(), offset);
 }

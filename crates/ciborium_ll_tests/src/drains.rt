@@ -23,7 +23,7 @@ fn ends_so<E>(drained: &Result<Drained, E>, calls: usize, end: &End) -> bool {
 }
 
 // The segment that a string has next.
-fn next_segment<'a, R: Read, P: Chunked>(
+pub fn next_segment<'a, R: Read, P: Chunked>(
     rt: &impl Abort,
     segments: &'a mut Segments<'_, R, P>,
 ) -> Segment<'a, R, P>

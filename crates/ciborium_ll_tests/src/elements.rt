@@ -15,14 +15,21 @@ pub enum Stop {
     Full,
 }
 
+// What an error of a decoder says.
+fn read_stop(error: &Error<EndOfFile>) -> Stop {
+    match error {
+        Error::Syntax(place) => Stop::Syntax(*place),
+        Error::TooLong => Stop::TooLong,
+        Error::Waiting => Stop::Waiting,
+        Error::Io(_) => Stop::Short,
+    }
+}
+
 // What the outcome of a copy says.
 pub fn stop_of(outcome: &Result<(), RecodeError<EndOfFile, OutOfSpace>>) -> Stop {
     match outcome {
         Ok(()) => Stop::Never,
-        Err(RecodeError::Read(Error::Syntax(place))) => Stop::Syntax(*place),
-        Err(RecodeError::Read(Error::TooLong)) => Stop::TooLong,
-        Err(RecodeError::Read(Error::Waiting)) => Stop::Waiting,
-        Err(RecodeError::Read(Error::Io(_))) => Stop::Short,
+        Err(RecodeError::Read(error)) => read_stop(error),
         Err(RecodeError::Write(_)) => Stop::Full,
     }
 }

@@ -1,4 +1,5 @@
 use crate::calls::pulls;
+use crate::drains::next_segment;
 use ciborium_ll::io::{SliceReader, SliceWriter};
 use ciborium_ll::laws::{self, Drained, End};
 use ciborium_ll::{Decoder, Encoder, Header};
@@ -21,13 +22,7 @@ fn ends(rt: &impl Abort, bytes: &[u8], length: usize) -> bool {
     assert!(rt; !decoder.is_waiting());
     assert!(rt; Header::Text(Some(length)).title_len() <= decoder.offset());
     let mut segments = decoder.text(Some(length));
-    let found = match segments.pull() {
-        Ok(found) => found,
-        Err(_) => panic!(rt; "no segment"),
-    };
-    let Some(mut segment) = found else {
-        panic!(rt; "no segment");
-    };
+    let mut segment = next_segment(rt, &mut segments);
     let mut written = [0; 4];
     let mut sink = Encoder::from(SliceWriter::new(&mut written));
     match laws::drain_text(&mut segment, &[4; 6], &mut [0; 4], &mut sink) {

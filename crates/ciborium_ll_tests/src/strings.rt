@@ -3,6 +3,7 @@ ghost use Rattle.ciborium_ll.specs.Decoding.{offset_of, waiting_of};
 ghost use Rattle.ciborium_ll.specs.Title.{title_len};
 
 use crate::calls::pulls;
+use crate::drains::next_segment;
 use ciborium_ll::io::{Read, SliceReader};
 use ciborium_ll::{Bytes, Decoder, Error, Header, Segment, Segments, Text};
 use std::process::Abort;
@@ -15,6 +16,18 @@ enum Answer {
     Syntax(usize),
 }
 
+impl Answer {
+    // Whether this chunk is wanted.
+    fn is_chunk(self, chunk: &str) -> bool {
+        matches!(self, Answer::Chunk(text) if text == chunk)
+    }
+
+    // Whether a damage of the body at this place is wanted.
+    fn is_damage(self, place: usize) -> bool {
+        matches!(self, Answer::Syntax(at) if at == place)
+    }
+}
+
 // Pulls from a segment of text by a buffer of at most eight bytes, and compares the answer.
 fn pulls_chunk<R: Read>(segment: &mut Segment<'_, R, Text>, size: usize, want: Answer) -> bool
 where
@@ -22,9 +35,9 @@ where
 {
     let mut space = [0; 8];
     match segment.pull(&mut space[..size.min(8)]) {
-        Ok(Some(chunk)) => matches!(want, Answer::Chunk(text) if text == chunk),
+        Ok(Some(chunk)) => want.is_chunk(chunk),
         Ok(None) => matches!(want, Answer::Ended),
-        Err(Error::Syntax(place)) => matches!(want, Answer::Syntax(at) if at == place),
+        Err(Error::Syntax(place)) => want.is_damage(place),
         Err(_) => false,
     }
 }
@@ -42,13 +55,7 @@ where
     requires covered { title_len (Header.Text (Some length)) ≤ offset_of decoder.old }
 {
     let mut segments = decoder.text(Some(length));
-    let found = match segments.pull() {
-        Ok(found) => found,
-        Err(_) => panic!(rt; "no segment"),
-    };
-    let Some(mut segment) = found else {
-        panic!(rt; "no segment");
-    };
+    let mut segment = next_segment(rt, &mut segments);
     assert_eq!(rt; segment.left(), length);
     for (size, want, left) in steps {
         assert!(rt;
@@ -136,13 +143,7 @@ fn reads_next<R: Read>(rt: &impl Abort, segments: &mut Segments<'_, R, Bytes>, b
 where
     R::Error: Drop,
 {
-    let found = match segments.pull() {
-        Ok(found) => found,
-        Err(_) => panic!(rt; "no segment"),
-    };
-    let Some(mut segment) = found else {
-        panic!(rt; "no segment");
-    };
+    let mut segment = next_segment(rt, segments);
     assert_eq!(rt; segment.left(), body.len());
     for byte in body {
         assert!(rt; pulls_byte(&mut segment, *byte), "at {byte}");

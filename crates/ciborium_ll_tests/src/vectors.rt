@@ -1,7 +1,7 @@
 use ciborium_ll::io::{SliceReader, SliceWriter};
 use ciborium_ll::{Decoder, Encoder, Error, Header};
 use ciborium_ll_fixtures::samples::{self, LISTS, TWENTY_FIVE, TWENTY_FIVE_AND_BREAK};
-use std::alloc::Global;
+use std::alloc::{AllocError, Global};
 use std::process::Abort;
 use std::test::Fail;
 
@@ -24,20 +24,39 @@ pub fn next_header(decoder: &mut Decoder<SliceReader>) -> Next {
     }
 }
 
+// Pulls a header, unless the bytes have ended.
+fn next_or_end(rt: &impl Abort, decoder: &mut Decoder<SliceReader>, end: usize) -> Option<Header> {
+    let start = decoder.offset();
+    match next_header(decoder) {
+        Next::Header(header) => Some(header),
+        answer => {
+            assert!(rt;
+                answer == Next::Short && start == end,
+                "no header at {start}"
+            );
+            None
+        }
+    }
+}
+
 // The headers of bytes that end at a title's end.
-fn pulled(rt: &impl Abort, alloc: Global, hex: &str) -> Result<Vec<Header>, Fail> {
-    let bytes = hex::decode(alloc, hex)?;
-    let mut decoder = Decoder::from(SliceReader::new(bytes.as_slice()));
+fn pulled(rt: &impl Abort, alloc: Global, bytes: &[u8]) -> Result<Vec<Header>, AllocError> {
+    let mut decoder = Decoder::from(SliceReader::new(bytes));
     let mut headers = Vec::new(alloc);
     for _ in 0..=bytes.len() {
-        let start = decoder.offset();
-        match next_header(&mut decoder) {
-            Next::Header(header) => headers.push(header)?,
-            Next::Short if start == bytes.len() => break,
-            _ => panic!(rt; "no header at {start} of {hex}"),
+        match next_or_end(rt, &mut decoder, bytes.len()) {
+            Some(header) => headers.push(header)?,
+            None => break,
         }
     }
     Ok(headers)
+}
+
+// Whether bytes are read as these headers.
+fn are_read(rt: &impl Abort, alloc: Global, hex: &str, headers: &[Header]) -> Result<bool, Fail> {
+    let bytes = hex::decode(alloc, hex)?;
+    let read = pulled(rt, alloc, bytes.as_slice())?;
+    Ok(read.as_slice() == headers)
 }
 
 // The shortest titles of headers, in all at most 64 bytes.
@@ -52,6 +71,26 @@ fn pushed(alloc: Global, headers: &[Header]) -> Result<String, Fail> {
     Ok(text)
 }
 
+// Whether headers are written as these titles.
+fn are_written(alloc: Global, headers: &[Header], hex: &str) -> Result<bool, Fail> {
+    let text = pushed(alloc, headers)?;
+    Ok(text.as_str() == hex)
+}
+
+// Reads headers from bytes, and writes their shortest titles.
+fn becomes_shortest(
+    rt: &impl Abort,
+    alloc: Global,
+    hex: &str,
+    headers: &[Header],
+    shortest: &str,
+) -> Result<(), Fail> {
+    let are_read = are_read(rt, alloc, hex, headers)?;
+    let are_written = are_written(alloc, headers, shortest)?;
+    assert!(rt; are_read && are_written, "at {hex}");
+    Ok(())
+}
+
 // Reads headers from bytes, and writes the bytes from the headers.
 fn goes_both_ways(
     rt: &impl Abort,
@@ -59,11 +98,7 @@ fn goes_both_ways(
     hex: &str,
     headers: &[Header],
 ) -> Result<(), Fail> {
-    let read = pulled(rt, alloc, hex)?;
-    assert!(rt; read.as_slice() == headers, "read at {hex}");
-    let text = pushed(alloc, headers)?;
-    assert!(rt; text.as_str() == hex, "written at {hex}");
-    Ok(())
+    becomes_shortest(rt, alloc, hex, headers, hex)
 }
 
 #[test]
@@ -98,25 +133,10 @@ fn twenty_five_items(rt: HostRuntime) -> Result<(), Fail> {
     Ok(())
 }
 
-// Reads a header from a longer title, and writes the shortest.
-fn becomes_shortest(
-    rt: &impl Abort,
-    alloc: Global,
-    hex: &str,
-    header: Header,
-    shortest: &str,
-) -> Result<(), Fail> {
-    let headers = pulled(rt, alloc, hex)?;
-    assert!(rt; headers.as_slice() == [header].as_slice(), "at {hex}");
-    let text = pushed(alloc, headers.as_slice())?;
-    assert!(rt; text.as_str() == shortest, "at {hex}");
-    Ok(())
-}
-
 #[test]
 fn longer_titles(rt: HostRuntime) -> Result<(), Fail> {
     for (hex, header, shortest) in samples::longer_titles(rt.alloc())? {
-        becomes_shortest(&rt, rt.alloc(), hex, header, shortest)?;
+        becomes_shortest(&rt, rt.alloc(), hex, &[header], shortest)?;
     }
     Ok(())
 }
@@ -129,16 +149,20 @@ fn first_answer(first: u8) -> (Next, usize) {
     (answer, decoder.offset())
 }
 
+// Whether no title begins with a byte, which is then all that is taken.
+fn is_refused(rt: &impl Abort, first: u8) -> bool {
+    let (answer, offset) = first_answer(first);
+    let is_refused = !matches!(answer, Next::Header(_));
+    let is_told = answer == Next::Syntax(0) && offset == 1;
+    assert!(rt; !is_refused || is_told, "at {first}");
+    is_refused
+}
+
 #[test]
 fn first_bytes_that_begin_no_title(rt: HostRuntime) {
     let mut refused = 0u8;
     for first in 0..=u8::MAX {
-        let (answer, offset) = first_answer(first);
-        if !matches!(answer, Next::Header(_)) {
-            assert!(rt; answer == Next::Syntax(0), "at {first}");
-            assert_eq!(rt; offset, 1, "at {first}");
-            refused = refused.saturating_add(1);
-        }
+        refused = refused.saturating_add(u8::from(is_refused(&rt, first)));
     }
     assert_eq!(rt; refused, 27);
 }

@@ -5,27 +5,49 @@ ghost use Rattle.ciborium_ll.specs.Segments.{string_decoder, string_reference};
 ghost use Rattle.ciborium_ll.specs.Title.{title_len};
 
 use crate::calls::pulls;
+use crate::drains;
 use ciborium_ll::io::{Read, SliceReader};
 use ciborium_ll::laws::{skip_bytes, skip_text};
 use ciborium_ll::{Bytes, Decoder, Error, Header, Segment, Segments, Text};
 use std::process::Abort;
 
 // How the read of a string ends.
-#[derive(Clone, Copy)]
+#[derive(Clone, Copy, PartialEq, Eq)]
 enum End {
     Whole,
     Cut,
     Syntax(usize),
+    Other,
 }
 
-// An answer is the one that is wanted.
-fn ends<E>(answer: &Result<(), Error<E>>, want: End) -> bool {
+// How an answer says that a read ended.
+fn end_of<E>(answer: &Result<(), Error<E>>) -> End {
     match answer {
-        Ok(()) => matches!(want, End::Whole),
-        Err(Error::Io(_)) => matches!(want, End::Cut),
-        Err(Error::Syntax(place)) => matches!(want, End::Syntax(at) if at == *place),
-        Err(_) => false,
+        Ok(()) => End::Whole,
+        Err(Error::Io(_)) => End::Cut,
+        Err(Error::Syntax(place)) => End::Syntax(*place),
+        Err(_) => End::Other,
     }
+}
+
+// Reads a byte string to its end.
+fn skips_bytes<R: Read>(decoder: &mut Decoder<R>, length: Option<usize>) -> End
+where
+    R::Error: Drop,
+    requires none_waits { waiting_of decoder.old ≡ None }
+    requires covered { title_len (Header.Bytes length) ≤ offset_of decoder.old }
+{
+    end_of(&skip_bytes(decoder, length, &mut [0; 4]))
+}
+
+// Reads a text to its end.
+fn skips_text<R: Read>(decoder: &mut Decoder<R>, length: Option<usize>) -> End
+where
+    R::Error: Drop,
+    requires none_waits { waiting_of decoder.old ≡ None }
+    requires covered { title_len (Header.Text length) ≤ offset_of decoder.old }
+{
+    end_of(&skip_text(decoder, length, &mut [0; 4]))
 }
 
 // Pulls the header of a string, reads it to its end, and compares the answer and the offset.
@@ -41,13 +63,12 @@ where
     R::Error: Drop,
 {
     pulls(rt, decoder, header, title);
-    let mut buffer = [0; 4];
-    let answer = match header {
-        Header::Bytes(length) => skip_bytes(decoder, length, &mut buffer),
-        Header::Text(length) => skip_text(decoder, length, &mut buffer),
-        _ => panic!(rt; "no string"),
+    let end = match header {
+        Header::Bytes(length) => skips_bytes(decoder, length),
+        Header::Text(length) => skips_text(decoder, length),
+        _ => End::Other,
     };
-    assert!(rt; ends(&answer, want));
+    assert!(rt; end == want);
     assert_eq!(rt; decoder.offset(), offset);
     assert!(rt; !decoder.is_waiting());
 }
@@ -115,6 +136,23 @@ fn whole_texts(rt: HostRuntime) {
     );
 }
 
+// Pulls a chunk by a buffer of at most eight bytes.
+fn gives_chunk<R: Read>(segment: &mut Segment<'_, R, Text>, size: usize) -> bool
+where
+    R::Error: Drop,
+{
+    let mut buffer = [0; 8];
+    matches!(segment.pull(&mut buffer[..size.min(8)]), Ok(Some(_)))
+}
+
+// Reads the rest of a segment.
+fn finishes_segment<R: Read>(segment: Segment<'_, R, Text>) -> End
+where
+    R::Error: Drop,
+{
+    end_of(&segment.finish(&mut [0; 8]))
+}
+
 // Reads the first segment of a text, partly by hand, and the rest by `finish`.
 fn finishes<R: Read>(rt: &impl Abort, decoder: &mut Decoder<R>, size: usize, want: End)
 where
@@ -123,19 +161,9 @@ where
     requires covered { title_len (Header.Text None) ≤ offset_of decoder.old }
 {
     let mut segments = decoder.text(None);
-    let found = match segments.pull() {
-        Ok(found) => found,
-        Err(_) => panic!(rt; "no segment"),
-    };
-    let Some(mut segment) = found else {
-        panic!(rt; "no segment");
-    };
-    let mut buffer = [0; 8];
-    let size = size.min(8);
-    let is_chunk = matches!(segment.pull(&mut buffer[..size]), Ok(Some(_)));
-    assert!(rt; is_chunk);
-    let answer = segment.finish(&mut buffer);
-    assert!(rt; ends(&answer, want));
+    let mut segment = drains::next_segment(rt, &mut segments);
+    assert!(rt; gives_chunk(&mut segment, size));
+    assert!(rt; finishes_segment(segment) == want);
 }
 
 #[test]
