@@ -3,9 +3,10 @@ ghost use Rattle.std.specs.Prelude.{◌≤◌};
 use cbor_skip::{SkipError, skip_item};
 use ciborium_ll::io::{Read, SliceReader};
 use ciborium_ll::{Decoder, Error};
+use std::process::Abort;
 
 // How a skip ends: behind an item, or why not. The numbers are offsets: those of `Item` and `Short` are the decoder's.
-#[derive(Clone, Copy, Debug, PartialEq, Eq, Drop)]
+#[derive(Clone, Copy, PartialEq, Eq)]
 pub enum Answer {
     Item(usize),
     Break(usize),
@@ -15,23 +16,33 @@ pub enum Answer {
     Other,
 }
 
+// What an error of a decoder says, which is then at this offset.
+fn read_answer<E>(error: &Error<E>, offset: usize) -> Answer {
+    match error {
+        Error::Syntax(place) => Answer::Syntax(*place),
+        Error::Io(_) => Answer::Short(offset),
+        _ => Answer::Other,
+    }
+}
+
+// What the outcome of a skip says, behind which the decoder is at this offset.
+fn answer_of<E>(outcome: &Result<(), SkipError<E>>, offset: usize) -> Answer {
+    match outcome {
+        Ok(()) => Answer::Item(offset),
+        Err(SkipError::Break(place)) => Answer::Break(*place),
+        Err(SkipError::Deep(place)) => Answer::Deep(*place),
+        Err(SkipError::Read(error)) => read_answer(error, offset),
+    }
+}
+
 // Skips one item.
 pub fn skipped<R: Read>(decoder: &mut Decoder<R>, depth: usize) -> Answer
 where
     R::Error: Drop,
     requires { depth ≤ 256 }
 {
-    let mut buffer = [0; 4];
-    let outcome = skip_item(decoder, depth, &mut buffer);
-    let offset = decoder.offset();
-    match outcome {
-        Ok(()) => Answer::Item(offset),
-        Err(SkipError::Break(place)) => Answer::Break(place),
-        Err(SkipError::Deep(place)) => Answer::Deep(place),
-        Err(SkipError::Read(Error::Syntax(place))) => Answer::Syntax(place),
-        Err(SkipError::Read(Error::Io(_))) => Answer::Short(offset),
-        Err(SkipError::Read(_)) => Answer::Other,
-    }
+    let outcome = skip_item(decoder, depth, &mut [0; 4]);
+    answer_of(&outcome, decoder.offset())
 }
 
 // Skips the item in front of bytes.
@@ -40,6 +51,12 @@ pub fn answer_for(depth: usize, bytes: &[u8]) -> Answer
 {
     let mut decoder = Decoder::from(SliceReader::new(bytes));
     skipped(&mut decoder, depth)
+}
+
+// Compares the answer for the item in front of bytes.
+pub fn item_row(rt: &impl Abort, depth: usize, bytes: &[u8], want: Answer) {
+    assert!(rt; depth <= 256);
+    assert!(rt; answer_for(depth, bytes) == want, "at {bytes:?}");
 }
 
 // A map of indefinite length with two pairs. Each title has one byte, but for the one at 4, which has two, and each
