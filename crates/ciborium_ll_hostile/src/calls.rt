@@ -8,7 +8,19 @@ use ciborium_ll::laws::{Drained, drain_bytes, drain_text};
 use ciborium_ll::recode::recode;
 use ciborium_ll::{Bytes, Decoder, Encoder, Error, Header, RecodeError, Segment, Segments, Text};
 use ciborium_ll_fixtures::devices::{DeviceFault, Failing, FailingReader, FailingWriter};
+use std::alloc::Global;
 use std::process::Abort;
+use std::test::Fail;
+
+// The bytes that digits say.
+pub fn decoded(alloc: Global, hex: &str) -> Result<Vec<u8>, Fail> {
+    Ok(hex::decode(alloc, hex)?)
+}
+
+// The first bytes, as many as are told. There are as many.
+pub fn front_of(bytes: &[u8], length: usize) -> &[u8] {
+    bytes.get(..length).unwrap_or(&[])
+}
 
 // A decoder of bytes.
 pub fn decoder(bytes: &[u8]) -> Decoder<SliceReader<'_>> {

@@ -1,25 +1,41 @@
 use crate::calls::{self, bytes_of, pulls, recodes};
-use ciborium_ll::io::{EndOfFile, Read, SliceReader, Write};
+use crate::copies::{Answer, copies_slice, is_fault};
+use ciborium_ll::io::{Read, SliceReader, Write};
 use ciborium_ll::{Bytes, Decoder, Encoder, Error, Header, RecodeError, Segment, Segments};
 use ciborium_ll_fixtures::devices::EndlessReader;
 use ciborium_ll_fixtures::plain::Fault;
+use std::alloc::{AllocError, Global};
 use std::process::Abort;
 use std::test::Fail;
+
+// So many opens, and as many breaks.
+fn opens(alloc: Global, count: usize) -> Result<Vec<u8>, AllocError> {
+    let mut bytes = Vec::new(alloc);
+    for byte in [0x5f, 0xff] {
+        for _ in 0..count {
+            bytes.push(byte)?;
+        }
+    }
+    Ok(bytes)
+}
+
+// Copies a string of 100,000 opens, and as many breaks.
+fn copies_opens(rt: &impl Abort, bytes: &[u8]) {
+    let mut space = [0; 2];
+    let mut decoder = calls::decoder(bytes);
+    let mut encoder = calls::encoder(&mut space);
+    let answer = copies_slice(rt, &mut decoder, &mut encoder, &mut [0; 64]);
+    assert!(rt; matches!(answer, Answer::Done));
+    assert!(rt; encoder.into_inner().written() == [0x5f, 0xff].as_slice());
+    assert_eq!(rt; decoder.offset(), 200_000);
+    assert!(rt; decoder.into_inner().left().is_empty());
+}
 
 // Opens within opens take no memory: they are counted.
 #[test]
 fn a_hundred_thousand_opens(rt: HostRuntime) -> Result<(), Fail> {
-    let mut bytes = vec![in rt.alloc(); 0x5fu8; 200_000]?;
-    for byte in bytes.iter_mut().skip(100_000) {
-        *byte = 0xff;
-    }
-    let mut space = [0; 2];
-    let mut decoder = calls::decoder(bytes.as_slice());
-    let mut encoder = calls::encoder(&mut space);
-    assert!(rt; recodes(&rt, &mut decoder, &mut encoder, 1, &mut [0; 64]).is_ok());
-    assert!(rt; encoder.into_inner().written() == [0x5f, 0xff].as_slice());
-    assert_eq!(rt; decoder.offset(), 200_000);
-    assert!(rt; decoder.into_inner().left().is_empty());
+    let bytes = opens(rt.alloc(), 100_000)?;
+    copies_opens(&rt, bytes.as_slice());
     Ok(())
 }
 
@@ -106,12 +122,8 @@ fn cut_body(rt: &impl Abort, buffer: &mut [u8], want: Fault, offset: usize) {
     let mut space = [0; 8];
     let mut decoder = calls::decoder(b"\x66\xffabc");
     let mut encoder = calls::encoder(&mut space);
-    let fault = match recodes(rt, &mut decoder, &mut encoder, 1, buffer) {
-        Err(RecodeError::Read(Error::Io(EndOfFile))) => Some(Fault::Short),
-        Err(RecodeError::Read(Error::Syntax(place))) => Some(Fault::Syntax(place)),
-        _ => None,
-    };
-    assert!(rt; fault == Some(want));
+    let answer = copies_slice(rt, &mut decoder, &mut encoder, buffer);
+    assert!(rt; is_fault(answer, Some(want)));
     assert!(rt; encoder.into_inner().written() == [0x66].as_slice());
     assert_eq!(rt; decoder.offset(), offset);
 }

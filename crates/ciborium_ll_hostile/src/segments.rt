@@ -1,9 +1,11 @@
 use crate::calls::{
-    bytes_of, drains_bytes, drains_text, failing_decoder, failing_encoder, text_of,
+    bytes_of, decoded, drains_bytes, drains_text, failing_decoder, failing_encoder, holds, pulls,
+    text_of,
 };
 use ciborium_ll::laws::{self, End};
-use ciborium_ll::{Bytes, Decoder, Encoder, Error, Header, RecodeError, Segment, Text};
+use ciborium_ll::{Bytes, Decoder, Encoder, Error, Header, RecodeError, Segment, Segments, Text};
 use ciborium_ll_fixtures::devices::{DeviceFault, Failing, FailingReader, FailingWriter};
+use ciborium_ll_fixtures::plain::Title;
 use ciborium_ll_fixtures::samples;
 use ciborium_ll_fixtures::tape::{Body, Drained, Sink, Stop, Tape, Walk};
 use std::alloc::Global;
@@ -33,7 +35,7 @@ fn add_planned(count: &mut usize, stop: Stop) {
 
 // How bytes are read: each segment by buffers of two sizes in turn, chunk by chunk or by drains of two chunks, and on
 // behind the call that fails, or no further.
-#[derive(Clone, Copy, Debug)]
+#[derive(Clone, Copy)]
 struct Way {
     sizes: [usize; 2],
     drains: bool,
@@ -66,18 +68,32 @@ fn is_stop(error: &Error<DeviceFault>, want: Stop) -> bool {
     }
 }
 
+type Chunk<'a> = Result<Option<&'a [u8]>, Error<DeviceFault>>;
+
+// A chunk is the one that is wanted.
+fn is_chunk(chunk: &Chunk<'_>, want: Option<&[u8]>) -> bool {
+    match want {
+        Some(bytes) => matches!(chunk, Ok(Some(chunk)) if *chunk == bytes),
+        None => matches!(chunk, Ok(None)),
+    }
+}
+
+// No chunk is there, for this reason.
+fn is_no_chunk(chunk: &Chunk<'_>, want: Stop) -> bool {
+    matches!(chunk, Err(error) if is_stop(error, want))
+}
+
 type Drain = Result<laws::Drained, RecodeError<DeviceFault, DeviceFault>>;
 
 // A drain ended as is wanted.
 fn is_drained(drain: &Drain, want: Drained) -> bool {
-    match drain {
-        Ok(drained) if drained.end == End::Ended => want == Drained::Ended,
-        Ok(_) => want == Drained::OutOfSizes,
-        Err(RecodeError::Read(error)) => {
-            matches!(want, Drained::Unread(stop) if is_stop(error, stop))
+    match want {
+        Drained::Ended => matches!(drain, Ok(drained) if drained.end == End::Ended),
+        Drained::OutOfSizes => matches!(drain, Ok(drained) if drained.end == End::OutOfSizes),
+        Drained::Unread(stop) => {
+            matches!(drain, Err(RecodeError::Read(error)) if is_stop(error, stop))
         }
-        Err(RecodeError::Write(DeviceFault::Planned)) => want == Drained::Unwritten,
-        Err(RecodeError::Write(DeviceFault::Short)) => false,
+        Drained::Unwritten => matches!(drain, Err(RecodeError::Write(DeviceFault::Planned))),
     }
 }
 
@@ -85,7 +101,7 @@ fn is_drained(drain: &Drain, want: Drained) -> bool {
 trait Chunks {
     fn due(&self) -> usize;
 
-    fn chunk<'a>(&mut self, buffer: &'a mut [u8]) -> Result<Option<&'a [u8]>, Error<DeviceFault>>;
+    fn chunk<'a>(&mut self, buffer: &'a mut [u8]) -> Chunk<'a>;
 
     fn drain<A: Abort>(
         &mut self,
@@ -100,7 +116,7 @@ impl Chunks for Segment<'_, FailingReader<'_>, Bytes> {
         self.left()
     }
 
-    fn chunk<'a>(&mut self, buffer: &'a mut [u8]) -> Result<Option<&'a [u8]>, Error<DeviceFault>> {
+    fn chunk<'a>(&mut self, buffer: &'a mut [u8]) -> Chunk<'a> {
         self.pull(buffer)
     }
 
@@ -119,7 +135,7 @@ impl Chunks for Segment<'_, FailingReader<'_>, Text> {
         self.left()
     }
 
-    fn chunk<'a>(&mut self, buffer: &'a mut [u8]) -> Result<Option<&'a [u8]>, Error<DeviceFault>> {
+    fn chunk<'a>(&mut self, buffer: &'a mut [u8]) -> Chunk<'a> {
         Ok(self.pull(buffer)?.map(|text| text.as_bytes()))
     }
 
@@ -133,22 +149,53 @@ impl Chunks for Segment<'_, FailingReader<'_>, Text> {
     }
 }
 
+// How a call went on.
+#[derive(Clone, Copy)]
+enum Step {
+    Done,
+    Ended,
+    Stopped(Stop),
+}
+
+// Reads a chunk, and tells what was due.
+fn reads_chunk<S: Chunks>(
+    rt: &impl Abort,
+    segment: &mut S,
+    body: &mut Body,
+    tape: &mut Tape<'_>,
+    buffer: &mut [u8],
+) -> Step {
+    let want = body.pull(tape, buffer.len());
+    let chunk = segment.chunk(buffer);
+    match want {
+        Ok(bytes) => {
+            assert!(rt; is_chunk(&chunk, bytes), "another chunk");
+            if bytes.is_some() {
+                Step::Done
+            } else {
+                Step::Ended
+            }
+        }
+        Err(stop) => {
+            assert!(rt; is_no_chunk(&chunk, stop), "another end of a chunk");
+            Step::Stopped(stop)
+        }
+    }
+}
+
 // Reads a segment to its end, or to its second error.
 fn reads_chunks<S: Chunks>(rt: &impl Abort, segment: &mut S, mut body: Body, run: &mut Run<'_>) {
     let mut buffer = [0; 64];
     let mut errors = 0usize;
     for call in 0..256usize {
         let size = run.way.sizes[call % 2].min(64);
-        let want = body.pull(&mut run.tape, size);
-        match (segment.chunk(&mut buffer[..size]), want) {
-            (Ok(Some(chunk)), Ok(Some(bytes))) => assert_eq!(rt; chunk, bytes),
-            (Ok(None), Ok(None)) => break,
-            (Err(error), Err(stop)) => {
-                assert!(rt; is_stop(&error, stop));
+        match reads_chunk(rt, segment, &mut body, &mut run.tape, &mut buffer[..size]) {
+            Step::Done => {}
+            Step::Ended => break,
+            Step::Stopped(stop) => {
                 add_planned(&mut run.seen.segments, stop);
                 errors = errors.saturating_add(1);
             }
-            _ => panic!(rt; "another answer at chunk {call}"),
         }
         assert_eq!(rt; segment.due(), body.left());
         if run.stops(errors) {
@@ -205,33 +252,110 @@ fn reads_segment<S: Chunks>(
     Ok(())
 }
 
-// Reads a text to its end, or to its second error.
-fn reads_text(
+// The segments of a string of either kind.
+trait Strings {
+    // The next segment is there, and is read.
+    fn reads_next<A: Abort>(
+        &mut self,
+        rt: &A,
+        body: Body,
+        run: &mut Run<'_>,
+        writer: &mut Encoder<FailingWriter<'_>>,
+    ) -> Result<Step, Fail>;
+
+    // Whether the string has ended.
+    fn ends(&mut self) -> bool;
+
+    // Whether a pull fails as is wanted.
+    fn fails(&mut self, want: Stop) -> bool;
+}
+
+impl Strings for Segments<'_, FailingReader<'_>, Bytes> {
+    fn reads_next<A: Abort>(
+        &mut self,
+        rt: &A,
+        body: Body,
+        run: &mut Run<'_>,
+        writer: &mut Encoder<FailingWriter<'_>>,
+    ) -> Result<Step, Fail> {
+        let Ok(Some(mut segment)) = self.pull() else {
+            panic!(rt; "no segment of bytes");
+        };
+        reads_segment(rt, &mut segment, body, run, writer)?;
+        Ok(Step::Done)
+    }
+
+    fn ends(&mut self) -> bool {
+        matches!(self.pull(), Ok(None))
+    }
+
+    fn fails(&mut self, want: Stop) -> bool {
+        matches!(self.pull(), Err(error) if is_stop(&error, want))
+    }
+}
+
+impl Strings for Segments<'_, FailingReader<'_>, Text> {
+    fn reads_next<A: Abort>(
+        &mut self,
+        rt: &A,
+        body: Body,
+        run: &mut Run<'_>,
+        writer: &mut Encoder<FailingWriter<'_>>,
+    ) -> Result<Step, Fail> {
+        let Ok(Some(mut segment)) = self.pull() else {
+            panic!(rt; "no segment of a text");
+        };
+        reads_segment(rt, &mut segment, body, run, writer)?;
+        Ok(Step::Done)
+    }
+
+    fn ends(&mut self) -> bool {
+        matches!(self.pull(), Ok(None))
+    }
+
+    fn fails(&mut self, want: Stop) -> bool {
+        matches!(self.pull(), Err(error) if is_stop(&error, want))
+    }
+}
+
+// Reads the next segment, and tells what was due.
+fn reads_next<S: Strings>(
     rt: &impl Abort,
-    decoder: &mut Decoder<FailingReader<'_>>,
-    length: Option<usize>,
+    segments: &mut S,
+    walk: &mut Walk,
+    run: &mut Run<'_>,
+    writer: &mut Encoder<FailingWriter<'_>>,
+) -> Result<Step, Fail> {
+    match walk.next(&mut run.tape) {
+        Ok(Some(body)) => segments.reads_next(rt, body, run, writer),
+        Ok(None) => {
+            assert!(rt; segments.ends(), "no end of a string");
+            Ok(Step::Ended)
+        }
+        Err(stop) => {
+            assert!(rt; segments.fails(stop), "another end of a string");
+            Ok(Step::Stopped(stop))
+        }
+    }
+}
+
+// Reads a string to its end, or to its second error.
+fn reads_string<S: Strings>(
+    rt: &impl Abort,
+    segments: &mut S,
     mut walk: Walk,
     run: &mut Run<'_>,
     writer: &mut Encoder<FailingWriter<'_>>,
 ) -> Result<(), Fail> {
-    let mut segments = text_of(rt, decoder, length);
     let mut errors = 0usize;
     for _ in 0..256usize {
-        match (segments.pull(), walk.next(&mut run.tape)) {
-            (Ok(Some(mut segment)), Ok(Some(body))) => reads_segment(
-                rt,
-                &mut segment,
-                body,
-                run,
-                writer,
-            )?,
-            (Ok(None), Ok(None)) => break,
-            (Err(error), Err(stop)) => {
-                assert!(rt; is_stop(&error, stop));
+        match reads_next(rt, segments, &mut walk, run, writer)? {
+            Step::Done => {}
+            Step::Ended => break,
+            Step::Stopped(stop) => {
                 add_planned(&mut run.seen.strings, stop);
                 errors = errors.saturating_add(1);
             }
-            _ => panic!(rt; "another answer of a text"),
         }
         if run.stops(errors) {
             break;
@@ -240,39 +364,48 @@ fn reads_text(
     Ok(())
 }
 
-// Reads a byte string as `reads_text` does a text.
-fn reads_bytes(
+// Whether a pull gives this title.
+fn is_pulled(decoder: &mut Decoder<FailingReader<'_>>, want: Header) -> bool {
+    match pulls(decoder) {
+        Ok(header) => header == want,
+        Err(_) => false,
+    }
+}
+
+// Whether a pull of a title fails as is wanted.
+fn is_refused(decoder: &mut Decoder<FailingReader<'_>>, want: Stop) -> bool {
+    match pulls(decoder) {
+        Ok(_) => false,
+        Err(error) => is_stop(&error, want),
+    }
+}
+
+// Reads the string that a title begins, if it does.
+fn reads_body(
     rt: &impl Abort,
     decoder: &mut Decoder<FailingReader<'_>>,
-    length: Option<usize>,
-    mut walk: Walk,
+    title: Title,
     run: &mut Run<'_>,
     writer: &mut Encoder<FailingWriter<'_>>,
 ) -> Result<(), Fail> {
-    let mut segments = bytes_of(rt, decoder, length);
-    let mut errors = 0usize;
-    for _ in 0..256usize {
-        match (segments.pull(), walk.next(&mut run.tape)) {
-            (Ok(Some(mut segment)), Ok(Some(body))) => reads_segment(
-                rt,
-                &mut segment,
-                body,
-                run,
-                writer,
-            )?,
-            (Ok(None), Ok(None)) => break,
-            (Err(error), Err(stop)) => {
-                assert!(rt; is_stop(&error, stop));
-                add_planned(&mut run.seen.strings, stop);
-                errors = errors.saturating_add(1);
-            }
-            _ => panic!(rt; "another answer of a byte string"),
-        }
-        if run.stops(errors) {
-            break;
-        }
+    let walk = Walk::new(title);
+    match title.header() {
+        Header::Text(length) => reads_string(
+            rt,
+            &mut text_of(rt, decoder, length),
+            walk,
+            run,
+            writer,
+        ),
+        Header::Bytes(length) => reads_string(
+            rt,
+            &mut bytes_of(rt, decoder, length),
+            walk,
+            run,
+            writer,
+        ),
+        _ => Ok(()),
     }
-    Ok(())
 }
 
 // Reads the next title, and the string that it begins, if it does. It tells whether no whole title was there.
@@ -282,36 +415,17 @@ fn reads_element(
     run: &mut Run<'_>,
     writer: &mut Encoder<FailingWriter<'_>>,
 ) -> Result<bool, Fail> {
-    match (decoder.pull(), run.tape.title()) {
-        (Ok(header), Ok(title)) => {
-            assert!(rt; header == title.header());
-            match header {
-                Header::Text(length) => reads_text(
-                    rt,
-                    decoder,
-                    length,
-                    Walk::new(title),
-                    run,
-                    writer,
-                )?,
-                Header::Bytes(length) => reads_bytes(
-                    rt,
-                    decoder,
-                    length,
-                    Walk::new(title),
-                    run,
-                    writer,
-                )?,
-                _ => {}
-            }
+    match run.tape.title() {
+        Ok(title) => {
+            assert!(rt; is_pulled(decoder, title.header()), "another title");
+            reads_body(rt, decoder, title, run, writer)?;
             Ok(false)
         }
-        (Err(error), Err(stop)) => {
-            assert!(rt; is_stop(&error, stop));
+        Err(stop) => {
+            assert!(rt; is_refused(decoder, stop), "another end of a title");
             add_planned(&mut run.seen.titles, stop);
             Ok(stop == Stop::Short)
         }
-        _ => panic!(rt; "another title"),
     }
 }
 
@@ -337,11 +451,8 @@ fn reads(
     };
     for _ in 0..256usize {
         let is_short = reads_element(rt, &mut decoder, &mut run, &mut encoder)?;
-        assert_eq!(rt;
-            decoder.offset(),
-            run.tape.offset(),
-            "in {bytes:?}, at {failing:?}, by {way:?}"
-        );
+        let is_right = decoder.offset() == run.tape.offset();
+        holds(rt, is_right, read.min(write), bytes);
         if run.stops(0) || is_short && run.tape.has_ended() {
             break;
         }
@@ -350,7 +461,12 @@ fn reads(
     let reader = decoder.into_inner();
     let writer = encoder.into_inner();
     assert_eq!(rt; offset.saturating_add(reader.left().len()), bytes.len());
-    assert_eq!(rt; writer.written(), run.sink.taken(), "in {bytes:?}");
+    holds(
+        rt,
+        writer.written() == run.sink.taken(),
+        read.min(write),
+        bytes,
+    );
     let has_failed = reader.has_failed() || writer.has_failed();
     assert_eq!(rt; has_failed, run.seen != NOWHERE);
     Ok(run.seen)
@@ -397,7 +513,7 @@ fn each_fails(
 // Each call fails in turn over all samples.
 fn each_fails_in_samples(rt: &impl Abort, alloc: Global, drains: bool) -> Result<(), Fail> {
     for (_, hex) in samples::all(alloc)? {
-        let bytes = hex::decode(alloc, hex)?;
+        let bytes = decoded(alloc, hex)?;
         for sizes in SIZES {
             let way = Way {
                 sizes,
@@ -421,6 +537,31 @@ fn each_call_fails_under_drains_of_segments(rt: HostRuntime) -> Result<(), Fail>
     each_fails_in_samples(&rt, rt.alloc(), true)
 }
 
+// Over some bytes the call that fails comes so often under a pull of a title, of a string and of a segment, and under a
+// write.
+fn fails_so_often(
+    rt: &impl Abort,
+    alloc: Global,
+    bytes: &[u8],
+    way: Way,
+    counts: [usize; 4],
+) -> Result<(), Fail> {
+    let [titles, strings, segments, writes] = counts;
+    let reads = Seen {
+        titles,
+        strings,
+        segments,
+        writes: 0,
+    };
+    let seen = each_fails(rt, alloc, bytes, false, way)?;
+    assert!(rt; seen == reads, "the reads of {bytes:?}");
+    let writes = if way.drains { writes } else { 0 };
+    let want = Seen { writes, ..NOWHERE };
+    let seen = each_fails(rt, alloc, bytes, true, way)?;
+    assert!(rt; seen == want, "the writes of {bytes:?}");
+    Ok(())
+}
+
 // How many reads there are under a pull of a title, the one at the end included, of a string and of a segment, and how
 // many writes of a drain.
 #[test]
@@ -434,25 +575,14 @@ fn the_calls_of_strings(rt: HostRuntime) -> Result<(), Fail> {
         (b"\x78\x0dHello, World!", [7, 7], [3, 0, 2, 2]),
         (b"\x60\x40\xff", [7, 7], [4, 0, 0, 0]),
     ];
-    for (bytes, sizes, [titles, strings, segments, writes]) in rows {
+    for (bytes, sizes, counts) in rows {
         for drains in [false, true] {
             let way = Way {
                 sizes,
                 drains,
                 goes_on: true,
             };
-            let reads = Seen {
-                titles,
-                strings,
-                segments,
-                writes: 0,
-            };
-            let seen = each_fails(&rt, rt.alloc(), bytes, false, way)?;
-            assert_eq!(rt; seen, reads, "in {bytes:?}");
-            let seen = each_fails(&rt, rt.alloc(), bytes, true, way)?;
-            let writes = if drains { writes } else { 0 };
-            let want = Seen { writes, ..NOWHERE };
-            assert_eq!(rt; seen, want, "in {bytes:?}");
+            fails_so_often(&rt, rt.alloc(), bytes, way, counts)?;
         }
     }
     Ok(())
