@@ -17,6 +17,16 @@ use std::alloc::{AllocError, Global};
 use std::io;
 use std::test::Fail;
 
+// The bytes that digits say.
+fn decoded(alloc: Global, hex: &str) -> Result<Vec<u8>, Fail> {
+    Ok(hex::decode(alloc, hex)?)
+}
+
+// The first bytes, as many as are told. There are as many.
+fn front_of(bytes: &[u8], length: usize) -> &[u8] {
+    bytes.get(..length).unwrap_or(&[])
+}
+
 // What `run` writes for an input.
 fn answers(alloc: Global, input: &[u8]) -> Result<Vec<u8>, ToolError> {
     let mut output = Vec::new(alloc);
@@ -306,10 +316,14 @@ fn whole_or_out_of_memory(rt: HostRuntime) -> Result<(), Fail> {
 // Reads a word as bytes, and compares them. No bytes are wanted of what is no word.
 fn is_read_as(alloc: Global, word: &str, want: Option<&[u8]>) -> Result<bool, AllocError> {
     let bytes = bytes_of(alloc, word)?;
-    match (&bytes, want) {
-        (Some(bytes), Some(want)) => Ok(bytes.as_slice() == want),
-        (None, None) => Ok(true),
-        _ => Ok(false),
+    Ok(are_bytes(&bytes, want))
+}
+
+// Bytes that may be there are those that are wanted.
+fn are_bytes(bytes: &Option<Vec<u8>>, want: Option<&[u8]>) -> bool {
+    match want {
+        Some(want) => matches!(bytes, Some(bytes) if bytes.as_slice() == want),
+        None => bytes.is_none(),
     }
 }
 

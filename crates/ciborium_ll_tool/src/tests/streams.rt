@@ -1,7 +1,8 @@
 // Copies of raw bytes between streams that move few bytes a call, or fail at one, beside a plain reading.
 
 use super::copies::{self, End, long_elements};
-use ciborium_ll_fixtures::plain::{self, Fault};
+use super::{decoded, front_of};
+use ciborium_ll_fixtures::plain::{self, Copied, Fault};
 use ciborium_ll_fixtures::samples;
 use ciborium_ll_fixtures::streams::{PartReader, PartWriter};
 use std::alloc::Global;
@@ -61,6 +62,29 @@ fn end_of_write(kind: Option<io::ErrorKind>) -> End {
     }
 }
 
+// A row holds. The message says at which call, and in which bytes.
+fn holds(rt: &impl Abort, is_right: bool, call: usize, bytes: &[u8]) {
+    assert!(rt; is_right, "at {call} of {bytes:?}");
+}
+
+// What was written is what a plain reading gives, and it was flushed.
+fn is_flushed(ended: &Ended, want: &Copied) -> bool {
+    let is_written = ended.sink.taken.as_slice() == want.output.as_slice();
+    is_written && ended.sink.flushes == 1 && ended.flushed == End::Done
+}
+
+// A copy whose reader was interrupted tells it, and stops within a title or a body.
+fn is_interrupted(ended: &Ended, want: &Copied) -> bool {
+    let is_short = matches!(want.fault, Some(Fault::Short | Fault::ShortAndDamaged));
+    is_short && ended.copied == End::Read(INTERRUPTED)
+}
+
+// A copy ended as a plain reading says, and no byte behind the last element is gone but those that were read ahead.
+fn is_whole(is_buffered: bool, ended: &Ended, want: &Copied) -> bool {
+    let goes_on = is_buffered || ended.copied != End::Done || ended.given == want.offset;
+    goes_on && is_answer(ended.copied, want.fault)
+}
+
 // A reader gives few bytes a call, and is interrupted at one. What is written is just what the bytes give that came
 // before, and the writer is flushed. It tells whether that call came.
 fn stops_reading(
@@ -73,38 +97,33 @@ fn stops_reading(
 ) -> Result<bool, Fail> {
     let (count, bytes) = row;
     let source = PartReader::new(bytes, most).failing_at(call, INTERRUPTED);
-    let ended = copies(
-        is_buffered,
-        count,
-        bytes,
-        source,
-        PartWriter::new(alloc, most),
-    );
+    let sink = PartWriter::new(alloc, most);
+    let ended = copies(is_buffered, count, bytes, source, sink);
     let has_failed = ended.reads >= call;
-    let front = bytes.get(..ended.given).unwrap_or(&[]);
-    let want = plain::copy(alloc, false, count, if has_failed { front } else { bytes })?;
-    assert!(rt;
-        ended.sink.taken.as_slice() == want.output.as_slice(),
-        "at {call} of {bytes:?}"
-    );
-    assert_eq!(rt; ended.sink.flushes, 1);
-    assert!(rt; ended.flushed == End::Done);
-    if has_failed {
-        assert!(rt;
-            ended.copied == End::Read(INTERRUPTED),
-            "at {call} of {bytes:?}"
-        );
-        assert!(rt; matches!(want.fault, Some(Fault::Short | Fault::ShortAndDamaged)));
+    let length = if has_failed { ended.given } else { bytes.len() };
+    let want = plain::copy(alloc, false, count, front_of(bytes, length))?;
+    let is_right = if has_failed {
+        is_interrupted(&ended, &want)
     } else {
-        assert!(rt;
-            is_answer(ended.copied, want.fault),
-            "at {call} of {bytes:?}"
-        );
-        // No byte behind the last element is gone but those that were read ahead.
-        let is_whole = ended.copied == End::Done && !is_buffered;
-        assert!(rt; !is_whole || ended.given == want.offset, "in {bytes:?}");
-    }
+        is_whole(is_buffered, &ended, &want)
+    };
+    holds(rt, is_right && is_flushed(&ended, &want), call, bytes);
     Ok(has_failed)
+}
+
+// What was written are the first bytes, so many, of what a plain reading gives.
+fn is_front(ended: &Ended, want: &Copied, length: usize) -> bool {
+    want.output.as_slice().get(..length) == Some(ended.sink.taken.as_slice())
+}
+
+// A copy whose writer failed tells it. So few bytes are kept back to the end, so that the flush of a buffered copy has
+// the fault, and not the copy.
+fn is_unwritten(is_buffered: bool, ended: &Ended, want: &Copied, fault: End) -> bool {
+    if is_buffered {
+        ended.flushed == fault && is_answer(ended.copied, want.fault)
+    } else {
+        ended.flushed == End::Done && ended.copied == fault
+    }
 }
 
 // A writer takes one byte a call, and at one call none, or is interrupted there. What it took are the first bytes of
@@ -122,44 +141,82 @@ fn stops_writing(
     let ended = copies(is_buffered, count, bytes, PartReader::new(bytes, 64), sink);
     let want = plain::copy(alloc, false, count, bytes)?;
     let has_failed = ended.sink.calls >= call;
-    let length = if has_failed {
-        call.saturating_sub(1)
+    let is_right = if has_failed {
+        let is_due = is_front(&ended, &want, call.saturating_sub(1));
+        is_due && is_unwritten(is_buffered, &ended, &want, end_of_write(kind))
     } else {
-        want.output.len()
+        let is_due = is_front(&ended, &want, want.output.len());
+        is_due && ended.flushed == End::Done && is_answer(ended.copied, want.fault)
     };
-    assert!(rt;
-        want.output.as_slice().get(..length) == Some(ended.sink.taken.as_slice()),
-        "at {call} of {bytes:?}"
-    );
-    // So few bytes are kept back to the end, so that the flush has the fault, and not the copy.
-    let is_right = if !has_failed {
-        ended.flushed == End::Done && is_answer(ended.copied, want.fault)
-    } else if is_buffered {
-        ended.flushed == end_of_write(kind) && is_answer(ended.copied, want.fault)
-    } else {
-        ended.flushed == End::Done && ended.copied == end_of_write(kind)
-    };
-    assert!(rt; is_right, "at {call} of {bytes:?}");
+    holds(rt, is_right, call, bytes);
     Ok(has_failed)
+}
+
+// Each read is interrupted in turn, until none is.
+fn interrupts_reads(
+    rt: &impl Abort,
+    alloc: Global,
+    is_buffered: bool,
+    row: (usize, &[u8]),
+    most: usize,
+) -> Result<(), Fail> {
+    let mut last = 0usize;
+    for call in 1..64usize {
+        if !stops_reading(rt, alloc, is_buffered, row, most, call)? {
+            break;
+        }
+        last = call;
+    }
+    let (count, bytes) = row;
+    holds(rt, last < 63 && (last > 0 || count == 0), last, bytes);
+    Ok(())
+}
+
+// The same through readers of each kind, buffered or not.
+fn interrupts_sample(rt: &impl Abort, alloc: Global, count: usize, hex: &str) -> Result<(), Fail> {
+    let bytes = decoded(alloc, hex)?;
+    for most in [1, 2, 3, 64usize] {
+        interrupts_reads(rt, alloc, false, (count, bytes.as_slice()), most)?;
+        interrupts_reads(rt, alloc, true, (count, bytes.as_slice()), most)?;
+    }
+    Ok(())
 }
 
 #[test]
 fn each_read_of_a_raw_copy_is_interrupted(rt: HostRuntime) -> Result<(), Fail> {
     for (count, hex) in samples::copies(rt.alloc())? {
-        let bytes = hex::decode(rt.alloc(), hex)?;
-        let row = (count, bytes.as_slice());
-        for is_buffered in [false, true] {
-            for most in [1, 2, 3, 64usize] {
-                let mut last = 0usize;
-                for call in 1..64usize {
-                    if !stops_reading(&rt, rt.alloc(), is_buffered, row, most, call)? {
-                        break;
-                    }
-                    last = call;
-                }
-                assert!(rt; last < 63 && (last > 0 || count == 0), "{hex}");
-            }
+        interrupts_sample(&rt, rt.alloc(), count, hex)?;
+    }
+    Ok(())
+}
+
+// Each write fails in turn, until none does.
+fn fails_writes(
+    rt: &impl Abort,
+    alloc: Global,
+    is_buffered: bool,
+    row: (usize, &[u8]),
+    kind: Option<io::ErrorKind>,
+) -> Result<(), Fail> {
+    let mut last = 0usize;
+    for call in 1..64usize {
+        if !stops_writing(rt, alloc, is_buffered, row, kind, call)? {
+            break;
         }
+        last = call;
+    }
+    let (count, bytes) = row;
+    let want = plain::copy(alloc, false, count, bytes)?;
+    holds(rt, last == want.output.len(), last, bytes);
+    Ok(())
+}
+
+// The same in each way, buffered or not.
+fn fails_sample(rt: &impl Abort, alloc: Global, count: usize, hex: &str) -> Result<(), Fail> {
+    let bytes = decoded(alloc, hex)?;
+    for kind in [None, Some(INTERRUPTED)] {
+        fails_writes(rt, alloc, false, (count, bytes.as_slice()), kind)?;
+        fails_writes(rt, alloc, true, (count, bytes.as_slice()), kind)?;
     }
     Ok(())
 }
@@ -167,23 +224,52 @@ fn each_read_of_a_raw_copy_is_interrupted(rt: HostRuntime) -> Result<(), Fail> {
 #[test]
 fn each_write_of_a_raw_copy_fails(rt: HostRuntime) -> Result<(), Fail> {
     for (count, hex) in samples::copies(rt.alloc())? {
-        let bytes = hex::decode(rt.alloc(), hex)?;
-        let row = (count, bytes.as_slice());
-        for is_buffered in [false, true] {
-            for kind in [None, Some(INTERRUPTED)] {
-                let mut last = 0usize;
-                for call in 1..64usize {
-                    if !stops_writing(&rt, rt.alloc(), is_buffered, row, kind, call)? {
-                        break;
-                    }
-                    last = call;
-                }
-                let want = plain::copy(rt.alloc(), false, count, row.1)?;
-                assert_eq!(rt; last, want.output.len(), "{hex}");
-            }
-        }
+        fails_sample(&rt, rt.alloc(), count, hex)?;
     }
     Ok(())
+}
+
+// A long copy whose read of this number is interrupted. It tells whether that call came.
+fn stops_reading_on(rt: &impl Abort, alloc: Global, bytes: &[u8], call: usize) -> bool {
+    let source = PartReader::new(bytes, 1_000).failing_at(call, INTERRUPTED);
+    let ended = copies(true, 5_001, bytes, source, PartWriter::new(alloc, 1_000));
+    let taken = ended.sink.taken.as_slice();
+    let has_failed = ended.reads >= call;
+    let is_right = if has_failed {
+        // A title is of at most three bytes, and a part of the body of 64.
+        ended.copied == End::Read(INTERRUPTED) && ended.given.saturating_sub(taken.len()) < 64
+    } else {
+        ended.copied == End::Done && taken == bytes
+    };
+    let is_front = bytes.starts_with(taken) && ended.flushed == End::Done;
+    assert!(rt; is_right && is_front, "at {call}");
+    has_failed
+}
+
+// A write that is interrupted is told once: as the fault of the copy, or as that of the flush.
+fn is_told_once(copied: End, flushed: End) -> bool {
+    let fault = End::Write(INTERRUPTED);
+    if copied == End::Done {
+        flushed == fault
+    } else {
+        copied == fault && flushed == End::Done
+    }
+}
+
+// The same of a write.
+fn stops_writing_on(rt: &impl Abort, alloc: Global, bytes: &[u8], call: usize) -> bool {
+    let sink = PartWriter::new(alloc, 1_000).failing_at(call, Some(INTERRUPTED));
+    let ended = copies(true, 5_001, bytes, PartReader::new(bytes, 1_000), sink);
+    let taken = ended.sink.taken.as_slice();
+    let has_failed = ended.sink.calls >= call;
+    let is_right = if ended.copied == End::Done && ended.flushed == End::Done {
+        !has_failed && taken == bytes
+    } else {
+        is_told_once(ended.copied, ended.flushed)
+    };
+    let is_cut = bytes.starts_with(taken) && (taken.len() < bytes.len()) == has_failed;
+    assert!(rt; is_right && is_cut, "at {call}");
+    has_failed
 }
 
 // Bytes that pass what is read ahead and kept back several times over, in their shortest spelling. Each call of a
@@ -192,41 +278,18 @@ fn each_write_of_a_raw_copy_fails(rt: HostRuntime) -> Result<(), Fail> {
 fn each_call_of_a_long_copy_fails(rt: HostRuntime) -> Result<(), Fail> {
     let bytes = long_elements(rt.alloc())?;
     let bytes = bytes.as_slice();
-    let mut last = [0usize; 2];
+    let mut last_read = 0usize;
+    let mut last_write = 0usize;
     for call in 1..100usize {
-        let source = PartReader::new(bytes, 1_000).failing_at(call, INTERRUPTED);
-        let sink = PartWriter::new(rt.alloc(), 1_000);
-        let ended = copies(true, 5_001, bytes, source, sink);
-        let taken = ended.sink.taken.as_slice();
-        assert!(rt; bytes.starts_with(taken) && ended.flushed == End::Done);
-        if ended.reads >= call {
-            last[0] = call;
-            assert!(rt; ended.copied == End::Read(INTERRUPTED));
-            // A title is of at most three bytes, and a part of the body of 64.
-            assert!(rt; ended.given.saturating_sub(taken.len()) < 64);
-        } else {
-            assert!(rt; ended.copied == End::Done && taken == bytes);
+        if stops_reading_on(&rt, rt.alloc(), bytes, call) {
+            last_read = call;
         }
-    }
-    for call in 1..100usize {
-        let sink = PartWriter::new(rt.alloc(), 1_000).failing_at(call, Some(INTERRUPTED));
-        let source = PartReader::new(bytes, 1_000);
-        let ended = copies(true, 5_001, bytes, source, sink);
-        let taken = ended.sink.taken.as_slice();
-        assert!(rt; bytes.starts_with(taken));
-        let has_failed = ended.sink.calls >= call;
-        if has_failed {
-            last[1] = call;
+        if stops_writing_on(&rt, rt.alloc(), bytes, call) {
+            last_write = call;
         }
-        let is_right = match (ended.copied, ended.flushed) {
-            (End::Done, End::Done) => !has_failed && taken == bytes,
-            (End::Write(kind), End::Done) | (End::Done, End::Write(kind)) => kind == INTERRUPTED,
-            _ => false,
-        };
-        assert!(rt; is_right, "at {call}");
-        assert_eq!(rt; taken.len() < bytes.len(), has_failed, "at {call}");
     }
     // Each call came that it takes to move 35,003 bytes.
-    assert!(rt; last[0] >= 35 && last[1] >= 35 && last[0] < 99 && last[1] < 99);
+    assert!(rt; last_read >= 35 && last_read < 99);
+    assert!(rt; last_write >= 35 && last_write < 99);
     Ok(())
 }
