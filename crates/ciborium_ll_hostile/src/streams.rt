@@ -1,4 +1,4 @@
-use crate::calls::{holds, recodes};
+use crate::calls::{decoded, front_of, holds, recodes};
 use ciborium_ll::io::{ReadFault, StdReader, StdWriter, WriteFault};
 use ciborium_ll::{Decoder, Encoder, Error, RecodeError};
 use ciborium_ll_fixtures::plain::{self, Fault};
@@ -57,21 +57,12 @@ fn stops_reading(
     let outcome = recodes(rt, &mut decoder, &mut encoder, count, &mut [0; 64]);
     let offset = decoder.offset();
     let has_failed = decoder.into_inner().into_inner().calls >= call;
-    let front = if has_failed {
-        bytes.get(..offset).unwrap_or(&[])
-    } else {
-        bytes
-    };
-    let want = plain::copy(alloc, false, count, front)?;
+    let length = if has_failed { offset } else { bytes.len() };
+    let want = plain::copy(alloc, false, count, front_of(bytes, length))?;
     let taken = encoder.into_inner().into_inner().taken;
-    assert!(rt; taken.as_slice() == want.output.as_slice());
-    assert_eq!(rt; offset, want.offset);
-    holds(
-        rt,
-        is_read_answer(outcome, has_failed, want.fault),
-        call,
-        bytes,
-    );
+    let is_due = taken.as_slice() == want.output.as_slice() && offset == want.offset;
+    let is_right = is_due && is_read_answer(outcome, has_failed, want.fault);
+    holds(rt, is_right, call, bytes);
     Ok(has_failed)
 }
 
@@ -94,27 +85,76 @@ fn stops_writing(
         return Ok(false);
     }
     let want = plain::copy(alloc, false, count, bytes)?;
-    assert!(rt; want.output.as_slice().starts_with(sink.taken.as_slice()));
-    assert_eq!(rt; sink.taken.len().saturating_add(1), call);
-    holds(rt, is_write_answer(outcome, kind), call, bytes);
+    let taken = sink.taken.as_slice();
+    let is_due = want.output.as_slice().starts_with(taken) && taken.len().saturating_add(1) == call;
+    holds(rt, is_due && is_write_answer(outcome, kind), call, bytes);
     Ok(true)
+}
+
+// Each read is interrupted in turn, until none is.
+fn interrupts_reads(
+    rt: &impl Abort,
+    alloc: Global,
+    row: (usize, &[u8]),
+    most: usize,
+) -> Result<(), Fail> {
+    let mut last = 0usize;
+    for call in 1..64usize {
+        if !stops_reading(rt, alloc, row, most, call)? {
+            break;
+        }
+        last = call;
+    }
+    let (count, bytes) = row;
+    holds(rt, last < 63 && (last > 0 || count == 0), last, bytes);
+    Ok(())
+}
+
+// The same through readers of each kind.
+fn interrupts_sample(rt: &impl Abort, alloc: Global, count: usize, hex: &str) -> Result<(), Fail> {
+    let bytes = decoded(alloc, hex)?;
+    for most in [1, 2, 3, 64usize] {
+        interrupts_reads(rt, alloc, (count, bytes.as_slice()), most)?;
+    }
+    Ok(())
+}
+
+// Each write fails in turn, until none does.
+fn fails_writes(
+    rt: &impl Abort,
+    alloc: Global,
+    row: (usize, &[u8]),
+    kind: Option<io::ErrorKind>,
+) -> Result<(), Fail> {
+    let mut last = 0usize;
+    for call in 1..64usize {
+        if !stops_writing(rt, alloc, row, kind, call)? {
+            break;
+        }
+        last = call;
+    }
+    let (count, bytes) = row;
+    let want = plain::copy(alloc, false, count, bytes)?;
+    holds(rt, last == want.output.len(), last, bytes);
+    Ok(())
+}
+
+// The same in each way.
+fn fails_sample(rt: &impl Abort, alloc: Global, count: usize, hex: &str) -> Result<(), Fail> {
+    let bytes = decoded(alloc, hex)?;
+    fails_writes(rt, alloc, (count, bytes.as_slice()), None)?;
+    fails_writes(
+        rt,
+        alloc,
+        (count, bytes.as_slice()),
+        Some(io::ErrorKind::Interrupted),
+    )
 }
 
 #[test]
 fn each_read_of_a_stream_is_interrupted(rt: HostRuntime) -> Result<(), Fail> {
     for (count, hex) in samples::copies(rt.alloc())? {
-        let bytes = hex::decode(rt.alloc(), hex)?;
-        let row = (count, bytes.as_slice());
-        for most in [1, 2, 3, 64usize] {
-            let mut last = 0usize;
-            for call in 1..64usize {
-                if !stops_reading(&rt, rt.alloc(), row, most, call)? {
-                    break;
-                }
-                last = call;
-            }
-            assert!(rt; last < 63 && (last > 0 || count == 0), "{hex}");
-        }
+        interrupts_sample(&rt, rt.alloc(), count, hex)?;
     }
     Ok(())
 }
@@ -122,19 +162,7 @@ fn each_read_of_a_stream_is_interrupted(rt: HostRuntime) -> Result<(), Fail> {
 #[test]
 fn each_write_of_a_stream_fails(rt: HostRuntime) -> Result<(), Fail> {
     for (count, hex) in samples::copies(rt.alloc())? {
-        let bytes = hex::decode(rt.alloc(), hex)?;
-        let row = (count, bytes.as_slice());
-        for kind in [None, Some(io::ErrorKind::Interrupted)] {
-            let mut last = 0usize;
-            for call in 1..64usize {
-                if !stops_writing(&rt, rt.alloc(), row, kind, call)? {
-                    break;
-                }
-                last = call;
-            }
-            let want = plain::copy(rt.alloc(), false, count, row.1)?;
-            assert_eq!(rt; last, want.output.len(), "{hex}");
-        }
+        fails_sample(&rt, rt.alloc(), count, hex)?;
     }
     Ok(())
 }

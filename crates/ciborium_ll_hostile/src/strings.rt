@@ -1,4 +1,6 @@
-use crate::calls::{self, bytes_of, failing_decoder, failing_encoder, pulls, text_of};
+use crate::calls::{
+    self, bytes_of, decoded, failing_decoder, failing_encoder, holds, pulls, text_of,
+};
 use ciborium_ll::laws::{Drained, End};
 use ciborium_ll::{Bytes, Decoder, Encoder, Error, Header, RecodeError, Segment, Segments, Text};
 use ciborium_ll_fixtures::devices::{DeviceFault, Failing, FailingReader, FailingWriter};
@@ -33,25 +35,29 @@ fn an_affix_fails_in_a_string(rt: HostRuntime) {
     assert_eq!(rt; decoder.offset(), 3);
 }
 
-// A pull of a chunk of a text gives these characters, or the end.
+// A pull of a chunk of a text gives these characters, or the end, and so many bytes are left then.
 fn chunk_is(
     rt: &impl Abort,
     segment: &mut Segment<'_, FailingReader<'_>, Text>,
     buffer: &mut [u8],
     want: Option<&str>,
+    left: usize,
 ) {
     let got = segment.pull(buffer);
     assert!(rt; matches!(got, Ok(chunk) if chunk == want));
+    assert!(rt; segment.left() == left);
 }
 
-// A pull of a chunk of a text fails where the reader does.
+// A pull of a chunk of a text fails where the reader does, and so many bytes are left then.
 fn chunk_fails(
     rt: &impl Abort,
     segment: &mut Segment<'_, FailingReader<'_>, Text>,
     buffer: &mut [u8],
+    left: usize,
 ) {
     let got = segment.pull(buffer);
     assert!(rt; matches!(got, Err(Error::Io(DeviceFault::Planned))));
+    assert!(rt; segment.left() == left);
 }
 
 // A read that failed keeps the byte of the character that the one before it cut, and what was not read.
@@ -63,13 +69,10 @@ fn a_segment_whose_reader_fails(rt: HostRuntime) {
     let Ok(Some(mut segment)) = segments.pull() else {
         panic!(rt; "no segment");
     };
-    chunk_is(&rt, &mut segment, &mut [0; 1], Some(""));
-    assert_eq!(rt; segment.left(), 2);
-    chunk_fails(&rt, &mut segment, &mut [0; 4]);
-    assert_eq!(rt; segment.left(), 2);
-    chunk_is(&rt, &mut segment, &mut [0; 4], Some("é"));
-    assert_eq!(rt; segment.left(), 0);
-    chunk_is(&rt, &mut segment, &mut [0; 4], None);
+    chunk_is(&rt, &mut segment, &mut [0; 1], Some(""), 2);
+    chunk_fails(&rt, &mut segment, &mut [0; 4], 2);
+    chunk_is(&rt, &mut segment, &mut [0; 4], Some("é"), 0);
+    chunk_is(&rt, &mut segment, &mut [0; 4], None, 0);
 }
 
 // A segment that can't go on, since its buffer is empty or kept bytes fill it, calls the reader all the same.
@@ -82,12 +85,11 @@ fn a_segment_that_waits_is_a_call(rt: HostRuntime) {
     let Ok(Some(mut segment)) = segments.pull() else {
         panic!(rt; "no segment");
     };
-    chunk_fails(&rt, &mut segment, &mut []);
-    chunk_is(&rt, &mut segment, &mut [0; 1], Some(""));
-    chunk_fails(&rt, &mut segment, &mut [0; 1]);
-    assert_eq!(rt; segment.left(), 2);
-    chunk_is(&rt, &mut segment, &mut [0; 4], Some("é"));
-    chunk_is(&rt, &mut segment, &mut [], None);
+    chunk_fails(&rt, &mut segment, &mut [], 2);
+    chunk_is(&rt, &mut segment, &mut [0; 1], Some(""), 2);
+    chunk_fails(&rt, &mut segment, &mut [0; 1], 2);
+    chunk_is(&rt, &mut segment, &mut [0; 4], Some("é"), 0);
+    chunk_is(&rt, &mut segment, &mut [], None, 0);
 }
 
 // Strings of a definite length whose titles have no affix, and their bodies.
@@ -180,46 +182,78 @@ fn drains_on(
     reading: Failing,
     writing: Failing,
 ) -> Result<bool, Fail> {
-    let bytes = hex::decode(alloc, row.0)?;
-    let body = hex::decode(alloc, row.1)?;
+    let bytes = decoded(alloc, row.0)?;
+    let body = decoded(alloc, row.1)?;
+    Ok(drains_body(rt, bytes.as_slice(), body.as_slice(), reading, writing))
+}
+
+// The same of bytes and a body.
+fn drains_body(
+    rt: &impl Abort,
+    bytes: &[u8],
+    body: &[u8],
+    reading: Failing,
+    writing: Failing,
+) -> bool {
     let mut space = [0; 16];
-    let mut decoder = failing_decoder(bytes.as_slice(), reading);
     let mut sink = failing_encoder(&mut space, writing);
+    let (endings, has_read_failed) = drains_bytes_of(rt, bytes, reading, &mut sink);
+    let writer = sink.into_inner();
+    let has_write_failed = writer.has_failed();
+    let [first, second] = endings;
+    let is_right = is_ending(first, has_read_failed, has_write_failed);
+    holds(rt, is_right && is_ending(second, false, false), 0, bytes);
+    let written = writer.written();
+    let is_due = if has_write_failed {
+        written.len() < body.len()
+    } else {
+        written == body
+    };
+    holds(rt, is_due, written.len(), bytes);
+    has_read_failed || has_write_failed
+}
+
+// How the drains of a string end, and whether the reader failed.
+fn drains_bytes_of(
+    rt: &impl Abort,
+    bytes: &[u8],
+    reading: Failing,
+    sink: &mut Encoder<FailingWriter<'_>>,
+) -> ([Ending; 2], bool) {
+    let mut decoder = failing_decoder(bytes, reading);
     let Ok(header) = pulls(&mut decoder) else {
         panic!(rt; "no string");
     };
-    let [first, second] = drains(rt, &mut decoder, header, &mut sink);
+    let endings = drains(rt, &mut decoder, header, sink);
     let offset = decoder.offset();
     let reader = decoder.into_inner();
-    let writer = sink.into_inner();
-    let (has_read_failed, has_write_failed) = (reader.has_failed(), writer.has_failed());
-    let is_right = is_ending(first, has_read_failed, has_write_failed);
-    assert!(rt;
-        is_right && is_ending(second, false, false),
-        "the drains of {row:?}"
-    );
-    assert!(rt; has_write_failed || writer.written() == body.as_slice());
-    assert!(rt; !has_write_failed || writer.written().len() < body.len());
-    assert_eq!(rt; offset.saturating_add(reader.left().len()), bytes.len());
-    Ok(has_read_failed || has_write_failed)
+    assert!(rt; offset.saturating_add(reader.left().len()) == bytes.len());
+    (endings, reader.has_failed())
+}
+
+// Each call fails in turn over a row.
+fn each_call_fails(rt: &impl Abort, alloc: Global, row: (&str, &str)) -> Result<(), Fail> {
+    let mut reads = 0usize;
+    let mut writes = 0usize;
+    for call in 1..64usize {
+        // The first read is that of the title.
+        let read = Failing::Call(call.saturating_add(1));
+        let has_read_failed = drains_on(rt, alloc, row, read, Failing::Never)?;
+        reads = reads.saturating_add(usize::from(has_read_failed));
+        let write = Failing::Call(call);
+        let has_write_failed = drains_on(rt, alloc, row, Failing::Never, write)?;
+        writes = writes.saturating_add(usize::from(has_write_failed));
+    }
+    // Each four bytes are a read and a write. The body has two digits a byte.
+    let is_right = reads == row.1.len().div_ceil(8) && writes == reads;
+    holds(rt, is_right, reads, row.0.as_bytes());
+    Ok(())
 }
 
 #[test]
 fn each_call_fails_under_drains(rt: HostRuntime) -> Result<(), Fail> {
     for row in STRINGS {
-        let mut failed = [0usize; 2];
-        for call in 1..64usize {
-            // The first read is that of the title.
-            let read = Failing::Call(call.saturating_add(1));
-            let has_read_failed = drains_on(&rt, rt.alloc(), row, read, Failing::Never)?;
-            let write = Failing::Call(call);
-            let has_write_failed = drains_on(&rt, rt.alloc(), row, Failing::Never, write)?;
-            failed[0] = failed[0].saturating_add(usize::from(has_read_failed));
-            failed[1] = failed[1].saturating_add(usize::from(has_write_failed));
-        }
-        // Each four bytes are a read and a write. The body has two digits a byte.
-        assert_eq!(rt; failed[0], row.1.len().div_ceil(8), "{row:?}");
-        assert_eq!(rt; failed[1], failed[0], "{row:?}");
+        each_call_fails(&rt, rt.alloc(), row)?;
     }
     Ok(())
 }

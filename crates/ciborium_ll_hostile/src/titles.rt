@@ -1,54 +1,108 @@
-use crate::calls::{decoder, failing_decoder, failing_encoder, pull_fails, pulls};
+use crate::calls::{decoded, decoder, failing_decoder, failing_encoder, holds, pull_fails, pulls};
 use ciborium_ll::io::Write;
-use ciborium_ll::{Error, Header};
-use ciborium_ll_fixtures::devices::{DeviceFault, Failing};
-use ciborium_ll_fixtures::plain::{self, Fault};
+use ciborium_ll::{Decoder, Error, Header};
+use ciborium_ll_fixtures::devices::{DeviceFault, Failing, FailingReader};
+use ciborium_ll_fixtures::plain::{self, Fault, Title};
 use ciborium_ll_fixtures::samples;
+use std::alloc::Global;
 use std::process::Abort;
 use std::test::Fail;
 
-// Reads bytes as titles by a reader that fails at one call, and compares each answer with a plain reading from the
-// offset at which that call begins. It tells whether the call that fails has come.
-pub fn reads_titles(rt: &impl Abort, bytes: &[u8], failing: usize) -> bool {
-    let mut decoder = failing_decoder(bytes, Failing::Call(failing));
+// What a pull of a title gave.
+#[derive(Clone, Copy)]
+enum Pulled {
+    Header(Header),
+    Syntax(usize),
+    Short,
+    // The reader failed, as it was told to.
+    Unread,
+    Wrong,
+}
+
+// The answer that is in an outcome.
+fn pulled_of(outcome: Result<Header, Error<DeviceFault>>) -> Pulled {
+    match outcome {
+        Ok(header) => Pulled::Header(header),
+        Err(Error::Syntax(place)) => Pulled::Syntax(place),
+        Err(Error::Io(DeviceFault::Short)) => Pulled::Short,
+        Err(Error::Io(DeviceFault::Planned)) => Pulled::Unread,
+        Err(_) => Pulled::Wrong,
+    }
+}
+
+// An answer is that of a plain reading.
+fn is_plain(answer: Pulled, want: Result<Title, Fault>) -> bool {
+    match answer {
+        Pulled::Header(header) => matches!(want, Ok(title) if title.header() == header),
+        Pulled::Syntax(place) => want.err() == Some(Fault::Syntax(place)),
+        Pulled::Short => want.err() == Some(Fault::Short),
+        Pulled::Unread | Pulled::Wrong => false,
+    }
+}
+
+// Where a read failed the first byte was not read, or was read and its affix was not.
+fn is_unread(start: usize, offset: usize, calls: usize, failing: usize) -> bool {
+    let read = offset.saturating_sub(start);
+    offset >= start && read <= 1 && calls.saturating_add(read).saturating_add(1) == failing
+}
+
+// How many reads a title is.
+fn reads_of(title: Result<Title, Fault>) -> usize {
+    match title {
+        Ok(title) => title.reads(),
+        Err(_) => 1,
+    }
+}
+
+// Reads bytes as titles, and compares each answer with a plain reading from the offset at which that call begins.
+fn reads_on(
+    rt: &impl Abort,
+    decoder: &mut Decoder<FailingReader<'_>>,
+    bytes: &[u8],
+    failing: usize,
+) {
     let mut calls = 0usize;
     for _ in 0..bytes.len().saturating_add(3) {
         let start = decoder.offset();
-        let answer = pulls(&mut decoder);
+        let answer = pulled_of(pulls(decoder));
+        let offset = decoder.offset();
         let mut behind = start;
         let want = plain::next_title(bytes, &mut behind);
-        let is_right = match answer {
-            Ok(header) => matches!(want, Ok(title) if title.header() == header),
-            Err(Error::Syntax(place)) => want.err() == Some(Fault::Syntax(place)),
-            Err(Error::Io(DeviceFault::Short)) => want.err() == Some(Fault::Short),
-            // The first byte was not read, or was read and its affix was not.
-            Err(Error::Io(DeviceFault::Planned)) => {
-                let read = decoder.offset().saturating_sub(start);
-                behind = start.saturating_add(read);
-                read <= 1 && calls.saturating_add(read).saturating_add(1) == failing
-            }
-            Err(_) => false,
+        let is_right = if matches!(answer, Pulled::Unread) {
+            is_unread(start, offset, calls, failing)
+        } else {
+            is_plain(answer, want) && offset == behind
         };
-        assert!(rt; is_right, "at {start} of {bytes:?}, call {failing}");
-        assert_eq!(rt; decoder.offset(), behind, "in {bytes:?}, call {failing}");
-        calls = calls.saturating_add(want.map_or(1, |title| title.reads()));
+        holds(rt, is_right, failing, bytes);
+        calls = calls.saturating_add(reads_of(want));
         if want.err() == Some(Fault::Short) && start >= bytes.len() {
             break;
         }
     }
+}
+
+// Reads bytes as titles by a reader that fails at one call. It tells whether that call has come.
+pub fn reads_titles(rt: &impl Abort, bytes: &[u8], failing: usize) -> bool {
+    let mut decoder = failing_decoder(bytes, Failing::Call(failing));
+    reads_on(rt, &mut decoder, bytes, failing);
     let offset = decoder.offset();
     let reader = decoder.into_inner();
-    assert_eq!(rt; offset.saturating_add(reader.left().len()), bytes.len());
+    assert!(rt; offset.saturating_add(reader.left().len()) == bytes.len());
     reader.has_failed()
 }
 
 // The call of each number fails in turn, until none does. Nothing but that one answer is another one.
+fn each_read_fails(rt: &impl Abort, alloc: Global, hex: &str) -> Result<(), Fail> {
+    let bytes = decoded(alloc, hex)?;
+    let last = (1..=64usize).find(|call| !reads_titles(rt, bytes.as_slice(), *call));
+    assert!(rt; last.is_some(), "at {hex}");
+    Ok(())
+}
+
 #[test]
 fn each_read_fails_under_pull(rt: HostRuntime) -> Result<(), Fail> {
     for (_, hex) in samples::all(rt.alloc())? {
-        let bytes = hex::decode(rt.alloc(), hex)?;
-        let last = (1..=64usize).find(|call| !reads_titles(&rt, bytes.as_slice(), *call));
-        assert!(rt; last.is_some(), "at {hex}");
+        each_read_fails(&rt, rt.alloc(), hex)?;
     }
     Ok(())
 }
@@ -61,7 +115,7 @@ fn an_empty_affix_is_a_call(rt: HostRuntime) {
     let mut decoder = failing_decoder(&bytes, Failing::Empty);
     for offset in 1..=5 {
         assert!(rt; pull_fails(&mut decoder));
-        assert_eq!(rt; decoder.offset(), offset);
+        assert!(rt; decoder.offset() == offset);
     }
     assert!(rt; matches!(pulls(&mut decoder), Err(Error::Syntax(5))));
     an_empty_affix_is_written(&rt, Header::Positive(5), 5);
@@ -82,7 +136,7 @@ fn an_empty_affix_is_written(rt: &impl Abort, header: Header, first: u8) {
 fn asks_once_more(rt: &impl Abort, bytes: &[u8], call: usize, offset: usize, want: u64) {
     let mut decoder = failing_decoder(bytes, Failing::Call(call));
     assert!(rt; pull_fails(&mut decoder));
-    assert_eq!(rt; decoder.offset(), offset);
+    assert!(rt; decoder.offset() == offset);
     assert!(rt; matches!(pulls(&mut decoder), Ok(Header::Positive(number)) if number == want));
 }
 

@@ -1,3 +1,4 @@
+use crate::calls::{failing_encoder, front_of, holds};
 use ciborium_ll::io::Write;
 use ciborium_ll::laws::{Piece, write_pieces};
 use ciborium_ll::{Encoder, Float, Header};
@@ -113,43 +114,75 @@ fn fails_at(rt: &impl Abort, row: (Call, &[&[u8]]), whole: &[u8], failing: usize
     let mut space = [0; 32];
     let (call, parts) = row;
     let number = failing.saturating_add(1);
-    let mut encoder = Encoder::from(FailingWriter::new(&mut space, Failing::Call(number)));
-    let outcome = writes(&mut encoder, call);
-    if failing < parts.len() {
-        assert!(rt; matches!(outcome, Err(DeviceFault::Planned)));
-    } else {
-        assert!(rt; outcome.is_ok());
-    }
-    let goes_on = encoder.push(Header::Break);
-    assert_eq!(rt; goes_on.is_ok(), failing != parts.len());
+    let mut encoder = failing_encoder(&mut space, Failing::Call(number));
+    let written = written_of(writes(&mut encoder, call));
+    let is_right = match written {
+        Written::All => failing >= parts.len(),
+        Written::Planned => failing < parts.len(),
+        Written::Wrong => false,
+    };
+    let goes_on = pushes_break(&mut encoder) == (failing != parts.len());
+    holds(rt, is_right && goes_on, number, whole);
     let writer = encoder.into_inner();
     let count = written_before(parts, failing);
-    let front = whole.get(..count).unwrap_or(&[]);
+    let front = front_of(whole, count);
     let behind: &[u8] = if failing == parts.len() { &[] } else { &[0xff] };
-    assert_eq!(rt; front.len(), count);
-    assert!(rt;
-        writer.written().strip_prefix(front) == Some(behind),
-        "at {number} of {whole:?}"
-    );
+    let is_due = writer.written().strip_prefix(front) == Some(behind);
+    holds(rt, is_due && front.len() == count, number, whole);
+}
+
+// How a call of an encoder ended.
+#[derive(Clone, Copy)]
+enum Written {
+    All,
+    // The writer failed, as it was told to.
+    Planned,
+    Wrong,
+}
+
+// The end that is in an outcome.
+fn written_of(outcome: Result<(), DeviceFault>) -> Written {
+    match outcome {
+        Ok(()) => Written::All,
+        Err(DeviceFault::Planned) => Written::Planned,
+        Err(DeviceFault::Short) => Written::Wrong,
+    }
+}
+
+// Whether a break is written.
+fn pushes_break(encoder: &mut Encoder<FailingWriter<'_>>) -> bool {
+    encoder.push(Header::Break).is_ok()
+}
+
+// What is written are these parts.
+fn are_parts(written: &[u8], parts: &[&[u8]]) -> bool {
+    let mut rest = written;
+    for part in parts {
+        let Some(behind) = rest.strip_prefix(*part) else {
+            return false;
+        };
+        rest = behind;
+    }
+    rest.is_empty()
+}
+
+// Each write of a row fails in turn, and none.
+fn each_write_fails(rt: &impl Abort, row: (Call, &[&[u8]])) {
+    let (call, parts) = row;
+    let mut space = [0; 32];
+    let mut whole = failing_encoder(&mut space, Failing::Never);
+    assert!(rt; matches!(written_of(writes(&mut whole, call)), Written::All));
+    let writer = whole.into_inner();
+    let written = writer.written();
+    holds(rt, are_parts(written, parts), 0, written);
+    for failing in 0..=parts.len() {
+        fails_at(rt, row, written, failing);
+    }
 }
 
 #[test]
 fn each_write_fails_under_values(rt: HostRuntime) {
-    for (call, parts) in ROWS {
-        let mut space = [0; 32];
-        let mut whole = Encoder::from(FailingWriter::new(&mut space, Failing::Never));
-        assert!(rt; writes(&mut whole, call).is_ok());
-        let writer = whole.into_inner();
-        let mut rest = writer.written();
-        for part in parts {
-            let Some(behind) = rest.strip_prefix(*part) else {
-                panic!(rt; "{part:?} was not written next");
-            };
-            rest = behind;
-        }
-        assert!(rt; rest.is_empty());
-        for failing in 0..=parts.len() {
-            fails_at(&rt, (call, parts), writer.written(), failing);
-        }
+    for row in ROWS {
+        each_write_fails(&rt, row);
     }
 }
