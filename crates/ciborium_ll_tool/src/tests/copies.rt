@@ -99,40 +99,57 @@ pub fn copies_buffered<R: io::Read, W: io::Write>(
     }
 }
 
-#[test]
-fn raw_copies(rt: HostRuntime) -> Result<(), Fail> {
-    let copy = copies([0x58, 1, 1, 0].as_slice(), Vec::new(rt.alloc()), 1);
-    assert!(rt; copy.copied == End::Done);
-    assert_eq!(rt; copy.sink.as_slice(), [0x41, 1].as_slice());
-    assert_eq!(rt; copy.source, [0].as_slice());
+// A copy of one element into memory writes this, and leaves this.
+fn is_copied(alloc: Global, bytes: &[u8], written: &[u8], left: &[u8]) -> bool {
+    let copy = copies(bytes, Vec::new(alloc), 1);
+    copy.copied == End::Done && copy.sink.as_slice() == written && copy.source == left
+}
 
-    let bytes = [0x7f, 0x61, 0x61, 0x5f, 0xff];
-    let copy = copies(bytes.as_slice(), Vec::new(rt.alloc()), 1);
-    assert!(rt; matches!(copy.fault, Some(Fault::Syntax(3))));
-    assert_eq!(rt; copy.sink.as_slice(), [0x7f, 0x61, 0x61].as_slice());
+// A copy of one element into memory is refused at this place, and writes this.
+fn stops_at(alloc: Global, bytes: &[u8], place: usize, written: &[u8]) -> bool {
+    let copy = copies(bytes, Vec::new(alloc), 1);
+    let is_there = matches!(&copy.fault, Some(Fault::Syntax(found)) if *found == place);
+    is_there && copy.sink.as_slice() == written
+}
 
-    let copy = copies([].as_slice(), Vec::new(rt.alloc()), 1);
-    assert!(rt; matches!(copy.fault, Some(Fault::Read)));
-    Ok(())
+// A copy of one element into memory has too few bytes.
+fn is_unread(alloc: Global, bytes: &[u8]) -> bool {
+    let copy = copies(bytes, Vec::new(alloc), 1);
+    matches!(&copy.fault, Some(Fault::Read))
 }
 
 #[test]
-fn raw_copies_between_streams(rt: HostRuntime) -> Result<(), Fail> {
-    let slow = PartReader::new(&[0x58, 1, 1], 1);
-    let copy = copies(slow, PartWriter::new(rt.alloc(), 1), 1);
-    assert!(rt; copy.copied == End::Done);
-    assert!(rt; copy.source.left.is_empty());
-    assert_eq!(rt; copy.sink.taken.as_slice(), [0x41, 1].as_slice());
-    assert_eq!(rt; copy.sink.flushes, 1);
+fn raw_copies(rt: HostRuntime) {
+    assert!(rt; is_copied(rt.alloc(), &[0x58, 1, 1, 0], &[0x41, 1], &[0]));
+    let bytes = [0x7f, 0x61, 0x61, 0x5f, 0xff];
+    assert!(rt; stops_at(rt.alloc(), &bytes, 3, &[0x7f, 0x61, 0x61]));
+    assert!(rt; is_unread(rt.alloc(), &[]));
+}
 
-    let writer = PartWriter::new(rt.alloc(), 1).failing_to_flush();
-    let copy = copies([0].as_slice(), writer, 1);
-    assert!(rt; matches!(copy.copied, End::Write(_)));
-    assert_eq!(rt; copy.sink.taken.as_slice(), [0].as_slice());
+// A copy of one element, byte by byte, writes this and flushes it.
+fn is_copied_slowly(alloc: Global, bytes: &[u8], written: &[u8]) -> bool {
+    let copy = copies(PartReader::new(bytes, 1), PartWriter::new(alloc, 1), 1);
+    let is_written = copy.sink.taken.as_slice() == written && copy.sink.flushes == 1;
+    is_written && copy.copied == End::Done && copy.source.left.is_empty()
+}
 
-    let copy = copies([0].as_slice(), PartWriter::new(rt.alloc(), 0), 1);
-    assert!(rt; matches!(copy.fault, Some(Fault::Write)));
-    Ok(())
+// A copy of one element writes it, and its flush fails.
+fn is_unflushed(alloc: Global, bytes: &[u8]) -> bool {
+    let copy = copies(bytes, PartWriter::new(alloc, 1).failing_to_flush(), 1);
+    matches!(copy.copied, End::Write(_)) && copy.sink.taken.as_slice() == bytes
+}
+
+// A copy of one element into a writer that takes no byte fails.
+fn is_unwritten(alloc: Global, bytes: &[u8]) -> bool {
+    let copy = copies(bytes, PartWriter::new(alloc, 0), 1);
+    matches!(&copy.fault, Some(Fault::Write))
+}
+
+#[test]
+fn raw_copies_between_streams(rt: HostRuntime) {
+    assert!(rt; is_copied_slowly(rt.alloc(), &[0x58, 1, 1], &[0x41, 1]));
+    assert!(rt; is_unflushed(rt.alloc(), &[0]));
+    assert!(rt; is_unwritten(rt.alloc(), &[0]));
 }
 
 // A string and titles that are longer than a window, in their shortest spelling.
@@ -149,25 +166,33 @@ pub fn long_elements(alloc: Global) -> Result<Vec<u8>, Fail> {
     Ok(bytes)
 }
 
+// A buffered copy into memory gives the same bytes.
+fn is_same(alloc: Global, bytes: &[u8]) -> bool {
+    let copy = copies_buffered(bytes, Vec::new(alloc), 5_001);
+    let is_done = copy.copied == End::Done && copy.flushed == End::Done;
+    is_done && copy.sink.as_slice() == bytes
+}
+
+// So it does byte by byte, and flushes them.
+fn is_same_slowly(alloc: Global, bytes: &[u8]) -> bool {
+    let copy = copies_buffered(PartReader::new(bytes, 1), PartWriter::new(alloc, 1), 5_001);
+    let is_done = copy.copied == End::Done && copy.flushed == End::Done;
+    is_done && copy.sink.taken.as_slice() == bytes && copy.sink.flushes == 1
+}
+
+// Where a write fails the first bytes are written and flushed.
+fn is_front(alloc: Global, bytes: &[u8]) -> bool {
+    let copy = copies_buffered(bytes, failing_writer(alloc, 101), 5_001);
+    let has_failed = copy.copied == End::Write(TIMED_OUT) && copy.flushed == End::Done;
+    has_failed && bytes.starts_with(copy.sink.taken.as_slice()) && copy.sink.flushes == 1
+}
+
 #[test]
 fn raw_copies_through_windows(rt: HostRuntime) -> Result<(), Fail> {
     let bytes = long_elements(rt.alloc())?;
-    let bytes = bytes.as_slice();
-    let copy = copies_buffered(bytes, Vec::new(rt.alloc()), 5_001);
-    assert!(rt; copy.copied == End::Done && copy.flushed == End::Done);
-    assert!(rt; copy.sink.as_slice() == bytes);
-
-    let slow = PartReader::new(bytes, 1);
-    let copy = copies_buffered(slow, PartWriter::new(rt.alloc(), 1), 5_001);
-    assert!(rt; copy.copied == End::Done && copy.flushed == End::Done);
-    assert!(rt; copy.sink.taken.as_slice() == bytes);
-    assert_eq!(rt; copy.sink.flushes, 1);
-
-    let copy = copies_buffered(bytes, failing_writer(rt.alloc(), 101), 5_001);
-    assert!(rt; copy.copied == End::Write(TIMED_OUT));
-    assert!(rt; copy.flushed == End::Done);
-    assert!(rt; bytes.starts_with(copy.sink.taken.as_slice()));
-    assert_eq!(rt; copy.sink.flushes, 1);
+    assert!(rt; is_same(rt.alloc(), bytes.as_slice()));
+    assert!(rt; is_same_slowly(rt.alloc(), bytes.as_slice()));
+    assert!(rt; is_front(rt.alloc(), bytes.as_slice()));
     Ok(())
 }
 
@@ -194,6 +219,37 @@ fn flushes_once(
     Ok(is_word && copy.sink.taken.as_slice() == want && copy.sink.flushes == 1)
 }
 
+// A copy writes this and flushes it once, and ends by this word.
+fn is_flushed(
+    alloc: Global,
+    row: (usize, &[u8]),
+    flush_fails: bool,
+    want: &[u8],
+    word: &str,
+) -> Result<bool, Fail> {
+    let (count, bytes) = row;
+    let copy = copies(bytes, flushed_writer(alloc, flush_fails), count);
+    flushes_once(alloc, copy, want, word)
+}
+
+// The same of a buffered copy, whose flush ends so.
+fn is_flushed_buffered(
+    alloc: Global,
+    row: (usize, &[u8]),
+    flush_fails: bool,
+    want: &[u8],
+    word: &str,
+) -> Result<bool, Fail> {
+    let (count, bytes) = row;
+    let end = if flush_fails {
+        End::Write(io::ErrorKind::Other)
+    } else {
+        End::Done
+    };
+    let copy = copies_buffered(bytes, flushed_writer(alloc, flush_fails), count);
+    Ok(copy.flushed == end && flushes_once(alloc, copy, want, word)?)
+}
+
 // However a copy ends, its writer is flushed once, behind all that was written. Where the flush fails, its own fault is
 // told, unless the copy has one.
 #[test]
@@ -204,10 +260,9 @@ fn copies_flush_once(rt: HostRuntime) -> Result<(), Fail> {
         (2, &[0, 0x43, 1], &[0, 0x43], "read", "read"),
     ];
     for (count, bytes, want, word, word_unflushed) in rows {
-        let copy = copies(bytes, flushed_writer(rt.alloc(), false), count);
-        assert!(rt; flushes_once(rt.alloc(), copy, want, word)?, "at {bytes:?}");
-        let copy = copies(bytes, flushed_writer(rt.alloc(), true), count);
-        let is_right = flushes_once(rt.alloc(), copy, want, word_unflushed)?;
+        let is_right = is_flushed(rt.alloc(), (count, bytes), false, want, word)?;
+        assert!(rt; is_right, "at {bytes:?}");
+        let is_right = is_flushed(rt.alloc(), (count, bytes), true, want, word_unflushed)?;
         assert!(rt; is_right, "at {bytes:?}, unflushed");
     }
     Ok(())
@@ -220,12 +275,11 @@ fn buffered_copies_flush_once(rt: HostRuntime) -> Result<(), Fail> {
         (2, &[0, 0x1f], &[0], "syntax 1"),
         (2, &[0, 0x43, 1], &[0, 0x43], "read"),
     ];
-    let ends = [(false, End::Done), (true, End::Write(io::ErrorKind::Other))];
     for (count, bytes, want, word) in rows {
-        for (flush_fails, end) in ends {
-            let copy = copies_buffered(bytes, flushed_writer(rt.alloc(), flush_fails), count);
-            assert!(rt; copy.flushed == end, "at {bytes:?}");
-            assert!(rt; flushes_once(rt.alloc(), copy, want, word)?, "at {bytes:?}");
+        for flush_fails in [false, true] {
+            let row = (count, bytes);
+            let is_right = is_flushed_buffered(rt.alloc(), row, flush_fails, want, word)?;
+            assert!(rt; is_right, "at {bytes:?}");
         }
     }
     Ok(())
@@ -252,27 +306,36 @@ fn ends_of_one<R: io::Read + Drop, W: io::Write + Drop>(source: R, sink: W) -> (
     (copy.copied, copy.flushed)
 }
 
+// Whether a read that fails at this call is told.
+fn tells_read(alloc: Global, call: usize) -> bool {
+    let copied = end_of_one(failing_reader(call), Vec::new(alloc));
+    let (buffered, _) = ends_of_one(failing_reader(call), Vec::new(alloc));
+    copied == End::Read(TIMED_OUT) && buffered == End::Read(TIMED_OUT)
+}
+
+// Whether a write that fails at this call is told, of a buffered copy by its flush.
+fn tells_write(alloc: Global, call: usize) -> bool {
+    let writer = failing_writer(alloc, call).failing_to_flush();
+    let copied = end_of_one([0x42, 1, 2].as_slice(), writer);
+    let (buffered, flushed) = ends_of_one([0x42, 1, 2].as_slice(), failing_writer(alloc, call));
+    let is_flush = buffered == End::Done && flushed == End::Write(TIMED_OUT);
+    is_flush && copied == End::Write(TIMED_OUT)
+}
+
+// Whether an end of the bytes is told.
+fn tells_end(alloc: Global) -> bool {
+    let copied = end_of_one([0x42, 1].as_slice(), Vec::new(alloc));
+    let (buffered, _) = ends_of_one([0x42, 1].as_slice(), Vec::new(alloc));
+    copied == End::Short && buffered == End::Short
+}
+
 #[test]
-fn raw_hands_faults_on(rt: HostRuntime) -> Result<(), Fail> {
+fn raw_hands_faults_on(rt: HostRuntime) {
     for call in 1..=3_usize {
-        let copied = end_of_one(failing_reader(call), Vec::new(rt.alloc()));
-        assert!(rt; copied == End::Read(TIMED_OUT));
-        let (copied, _) = ends_of_one(failing_reader(call), Vec::new(rt.alloc()));
-        assert!(rt; copied == End::Read(TIMED_OUT));
-
-        let writer = failing_writer(rt.alloc(), call).failing_to_flush();
-        let copied = end_of_one([0x42, 1, 2].as_slice(), writer);
-        assert!(rt; copied == End::Write(TIMED_OUT));
-
-        let writer = failing_writer(rt.alloc(), call);
-        let (copied, flushed) = ends_of_one([0x42, 1, 2].as_slice(), writer);
-        assert!(rt; copied == End::Done && flushed == End::Write(TIMED_OUT));
+        assert!(rt; tells_read(rt.alloc(), call));
+        assert!(rt; tells_write(rt.alloc(), call));
     }
-    let copied = end_of_one([0x42, 1].as_slice(), Vec::new(rt.alloc()));
-    assert!(rt; copied == End::Short);
-    let (copied, _) = ends_of_one([0x42, 1].as_slice(), Vec::new(rt.alloc()));
-    assert!(rt; copied == End::Short);
+    assert!(rt; tells_end(rt.alloc()));
     let (copied, flushed) = ends_of_one([0].as_slice(), PartWriter::new(rt.alloc(), 0));
     assert!(rt; copied == End::Done && flushed == End::Zero);
-    Ok(())
 }
