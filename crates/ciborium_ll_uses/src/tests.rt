@@ -10,6 +10,8 @@ use crate::{
 };
 use ciborium_ll::io::{EndOfFile, OutOfSpace, Read, SliceReader, SliceWriter};
 use ciborium_ll::{Decoder, Encoder, Error, Header, RecodeError};
+use std::alloc::Global;
+use std::process::Abort;
 use std::test::Fail;
 
 // What a sum is, with the offset behind it.
@@ -230,36 +232,46 @@ fn fault_of(error: TextError<EndOfFile>) -> Fault {
     }
 }
 
+// Bytes, a limit, and the text or why there is none.
+static TEXTS: [(&[u8], usize, Result<&str, Fault>); 15] = [
+    (b"\x65hello!", 5, Ok("hello")),
+    (b"\x65hello", 4, Err(Fault::TooLong)),
+    (b"\x60", 0, Ok("")),
+    // segments, an empty one, and a text within the text
+    (b"\x7f\x62ab\x60\x61c\xff", 3, Ok("abc")),
+    (b"\x7f\x62ab\x60\x61c\xff", 2, Err(Fault::TooLong)),
+    (b"\x7f\x7f\x61a\xff\x61b\xff", 2, Ok("ab")),
+    (b"\x7f\xff", 0, Ok("")),
+    // as many empty segments as are taken, and one more
+    (b"\x7f\x60\x60\xff", 1, Ok("")),
+    (b"\x7f\x60\x60\x60\xff", 1, Err(Fault::TooLong)),
+    // a character, and one that is cut between two segments
+    (b"\x62\xc3\xa9", 2, Ok("\u{e9}")),
+    (b"\x7f\x61\xc3\x61\xa9\xff", 9, Err(Fault::Syntax(1))),
+    (b"\x61\xff", 9, Err(Fault::Syntax(0))),
+    // bytes in place of a text, alone and within
+    (b"\x43abc", 9, Err(Fault::NoText(0))),
+    (b"\x7f\x41a\xff", 9, Err(Fault::Syntax(1))),
+    (b"\x62a", 9, Err(Fault::Short)),
+];
+
+fn is_read_as(given: &Result<String, Fault>, want: Result<&str, Fault>) -> bool {
+    match given {
+        Ok(text) => matches!(want, Ok(wanted) if wanted == text.as_str()),
+        Err(fault) => matches!(want, Err(wanted) if wanted == *fault),
+    }
+}
+
+fn text_row(rt: &impl Abort, alloc: Global, bytes: &[u8], limit: usize, want: Result<&str, Fault>) {
+    let mut decoder = Decoder::from(SliceReader::new(bytes));
+    let given = read_string(alloc, &mut decoder, limit).map_err(fault_of);
+    assert!(rt; is_read_as(&given, want), "at {bytes:?}");
+}
+
 #[test]
 fn texts(rt: HostRuntime) {
-    let rows: [(&[u8], usize, Result<&str, Fault>); 15] = [
-        (b"\x65hello!", 5, Ok("hello")),
-        (b"\x65hello", 4, Err(Fault::TooLong)),
-        (b"\x60", 0, Ok("")),
-        // segments, an empty one, and a text within the text
-        (b"\x7f\x62ab\x60\x61c\xff", 3, Ok("abc")),
-        (b"\x7f\x62ab\x60\x61c\xff", 2, Err(Fault::TooLong)),
-        (b"\x7f\x7f\x61a\xff\x61b\xff", 2, Ok("ab")),
-        (b"\x7f\xff", 0, Ok("")),
-        // as many empty segments as are taken, and one more
-        (b"\x7f\x60\x60\xff", 1, Ok("")),
-        (b"\x7f\x60\x60\x60\xff", 1, Err(Fault::TooLong)),
-        // a character, and one that is cut between two segments
-        (b"\x62\xc3\xa9", 2, Ok("\u{e9}")),
-        (b"\x7f\x61\xc3\x61\xa9\xff", 9, Err(Fault::Syntax(1))),
-        (b"\x61\xff", 9, Err(Fault::Syntax(0))),
-        // bytes in place of a text, alone and within
-        (b"\x43abc", 9, Err(Fault::NoText(0))),
-        (b"\x7f\x41a\xff", 9, Err(Fault::Syntax(1))),
-        (b"\x62a", 9, Err(Fault::Short)),
-    ];
-    for (bytes, limit, want) in rows {
-        let mut decoder = Decoder::from(SliceReader::new(bytes));
-        match (read_string(rt.alloc(), &mut decoder, limit), want) {
-            (Ok(text), Ok(wanted)) => assert_eq!(rt; text.as_str(), wanted),
-            (Err(error), Err(wanted)) => assert_eq!(rt; fault_of(error), wanted),
-            _ => assert!(rt; false),
-        }
+    for &(bytes, limit, want) in &TEXTS {
+        text_row(&rt, rt.alloc(), bytes, limit, want);
     }
 }
 
