@@ -1,9 +1,10 @@
-//! Bytes of CBOR. A long table is given as a vector: a proof of who goes over a constant looks at each of its rows.
+//! Bytes of CBOR. The tables are statics: a proof of who goes over a constant looks at each of its rows.
 
 use ciborium_ll::{Float, Header};
 use std::alloc::{AllocError, Global};
 
-static VECTORS: [(&str, Header); 54] = [
+/// Titles of one header each, the shortest of that header, as hexadecimal digits.
+pub static VECTORS: [(&str, Header); 54] = [
     ("00", Header::Positive(0)),
     ("01", Header::Positive(1)),
     ("0a", Header::Positive(10)),
@@ -168,7 +169,8 @@ pub const TWENTY_FIVE: &str = "98190102030405060708090a0b0c0d0e0f101112131415161
 pub const TWENTY_FIVE_AND_BREAK: &str =
     "9f0102030405060708090a0b0c0d0e0f101112131415161718181819ff";
 
-static LONGER_TITLES: [(&str, Header, &str); 5] = [
+/// Titles that are longer than their headers need, and the shortest ones.
+pub static LONGER_TITLES: [(&str, Header, &str); 5] = [
     ("1805", Header::Positive(5), "05"),
     ("f810", Header::Simple(16), "f0"),
     ("5805", Header::Bytes(Some(5)), "45"),
@@ -176,7 +178,8 @@ static LONGER_TITLES: [(&str, Header, &str); 5] = [
     ("780d", Header::Text(Some(13)), "6d"),
 ];
 
-static COPIES: [(usize, &str); 24] = [
+/// Bytes, whole and broken, and how many elements a copy of them is asked for.
+pub static COPIES: [(usize, &str); 24] = [
     (1, "5f5f580101ffff"),
     (0, "5f5f580101ffff"),
     (1, "7f61615fff"),
@@ -203,45 +206,21 @@ static COPIES: [(usize, &str); 24] = [
     (1, "7f626162ff"),
 ];
 
-/// Titles of one header each, the shortest of that header, as hexadecimal digits. This and what follows fail where
-/// there is no memory.
-pub fn vectors(alloc: Global) -> Result<Vec<(&'static str, Header)>, AllocError> {
-    let mut rows = Vec::new(alloc);
-    rows.extend_from_slice(&VECTORS)?;
-    Ok(rows)
-}
-
-/// Titles that are longer than their headers need, and the shortest ones.
-pub fn longer_titles(
-    alloc: Global,
-) -> Result<Vec<(&'static str, Header, &'static str)>, AllocError> {
-    let mut rows = Vec::new(alloc);
-    rows.extend_from_slice(&LONGER_TITLES)?;
-    Ok(rows)
-}
-
-/// Bytes, whole and broken, and how many elements a copy of them is asked for.
-pub fn copies(alloc: Global) -> Result<Vec<(usize, &'static str)>, AllocError> {
-    let mut rows = Vec::new(alloc);
-    rows.extend_from_slice(&COPIES)?;
-    Ok(rows)
-}
-
 /// The digits of all of these, each with how many elements a copy of it is asked for: those that it has, or those of
-/// its row.
+/// its row. It fails where there is no memory.
 pub fn all(alloc: Global) -> Result<Vec<(usize, &'static str)>, AllocError> {
     let mut all = vec![in alloc; (26, TWENTY_FIVE), (27, TWENTY_FIVE_AND_BREAK)]?;
-    for (hex, _) in vectors(alloc)? {
+    for &(hex, _) in &VECTORS {
         all.push((1, hex))?;
     }
     for &(hex, headers) in &LISTS {
         all.push((headers.len(), hex))?;
     }
-    for (hex, _, _) in longer_titles(alloc)? {
+    for &(hex, _, _) in &LONGER_TITLES {
         all.push((1, hex))?;
     }
-    for row in copies(alloc)? {
-        all.push(row)?;
+    for row in &COPIES {
+        all.push(*row)?;
     }
     Ok(all)
 }

@@ -4,7 +4,9 @@ use ciborium_ll::laws::copy_headers;
 use ciborium_ll::{Decoder, Encoder, Error, RecodeError};
 use ciborium_ll_fixtures::devices::{DeviceFault, Failing, FailingReader, FailingWriter};
 use ciborium_ll_fixtures::plain::{self, Copied, Fault};
-use ciborium_ll_fixtures::samples::{self, LISTS, TWENTY_FIVE, TWENTY_FIVE_AND_BREAK};
+use ciborium_ll_fixtures::samples::{
+    COPIES, LISTS, LONGER_TITLES, TWENTY_FIVE, TWENTY_FIVE_AND_BREAK, VECTORS,
+};
 use std::alloc::Global;
 use std::process::Abort;
 use std::test::Fail;
@@ -257,10 +259,10 @@ fn each_call_fails(
 
 // Each call fails in turn over titles alone and in a row.
 fn each_call_fails_in_titles(rt: &impl Abort, alloc: Global, kind: Kind) -> Result<(), Fail> {
-    for (hex, _) in samples::vectors(alloc)? {
+    for &(hex, _) in &VECTORS {
         each_call_fails(rt, alloc, kind, 1, hex)?;
     }
-    for (hex, headers) in LISTS {
+    for &(hex, headers) in &LISTS {
         each_call_fails(rt, alloc, kind, headers.len(), hex)?;
     }
     each_call_fails(rt, alloc, kind, 27, TWENTY_FIVE)?;
@@ -269,7 +271,7 @@ fn each_call_fails_in_titles(rt: &impl Abort, alloc: Global, kind: Kind) -> Resu
 
 #[test]
 fn each_call_fails_under_copies_of_headers(rt: HostRuntime) -> Result<(), Fail> {
-    for (hex, _, _) in samples::longer_titles(rt.alloc())? {
+    for &(hex, _, _) in &LONGER_TITLES {
         each_call_fails(&rt, rt.alloc(), Kind::Headers, 2, hex)?;
     }
     each_call_fails_in_titles(&rt, rt.alloc(), Kind::Headers)
@@ -277,7 +279,7 @@ fn each_call_fails_under_copies_of_headers(rt: HostRuntime) -> Result<(), Fail> 
 
 #[test]
 fn each_call_fails_under_copies_of_elements(rt: HostRuntime) -> Result<(), Fail> {
-    for (count, hex) in samples::copies(rt.alloc())? {
+    for &(count, hex) in &COPIES {
         each_call_fails(&rt, rt.alloc(), Kind::Elements, count, hex)?;
     }
     each_call_fails_in_titles(&rt, rt.alloc(), Kind::Elements)

@@ -5,7 +5,7 @@ use crate::vectors::{Next, next_header};
 use ciborium_ll::io::{Read, SliceReader, SliceWriter};
 use ciborium_ll::recode::strict_len;
 use ciborium_ll::{Decoder, Encoder, Header};
-use ciborium_ll_fixtures::samples;
+use ciborium_ll_fixtures::samples::VECTORS;
 use std::alloc::Global;
 use std::process::Abort;
 use std::test::Fail;
@@ -187,7 +187,7 @@ fn vector_row(rt: &impl Abort, alloc: Global, title: &[u8], header: Header) -> R
 #[test]
 fn vectors_and_their_longer_titles(rt: HostRuntime) -> Result<(), Fail> {
     let mut all = 0usize;
-    for (hex, header) in samples::vectors(rt.alloc())? {
+    for &(hex, header) in &VECTORS {
         let shortest = hex::decode(rt.alloc(), hex)?;
         let longer = vector_row(&rt, rt.alloc(), shortest.as_slice(), header)?;
         all = all.saturating_add(longer);

@@ -1,6 +1,8 @@
 use ciborium_ll::io::{SliceReader, SliceWriter};
 use ciborium_ll::{Decoder, Encoder, Error, Header};
-use ciborium_ll_fixtures::samples::{self, LISTS, TWENTY_FIVE, TWENTY_FIVE_AND_BREAK};
+use ciborium_ll_fixtures::samples::{
+    LISTS, LONGER_TITLES, TWENTY_FIVE, TWENTY_FIVE_AND_BREAK, VECTORS,
+};
 use std::alloc::{AllocError, Global};
 use std::process::Abort;
 use std::test::Fail;
@@ -103,7 +105,7 @@ fn goes_both_ways(
 
 #[test]
 fn single_titles(rt: HostRuntime) -> Result<(), Fail> {
-    for (hex, header) in samples::vectors(rt.alloc())? {
+    for &(hex, header) in &VECTORS {
         goes_both_ways(&rt, rt.alloc(), hex, &[header])?;
         assert!(rt; header.title_len() == hex.len() / 2, "at {hex}");
     }
@@ -112,7 +114,7 @@ fn single_titles(rt: HostRuntime) -> Result<(), Fail> {
 
 #[test]
 fn titles_in_a_row(rt: HostRuntime) -> Result<(), Fail> {
-    for (hex, want) in LISTS {
+    for &(hex, want) in &LISTS {
         goes_both_ways(&rt, rt.alloc(), hex, want)?;
     }
     Ok(())
@@ -135,7 +137,7 @@ fn twenty_five_items(rt: HostRuntime) -> Result<(), Fail> {
 
 #[test]
 fn longer_titles(rt: HostRuntime) -> Result<(), Fail> {
-    for (hex, header, shortest) in samples::longer_titles(rt.alloc())? {
+    for &(hex, header, shortest) in &LONGER_TITLES {
         becomes_shortest(&rt, rt.alloc(), hex, &[header], shortest)?;
     }
     Ok(())
