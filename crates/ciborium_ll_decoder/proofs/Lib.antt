@@ -1,4 +1,5 @@
 pub mod AdvanceLaws
+mod AffixReads
 pub mod BodyCopyLaws
 pub mod BodyLaws
 pub mod ChunkLaws

@@ -266,19 +266,21 @@ module _ {R E : Type 0} (source : Ghosts R E) where
 
   -- ---- the affix of a title, inside `pull`
 
-  -- the affix that a first byte announces was read
-  pub record ReadsAffix (first : ℕ) (old : Decoder R) (read : Minor) (new : Decoder R) : Type 0 where
+  -- the affix that a first byte announces was read, and it is that of this minor
+  pub record HoldsAffix (first : ℕ) (old : Decoder R) (read : Minor) (new : Decoder R) : Type 0 where
     pub is_minor : IsMinor read
     pub code : first % 32 ≡ minor_code read
     pub all : ReadsAll old (minor_affix read) new
+
+  -- it was read, and no strict decoder refuses its number
+  pub record ReadsAffix (first : ℕ) (old : Decoder R) (read : Minor) (new : Decoder R) : Type 0 where
+    pub holds : HoldsAffix first old read new
     pub taken : IsTrue old.strict → longer_parts (first / 32) read ≡ false
 
   -- it was read, and a strict decoder refused its number
   pub record RefusesAffix (first : ℕ) (old new : Decoder R) : Type 0 where
     pub read : Minor
-    pub is_minor : IsMinor read
-    pub code : first % 32 ≡ minor_code read
-    pub all : ReadsAll old (minor_affix read) new
+    pub holds : HoldsAffix first old read new
     pub strict : IsTrue old.strict
     pub longer : longer_parts (first / 32) read ≡ true
 

@@ -1,7 +1,6 @@
 //! The decoder: headers out of a reader.
 
 ghost use Rattle.std.specs.Prelude.{◌≡◌, ◌+◌, ◌≤◌, ◌<◌, ◌^◌};
-ghost use Rattle.std.specs.Int.{to_be_bytes, w8, w16, w32, w64};
 ghost use Rattle.ciborium_ll_grammar.specs.Title.{waiting_len};
 
 use ciborium_ll_grammar::hdr::table::{Affix, row_of};
@@ -57,9 +56,9 @@ impl<R: Read> From<R> for Decoder<R> {
 
 impl<R: Read> Decoder<R> {
     ghost use Rattle.std.specs.Prelude.{replicate, ◌<◌, ◌^◌, ◌%◌, IsTrue, true, ◌↔◌, None, Some};
-    ghost use Rattle.std.specs.Prelude.{Err, IfOk, MatchResult, IsErrOf};
+    ghost use Rattle.std.specs.Prelude.{Err, IfOk, MatchResult, IsErrOf, ◌/◌, ◌&&◌, if◌then◌else◌};
     ghost use Rattle.ciborium_ll_grammar.specs.Title.{title_len, IsTitle};
-    ghost use Rattle.ciborium_ll_grammar.specs.Parts.{IsParts, title_bytes};
+    ghost use Rattle.ciborium_ll_grammar.specs.Parts.{IsParts, longer_parts, title_bytes};
     ghost use Rattle.ciborium_ll_grammar.specs.TitleRows.{IsAffix};
     ghost use Rattle.ciborium_ll_decoder.specs.Decoding.{IsFresh, IsFreshAs, IsWaiting, MovesOn, PullsHeader};
     ghost use Rattle.ciborium_ll_decoder.specs.Decoding.{PullsTitle, ReadsAll, ReadsBytes};
@@ -260,20 +259,29 @@ impl<R: Read> Decoder<R> {
                 self.read(&mut [])?;
                 return Ok(Some(Minor::Small(u64::from(first % 32))));
             }
-            Affix::One => Minor::One(u64::from(one(self.affix::<1>()?))),
-            Affix::Two => Minor::Two(u64::from(two(self.affix::<2>()?))),
-            Affix::Four => Minor::Four(u64::from(four(self.affix::<4>()?))),
-            Affix::Eight => Minor::Eight(eight(self.affix::<8>()?)),
+            Affix::One => Minor::One(u64::from(u8::from_be_bytes(self.affix()?))),
+            Affix::Two => Minor::Two(u64::from(u16::from_be_bytes(self.affix()?))),
+            Affix::Four => Minor::Four(u64::from(u32::from_be_bytes(self.affix()?))),
+            Affix::Eight => Minor::Eight(u64::from_be_bytes(self.affix()?)),
             Affix::Open => {
                 self.read(&mut [])?;
                 return Ok(Some(Minor::Open));
             }
             Affix::Reserved => return Ok(None),
         };
+        Ok(self.taken(minor, first))
+    }
+
+    /// The affix behind a first byte, or nothing where a strict decoder refuses it.
+    #[inline(always)]
+    fn taken(&self, minor: Minor, first: u8) -> Option<Minor>
+        ensures taken { result ≡ (if strict_of self.now && longer_parts (first / 32) minor then None else Some minor) }
+    {
         if self.strict && minor.is_longer(first / 32) {
-            return Ok(None);
+            None
+        } else {
+            Some(minor)
         }
-        Ok(Some(minor))
     }
 
     /// Reads an affix of so many bytes. Each affix has an array of its own here, which is cleared only where it is
@@ -354,36 +362,4 @@ impl<R: Read> Read for Decoder<R> {
         }
         outcome
     }
-}
-
-/// The number in one byte.
-fn one(bytes: [u8; 1]) -> u8
-    ensures below { result < 2 ^ 8 }
-    ensures bytes { bytes ≡ to_be_bytes w8 result }
-{
-    u8::from_be_bytes(bytes)
-}
-
-/// The number in two bytes.
-fn two(bytes: [u8; 2]) -> u16
-    ensures below { result < 2 ^ 16 }
-    ensures bytes { bytes ≡ to_be_bytes w16 result }
-{
-    u16::from_be_bytes(bytes)
-}
-
-/// The number in four bytes.
-fn four(bytes: [u8; 4]) -> u32
-    ensures below { result < 2 ^ 32 }
-    ensures bytes { bytes ≡ to_be_bytes w32 result }
-{
-    u32::from_be_bytes(bytes)
-}
-
-/// The number in eight bytes.
-fn eight(bytes: [u8; 8]) -> u64
-    ensures below { result < 2 ^ 64 }
-    ensures bytes { bytes ≡ to_be_bytes w64 result }
-{
-    u64::from_be_bytes(bytes)
 }

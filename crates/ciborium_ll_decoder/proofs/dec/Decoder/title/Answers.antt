@@ -17,16 +17,16 @@ returns-in_default-clause-header g c =
           c.read.new.data none refl refl first one reserved.1 reserved.0)
       | inr refuses ↦ (
           let minor = refuses.read in
-          let h = parts_header _ minor byte refuses.is_minor refuses.longer in
-          let is = first_parts c.read.new.data minor one refuses.code in
+          let h = parts_header _ minor byte refuses.holds.is_minor refuses.longer in
+          let is = first_parts c.read.new.data minor one refuses.holds.code in
           let read = title_read g.R.Read c.args.self.now _ c.read.new.self c.minor.new.self c.read.new.data _ minor
-          none refl refl refl first refuses.all is in
+          none refl refl refl first refuses.holds.all is in
           inr (record {
             strict = search rules;
             header = h.0;
             title = parts_bytes (get_or c.read.new.data 0 0 / 32) minor;
             is_title = h.1;
-            not_strict = parts_refused _ minor h.0 byte refuses.is_minor h.1 refuses.longer;
+            not_strict = parts_refused _ minor h.0 byte refuses.holds.is_minor h.1 refuses.longer;
             place = refl;
             bytes = read.bytes;
             offset = read.offset;
@@ -47,9 +47,9 @@ returns-in-Some-header-clause-header g c =
     let minor = c.in-Some.minor in
     let header = c.in-Some-header.header in
     let t = c.in-Some-header.ensures.some in
-    let is = first_parts c.read.new.data minor one affix.code in
+    let is = first_parts c.read.new.data minor one affix.holds.code in
     let read = title_read g.R.Read c.args.self.now _ c.read.new.self c.minor.new.self c.read.new.data _ minor none
-    refl refl refl first affix.all is in
+    refl refl refl first affix.holds.all is in
     record {
       title = parts_bytes (get_or c.read.new.data 0 0 / 32) minor;
       is_title = t;
@@ -59,11 +59,12 @@ returns-in-Some-header-clause-header g c =
       failures = read.failures;
       waited = rw none tt;
       mode = read.mode;
-      strict = λ on waits. parts_taken _ minor header byte affix.is_minor t (affix.taken (rw (sym first.mode) at on));
+      strict = λ on waits. parts_taken _ minor header byte affix.holds.is_minor t
+          (affix.taken (rw (sym first.mode) at on));
     }
 
 pub header-requires-clause-kind : goal.header-requires-clause-kind
 header-requires-clause-kind g c =
     let affix = rw c.in-Some.is at c.in_ok-minor.ensures.minor in
-    subst (λ (z : ℕ). IsTitleKind c.row_of-row.result.kind (get_or c.read.new.data 0 0 / 32) z) affix.code
+    subst (λ (z : ℕ). IsTitleKind c.row_of-row.result.kind (get_or c.read.new.data 0 0 / 32) z) affix.holds.code
     c.row_of-row.ensures.kind
