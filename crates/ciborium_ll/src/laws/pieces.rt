@@ -3,6 +3,7 @@
 ghost use Rattle.std.specs.Prelude.{◌≡◌, ◌≤◌, ◌++◌, ℕ, List, length, Option};
 ghost use Rattle.std.specs.List.{All};
 ghost use Rattle.ciborium_ll_grammar.specs.Strings.{Bytes, Text};
+ghost use Rattle.ciborium_ll_grammar.specs.Title.{IsInRange};
 ghost use Rattle.ciborium_ll_grammar.specs.Elements.{Mark, IsRun, spelling};
 ghost use Rattle.ciborium_ll_encoder.specs.Encoding.{writer_of};
 ghost use Rattle.ciborium_ll_decoder.specs.Decoding.{MovesOn};
@@ -38,15 +39,18 @@ fn marked_text(value: &str)
     ensures { (segment : Option ℕ) → HasMarks Text segment value.now }
 {}
 
+/// The numbers of a header are those of its type.
+fn ranged(header: Header)
+    ensures { IsInRange header }
+{}
+
 /// Each piece has marks, and their spelling is one element.
 fn spelled_piece(piece: &Piece<'_>)
     requires { IsPlainPiece piece.now }
     ensures { IsSpelled piece.now }
 {
     match piece {
-        Piece::Header(header) => {
-            let _len = header.title_len();
-        }
+        Piece::Header(header) => ranged(*header),
         Piece::Bytes(value, _) => marked_bytes(value),
         Piece::Text(value, _) => marked_text(value),
     }

@@ -6,7 +6,7 @@ use Rattle.ciborium_ll.proofs.laws.pieces.spelled_piece.Goals as goal
 pub returns-in-Header : goal.returns-in-Header
 returns-in-Header c =
     subst IsSpelled (sym c.in-Header.is)
-    (spelled_header c.in-Header.header (subst IsPlainPiece c.in-Header.is c.requires) c.title_len-len.ensures.range)
+    (spelled_header c.in-Header.header (subst IsPlainPiece c.in-Header.is c.requires) c.ranged.ensures)
 
 pub returns-in-Bytes : goal.returns-in-Bytes
 returns-in-Bytes c = subst IsSpelled (sym c.in-Bytes.is)
