@@ -1,6 +1,6 @@
 -- Bodies that are read into a text.
-use Rattle.std.proofs.Common.{◌≡◌, ℕ, ◌<◌, ◌≤◌, List, [], ◌++◌, length, Option, None, Some, Result, Ok, Err, IfErr, IfOk}
-use Rattle.std.proofs.Common.{refl, subst, sym, ap, inr, arith, ◌∙◌, length-append}
+use Rattle.std.proofs.Common.{◌≡◌, ℕ, ◌<◌, ◌≤◌, List, [], ◌++◌, length, Option, None, Some, Result, Ok, Err}
+use Rattle.std.proofs.Common.{IfErr, IfOk, refl, subst, sym, ap, inr, arith, ◌∙◌, length-append}
 use Rattle.ciborium_ll.specs.Types.Read.{Ghosts as Reader}
 use Rattle.ciborium_ll.specs.Types.Write.{Ghosts as Writer}
 use Rattle.ciborium_ll.specs.Types.Body.{Body}
@@ -70,8 +70,8 @@ module _ {R E P : Type 0} {parser : Parser P} (source : Reader R E) where
     pub body_lacks : (chunk : List ℕ) (room : ℕ) → GivesChunk source room segment chunk new → 0 < length chunk
         → BodyStops source body first.decoder.now t.Memory new.decoder.now
     body_lacks chunk room gives some =
-        let more = so_far_chunk source onto_text first segment text now so_far room chunk new (now ++ chunk) gives steady
-        (pushes now chunk (now ++ chunk) refl) in
+        let more = so_far_chunk source onto_text first segment text now so_far room chunk new (now ++ chunk) gives
+        steady (pushes now chunk (now ++ chunk) refl) in
         let rest = more.rest in
         let parts : rest.read ≡ rest.front ++ kept_bytes new.kept =
         ap (λ (z : List ℕ). z ++ rest.read) (sym whole.kept) ∙ rest.parts in

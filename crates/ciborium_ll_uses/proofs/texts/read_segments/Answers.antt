@@ -78,7 +78,8 @@ returns-then-body-limit-clause-stops g c =
 
 pub returns-in_err-read_body-clause-stops : goal.returns-in_err-read_body-clause-stops
 returns-in_err-read_body-clause-stops g c =
-    let failed = err_from_is_err_and c.from_residual-in_err-read_body.result c.from_residual-in_err-read_body.ensures.1 in
+    let failed = err_from_is_err_and c.from_residual-in_err-read_body.result
+    c.from_residual-in_err-read_body.ensures.1 in
     let is_error = failed.1 in
     let is_same = failed.2 in
     let same : c.from_residual-in_err-read_body.result ≡ Err c.in_err-read_body.field-0.0 = cc in
