@@ -35,7 +35,7 @@ pub item_of : (d : ℕ) (t rest : List ℕ) (x : Header) → IsTitle t x → Com
 item_of d t rest x p c = subst (λ (z : List ℕ). IsItem d (t ++ z)) (append-nil rest) (more_items p c no_items)
 
 -- one item more
-items_item : (d n : ℕ) (u v : List ℕ) → AreItems d n u → IsItem d v → AreItems d (suc n) (u ++ v)
+pub items_item : (d n : ℕ) (u v : List ℕ) → AreItems d n u → IsItem d v → AreItems d (suc n) (u ++ v)
 items_item d n u v no_items i = i
 items_item d n u v (more_items {count = m} {title = t} {rest = w} {others = a} {header = x} p c others) i =
     let whole : t ++ (w ++ (a ++ v)) ≡ (t ++ (w ++ a)) ++ v =

@@ -2,3 +2,4 @@ pub mod DueLaws
 pub mod ItemSteps
 pub mod RemainingLaws
 pub mod SkippingToldLaws
+pub mod StartSteps

@@ -28,3 +28,9 @@ abbrev pub closes : Remaining → Bool
 closes r.OpenItems = true
 closes r.OpenPairs = true
 closes remaining = false
+
+-- the next item is the value of a pair
+abbrev pub is_value : Remaining → Bool
+is_value (r.Value count) = true
+is_value r.OpenValue = true
+is_value remaining = false

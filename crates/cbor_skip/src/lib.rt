@@ -12,10 +12,12 @@ pub mod laws;
 mod messages;
 mod remaining;
 
-use self::remaining::Remaining;
+pub use self::remaining::Remaining;
 use ciborium_ll::io::Read;
 use ciborium_ll::laws::{skip_bytes, skip_text};
 use ciborium_ll::{Decoder, Error, Header};
+use ciborium_ll_decoder::title::pull_title;
+use ciborium_ll_grammar::hdr::Start;
 
 /// Why no item was skipped.
 #[derive(Debug, Drop)]
@@ -44,33 +46,34 @@ fn skip_within<R: Read>(
     let mut remaining = Remaining::behind(header);
     'items: while !remaining.is_done() {
         let place = decoder.offset();
-        let next = match decoder.pull() {
-            Ok(next) => next,
+        let (next, title) = match pull_title(decoder) {
+            Ok(pulled) => pulled,
             Err(error) => return Err(SkipError::Read(error)),
         };
-        match next {
-            Header::Positive(_) | Header::Negative(_) | Header::Float(_) | Header::Simple(_) => {}
-            Header::Bytes(len) => {
+        // Of the title's parts, so that no header is made but a nest's.
+        match title.start(next) {
+            Start::Value => {}
+            Start::Bytes(len) => {
                 if let Err(error) = skip_bytes(decoder, len, buffer) {
                     return Err(SkipError::Read(error));
                 }
             }
-            Header::Text(len) => {
+            Start::Text(len) => {
                 if let Err(error) = skip_text(decoder, len, buffer) {
                     return Err(SkipError::Read(error));
                 }
             }
-            Header::Break => {
+            Start::Break => {
                 if remaining.closes() {
                     return Ok(());
                 }
                 return Err(SkipError::Break(place));
             }
-            Header::Tag(_) | Header::Array(_) | Header::Map(_) => {
+            Start::Nest(nest) => {
                 if depth == 0 {
                     return Err(SkipError::Deep(place));
                 }
-                skip_within(decoder, next, depth - 1, buffer)?;
+                skip_within(decoder, nest, depth - 1, buffer)?;
             }
         }
         remaining = remaining.after_item();

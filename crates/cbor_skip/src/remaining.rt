@@ -3,7 +3,7 @@
 ghost use Rattle.std.specs.Prelude.{◌≡◌, ℕ, suc, false};
 ghost use Rattle.ciborium_ll.specs.Types.Header.{Header as AnyHeader};
 ghost use Rattle.cbor_skip.specs.Due.{IsNest};
-ghost use Rattle.cbor_skip.specs.Remaining.{IsRemaining, closes, is_done};
+ghost use Rattle.cbor_skip.specs.Remaining.{IsRemaining, closes, is_done, is_value};
 
 use ciborium_ll::Header;
 
@@ -11,7 +11,7 @@ use ciborium_ll::Header;
 ///
 /// Pairs are counted as pairs, so that no count is greater than the one in the header.
 #[derive(Clone, Copy)]
-pub(crate) enum Remaining {
+pub enum Remaining {
     /// So many items.
     Items(usize),
     /// So many pairs.
@@ -28,7 +28,7 @@ pub(crate) enum Remaining {
 
 impl Remaining {
     /// What the header of a tag, an array or a map announces.
-    pub(crate) fn behind(header: Header) -> Remaining
+    pub fn behind(header: Header) -> Remaining
         requires { IsNest header }
         ensures { IsRemaining header 0 result }
     {
@@ -42,21 +42,28 @@ impl Remaining {
     }
 
     /// Whether nothing is due.
-    pub(crate) fn is_done(self) -> bool
+    pub fn is_done(self) -> bool
         ensures { result ≡ is_done self }
     {
         matches!(self, Remaining::Items(0) | Remaining::Pairs(0))
     }
 
     /// Whether a break may stand in place of the next item.
-    pub(crate) fn closes(self) -> bool
+    pub fn closes(self) -> bool
         ensures { result ≡ closes self }
     {
         matches!(self, Remaining::OpenItems | Remaining::OpenPairs)
     }
 
+    /// Whether the next item is the value of a pair.
+    pub fn is_value(self) -> bool
+        ensures { result ≡ is_value self }
+    {
+        matches!(self, Remaining::Value(_) | Remaining::OpenValue)
+    }
+
     /// What is due behind the next item.
-    pub(crate) fn after_item(self) -> Remaining
+    pub fn after_item(self) -> Remaining
         requires { is_done self ≡ false }
         ensures { (header : AnyHeader) (count : ℕ) → IsRemaining header count self
             → IsRemaining header (suc count) result }

@@ -22,6 +22,33 @@ fn a_call_that_fails(rt: HostRuntime) {
     }
 }
 
+// Items, the call of the reader that fails under a skip on a strict decoder, and the offset behind it. There stands
+// what such a decoder refuses, and a second skip finds it at this place.
+static STRICT: [(&[u8], usize, usize, usize); 5] = [
+    (&[0x18, 5], 1, 0, 0),
+    (&[0x5f, 0x5f, 0xff, 0xff], 1, 0, 1),
+    (&[0x82, 1, 0x18, 5], 3, 2, 2),
+    (&[0x19, 0x5f, 0x58, 0, 0xff], 2, 1, 2),
+    (&[0x5f, 0x42, 0x18, 5, 0xff], 3, 2, 2),
+];
+
+// The answers of two skips on a strict decoder, under which the call of this number fails.
+fn skips_twice(bytes: &[u8], failing: usize) -> (Answer, Answer) {
+    let mut decoder = Decoder::strict(FailingReader::new(bytes, Failing::Call(failing)));
+    let first = skipped(&mut decoder, 3);
+    let second = skipped(&mut decoder, 3);
+    (first, second)
+}
+
+// A strict decoder is strict behind a failure too.
+#[test]
+fn a_strict_decoder_goes_on(rt: HostRuntime) {
+    for &(bytes, failing, offset, place) in &STRICT {
+        let want = (Answer::Short(offset), Answer::Syntax(place));
+        assert!(rt; skips_twice(bytes, failing) == want, "at {offset}");
+    }
+}
+
 // Skips an item of one byte that comes for ever, and compares the answer.
 fn endless_row(rt: &impl Abort, byte: u8, want: Answer) {
     let mut decoder = Decoder::from(EndlessReader::new(byte));

@@ -2,6 +2,8 @@ pub mod DrainLaws
 pub mod DrainTold
 pub mod PiecesWritten
 pub mod SkipLaws
+mod StrictRunLaws
+pub mod StringReads
 pub use Rattle.ciborium_ll_text.proofs.FrontLaws
 pub use Rattle.ciborium_ll_text.proofs.Lists
 pub use Rattle.ciborium_ll_text.proofs.TextLaws

@@ -1,5 +1,6 @@
 -- A string that is read to its end.
-use Rattle.std.proofs.Common.{◌≡◌, ℕ, zero, suc, ◌+◌, ◌-◌, ◌^◌, ◌<◌, ◌⊎◌, List, [], ◌∷◌, ◌++◌, length, Option, Some}
+use Rattle.std.proofs.Common.{◌≡◌, Bool, ℕ, zero, suc, ◌+◌, ◌-◌, ◌^◌, ◌<◌, ◌⊎◌, List, [], ◌∷◌, ◌++◌, length, Option}
+use Rattle.std.proofs.Common.{Some}
 use Rattle.std.proofs.Common.{None, Result, Ok, Err, refl, sym, ap, subst, ◌∙◌, inl, inr, arith, append_assoc}
 use Rattle.std.proofs.Common.{length-append}
 use Rattle.ciborium_ll_io.specs.declared.io.Read.{Ghosts as Reader}
@@ -30,7 +31,7 @@ use Rattle.ciborium_ll_decoder.proofs.SegmentLaws.{StringSoFar, AdvancesAmong, I
 use Rattle.ciborium_ll_decoder.proofs.SegmentLaws.{opens_counted, other_inside, some_open}
 
 -- a writer that tells nothing
-abbrev silent : Writer (Unit {0}) (Unit {0})
+abbrev pub silent : Writer (Unit {0}) (Unit {0})
 silent = record {
   written = λ w. None;
   room = λ w. None;
@@ -44,7 +45,7 @@ nothing : (bytes : List ℕ) → WritesAll silent tt bytes tt
 nothing bytes = record { appended = tt; room = tt; failures = refl }
 
 -- the last break makes a string
-close_string : (k : Kind) (u : List ℕ) (bs : List (List ℕ)) → IsInsideAt k (suc zero) u bs
+pub close_string : (k : Kind) (u : List ℕ) (bs : List (List ℕ)) → IsInsideAt k (suc zero) u bs
     → IsString k (u ++ 0xff ∷ []) bs
 close_string k u bs (one_open {title = t} {strings = x} p s) = rw (append_assoc t x (0xff ∷ [])) (indefinite p s)
 close_string k u bs (more_open {outer = y} {bodies = ds} i p s) = absurd (never k y ds i)
@@ -129,16 +130,17 @@ module _ {R E : Type 0} (source : Reader R E) (k : Kind) where
 
   -- ---- a lone body
 
-  module _ (len : ℕ) (opened now new : Decoder R) (progress progress' : Progress)
+  module _ (strict : Bool) (len : ℕ) (opened now new : Decoder R) (progress progress' : Progress)
       (so_far : AloneSoFar len opened progress now) where
     -- the only answers: the body first, and then the end
-    lone_found : (result : Result (Option Body) (Error E)) → AdvancesTo source k progress now result progress' new
+    lone_found : (result : Result (Option Body) (Error E)) → AdvancesTo source k strict progress now result progress'
+        new
         → FindsOnly source k len opened result progress' new ⊎
         ((result ≡ Ok None) × ReadsRest source k [] len opened new)
     lone_found result advances = elim so_far.far [
       | inl due ↦ (
-          let from : AdvancesFrom source k 0 now result progress' new = rw due.0 at advances in
-          inl (advance_definite source k len opened now new result progress' so_far.in_range due.1 from)
+          let from : AdvancesFrom source k strict 0 now result progress' new = rw due.0 at advances in
+          inl (advance_definite source k strict len opened now new result progress' so_far.in_range due.1 from)
           )
       | inr read ↦ (
           let ended : (result ≡ Ok None) × (progress' ≡ p.Ended) × (new ≡ now) = rw read.0 at advances in
@@ -146,7 +148,8 @@ module _ {R E : Type 0} (source : Reader R E) (k : Kind) where
           )
     ]
 
-    lone_end : AdvancesTo source k progress now (Ok None) progress' new → SkipsWhole source k (Some len) opened new
+    lone_end : AdvancesTo source k strict progress now (Ok None) progress' new → SkipsWhole source k (Some len) opened
+        new
     lone_end advances = elim (lone_found (Ok None) advances) [
       | inl only ↦ absurd (let found = only.found in cc)
       | inr read ↦ (
@@ -163,7 +166,7 @@ module _ {R E : Type 0} (source : Reader R E) (k : Kind) where
           )
     ]
 
-    lone_error : (error : Error E) → AdvancesTo source k progress now (Err error) progress' new → ⊥
+    lone_error : (error : Error E) → AdvancesTo source k strict progress now (Err error) progress' new → ⊥
     lone_error error advances = elim (lone_found (Err error) advances) [
       | inl only ↦ (let found = only.found in cc)
       | inr read ↦ (let none = read.0 in cc)
@@ -177,7 +180,7 @@ module _ {R E : Type 0} (source : Reader R E) (k : Kind) where
       pub ended : progress' ≡ p.Ended
       pub rises : now.offset < new.offset
 
-    lone_body : (body : Body) → AdvancesTo source k progress now (Ok (Some body)) progress' new → LoneBody body
+    lone_body : (body : Body) → AdvancesTo source k strict progress now (Ok (Some body)) progress' new → LoneBody body
     lone_body body advances = elim (lone_found (Ok (Some body)) advances) [
       | inl only ↦ (
           let found = only.found in
@@ -236,13 +239,13 @@ module _ {R E : Type 0} (source : Reader R E) (k : Kind) where
   body_stops room opened e.TooLong ended meets = inr meets
   body_stops room opened e.Waiting ended meets = meets.ends
 
-  module _ (opened now new : Decoder R) (progress progress' : Progress)
+  module _ (strict : Bool) (opened now new : Decoder R) (progress progress' : Progress) (mode : strict ≡ opened.strict)
       (so_far : StringSoFar source silent k (sides opened tt) progress (sides now tt)) (settled : 0 < opened.offset)
       (steady : IsSteady source now → IsSteady source new) where
-    among : (result : Result (Option Body) (Error E)) → AdvancesTo source k progress now result progress' new
+    among : (result : Result (Option Body) (Error E)) → AdvancesTo source k strict progress now result progress' new
         → AdvancesAmong source silent k (sides opened tt) (sides now tt) result progress' new
-    among result advances = advances_among source silent k (sides opened tt) (sides now tt) result progress progress'
-        new so_far advances steady
+    among result advances = advances_among source silent k (sides opened tt) (sides now tt) strict result progress
+        progress' new mode so_far advances steady
 
     part_of : (left : ℕ) (between : Decoder R) → IsAmong source silent k left (sides opened tt) (sides between tt)
         → SkipsInside source k opened between
@@ -255,7 +258,7 @@ module _ {R E : Type 0} (source : Reader R E) (k : Kind) where
       passed = a.passed;
     }
 
-    open_end : AdvancesTo source k progress now (Ok None) progress' new → SkipsWhole source k None opened new
+    open_end : AdvancesTo source k strict progress now (Ok None) progress' new → SkipsWhole source k None opened new
     open_end advances =
         let all = among (Ok None) advances in
         let strings = all.among.strings in
@@ -294,7 +297,7 @@ module _ {R E : Type 0} (source : Reader R E) (k : Kind) where
         )
 
     open_error : (room : ℕ) (error : Error E) → new.offset < 2 ^ 64
-        → AdvancesTo source k progress now (Err error) progress' new → StopsInside source k room opened error new
+        → AdvancesTo source k strict progress now (Err error) progress' new → StopsInside source k room opened error new
     open_error room (e.Io fault) less advances =
         let all = among (Err (e.Io fault)) advances in
         inl (record { between = all.between; part = part_of all.left all.between all.among; fails = all.ends.0 })
@@ -306,7 +309,7 @@ module _ {R E : Type 0} (source : Reader R E) (k : Kind) where
           | inr other ↦ inr (inl (record {
             between = all.between;
             part = part;
-            other = other_inside source k all.left all.between at progress' new
+            other = other_inside source k opened.strict all.left all.between at progress' new all.among.passed.mode
                 (some_open k all.left _ _ all.among.within) other;
           }))
         ]
@@ -324,7 +327,8 @@ module _ {R E : Type 0} (source : Reader R E) (k : Kind) where
         ]
     open_error room e.Waiting less advances = absurd (let all = among (Err e.Waiting) advances in all.ends)
 
-    open_reads : (body : Body) (ended : Decoder R) → AdvancesTo source k progress now (Ok (Some body)) progress' new
+    open_reads : (body : Body) (ended : Decoder R) → AdvancesTo source k strict progress now (Ok (Some body)) progress'
+        new
         → (IsSteady source new → IsSteady source ended)
         → ReadsRest source k [] body.length new ended → StringSoFar source silent k (sides opened tt) progress'
         (sides ended tt)
@@ -335,7 +339,7 @@ module _ {R E : Type 0} (source : Reader R E) (k : Kind) where
         so_far.none_waits (among (Ok (Some body)) advances) (nothing _) whole steady'
 
     open_stops : (room : ℕ) (body : Body) (ended : Decoder R) (error : Error E)
-        → AdvancesTo source k progress now (Ok (Some body)) progress' new
+        → AdvancesTo source k strict progress now (Ok (Some body)) progress' new
         → EndsBody source k [] body.length room body.place new (Err error) ended
         → StopsInside source k room opened error ended
     open_stops room body ended error advances ends =
@@ -353,52 +357,58 @@ module _ {R E : Type 0} (source : Reader R E) (k : Kind) where
 
   -- ---- both
 
-  pub skips_end : (len : Option ℕ) (room : ℕ) (opened now new : Decoder R) (progress progress' : Progress)
-      → SkipsSoFar len opened progress now → (IsSteady source now → IsSteady source new)
-      → AdvancesTo source k progress now (Ok None) progress' new → SkipsString source k len room opened
+  pub skips_end : (strict : Bool) (len : Option ℕ) (room : ℕ) (opened now new : Decoder R)
+      (progress progress' : Progress) → strict ≡ opened.strict → SkipsSoFar len opened progress now
+      → (IsSteady source now → IsSteady source new)
+      → AdvancesTo source k strict progress now (Ok None) progress' new → SkipsString source k len room opened
       (Ok (tt {0})) new
-  skips_end None room opened now new progress progress' so_far steady advances =
-      open_end opened now new progress progress' so_far.0 so_far.1 steady advances
-  skips_end (Some len) room opened now new progress progress' so_far steady advances =
-      lone_end len opened now new progress progress' so_far advances
+  skips_end strict None room opened now new progress progress' mode so_far steady advances =
+      open_end strict opened now new progress progress' mode so_far.0 so_far.1 steady advances
+  skips_end strict (Some len) room opened now new progress progress' mode so_far steady advances =
+      lone_end strict len opened now new progress progress' so_far advances
 
-  pub skips_error : (len : Option ℕ) (room : ℕ) (opened now new : Decoder R) (progress progress' : Progress)
-      (error : Error E) → new.offset < 2 ^ 64 → SkipsSoFar len opened progress now
-      → (IsSteady source now → IsSteady source new) → AdvancesTo source k progress now (Err error) progress' new
+  pub skips_error : (strict : Bool) (len : Option ℕ) (room : ℕ) (opened now new : Decoder R)
+      (progress progress' : Progress) (error : Error E) → new.offset < 2 ^ 64 → strict ≡ opened.strict
+      → SkipsSoFar len opened progress now
+      → (IsSteady source now → IsSteady source new) → AdvancesTo source k strict progress now (Err error) progress' new
       → SkipsString source k len room opened (Err error) new
-  skips_error None room opened now new progress progress' error less so_far steady advances =
-      open_error opened now new progress progress' so_far.0 so_far.1 steady room error less advances
-  skips_error (Some len) room opened now new progress progress' error less so_far steady advances =
-      absurd (lone_error len opened now new progress progress' so_far error advances)
+  skips_error strict None room opened now new progress progress' error less mode so_far steady advances =
+      open_error strict opened now new progress progress' mode so_far.0 so_far.1 steady room error less advances
+  skips_error strict (Some len) room opened now new progress progress' error less mode so_far steady advances =
+      absurd (lone_error strict len opened now new progress progress' so_far error advances)
 
-  pub skips_body : (len : Option ℕ) (room : ℕ) (opened now new ended : Decoder R) (progress progress' : Progress)
-      (body : Body) → SkipsSoFar len opened progress now
+  pub skips_body : (strict : Bool) (len : Option ℕ) (room : ℕ) (opened now new ended : Decoder R)
+      (progress progress' : Progress) (body : Body) → strict ≡ opened.strict → SkipsSoFar len opened progress now
       → (IsSteady source now → IsSteady source new) → (IsSteady source new → IsSteady source ended)
-      → AdvancesTo source k progress now (Ok (Some body)) progress' new
+      → AdvancesTo source k strict progress now (Ok (Some body)) progress' new
       → EndsBody source k [] body.length room body.place new (Ok (tt {0})) ended → SkipsSoFar len opened progress' ended
-  skips_body None room opened now new ended progress progress' body so_far steady steady' advances reads = (
-    open_reads opened now new progress progress' so_far.0 so_far.1 steady body ended advances steady' reads,
+  skips_body strict None room opened now new ended progress progress' body mode so_far steady steady' advances reads = (
+    open_reads strict opened now new progress progress' mode so_far.0 so_far.1 steady body ended advances steady' reads,
     so_far.1,
   )
-  skips_body (Some len) room opened now new ended progress progress' body so_far steady steady' advances reads =
-      lone_reads len opened now new progress progress' so_far body ended
-      (lone_body len opened now new progress progress' so_far body advances) reads
+  skips_body strict (Some len) room opened now new ended progress progress' body mode so_far steady steady' advances
+      reads = lone_reads strict len opened now new progress progress' so_far body ended
+      (lone_body strict len opened now new progress progress' so_far body advances) reads
 
-  pub skips_stop : (len : Option ℕ) (room : ℕ) (opened now new ended : Decoder R) (progress progress' : Progress)
-      (body : Body) (error : Error E) → SkipsSoFar len opened progress now
-      → (IsSteady source now → IsSteady source new) → AdvancesTo source k progress now (Ok (Some body)) progress' new
+  pub skips_stop : (strict : Bool) (len : Option ℕ) (room : ℕ) (opened now new ended : Decoder R)
+      (progress progress' : Progress) (body : Body) (error : Error E) → strict ≡ opened.strict
+      → SkipsSoFar len opened progress now
+      → (IsSteady source now → IsSteady source new) → AdvancesTo source k strict progress now (Ok (Some body)) progress'
+      new
       → EndsBody source k [] body.length room body.place new (Err error) ended
       → SkipsString source k len room opened (Err error) ended
-  skips_stop None room opened now new ended progress progress' body error so_far steady advances ends =
-      open_stops opened now new progress progress' so_far.0 so_far.1 steady room body ended error advances ends
-  skips_stop (Some len) room opened now new ended progress progress' body error so_far steady advances ends =
-      lone_stops len opened now new progress progress' so_far room body ended error
-      (lone_body len opened now new progress progress' so_far body advances) ends
+  skips_stop strict None room opened now new ended progress progress' body error mode so_far steady advances ends =
+      open_stops strict opened now new progress progress' mode so_far.0 so_far.1 steady room body ended error advances
+      ends
+  skips_stop strict (Some len) room opened now new ended progress progress' body error mode so_far steady advances ends
+      =
+      lone_stops strict len opened now new progress progress' so_far room body ended error
+      (lone_body strict len opened now new progress progress' so_far body advances) ends
 
   -- the title of a body takes a byte
-  pub found_rises : (progress progress' : Progress) (now new : Decoder R) (body : Body)
-      → AdvancesTo source k progress now (Ok (Some body)) progress' new → now.offset < new.offset
-  found_rises (p.Open opens) progress' now new body all =
+  pub found_rises : (strict : Bool) (progress progress' : Progress) (now new : Decoder R) (body : Body)
+      → AdvancesTo source k strict progress now (Ok (Some body)) progress' new → now.offset < new.offset
+  found_rises strict (p.Open opens) progress' now new body all =
       omega (
         arith,
         all.passed.offset,
@@ -406,6 +416,6 @@ module _ {R E : Type 0} (source : Reader R E) (k : Kind) where
         title_some all.ends.pulled.title
             (kind_header k (Some body.length)) all.ends.pulled.is_title,
       )
-  found_rises p.Ended progress' now new body ended = absurd (let f = ended.0 in cc)
-  found_rises (p.Damaged at) progress' now new body ended = absurd (let f = ended.0 in cc)
-  found_rises p.TooDeep progress' now new body ended = absurd (let f = ended.0 in cc)
+  found_rises strict p.Ended progress' now new body ended = absurd (let f = ended.0 in cc)
+  found_rises strict (p.Damaged at) progress' now new body ended = absurd (let f = ended.0 in cc)
+  found_rises strict p.TooDeep progress' now new body ended = absurd (let f = ended.0 in cc)

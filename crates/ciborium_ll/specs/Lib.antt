@@ -11,6 +11,7 @@ pub use Rattle.ciborium_ll_grammar.specs.Elements
 pub use Rattle.ciborium_ll_grammar.specs.Faults
 pub use Rattle.ciborium_ll_grammar.specs.Items
 pub use Rattle.ciborium_ll_grammar.specs.Parts
+pub use Rattle.ciborium_ll_grammar.specs.StrictElements
 pub use Rattle.ciborium_ll_grammar.specs.Strings
 pub use Rattle.ciborium_ll_grammar.specs.Title
 pub use Rattle.ciborium_ll_grammar.specs.TitleRows
@@ -29,6 +30,7 @@ pub use Rattle.ciborium_ll_decoder.specs.ErrorTexts
 pub use Rattle.ciborium_ll_decoder.specs.Finishing
 pub use Rattle.ciborium_ll_decoder.specs.Kept
 pub use Rattle.ciborium_ll_decoder.specs.Lend
+pub use Rattle.ciborium_ll_decoder.specs.Progress
 pub use Rattle.ciborium_ll_decoder.specs.Recoding
 pub use Rattle.ciborium_ll_decoder.specs.RecodingTold
 pub use Rattle.ciborium_ll_decoder.specs.Segments

@@ -1,5 +1,6 @@
 -- How the titles of a string lead on, one after the other.
-use Rattle.std.proofs.Common.{Some, IsTrue, ◌≤◌, ◌≡◌, ℕ, suc, ◌+◌, ◌-◌, ◌<◌, ◌⊎◌, List, ◌++◌, length, Option, None}
+use Rattle.std.proofs.Common.{Some, Bool, IsTrue, ◌≤◌, ◌≡◌, ℕ, suc, ◌+◌, ◌-◌, ◌<◌, ◌⊎◌, List, ◌++◌, length, Option}
+use Rattle.std.proofs.Common.{None}
 use Rattle.std.proofs.Common.{Result, Ok, Err, refl, ap, subst, ◌∙◌, inl, inr, arith, add-one, length-append}
 use Rattle.ciborium_ll_io.specs.declared.io.Read.{Ghosts}
 use Rattle.ciborium_ll_decoder.specs.declared.dec.Decoder.{Decoder}
@@ -12,6 +13,7 @@ use Rattle.ciborium_ll_decoder.specs.declared.seg.Segment.{Segment}
 use Rattle.ciborium_ll_grammar.specs.Strings.{Kind, kind_header}
 use Rattle.ciborium_ll_decoder.specs.Decoding.{IsSteady, Passes}
 use Rattle.ciborium_ll_decoder.specs.Segments.{Nests, in_place, deeper, back, AdvancesFrom, AdvancesTo, EndsAdvance}
+use Rattle.ciborium_ll_decoder.specs.Progress.{opens_of}
 use Rattle.ciborium_ll_decoder.specs.Segments.{GivesAgain, StepsOver, Deepens, ClosesInner}
 use Rattle.ciborium_ll_decoder.specs.Chunks.{PullsSegment}
 use Rattle.ciborium_ll_decoder.proofs.DecodingLaws.{Passes-none, Passes-pull}
@@ -20,43 +22,43 @@ use Rattle.ciborium_ll_decoder.proofs.NestLaws.{alone_bytes, open_alone, open_le
 two_or_more : (n : ℕ) → 1 < n → (m : ℕ) × (n ≡ suc (suc m))
 two_or_more n l = (n - 2, omega arith)
 
-module _ {R E : Type 0} (source : Ghosts R E) (kind : Kind) where
+module _ {R E : Type 0} (source : Ghosts R E) (kind : Kind) (strict : Bool) where
   -- titles that led on were pulled, and so many opens aren't closed
   pub record LeadsTo (opens : ℕ) (old : Decoder R) (progress : Progress) (now : Decoder R) : Type 0 where
     pub nest : List ℕ
     pub left : ℕ
     pub nests : Nests kind opens nest left
     pub passed : Passes source old nest now
-    pub shallow : IsTrue old.strict → opens ≤ 1 → opens + length nest ≤ 1
+    pub shallow : IsTrue strict → opens + length nest ≤ 1
     pub is : progress ≡ p.Open left
 
   -- what the loop over titles keeps: they lead on or ended the string; and where it has an answer that stays, it is
   -- as before
   abbrev pub Reached : Progress → Decoder R → Progress → Decoder R → Type 0
-  Reached (p.Open opens) old progress now = LeadsTo opens old progress now ⊎ AdvancesFrom source kind opens old
+  Reached (p.Open opens) old progress now = LeadsTo opens old progress now ⊎ AdvancesFrom source kind strict opens old
       (Ok None) progress now
   Reached p.Ended old progress now = (progress ≡ p.Ended) × (now ≡ old)
   Reached (p.Damaged place) old progress now = (progress ≡ p.Damaged place) × (now ≡ old)
   Reached p.TooDeep old progress now = (progress ≡ p.TooDeep) × (now ≡ old)
 
-  pub Reached-start : (progress : Progress) (decoder : Decoder R) → Reached progress decoder progress decoder
-  Reached-start (p.Open opens) decoder = inl (record {
+  pub Reached-start : (progress : Progress) (decoder : Decoder R) → (IsTrue strict → opens_of progress ≤ 1)
+      → Reached progress decoder progress decoder
+  Reached-start (p.Open opens) decoder few = inl (record {
     nest = _;
     left = opens;
     nests = in_place;
     passed = Passes-none source decoder;
-    shallow =
-        λ on few. omega (arith, few);
+    shallow = λ on. let at_most = few on in omega (arith, at_most);
     is = refl;
   })
-  Reached-start p.Ended decoder = (refl, refl)
-  Reached-start (p.Damaged place) decoder = (refl, refl)
-  Reached-start p.TooDeep decoder = (refl, refl)
+  Reached-start p.Ended decoder few = (refl, refl)
+  Reached-start (p.Damaged place) decoder few = (refl, refl)
+  Reached-start p.TooDeep decoder few = (refl, refl)
 
   -- the nest so far, with a title that leads on
   leads_deeper : (opens left : ℕ) (old now new : Decoder R) (after : Progress)
       (led : LeadsTo opens old (p.Open left) now) → (IsSteady source now → IsSteady source new)
-      → Deepens source kind left now after new → LeadsTo opens old after new
+      → Deepens source kind strict left now after new → LeadsTo opens old after new
   leads_deeper opens left old now new after led steady step =
       let f = led.is in
       let same : led.left ≡ left = cc in
@@ -65,8 +67,8 @@ module _ {R E : Type 0} (source : Ghosts R E) (kind : Kind) where
         left = suc left;
         nests = deeper (subst (λ (z : ℕ). Nests kind opens led.nest z) same led.nests) step.pulled.is_title;
         passed = Passes-pull source old now new led.nest _ step.pulled led.passed steady;
-        shallow = λ on few.
-            let first = nests_zero kind opens led.nest led.left led.nests (same ∙ step.level (led.passed.mode ∙ on)) in
+        shallow = λ on.
+            let first = nests_zero kind opens led.nest led.left led.nests (same ∙ step.level on) in
             let one = ap length (alone_bytes step.pulled.title (kind_header kind None) step.pulled.is_title
             (open_alone kind)) in
             let none = ap length first.0 in
@@ -88,7 +90,7 @@ module _ {R E : Type 0} (source : Ghosts R E) (kind : Kind) where
         left = suc two.0;
         nests = back (subst (λ (z : ℕ). Nests kind opens led.nest z) (same ∙ two.1) led.nests) step.pulled.is_title;
         passed = Passes-pull source old now new led.nest _ step.pulled led.passed steady;
-        shallow = λ on few. let shallow = led.shallow on few in let inner = step.inner in
+        shallow = λ on. let shallow = led.shallow on in let inner = step.inner in
             absurd (omega (arith, shallow, inner, same, nests_counted kind opens led.nest led.left led.nests));
         is = step.after ∙ ap p.Open one;
       }
@@ -96,7 +98,8 @@ module _ {R E : Type 0} (source : Ghosts R E) (kind : Kind) where
   -- the nest so far, and the title that decides
   ends_from : (opens left : ℕ) (old now new : Decoder R) (result : Result (Option Body) (Error E))
       (after : Progress) → LeadsTo opens old (p.Open left) now
-      → EndsAdvance source kind left now result after new → AdvancesFrom source kind opens old result after new
+      → EndsAdvance source kind strict left now result after new → AdvancesFrom source kind strict opens old result
+      after new
   ends_from opens left old now new result after led ends =
       let f = led.is in
       let same : led.left ≡ left = cc in
@@ -111,13 +114,13 @@ module _ {R E : Type 0} (source : Ghosts R E) (kind : Kind) where
       }
 
   -- a string that has ended has no open left
-  not_ended : (opens left : ℕ) (old now : Decoder R) → AdvancesFrom source kind opens old (Ok None) (p.Open left)
+  not_ended : (opens left : ℕ) (old now : Decoder R) → AdvancesFrom source kind strict opens old (Ok None) (p.Open left)
       now → ⊥
   not_ended opens left old now all = let f = all.ends.after in cc
 
   pub Reached-step : (first : Progress) (left : ℕ) (old now new : Decoder R) (after : Progress)
       → Reached first old (p.Open left) now → (IsSteady source now → IsSteady source new)
-      → StepsOver source kind left now (Ok None) after new → Reached first old after new
+      → StepsOver source kind strict left now (Ok None) after new → Reached first old after new
   Reached-step (p.Open opens) left old now new after (inl led) steady (inl closes) =
       inr (ends_from opens left old now new (Ok None) after led closes)
   Reached-step (p.Open opens) left old now new after (inl led) steady (inr (inl deepens)) =
@@ -133,7 +136,8 @@ module _ {R E : Type 0} (source : Ghosts R E) (kind : Kind) where
   -- a title that decides gives the answer
   pub Reached-ends : (first : Progress) (left : ℕ) (old now new : Decoder R)
       (result : Result (Option Body) (Error E)) (after : Progress) → Reached first old (p.Open left) now
-      → EndsAdvance source kind left now result after new → AdvancesTo source kind first old result after new
+      → EndsAdvance source kind strict left now result after new → AdvancesTo source kind strict first old result after
+      new
   Reached-ends (p.Open opens) left old now new result after (inl led) ends =
       ends_from opens left old now new result after led ends
   Reached-ends (p.Open opens) left old now new result after (inr ended) ends =
@@ -144,16 +148,16 @@ module _ {R E : Type 0} (source : Ghosts R E) (kind : Kind) where
 
   -- behind the title of a body no header waits
   pub none_waits_for_body : (first : Progress) (old : Decoder R) (body : Body) (after : Progress) (new : Decoder R)
-      → AdvancesTo source kind first old (Ok (Some body)) after new → new.waiting ≡ None
+      → AdvancesTo source kind strict first old (Ok (Some body)) after new → new.waiting ≡ None
   none_waits_for_body (p.Open opens) old body after new advanced = advanced.ends.pulled.none_waits
   none_waits_for_body p.Ended old body after new advanced = let f = advanced.0 in cc
   none_waits_for_body (p.Damaged place) old body after new advanced = let f = advanced.0 in cc
   none_waits_for_body p.TooDeep old body after new advanced = let f = advanced.0 in cc
 
-module _ {R E P : Type 0} {parser : Parser P} (source : Ghosts R E) (kind : Kind) where
+module _ {R E P : Type 0} {parser : Parser P} (source : Ghosts R E) (kind : Kind) (strict : Bool) where
   -- what `pull` answers where an answer stays
   pub given_again : (progress : Progress) (old : Decoder R)
-      (result : Result (Option (Segment R P parser)) (Error E)) → PullsSegment source kind progress old result
+      (result : Result (Option (Segment R P parser)) (Error E)) → PullsSegment source kind strict progress old result
       → GivesAgain progress result
   given_again (p.Open opens) old result pulls = tt
   given_again p.Ended old (Ok None) pulls = refl

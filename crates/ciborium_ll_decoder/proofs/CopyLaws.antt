@@ -121,16 +121,15 @@ module _ {R E W F : Type 0} (source : Reader R E) (sink : Writer W F) where
           (first.shortest ∙ sym (append-nil (shortest_title header))) (first.meant, tt);
     }
 
-    plain_unwritten : (header : Header) (title : List ℕ) (after : W) (fault : F) → IsPlain header
+    plain_unwritten : (room : ℕ) (header : Header) (title : List ℕ) (after : W) (fault : F) → IsPlain header
         → IsTitle title header → IsBehind source sink count before title old now
         → WritesFront sink now.writer (shortest_title header) after
-        → StopsWriting source sink count old (sides now.decoder after)
-    plain_unwritten header title after fault p t behind stopped =
-        element_unwritten source sink count 0 old before (behind.bytes ++ title) behind.marks (Plain header ∷ []) now
-        after fault behind.due
+        → StopsWriting source sink count room old (sides now.decoder after)
+    plain_unwritten room header title after fault p t behind stopped =
+        element_unwritten source sink count room old before (behind.bytes ++ title) behind.marks (Plain header) header
+        now after fault behind.due refl
         (add_element before behind.bytes behind.marks behind.run title (Plain header ∷ []) (plain header t p))
-        behind.copied
-        (subst (λ (z : List ℕ). WritesFront sink now.writer z after) (sym (append-nil (shortest_title header))) stopped)
+        behind.copied stopped
 
     pub plain_goes_on : (room : ℕ) (header : Header) (title : List ℕ) (result : Result (Unit {0}) (RecodeError E F))
         (after : W) → IsPlain header → IsTitle title header → Strictly old.decoder (IsStrictTitle title header)
@@ -140,7 +139,7 @@ module _ {R E W F : Type 0} (source : Reader R E) (sink : Writer W F) where
         plain_added header title after p t only behind wrote
     plain_goes_on room header title (Err error) after p t only behind wrote =
         header_error source sink count room old now after header error wrote
-        (λ fault stopped. plain_unwritten header title after fault p t behind stopped)
+        (λ fault stopped. plain_unwritten room header title after fault p t behind stopped)
 
     -- ---- a string of indefinite length
 
@@ -165,22 +164,21 @@ module _ {R E W F : Type 0} (source : Reader R E) (sink : Writer W F) where
     }
 
     -- its open was not written
-    pub open_unwritten : (k : Kind) (title : List ℕ) (after : W) (fault : F) → IsTitle title (kind_header k None)
+    pub open_unwritten : (room : ℕ) (k : Kind) (title : List ℕ) (after : W) (fault : F)
+        → IsTitle title (kind_header k None)
         → IsBehind source sink count before title old now
         → WritesFront sink now.writer (shortest_title (kind_header k None)) after
-        → StopsWriting source sink count old (sides now.decoder after)
-    open_unwritten k title after fault t behind stopped =
+        → StopsWriting source sink count room old (sides now.decoder after)
+    open_unwritten room k title after fault t behind stopped =
         let reach : Reaches count (behind.bytes ++ (title ++ [])) (behind.marks ++ Open k ∷ []) (In k) =
         inside behind.due behind.run (opened t none) (sound_none k) in
-        mark_unwritten source sink count 0 old (behind.bytes ++ title) behind.marks (Open k ∷ []) now after fault
-        behind.copied
-        (subst (λ (z : List ℕ). WritesFront sink now.writer z after)
-        (sym (append-nil (shortest_title (kind_header k None)))) stopped)
+        mark_unwritten source sink count room old (behind.bytes ++ title) behind.marks (Open k) (kind_header k None) now
+        after fault refl behind.copied stopped
         (inr (
           In k,
           subst (λ (z : List ℕ). Reaches count (behind.bytes ++ z) (behind.marks ++ Open k ∷ []) (In k))
               (append-nil title) reach,
-          (refl, refl),
+          tt,
         ))
 
     -- ---- its close
@@ -207,12 +205,12 @@ module _ {R E W F : Type 0} (source : Reader R E) (sink : Writer W F) where
       strict = string.strict;
     }
 
-    unclosed : (k : Kind) (after : W) (fault : F) → before < count → ReadsString source sink before k old now
+    unclosed : (room : ℕ) (k : Kind) (after : W) (fault : F) → before < count → ReadsString source sink before k old now
         → WritesFront sink now.writer (shortest_title h.Break) after
-        → StopsWriting source sink count old (sides now.decoder after)
-    unclosed k after fault less string stopped =
-        element_unwritten source sink count 0 old before (string.bytes ++ string.element)
-        (string.marks ++ Open k ∷ pieces k string.bodies) (Close ∷ []) now after fault less
+        → StopsWriting source sink count room old (sides now.decoder after)
+    unclosed room k after fault less string stopped =
+        element_unwritten source sink count room old before (string.bytes ++ string.element)
+        (string.marks ++ Open k ∷ pieces k string.bodies) Close h.Break now after fault less refl
         (subst (λ (z : List Mark). IsRun (suc before) (string.bytes ++ string.element) z)
         (sym (close_marks k string.marks string.bodies))
         (add_element before string.bytes string.marks string.run string.element (open_marks k string.bodies)
@@ -226,7 +224,7 @@ module _ {R E W F : Type 0} (source : Reader R E) (sink : Writer W F) where
     close_goes_on room k (Ok unit) after less string wrote = closed k after string wrote
     close_goes_on room k (Err error) after less string wrote =
         header_error source sink count room old now after h.Break error wrote
-        (λ fault stopped. unclosed k after fault less string stopped)
+        (λ fault stopped. unclosed room k after fault less string stopped)
 
     -- ---- the loop over elements
 

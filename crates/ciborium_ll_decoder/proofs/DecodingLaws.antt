@@ -110,13 +110,14 @@ waited_then old between new bytes more (Some h) e (inl same) nil second =
 module _ {R E : Type 0} (source : Ghosts R E) where
   -- with no call nothing changed
   pub MovesOn-none : (decoder : Decoder R) → MovesOn source decoder decoder
-  MovesOn-none decoder = record { steady = λ s. s; refusals = refl; rises = omega arith }
+  MovesOn-none decoder = record { steady = λ s. s; mode = refl; refusals = refl; rises = omega arith }
 
   -- one call behind others
   pub MovesOn-then : (old between new : Decoder R) → MovesOn source old between → MovesOn source between new
       → MovesOn source old new
   MovesOn-then old between new first second = record {
     steady = λ s. second.steady (first.steady s);
+    mode = second.mode ∙ first.mode;
     refusals = second.refusals ∙ first.refusals;
     rises = omega (arith, first.rises, second.rises);
   }

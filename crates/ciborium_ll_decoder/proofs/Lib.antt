@@ -8,6 +8,7 @@ pub mod CopyingLaws
 pub mod CopyingTold
 pub mod DecodingLaws
 pub mod FinishLaws
+pub mod LoanLaws
 pub mod NestLaws
 pub mod RecodeAnyhowLaws
 pub mod RecodeFaultLaws

@@ -228,10 +228,12 @@ module _ {R E : Type 0} (source : Ghosts R E) (k : Kind) where
     pub mode : new.strict ≡ pulled.strict
     pub ended : progress ≡ p.Ended
 
-  only_body : (len : ℕ) (pulled pushed between new : Decoder R) (result : Result (Option Body) (Error E))
+  only_body : (strict : Bool) (len : ℕ) (pulled pushed between new : Decoder R) (result : Result (Option Body) (Error
+      E))
       (progress : Progress) → TakesBack source pulled (kind_header k (Some len)) pushed
-      → between ≡ pushed → EndsAdvance source k 0 between result progress new → FindsOnly len pulled result progress new
-  only_body len pulled pushed between new (Ok (Some body)) progress taken same ends =
+      → between ≡ pushed → EndsAdvance source k strict 0 between result progress new
+      → FindsOnly len pulled result progress new
+  only_body strict len pulled pushed between new (Ok (Some body)) progress taken same ends =
       let waits : between.waiting ≡ Some (kind_header k (Some len)) = ap (λ d. d.waiting) same ∙ taken.waits in
       let waited = rw waits at ends.pulled.waited in
       let lengths : Some len ≡ Some body.length = same_length k (Some len) (Some body.length) waited.0 in
@@ -250,37 +252,40 @@ module _ {R E : Type 0} (source : Ghosts R E) (k : Kind) where
         mode = ends.pulled.mode ∙ (ap (λ d. d.strict) same ∙ taken.mode);
         ended = elim ends.after [ inl lone ↦ lone.1 | inr more ↦ absurd (omega (arith, more.0)) ];
       }
-  only_body len pulled pushed between new (Ok None) progress taken same ends =
+  only_body strict len pulled pushed between new (Ok None) progress taken same ends =
       absurd (let f = ends.last in omega (arith, f))
-  only_body len pulled pushed between new (Err (e.Io fault)) progress taken same ends =
+  only_body strict len pulled pushed between new (Err (e.Io fault)) progress taken same ends =
       absurd (let a = ap (λ d. d.waiting) same ∙ taken.waits in let b = ends.0.none_waited in cc)
-  only_body len pulled pushed between new (Err (e.Syntax place)) progress taken same (inl (inl refused, after)) =
+  only_body strict len pulled pushed between new (Err (e.Syntax place)) progress taken same (inl (inl refused, after)) =
       absurd (let a = ap (λ d. d.waiting) same ∙ taken.waits in let b = refused.none_waited in cc)
-  only_body len pulled pushed between new (Err (e.Syntax place)) progress taken same (inl (inr refused, after)) =
+  only_body strict len pulled pushed between new (Err (e.Syntax place)) progress taken same (inl (inr refused, after)) =
       absurd (let a = ap (λ d. d.waiting) same ∙ taken.waits in let b = refused.none_waited in cc)
-  only_body len pulled pushed between new (Err (e.Syntax place)) progress taken same (inr found) =
+  only_body strict len pulled pushed between new (Err (e.Syntax place)) progress taken same (inr found) =
       let waits : between.waiting ≡ Some (kind_header k (Some len)) = ap (λ d. d.waiting) same ∙ taken.waits in
       let waited = rw waits at found.other.pulled.waited in
       elim found.other.refused [
         | inl misplaced ↦ absurd (well_placed k (Some len) (subst (IsMisplacedAt k 0) (sym waited.0) misplaced))
         | inr nested ↦ absurd (let some = nested.0 in omega (arith, some))
       ]
-  only_body len pulled pushed between new (Err e.TooLong) progress taken same (inl ends) =
+  only_body strict len pulled pushed between new (Err e.TooLong) progress taken same (inl ends) =
       absurd (let a = ap (λ d. d.waiting) same ∙ taken.waits in let b = ends.0.none_waited in cc)
-  only_body len pulled pushed between new (Err e.TooLong) progress taken same (inr deep) =
+  only_body strict len pulled pushed between new (Err e.TooLong) progress taken same (inr deep) =
       absurd (let f = deep.most in omega (arith, f))
-  only_body len pulled pushed between new (Err e.Waiting) progress taken same ends = absurd ends
+  only_body strict len pulled pushed between new (Err e.Waiting) progress taken same ends = absurd ends
 
-  pub advance_definite : (len : ℕ) (pulled pushed new : Decoder R) (result : Result (Option Body) (Error E))
+  pub advance_definite : (strict : Bool) (len : ℕ) (pulled pushed new : Decoder R) (result : Result (Option Body) (Error
+      E))
       (progress : Progress) → IsInRange (kind_header k (Some len))
-      → TakesBack source pulled (kind_header k (Some len)) pushed → AdvancesFrom source k 0 pushed result progress
+      → TakesBack source pulled (kind_header k (Some len)) pushed → AdvancesFrom source k strict 0 pushed result
+      progress
       new → FindsOnly len pulled result progress new
-  advance_definite len pulled pushed new result progress range taken all =
+  advance_definite strict len pulled pushed new result progress range taken all =
       elim (nest_first k all.nest all.left all.nests) [
         | inl none ↦ (
             let passed = subst (λ (z : List ℕ). Passes source pushed z all.between) none.0 all.passed in
-            let ends = subst (λ (z : ℕ). EndsAdvance source k z all.between result progress new) none.1 all.ends in
-            only_body len pulled pushed all.between new result progress taken
+            let ends = subst (λ (z : ℕ). EndsAdvance source k strict z all.between result progress new) none.1 all.ends
+            in
+            only_body strict len pulled pushed all.between new result progress taken
             (before_waiting pushed all.between (kind_header k (Some len)) range taken.waits passed) ends
             )
         | inr first ↦ absurd (
@@ -293,33 +298,36 @@ module _ {R E : Type 0} (source : Ghosts R E) (k : Kind) where
       ]
 
   -- nothing but an open leads on from a waiting one
-  not_at_once : (pulled pushed between new : Decoder R) (result : Result (Option Body) (Error E))
+  not_at_once : (strict : Bool) (pulled pushed between new : Decoder R) (result : Result (Option Body) (Error E))
       (progress : Progress) → TakesBack source pulled (kind_header k None) pushed
-      → between ≡ pushed → EndsAdvance source k 0 between result progress new → ⊥
-  not_at_once pulled pushed between new (Ok (Some body)) progress taken same ends =
+      → between ≡ pushed → EndsAdvance source k strict 0 between result progress new → ⊥
+  not_at_once strict pulled pushed between new (Ok (Some body)) progress taken same ends =
       let waits : between.waiting ≡ Some (kind_header k None) = ap (λ d. d.waiting) same ∙ taken.waits in
       let waited = rw waits at ends.pulled.waited in
       let lengths : None ≡ Some body.length = same_length k None (Some body.length) waited.0 in
       cc
-  not_at_once pulled pushed between new (Ok None) progress taken same ends = let f = ends.last in omega (arith, f)
-  not_at_once pulled pushed between new (Err (e.Io fault)) progress taken same ends =
+  not_at_once strict pulled pushed between new (Ok None) progress taken same ends = let f = ends.last in omega (
+    arith,
+    f,
+  )
+  not_at_once strict pulled pushed between new (Err (e.Io fault)) progress taken same ends =
       let a = ap (λ d. d.waiting) same ∙ taken.waits in let b = ends.0.none_waited in cc
-  not_at_once pulled pushed between new (Err (e.Syntax place)) progress taken same (inl (inl refused, after)) =
+  not_at_once strict pulled pushed between new (Err (e.Syntax place)) progress taken same (inl (inl refused, after)) =
       let a = ap (λ d. d.waiting) same ∙ taken.waits in let b = refused.none_waited in cc
-  not_at_once pulled pushed between new (Err (e.Syntax place)) progress taken same (inl (inr refused, after)) =
+  not_at_once strict pulled pushed between new (Err (e.Syntax place)) progress taken same (inl (inr refused, after)) =
       let a = ap (λ d. d.waiting) same ∙ taken.waits in let b = refused.none_waited in cc
-  not_at_once pulled pushed between new (Err (e.Syntax place)) progress taken same (inr found) =
+  not_at_once strict pulled pushed between new (Err (e.Syntax place)) progress taken same (inr found) =
       let waits : between.waiting ≡ Some (kind_header k None) = ap (λ d. d.waiting) same ∙ taken.waits in
       let waited = rw waits at found.other.pulled.waited in
       elim found.other.refused [
         | inl misplaced ↦ well_placed k None (subst (IsMisplacedAt k 0) (sym waited.0) misplaced)
         | inr nested ↦ let some = nested.0 in omega (arith, some)
       ]
-  not_at_once pulled pushed between new (Err e.TooLong) progress taken same (inl ends) =
+  not_at_once strict pulled pushed between new (Err e.TooLong) progress taken same (inl ends) =
       let a = ap (λ d. d.waiting) same ∙ taken.waits in let b = ends.0.none_waited in cc
-  not_at_once pulled pushed between new (Err e.TooLong) progress taken same (inr deep) = let f = deep.most in
+  not_at_once strict pulled pushed between new (Err e.TooLong) progress taken same (inr deep) = let f = deep.most in
       omega (arith, f)
-  not_at_once pulled pushed between new (Err e.Waiting) progress taken same ends = ends
+  not_at_once strict pulled pushed between new (Err e.Waiting) progress taken same ends = ends
 
   -- bytes behind a front that was put there are those behind it
   consumed_behind : (ahead known : Option (List ℕ)) (front more : List ℕ)
@@ -355,16 +363,17 @@ module _ {R E : Type 0} (source : Ghosts R E) (k : Kind) where
       }
 
   -- `advance` over the waiting open of a string of indefinite length goes on behind it
-  pub advance_opened : (pulled pushed new : Decoder R) (result : Result (Option Body) (Error E))
+  pub advance_opened : (strict : Bool) (pulled pushed new : Decoder R) (result : Result (Option Body) (Error E))
       (progress : Progress) → pulled.waiting ≡ None
-      → TakesBack source pulled (kind_header k None) pushed → AdvancesFrom source k 0 pushed result progress new
-      → AdvancesFrom source k 1 pulled result progress new
-  advance_opened pulled pushed new result progress none taken all =
+      → TakesBack source pulled (kind_header k None) pushed → AdvancesFrom source k strict 0 pushed result progress new
+      → AdvancesFrom source k strict 1 pulled result progress new
+  advance_opened strict pulled pushed new result progress none taken all =
       elim (nest_first k all.nest all.left all.nests) [
         | inl first ↦ absurd (
             let passed = subst (λ (z : List ℕ). Passes source pushed z all.between) first.0 all.passed in
-            let ends = subst (λ (z : ℕ). EndsAdvance source k z all.between result progress new) first.1 all.ends in
-            not_at_once pulled pushed all.between new result progress taken
+            let ends = subst (λ (z : ℕ). EndsAdvance source k strict z all.between result progress new) first.1 all.ends
+            in
+            not_at_once strict pulled pushed all.between new result progress taken
             (before_waiting pushed all.between (kind_header k None) (open_in_range k) taken.waits passed) ends
             )
         | inr first ↦ (
@@ -378,8 +387,8 @@ module _ {R E : Type 0} (source : Ghosts R E) (k : Kind) where
               between = all.between;
               passed = passes_behind pulled pushed all.between first.title first.more none taken one.1 passed
                   (title_some first.title (kind_header k None) first.is_title);
-              shallow = λ on few.
-                  let one = all.shallow (taken.mode ∙ on) (omega arith) in
+              shallow = λ on.
+                  let one = all.shallow on in
                   let counted = ap length first.whole in
                   omega (
                     arith,

@@ -155,8 +155,8 @@ module _ {R E W F : Type 0} {strict : Bool} (source : Reader R E) (sink : Writer
           omega (arith, full, passes.held, passes.untouched.offset, le-max_right 8 room),
         )
 
-    pub unwritten : (new : Sides R W) → StopsWriting source sink count old new → StopsUnwritten source sink count due
-        written old.decoder new
+    pub unwritten : (new : Sides R W) → StopsWriting source sink count room old new
+        → StopsUnwritten source sink count due written old.decoder new
     unwritten new stops =
         let gone = consumes_told _ _ due (stops.bytes ++ stops.read) told.due-told stops.passed.consumed in
         let front = stops.stopped.front in

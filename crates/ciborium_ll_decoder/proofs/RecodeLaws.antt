@@ -15,12 +15,14 @@ use Rattle.ciborium_ll_decoder.specs.declared.recode.RecodeError.TheVariants as 
 use Rattle.ciborium_ll_grammar.specs.Title.{IsTitle, IsStrictTitle, shortest_title, title_len}
 use Rattle.ciborium_ll_grammar.specs.Strings.{Kind, kind_header, IsWritable}
 use Rattle.ciborium_ll_grammar.specs.Strings.IsString.{definite}
-use Rattle.ciborium_ll_grammar.specs.Elements.{AreWritable, Mark, Whole, spelling, string, IsRun, IsStrictSpelling}
-use Rattle.ciborium_ll_grammar.specs.Faults.{Place, Due, BodyDue, Reaches, due, body}
+use Rattle.ciborium_ll_grammar.specs.Elements.{AreWritable, Mark, Whole, mark_spelling, spelling, string, IsRun}
+use Rattle.ciborium_ll_grammar.specs.Elements.{IsStrictSpelling}
+use Rattle.ciborium_ll_grammar.specs.Faults.{Place, Due, In, BodyDue, Reaches, IsAtTitle, with_front, due, body}
 use Rattle.ciborium_ll_decoder.specs.Decoding.{Begins, behind_waiting, view, Passes, Strictly}
 use Rattle.ciborium_ll_encoder.specs.Encoding.{WritesAll, WritesFront}
 use Rattle.ciborium_ll_decoder.specs.Recoding.{WritesHeader, CopiesBody, BodyWritten, BodyUnwritten, IsUnderWay}
 use Rattle.ciborium_ll_decoder.specs.Recoding.{Copied, CopiesRun, StopsInBody, StopsWriting, StopsCopy, GoesOn}
+use Rattle.ciborium_ll_decoder.specs.Recoding.{Alone, Titled, Chunk}
 use Rattle.ciborium_ll_decoder.specs.Sides.{Sides, sides}
 use Rattle.ciborium_ll_grammar.proofs.TitleLaws.{shortest_no_longer}
 use Rattle.ciborium_ll_grammar.proofs.ElementLaws.{spelling-append}
@@ -37,6 +39,12 @@ run_belongs count j bytes marks run within =
       | inl less ↦ inr (due less run)
       | inr more ↦ (let same : j ≡ count = omega arith in inl (subst (λ (n : ℕ). IsRun n bytes marks) same run))
     ]
+
+-- where a title is due nothing is under way
+nothing_under_way : (place : Place) → IsAtTitle place → IsUnderWay place [] []
+nothing_under_way Due title = (refl, refl)
+nothing_under_way (In k) title = (refl, refl)
+nothing_under_way (BodyDue k len start) title = absurd title
 
 -- a body that is written is sound by itself
 pub sound_body : (k : Kind) (b : List ℕ) → IsWritable k b → AreWritable k (b ∷ [])
@@ -72,37 +80,50 @@ module _ {R E W F : Type 0} (source : Reader R E) (sink : Writer W F) where
 
   module _ (count room : ℕ) (old : Sides R W) where
     -- the marks of one more header belong to the copy, and the writer failed at it
-    pub mark_unwritten : (bytes : List ℕ) (marks others : List Mark) (now : Sides R W) (after : W) (fault : F)
-        → Copied source sink old bytes marks now → WritesFront sink now.writer (spelling others) after
-        → IsRun count bytes (marks ++ others) ⊎ ((place : Place) × Reaches count bytes (marks ++ others) place
-        × IsUnderWay place [] []) → StopsWriting source sink count old (sides now.decoder after)
-    mark_unwritten bytes marks others now after fault copied stopped belongs = record {
+    pub mark_unwritten : (bytes : List ℕ) (marks : List Mark) (mark : Mark) (header : Header) (now : Sides R W)
+        (after : W) (fault : F) → mark_spelling mark ≡ shortest_title header
+        → Copied source sink old bytes marks now → WritesFront sink now.writer (shortest_title header) after
+        → IsRun count bytes (marks ++ mark ∷ []) ⊎ ((place : Place) × Reaches count bytes (marks ++ mark ∷ []) place
+        × IsAtTitle place) → StopsWriting source sink count room old (sides now.decoder after)
+    mark_unwritten bytes marks mark header now after fault spelled copied stopped belongs = record {
       bytes = bytes;
-      marks = marks ++ others;
+      marks = marks ++ mark ∷ [];
       more = [];
       read = [];
       passed = subst (λ (z : List ℕ). Passes source old.decoder z now.decoder) (sym (append-nil bytes)) copied.passed;
-      stopped = subst (λ (z : List ℕ). WritesFront sink old.writer z after)
-          (sym (append-nil (spelling (marks ++ others)) ∙ spelling-append marks others))
-          (stops_then old.writer now.writer after fault (spelling marks) (spelling others) copied.written stopped);
-      belongs = elim belongs [ inl run ↦ inl (run, refl, refl) | inr reach ↦ inr reach ];
+      stopped = subst (λ (z : List ℕ). WritesFront sink old.writer z after) (sym (append-nil
+          (spelling (marks ++ mark ∷ [])) ∙ spelling-append marks (mark ∷ []) ∙ ap (λ (z : List ℕ). spelling marks ++ z)
+          (append-nil (mark_spelling mark) ∙ spelled)))
+          (stops_then old.writer now.writer after fault (spelling marks) (shortest_title header) copied.written
+          stopped);
+      belongs = elim belongs [
+        | inl run ↦ inl (run, refl, refl)
+        | inr reach ↦ inr (reach.0, reach.1, nothing_under_way reach.0 reach.2)
+      ];
+      whole = spelling marks;
+      next = shortest_title header;
+      next_write = Alone marks mark header spelled belongs;
+      between = now.writer;
+      written = copied.written;
+      fails = stopped;
     }
 
     -- the element that is added belongs to the copy
-    pub element_unwritten : (before : ℕ) (bytes : List ℕ) (marks others : List Mark) (now : Sides R W) (after : W)
-        (fault : F) → before < count → IsRun (suc before) bytes (marks ++ others)
-        → Copied source sink old bytes marks now → WritesFront sink now.writer (spelling others) after
-        → StopsWriting source sink count old (sides now.decoder after)
-    element_unwritten before bytes marks others now after fault less run copied stopped =
-        mark_unwritten bytes marks others now after fault copied stopped
-        (elim (run_belongs count (suc before) bytes (marks ++ others) run (omega (arith, less)))
-        [ inl all ↦ inl all | inr reach ↦ inr (Due, reach, (refl, refl)) ])
+    pub element_unwritten : (before : ℕ) (bytes : List ℕ) (marks : List Mark) (mark : Mark) (header : Header)
+        (now : Sides R W) (after : W) (fault : F) → before < count → mark_spelling mark ≡ shortest_title header
+        → IsRun (suc before) bytes (marks ++ mark ∷ [])
+        → Copied source sink old bytes marks now → WritesFront sink now.writer (shortest_title header) after
+        → StopsWriting source sink count room old (sides now.decoder after)
+    element_unwritten before bytes marks mark header now after fault less spelled run copied stopped =
+        mark_unwritten bytes marks mark header now after fault spelled copied stopped
+        (elim (run_belongs count (suc before) bytes (marks ++ mark ∷ []) run (omega (arith, less)))
+        [ inl all ↦ inl all | inr reach ↦ inr (Due, reach, tt) ])
 
     -- the writer failed at the title of a body
     pub title_unwritten : (bytes : List ℕ) (marks : List Mark) (k : Kind) (len start : ℕ) (now : Sides R W) (after : W)
         (fault : F) → Reaches count bytes marks (BodyDue k len start) → Copied source sink old bytes marks now
         → WritesFront sink now.writer (shortest_title (kind_header k (Some len))) after
-        → StopsWriting source sink count old (sides now.decoder after)
+        → StopsWriting source sink count room old (sides now.decoder after)
     title_unwritten bytes marks k len start now after fault reach copied stopped =
         let title = shortest_title (kind_header k (Some len)) in
         record {
@@ -114,6 +135,12 @@ module _ {R E W F : Type 0} (source : Reader R E) (sink : Writer W F) where
               copied.passed;
           stopped = stops_then old.writer now.writer after fault (spelling marks) title copied.written stopped;
           belongs = inr (BodyDue k len start, reach, ([], sym (append-nil title), ([], refl), omega arith));
+          whole = spelling marks;
+          next = title;
+          next_write = Titled marks k len start reach;
+          between = now.writer;
+          written = copied.written;
+          fails = stopped;
         }
 
     -- the writer failed within a body
@@ -121,7 +148,8 @@ module _ {R E W F : Type 0} (source : Reader R E) (sink : Writer W F) where
         (titled : W) (new : Sides R W) (fault : F) → Reaches count bytes marks (BodyDue k len start)
         → Copied source sink old bytes marks between
         → WritesAll sink between.writer (shortest_title (kind_header k (Some len))) titled
-        → BodyUnwritten source sink k len (sides between.decoder titled) new → StopsWriting source sink count old new
+        → BodyUnwritten source sink k len room (sides between.decoder titled) new
+        → StopsWriting source sink count room old new
     body_unwritten bytes marks k len start between titled new fault reach copied title stops =
         let shortest = shortest_title (kind_header k (Some len)) in
         let part = stops.front ++ stops.chunk in
@@ -146,9 +174,19 @@ module _ {R E W F : Type 0} (source : Reader R E) (sink : Writer W F) where
               part,
               refl,
               (stops.kept, sym (append_assoc stops.front stops.chunk stops.kept)),
-              omega (arith, stops.within, length-append stops.front stops.chunk),
+              omega (arith, stops.within, stops.filled, length-append stops.front stops.chunk),
             ),
           );
+          whole = with_front marks k len stops.front;
+          next = stops.chunk;
+          next_write = Chunk marks k len start stops.front stops.chunk stops.kept reach stops.sound stops.within
+              stops.filled stops.few;
+          between = stops.between;
+          written = subst (λ (z : List ℕ). WritesAll sink old.writer z stops.between)
+              (append_assoc (spelling marks) shortest stops.front)
+              (writes_then old.writer titled stops.between (spelling marks ++ shortest) stops.front before
+              stops.written);
+          fails = stops.stopped;
         }
 
     -- the read of a body stops the copy of elements
@@ -261,7 +299,7 @@ module _ {R E W F : Type 0} (source : Reader R E) (sink : Writer W F) where
         (now : Sides R W) (after : W) (fault : F) → before < count → IsTitle title (kind_header k (Some len))
         → IsRun before bytes marks → Copied source sink old (bytes ++ title) marks now
         → WritesFront sink now.writer (shortest_title (kind_header k (Some len))) after
-        → StopsWriting source sink count old (sides now.decoder after)
+        → StopsWriting source sink count room old (sides now.decoder after)
     definite_unwritten before bytes title marks k len now after fault less t run copied stopped =
         title_unwritten (bytes ++ title) marks k len
         (length (bytes ++ title) - title_len (kind_header k (Some len))) now after fault (body k (due less run) t)
@@ -289,7 +327,7 @@ module _ {R E W F : Type 0} (source : Reader R E) (sink : Writer W F) where
   pub header_error : (count room : ℕ) (old now : Sides R W) (after : W) (header : Header) (error : RecodeError E F)
       → WritesHeader {E = E} sink now.writer (Err error) header after
       → ((fault : F) → WritesFront sink now.writer (shortest_title header) after
-      → StopsWriting source sink count old (sides now.decoder after))
+      → StopsWriting source sink count room old (sides now.decoder after))
       → StopsCopy source sink count room old error (sides now.decoder after)
   header_error count room old now after header (r.Write fault) wrote stops = stops fault wrote
   header_error count room old now after header (r.Read error) wrote stops = absurd wrote

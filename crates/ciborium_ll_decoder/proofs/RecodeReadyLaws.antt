@@ -12,10 +12,11 @@ use Rattle.ciborium_ll_grammar.specs.Title.{shortest_title}
 use Rattle.ciborium_ll_grammar.specs.Strings.{kind_header}
 use Rattle.ciborium_ll_grammar.specs.Elements.{Mark, spelling}
 use Rattle.ciborium_ll_grammar.specs.Faults.{BodyDue, Short, CutTitle, CutBody, RunInFront}
-use Rattle.ciborium_ll_decoder.specs.Decoding.{next_read}
+use Rattle.ciborium_ll_decoder.specs.Decoding.{next_read, IsSteady}
 use Rattle.ciborium_ll_decoder.specs.Sides.{Sides, sides}
-use Rattle.ciborium_ll_decoder.specs.Recoding.{CopiesElements, StopsAtTitle, StopsTooDeep, StopsInBody, StopsWriting}
-use Rattle.ciborium_ll_decoder.specs.RecodingTold.{IsReadyAs, MeetsFault, RecodesTold}
+use Rattle.ciborium_ll_decoder.specs.Recoding.{CopiesElements, StopsAtTitle, StopsTooDeep, StopsInBody, StopsCopy}
+use Rattle.ciborium_ll_decoder.specs.Recoding.{StopsWriting}
+use Rattle.ciborium_ll_decoder.specs.RecodingTold.{IsReadyAs, IsToldAs, MeetsFault, RecodesTold}
 use Rattle.ciborium_ll_grammar.proofs.ElementLaws.{run_again, one_run}
 use Rattle.ciborium_ll_grammar.proofs.FaultLaws.{no_fault}
 use Rattle.ciborium_ll_decoder.proofs.BodyLaws.{view_none}
@@ -29,13 +30,14 @@ use Rattle.ciborium_ll_decoder.proofs.RecodeFaultLaws.{damaged_told}
 
 module _ {R E W F : Type 0} {strict : Bool} (source : Reader R E) (sink : Writer W F) (count room : ℕ)
     (old : Sides R W) (due written : List ℕ) where
-  module _ (ready : IsReadyAs source sink strict count room old due written) where
+  -- a steady reader fails only where bytes are missing, whatever the writer does
+  module _ (steady : IsSteady source old.decoder) (told : IsToldAs source sink strict old due written) where
     unfoldable pub cut_title_told : (fault : E) (new : Sides R W) → StopsAtTitle source sink count old (e.Io fault) new
         → MeetsFault source sink count due written Short old.decoder new
     cut_title_told fault new stops =
-        let c = came source sink count room old due written ready.told stops.bytes stops.marks
+        let c = came source sink count room old due written told stops.bytes stops.marks
         (sides stops.between new.writer) stops.copied in
-        let cut = stops.fails.steady (stops.copied.passed.steady ready.steady) in
+        let cut = stops.fails.steady (stops.copied.passed.steady steady) in
         let gone = consumes_told _ _ c.rest stops.fails.read c.left cut.0 in
         let ends = rw c.left at cut.1 in
         record {
@@ -64,6 +66,54 @@ module _ {R E W F : Type 0} {strict : Bool} (source : Reader R E) (sink : Writer
           ));
         }
 
+    unfoldable pub cut_body_told : (fault : E) (new : Sides R W) → StopsInBody source sink count room old (e.Io fault)
+        new → MeetsFault source sink count due written Short old.decoder new
+    cut_body_told fault new stops =
+        let c = came source sink count room old due written told stops.bytes stops.marks stops.between
+        stops.copied in
+        let fails = stops.stopped.ends in
+        let part = fails.part in
+        let gone = consumes_told _ _ c.rest part.read c.left part.passed.consumed in
+        let before = view_none fails.between.waiting (source.ahead fails.between.reader) fails.fails.none_waited in
+        let after = view_none new.decoder.waiting (source.ahead new.decoder.reader) fails.fails.none_waits in
+        let still = fails.fails.steady (part.passed.steady (stops.copied.passed.steady steady)) in
+        let due-behind : source.ahead fails.between.reader ≡ Some gone.0 = sym before ∙ gone.1 in
+        let few = rw due-behind at still.1 in
+        let behind = ap length gone.2 in
+        let parts = ap length part.parts in
+        let split : c.rest ≡ part.front ++ (part.left ++ gone.0) = gone.2 ∙ ap (λ (z : List ℕ). z ++ gone.0) part.parts
+        ∙ append_assoc part.front part.left gone.0 in
+        record {
+          fault = record {
+            before = stops.bytes;
+            marks = stops.marks;
+            place = BodyDue stops.kind stops.len stops.start;
+            ahead = c.rest;
+            answer = Short;
+            written = spelling stops.marks ++ (shortest_title (kind_header stops.kind (Some stops.len)) ++ part.front);
+            consumed = length part.read;
+            reach = stops.reaches;
+            is = c.parts;
+            fault = CutBody part.front (part.left ++ gone.0)
+                (omega (arith, few, behind, fails.more, length-append part.read gone.0)) split part.sound
+                (omega (arith, parts, length-append part.front part.left))
+                (omega (arith, parts, part.few, length-append part.front part.left))
+                (omega (arith, behind, length-append part.read gone.0));
+          };
+          answered = refl;
+          output = front_output source sink count room old due written told stops.marks stops.bytes part.front
+              stops.kind stops.len stops.between stops.titled new.writer stops.copied stops.title stops.stopped.written;
+          left = after ∙ still.0 ∙ due-behind
+              ∙ ap Some (sym (ap (drop (length part.read)) gone.2 ∙ drop-append_seam part.read gone.0));
+          offset = omega (arith, fails.fails.offset, part.passed.offset, stops.copied.passed.offset);
+        }
+
+    pub short_told : (fault : E) (new : Sides R W) → StopsCopy source sink count room old (r.Read (e.Io fault)) new
+        → MeetsFault source sink count due written Short old.decoder new
+    short_told fault new (inl stops) = cut_title_told fault new stops
+    short_told fault new (inr stops) = cut_body_told fault new stops
+
+  module _ (ready : IsReadyAs source sink strict count room old due written) where
     pub title_fits : (new : Sides R W) → StopsAtTitle source sink count old e.TooLong new → ⊥
     title_fits new stops =
         let c = came source sink count room old due written ready.told stops.bytes stops.marks
@@ -110,48 +160,6 @@ module _ {R E W F : Type 0} {strict : Bool} (source : Reader R E) (sink : Writer
           length-append stops.bytes c.rest,
         )
 
-    unfoldable pub cut_body_told : (fault : E) (new : Sides R W) → StopsInBody source sink count room old (e.Io fault)
-        new → MeetsFault source sink count due written Short old.decoder new
-    cut_body_told fault new stops =
-        let c = came source sink count room old due written ready.told stops.bytes stops.marks stops.between
-        stops.copied in
-        let fails = stops.stopped.ends in
-        let part = fails.part in
-        let gone = consumes_told _ _ c.rest part.read c.left part.passed.consumed in
-        let before = view_none fails.between.waiting (source.ahead fails.between.reader) fails.fails.none_waited in
-        let after = view_none new.decoder.waiting (source.ahead new.decoder.reader) fails.fails.none_waits in
-        let still = fails.fails.steady (part.passed.steady (stops.copied.passed.steady ready.steady)) in
-        let due-behind : source.ahead fails.between.reader ≡ Some gone.0 = sym before ∙ gone.1 in
-        let few = rw due-behind at still.1 in
-        let behind = ap length gone.2 in
-        let parts = ap length part.parts in
-        let split : c.rest ≡ part.front ++ (part.left ++ gone.0) = gone.2 ∙ ap (λ (z : List ℕ). z ++ gone.0) part.parts
-        ∙ append_assoc part.front part.left gone.0 in
-        record {
-          fault = record {
-            before = stops.bytes;
-            marks = stops.marks;
-            place = BodyDue stops.kind stops.len stops.start;
-            ahead = c.rest;
-            answer = Short;
-            written = spelling stops.marks ++ (shortest_title (kind_header stops.kind (Some stops.len)) ++ part.front);
-            consumed = length part.read;
-            reach = stops.reaches;
-            is = c.parts;
-            fault = CutBody part.front (part.left ++ gone.0)
-                (omega (arith, few, behind, fails.more, length-append part.read gone.0)) split part.sound
-                (omega (arith, parts, length-append part.front part.left))
-                (omega (arith, parts, part.few, length-append part.front part.left))
-                (omega (arith, behind, length-append part.read gone.0));
-          };
-          answered = refl;
-          output = front_output source sink count room old due written ready.told stops.marks stops.bytes part.front
-              stops.kind stops.len stops.between stops.titled new.writer stops.copied stops.title stops.stopped.written;
-          left = after ∙ still.0 ∙ due-behind
-              ∙ ap Some (sym (ap (drop (length part.read)) gone.2 ∙ drop-append_seam part.read gone.0));
-          offset = omega (arith, fails.fails.offset, part.passed.offset, stops.copied.passed.offset);
-        }
-
     pub body_fits : (new : Sides R W) → StopsInBody source sink count room old e.TooLong new → ⊥
     body_fits new stops =
         let c = came source sink count room old due written ready.told stops.bytes stops.marks stops.between
@@ -176,7 +184,7 @@ module _ {R E W F : Type 0} {strict : Bool} (source : Reader R E) (sink : Writer
         )
 
     -- what was to be written is no longer than what was read
-    writer_shorter : (new : Sides R W) (stops : StopsWriting source sink count old new)
+    writer_shorter : (new : Sides R W) (stops : StopsWriting source sink count room old new)
         → length (spelling stops.marks ++ stops.more) ≤ length (stops.bytes ++ stops.read)
     writer_shorter new stops =
         elim stops.belongs [
@@ -195,7 +203,7 @@ module _ {R E W F : Type 0} {strict : Bool} (source : Reader R E) (sink : Writer
           | inr way ↦ way_shorter count stops.bytes stops.marks way.0 stops.more stops.read way.1 way.2
         ]
 
-    pub writer_fits : (new : Sides R W) → StopsWriting source sink count old new → ⊥
+    pub writer_fits : (new : Sides R W) → StopsWriting source sink count room old new → ⊥
     writer_fits new stops =
         let gone = consumes_told _ _ due (stops.bytes ++ stops.read) ready.told.due-told stops.passed.consumed in
         let less : ready.room < length (spelling stops.marks ++ stops.more) = rw ready.room-told at stops.stopped.full
@@ -236,8 +244,7 @@ module _ {R E W F : Type 0} {strict : Bool} (source : Reader R E) (sink : Writer
         → CopiesElements source sink count room old result new
         → RecodesTold source sink count due written old.decoder result new
     recode_told off new (Ok unit) all = all_told source sink count room old due written ready.told new all.elements
-    recode_told off new (Err (r.Read (e.Io fault))) (inl stops) = cut_title_told fault new stops
-    recode_told off new (Err (r.Read (e.Io fault))) (inr stops) = cut_body_told fault new stops
+    recode_told off new (Err (r.Read (e.Io fault))) stops = short_told ready.steady ready.told fault new stops
     recode_told off new (Err (r.Read (e.Syntax at))) (inl stops) =
         no_title_told source sink count room old due written ready.told at new stops
         (refused_leniently source sink count room old due written ready.told off at new stops)

@@ -227,16 +227,18 @@ module _ {R E W F : Type 0} {strict : Bool} (source : Reader R E) (sink : Writer
         → MeetsStrictFault source sink count due written Short old.decoder new
     unfolding cut_title_told
     cut_title_strictly fault new stops =
-        met_strictly ready.told on none new Short (cut_title_told source sink count room old due written ready fault
-        new stops) (spelled_at stops.place stops.bytes stops.marks stops.at_title
+        met_strictly ready.told on none new Short
+        (cut_title_told source sink count room old due written ready.steady ready.told fault new stops) (spelled_at
+        stops.place stops.bytes stops.marks stops.at_title
         (stops.strict (ready.told.mode ∙ on) none))
 
     cut_body_strictly : (fault : E) (new : Sides R W) → StopsInBody source sink count room old (e.Io fault) new
         → MeetsStrictFault source sink count due written Short old.decoder new
     unfolding cut_body_told
     cut_body_strictly fault new stops =
-        met_strictly ready.told on none new Short (cut_body_told source sink count room old due written ready fault new
-        stops) (stops.strict (ready.told.mode ∙ on) none)
+        met_strictly ready.told on none new Short
+        (cut_body_told source sink count room old due written ready.steady ready.told fault new stops) (stops.strict
+        (ready.told.mode ∙ on) none)
 
     pub recode_strictly : (new : Sides R W) (result : Result (Unit {0}) (RecodeError E F)) → CopiesElements source sink
         count room old result new

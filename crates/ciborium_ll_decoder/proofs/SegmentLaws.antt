@@ -65,13 +65,16 @@ some_open k zero u bs i = absurd (never k u bs i)
 some_open k (suc opens) u bs i = omega arith
 
 -- so it is refused within the string
-pub other_inside : {R E : Type 0} (source : Reader R E) (k : Kind) (opens : ℕ) (old : Decoder R) (at : ℕ)
-    (progress : Progress) (new : Decoder R) → 0 < opens → FindsOther source k opens old at progress new
+pub other_inside : {R E : Type 0} (source : Reader R E) (k : Kind) (strict : Bool) (opens : ℕ) (old : Decoder R) (at :
+    ℕ)
+    (progress : Progress) (new : Decoder R) → old.strict ≡ strict → 0 < opens
+    → FindsOther source k strict opens old at progress new
     → PullsOther source (IsRefusedIn old.strict k) old at new
-other_inside source k opens old at progress new some found = record {
+other_inside source k strict opens old at progress new same some found = record {
   header = found.other.header;
   pulled = found.other.pulled;
-  refused = refused_inside old.strict k opens found.other.header some found.other.refused;
+  refused = refused_inside old.strict k opens found.other.header some
+      (subst (λ (mode : Bool). IsRefusedAt mode k opens found.other.header) (sym same) found.other.refused);
   place = found.other.place;
 }
 
@@ -113,7 +116,7 @@ module _ {R E W F : Type 0} (source : Reader R E) (sink : Writer W F) (k : Kind)
     pub left : ℕ
     pub between : Decoder R
     pub among : IsAmong left opened (sides between now.writer)
-    pub ends : EndsAdvance source k left between result progress new
+    pub ends : EndsAdvance source k opened.decoder.strict left between result progress new
     pub rises : now.decoder.offset ≤ between.offset
     pub steady : IsSteady source opened.decoder → IsSteady source new
 
@@ -138,7 +141,7 @@ module _ {R E W F : Type 0} (source : Reader R E) (sink : Writer W F) (k : Kind)
   -- opens and breaks further
   among_nest : (opens : ℕ) (opened now : Sides R W) (result : Result (Option Body) (Error E)) (progress : Progress)
       (new : Decoder R) → IsAmong opens opened now
-      → (all : AdvancesFrom source k opens now.decoder result progress new)
+      → (all : AdvancesFrom source k opened.decoder.strict opens now.decoder result progress new)
       → IsAmong all.left opened (sides all.between now.writer)
   among_nest opens opened now result progress new among all =
       let front = shortest_title (kind_header k None) in
@@ -155,20 +158,25 @@ module _ {R E W F : Type 0} (source : Reader R E) (sink : Writer W F) (k : Kind)
         tight = λ on.
             let before = among.tight on in
             let one = before.0 in
-            let few = all.shallow (among.passed.mode ∙ on) (omega (arith, one)) in
+            let few = all.shallow on in
             let still = nests_none k opens all.nest all.left all.nests (omega (arith, one, few)) in
             (still.1 ∙ one, ap (λ (z : List ℕ). among.strings ++ z) still.0 ∙ append-nil among.strings ∙ before.1);
       }
 
-  pub advances_among : (opened now : Sides R W) (result : Result (Option Body) (Error E))
-      (progress progress' : Progress) (new : Decoder R) → StringSoFar opened progress now
-      → AdvancesTo source k progress now.decoder result progress' new
+  pub advances_among : (opened now : Sides R W) (strict : Bool) (result : Result (Option Body) (Error E))
+      (progress progress' : Progress) (new : Decoder R) → strict ≡ opened.decoder.strict
+      → StringSoFar opened progress now
+      → AdvancesTo source k strict progress now.decoder result progress' new
       → (IsSteady source now.decoder → IsSteady source new) → AdvancesAmong opened now result progress' new
-  advances_among opened now result progress progress' new so_far advances steady =
+  advances_among opened now strict result progress progress' new same so_far goes_on steady =
+      let advances = subst (λ (mode : Bool). AdvancesTo source k mode progress now.decoder result progress' new) same
+      goes_on in
       elim so_far.far [
         | inl start ↦ (
-            let from : AdvancesFrom source k 0 now.decoder result progress' new = rw start.fresh at advances in
-            let all = advance_opened source k opened.decoder now.decoder new result progress' so_far.none_waits
+            let from : AdvancesFrom source k opened.decoder.strict 0 now.decoder result progress' new = rw start.fresh
+            at advances in
+            let all = advance_opened source k opened.decoder.strict opened.decoder now.decoder new result progress'
+            so_far.none_waits
             start.back from in
             record {
               left = all.left;
@@ -181,7 +189,8 @@ module _ {R E W F : Type 0} (source : Reader R E) (sink : Writer W F) (k : Kind)
             }
             )
         | inr way ↦ (
-            let all : AdvancesFrom source k way.opens now.decoder result progress' new = rw way.counts at advances in
+            let all : AdvancesFrom source k opened.decoder.strict way.opens now.decoder result progress' new = rw
+            way.counts at advances in
             record {
               left = all.left;
               between = all.between;
@@ -261,8 +270,8 @@ module _ {R E W F : Type 0} (source : Reader R E) (sink : Writer W F) (k : Kind)
           reaches = reaches_inside all.left (sides all.between now.writer) all.among;
           between = all.between;
           copied = copied_inside all.left (sides all.between now.writer) all.among;
-          other = other_inside source k all.left all.between at progress new (some_open k all.left _ _ all.among.within)
-              other;
+          other = other_inside source k opened.decoder.strict all.left all.between at progress new
+              all.among.passed.mode (some_open k all.left _ _ all.among.within) other;
           strict = inside_strict all.left (sides all.between now.writer) all.among;
         }))
       ]
@@ -358,11 +367,11 @@ module _ {R E W F : Type 0} (source : Reader R E) (sink : Writer W F) (k : Kind)
             (inside_strict all.left (sides all.between now.writer) all.among on none) only.shortest
 
         -- the writer failed at its title
-        pub segment_unwritten : (after : W) (fault : F)
+        pub segment_unwritten : (room : ℕ) (after : W) (fault : F)
             → WritesFront sink now.writer (shortest_title (kind_header k (Some body.length))) after
-            → StopsWriting source sink count old (sides new after)
-        segment_unwritten after fault stopped =
-            title_unwritten source sink count 0 old _ _ k body.length _ (sides new now.writer) after fault
+            → StopsWriting source sink count room old (sides new after)
+        segment_unwritten room after fault stopped =
+            title_unwritten source sink count room old _ _ k body.length _ (sides new now.writer) after fault
             announced_reach announced_copied stopped
 
         -- the copy of its body stopped

@@ -1,5 +1,6 @@
 -- What the calls on a segment do, which gives its body chunk by chunk.
-use Rattle.std.specs.Prelude.{◌≡◌, ℕ, ◌+◌, ◌-◌, ◌<◌, ◌≤◌, ◌⊎◌, min, true, false, List, [], ◌++◌, length, take, Option}
+use Rattle.std.specs.Prelude.{◌≡◌, ℕ, ◌+◌, ◌-◌, ◌<◌, ◌≤◌, ◌⊎◌, min, Bool, true, false, List, [], ◌++◌, length, take}
+use Rattle.std.specs.Prelude.{Option}
 use Rattle.std.specs.Prelude.{Some, None, Result, Ok, Err}
 use Rattle.std.specs.Borrow.{Bor, GName}
 use Rattle.std.specs.Io.KnownBytes.{prepend_known}
@@ -16,7 +17,8 @@ use Rattle.ciborium_ll_grammar.specs.Strings.{Kind, Bytes, Text}
 use Rattle.ciborium_ll_text.specs.Text.{IsFront}
 use Rattle.ciborium_ll_decoder.specs.Decoding.{offset_limit, MovesOn, ReadsAll, ReadFails, IsUntouched, offset_of}
 use Rattle.ciborium_ll_decoder.specs.Kept.{kept_bytes}
-use Rattle.ciborium_ll_decoder.specs.Segments.{AdvancesTo, opens_of}
+use Rattle.ciborium_ll_decoder.specs.Progress.{opens_of}
+use Rattle.ciborium_ll_decoder.specs.Segments.{AdvancesTo}
 
 -- of a text the longest front that is text is handed out, of bytes all
 abbrev pub IsSplit : Kind → List ℕ → List ℕ → List ℕ → Type 0
@@ -156,24 +158,24 @@ module _ {R E P : Type 0} {parser : Parser P} (source : Ghosts R E) where
   PullsChunk room old (Err e.TooLong) new = ChunkPasses room old new
   PullsChunk room old (Err e.Waiting) new = ⊥
 
-module _ {R E : Type 0} (source : Ghosts R E) (kind : Kind) where
+module _ {R E : Type 0} (source : Ghosts R E) (kind : Kind) (strict : Bool) where
   -- `advance` gave this answer and left this decoder, whose offset rose by one at least for each further open
   pub record GoesOnTo (progress : Progress) (old : Decoder R) (result : Result (Option Body) (Error E))
       (new : Decoder R) : Type 0 where
     pub after : Progress
-    pub advanced : AdvancesTo source kind progress old result after new
+    pub advanced : AdvancesTo source kind strict progress old result after new
     pub opens : opens_of after + offset_of old ≤ opens_of progress + offset_of new
     pub moves_on : MovesOn source old new
 
-module _ {R E P : Type 0} {parser : Parser P} (source : Ghosts R E) (kind : Kind) where
+module _ {R E P : Type 0} {parser : Parser P} (source : Ghosts R E) (kind : Kind) (strict : Bool) where
   -- a segment is whole, and holds the decoder as `advance` left it
   pub record LendsWhole (progress : Progress) (old : Decoder R) (segment : Segment R P parser) : Type 0 where
     pub body : Body
-    pub goes_on : GoesOnTo source kind progress old (Ok (Some body)) segment.decoder.now
+    pub goes_on : GoesOnTo source kind strict progress old (Ok (Some body)) segment.decoder.now
     pub whole : IsWhole body segment
 
   -- `pull` answers as `advance` does, with a whole segment for a body
   abbrev pub PullsSegment : Progress → Decoder R → Result (Option (Segment R P parser)) (Error E) → Type 0
   PullsSegment progress old (Ok (Some segment)) = LendsWhole progress old segment
-  PullsSegment progress old (Ok None) = (new : Decoder R) × GoesOnTo source kind progress old (Ok None) new
-  PullsSegment progress old (Err error) = (new : Decoder R) × GoesOnTo source kind progress old (Err error) new
+  PullsSegment progress old (Ok None) = (new : Decoder R) × GoesOnTo source kind strict progress old (Ok None) new
+  PullsSegment progress old (Err error) = (new : Decoder R) × GoesOnTo source kind strict progress old (Err error) new

@@ -109,10 +109,11 @@ module _ {R E : Type 0} (source : Ghosts R E) where
   abbrev pub IsSteady : Decoder R → Type 0
   IsSteady d = IsTrue (source.steady d.reader)
 
-  -- what a call keeps that reads: a steady reader stays steady, the decoder refused nothing by itself, and its offset
-  -- never falls
+  -- what a call keeps that reads, whatever it answers: a steady reader stays steady, a strict decoder strict and
+  -- another one not, the decoder refused nothing by itself, and its offset never falls
   pub record MovesOn (old new : Decoder R) : Type 0 where
     pub steady : IsSteady old → IsSteady new
+    pub mode : strict_of new ≡ strict_of old
     pub refusals : refusals_of new ≡ refusals_of old
     pub rises : offset_of old ≤ offset_of new
 

@@ -14,20 +14,23 @@ use Rattle.ciborium_ll_decoder.specs.contracts.dec.Decoder as decoder
 use Rattle.ciborium_ll_decoder.specs.contracts.seg.Segments as segments
 use Rattle.ciborium_ll_decoder.specs.Decoding.{MovesOn, offset_of}
 use Rattle.ciborium_ll_grammar.specs.Strings.{Kind}
-use Rattle.ciborium_ll_decoder.specs.Segments.{AdvancesTo, opens_of}
+use Rattle.ciborium_ll_decoder.specs.Progress.{opens_of}
+use Rattle.ciborium_ll_decoder.specs.Segments.{AdvancesTo}
 
 -- the string with this decoder behind its reference
-abbrev pub with_decoder : {R P : Type 0} → Segments R P → Decoder R → Segments R P
+abbrev pub with_decoder : {R P : Type 0} {parser : Parser P} → Segments R P parser → Decoder R → Segments R P parser
 with_decoder s d = record s { decoder = record s.decoder { now = d } }
 
-module _ {R E P : Type 0} (source : Ghosts R E) (kind : Kind) where
+module _ {R E P : Type 0} {parser : Parser P} (source : Ghosts R E) (kind : Kind) where
   -- all that `advance` promises of the string: its answer is this result, and it leads from the old string to the new
-  pub record IsAdvanced (old : Segments R P) (result : Result (Option Body) (Error E)) (new : Segments R P) : Type 0
-    where
-      pub same_reference : new.decoder.ghost_name ≡ old.decoder.ghost_name
-      pub advances : AdvancesTo source kind old.progress old.decoder.now result new.progress new.decoder.now
-      pub opens : opens_of new.progress + offset_of old.decoder.now ≤ opens_of old.progress + offset_of new.decoder.now
-      pub moves_on : MovesOn source old.decoder.now new.decoder.now
+  pub record IsAdvanced (old : Segments R P parser) (result : Result (Option Body) (Error E))
+      (new : Segments R P parser) : Type 0 where
+    pub same_reference : new.decoder.ghost_name ≡ old.decoder.ghost_name
+    pub advances : AdvancesTo source kind old.strict old.progress old.decoder.now result new.progress
+        new.decoder.now
+    pub same_mode : new.strict ≡ old.strict
+    pub opens : opens_of new.progress + offset_of old.decoder.now ≤ opens_of old.progress + offset_of new.decoder.now
+    pub moves_on : MovesOn source old.decoder.now new.decoder.now
 
 module _ {R P E : Type 0} {parser : Parser P} where
   -- the reference to the decoder in a segment that the result may have
@@ -43,26 +46,26 @@ module _ {R P E : Type 0} {parser : Parser P} where
   advance_answer (Err error) = Err error
 
   -- a segment that the result may have holds the decoder that this string holds
-  abbrev pub HoldsDecoder : Result (Option (Segment R P parser)) (Error E) → Segments R P → Type 0
+  abbrev pub HoldsDecoder : Result (Option (Segment R P parser)) (Error E) → Segments R P parser → Type 0
   HoldsDecoder (Ok (Some segment)) s = segment.decoder.now ≡ s.decoder.now
   HoldsDecoder (Ok None) s = Unit {0}
   HoldsDecoder (Err error) s = Unit {0}
 
 module _ (R P : RattleType) {parser : Parser P.Denot} where
   -- once the segment is gone, the string holds the decoder that the segment left
-  abbrev pub lends_segment : MutBor (Segments R.Denot P.Denot) → Segment R.Denot P.Denot parser → Fml
+  abbrev pub lends_segment : MutBor (Segments R.Denot P.Denot parser) → Segment R.Denot P.Denot parser → Fml
   lends_segment s segment =
-      follows (segments.the_row (record { mir = named 1; lft = [] }) R P) (decoder.the_row R) s.ghost_name
+      follows (segments.the_row (record { mir = named 1; lft = [] }) R P parser) (decoder.the_row R) s.ghost_name
       segment.decoder.ghost_name
       (with_decoder s.now)
 
   -- once the segment in the result is gone, the string is as `advance` left it, whose decoder the segment had, with the
   -- decoder that the segment left; where the result has no segment, the string is as `advance` left it
-  abbrev pub pulls_segment : {E : Type 0} → Ghosts R.Denot E → MutBor (Segments R.Denot P.Denot)
+  abbrev pub pulls_segment : {E : Type 0} → Ghosts R.Denot E → MutBor (Segments R.Denot P.Denot parser)
       → Result (Option (Segment R.Denot P.Denot parser)) (Error E) → Fml
   pulls_segment source s result =
-      follows_so (segments.the_row (record { mir = named 1; lft = [] }) R P) (decoder.the_row R) s.ghost_name
+      follows_so (segments.the_row (record { mir = named 1; lft = [] }) R P parser) (decoder.the_row R) s.ghost_name
       (lent_reference result)
-      (λ left ended. (advanced : Segments R.Denot P.Denot) × IsAdvanced source parser.kind s.now
+      (λ left ended. (advanced : Segments R.Denot P.Denot parser) × IsAdvanced source parser.kind s.now
       (advance_answer result) advanced × HoldsDecoder result advanced × (ended ≡ with_decoder advanced left))
       (IsAdvanced source parser.kind s.now (advance_answer result))

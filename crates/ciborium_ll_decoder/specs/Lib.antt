@@ -5,6 +5,7 @@ pub mod ErrorTexts
 pub mod Finishing
 pub mod Kept
 pub mod Lend
+pub mod Progress
 pub mod Recoding
 pub mod RecodingTold
 pub mod Segments

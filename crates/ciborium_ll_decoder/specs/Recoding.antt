@@ -1,5 +1,6 @@
 -- Elements copied from a decoder to a writer: what was read and written, over any reader and writer.
-use Rattle.std.specs.Prelude.{◌≡◌, ℕ, suc, ◌+◌, ◌<◌, ◌≤◌, ◌⊎◌, List, [], ◌∷◌, ◌++◌, length, Some, None, Result, Ok, Err}
+use Rattle.std.specs.Prelude.{◌≡◌, ℕ, suc, ◌+◌, ◌-◌, ◌<◌, ◌≤◌, ◌⊎◌, min, List, [], ◌∷◌, ◌++◌, length, Some, None}
+use Rattle.std.specs.Prelude.{Result, Ok, Err}
 use Rattle.ciborium_ll_io.specs.declared.io.Read.{Ghosts as Reader}
 use Rattle.ciborium_ll_io.specs.declared.io.Write.{Ghosts as Writer}
 use Rattle.ciborium_ll_grammar.specs.declared.hdr.Header.{Header}
@@ -9,10 +10,10 @@ use Rattle.ciborium_ll_decoder.specs.declared.dec.Error.TheVariants as e
 use Rattle.ciborium_ll_decoder.specs.declared.recode.RecodeError.{RecodeError}
 use Rattle.ciborium_ll_decoder.specs.declared.recode.RecodeError.TheVariants as r
 use Rattle.ciborium_ll_grammar.specs.Title.{IsTitle, IsStrictTitle, shortest_title}
-use Rattle.ciborium_ll_grammar.specs.Strings.{Kind, kind_header, IsWritable}
-use Rattle.ciborium_ll_grammar.specs.Elements.{Mark, Open, pieces, open_marks, spelling, IsElement, IsRun}
-use Rattle.ciborium_ll_grammar.specs.Elements.{IsStrictSpelling}
-use Rattle.ciborium_ll_grammar.specs.Faults.{Place, Due, In, BodyDue, Reaches, IsAtTitle, IsRefusedIn}
+use Rattle.ciborium_ll_grammar.specs.Strings.{Kind, kind_header, IsWritable, most_kept}
+use Rattle.ciborium_ll_grammar.specs.Elements.{Mark, Open, mark_spelling, pieces, open_marks, spelling, IsElement}
+use Rattle.ciborium_ll_grammar.specs.Elements.{IsRun, IsStrictSpelling}
+use Rattle.ciborium_ll_grammar.specs.Faults.{Place, Due, In, BodyDue, Reaches, IsAtTitle, IsRefusedIn, with_front}
 use Rattle.ciborium_ll_decoder.specs.Decoding.{offset_limit, Begins, Strictly, Passes, PullsHeader, PullsTitle}
 use Rattle.ciborium_ll_decoder.specs.Finishing.{EndsBody, handed_out}
 use Rattle.ciborium_ll_decoder.specs.Segments.{PullsOther}
@@ -39,14 +40,17 @@ module _ {R E W F : Type 0} (source : Reader R E) (sink : Writer W F) (kind : Ki
     pub written : WritesAll sink old.writer
         (handed_out source kind [] len room place old.decoder result new.decoder ends) new.writer
 
-  -- the writer failed at a chunk
-  pub record BodyUnwritten (len : ℕ) (old new : Sides R W) : Type 0 where
+  -- the writer failed at a chunk, which came through a buffer of so much room. Of a text up to three bytes were read
+  -- behind it
+  pub record BodyUnwritten (len room : ℕ) (old new : Sides R W) : Type 0 where
     pub front : List ℕ
     pub chunk : List ℕ
     pub kept : List ℕ
     pub between : W
     pub passed : Passes source old.decoder (front ++ (chunk ++ kept)) new.decoder
-    pub within : length front + length chunk ≤ len
+    pub within : length front < len
+    pub filled : length chunk + length kept ≡ min room (len - length front)
+    pub few : length kept ≤ most_kept kind
     pub sound : IsWritable kind (front ++ chunk)
     pub written : WritesAll sink old.writer front between
     pub stopped : WritesFront sink between chunk new.writer
@@ -55,7 +59,7 @@ module _ {R E W F : Type 0} (source : Reader R E) (sink : Writer W F) (kind : Ki
   abbrev pub CopiesBody : ℕ → ℕ → ℕ → Sides R W → Result (Unit {0}) (RecodeError E F) → Sides R W → Type 0
   CopiesBody len room place old (Ok done) new = BodyWritten len room place old (Ok done) new
   CopiesBody len room place old (Err (r.Read error)) new = BodyWritten len room place old (Err error) new
-  CopiesBody len room place old (Err (r.Write fault)) new = BodyUnwritten len old new
+  CopiesBody len room place old (Err (r.Write fault)) new = BodyUnwritten len room old new
 
 -- ---- elements
 
@@ -66,6 +70,27 @@ IsUnderWay (In kind) more read = (more ≡ []) × (read ≡ [])
 IsUnderWay (BodyDue kind len start) more read =
     (part : List ℕ) × (more ≡ shortest_title (kind_header kind (Some len)) ++ part) × Begins part read
     × (length part ≤ len)
+
+-- `NextWrite count room before read whole next`: of a copy of so many elements, through a buffer of so much room, the
+-- bytes before were read, and these of a body behind them; what they became is written whole, and this title or this
+-- chunk is to be written next
+pub data NextWrite (count room : ℕ) : List ℕ → List ℕ → List ℕ → List ℕ → Type 0 where
+  -- a title with no body, which is the last mark: of an element, of the open of a string, or of its break
+  Alone : {before : List ℕ} (marks : List Mark) (mark : Mark) (header : Header)
+      → mark_spelling mark ≡ shortest_title header
+      → IsRun count before (marks ++ mark ∷ []) ⊎
+      ((place : Place) × Reaches count before (marks ++ mark ∷ []) place × IsAtTitle place)
+      → NextWrite count room before [] (spelling marks) (shortest_title header)
+  -- the title of a body
+  Titled : {before : List ℕ} (marks : List Mark) (kind : Kind) (len start : ℕ)
+      → Reaches count before marks (BodyDue kind len start)
+      → NextWrite count room before [] (spelling marks) (shortest_title (kind_header kind (Some len)))
+  -- a chunk of a body, behind its title and a front of it. As many bytes are read behind the front as the buffer holds,
+  -- or as the body has; of a text up to three of them are kept for the next chunk
+  Chunk : {before : List ℕ} (marks : List Mark) (kind : Kind) (len start : ℕ) (front chunk kept : List ℕ)
+      → Reaches count before marks (BodyDue kind len start) → IsWritable kind (front ++ chunk) → length front < len
+      → length chunk + length kept ≡ min room (len - length front) → length kept ≤ most_kept kind
+      → NextWrite count room before (front ++ (chunk ++ kept)) (with_front marks kind len front) chunk
 
 module _ {R E W F : Type 0} (source : Reader R E) (sink : Writer W F) where
   -- the bytes were read, and the spelling of the marks was written
@@ -141,8 +166,8 @@ module _ {R E W F : Type 0} (source : Reader R E) (sink : Writer W F) where
     pub strict : Strictly old.decoder
         (IsStrictSpelling bytes marks (shortest_title (kind_header kind (Some len))))
 
-  -- the writer failed
-  pub record StopsWriting (count : ℕ) (old new : Sides R W) : Type 0 where
+  -- the writer failed at one title or one chunk. All before it was written
+  pub record StopsWriting (count room : ℕ) (old new : Sides R W) : Type 0 where
     pub bytes : List ℕ
     pub marks : List Mark
     pub more : List ℕ
@@ -151,6 +176,12 @@ module _ {R E W F : Type 0} (source : Reader R E) (sink : Writer W F) where
     pub stopped : WritesFront sink old.writer (spelling marks ++ more) new.writer
     pub belongs : (IsRun count bytes marks × (more ≡ []) × (read ≡ [])) ⊎
         ((place : Place) × Reaches count bytes marks place × IsUnderWay place more read)
+    pub whole : List ℕ
+    pub next : List ℕ
+    pub next_write : NextWrite count room bytes read whole next
+    pub between : W
+    pub written : WritesAll sink old.writer whole between
+    pub fails : WritesFront sink between next new.writer
 
   -- the copy of elements, of which there are to be so many, through a buffer of so much room: an error
   abbrev pub StopsCopy : ℕ → ℕ → Sides R W → RecodeError E F → Sides R W → Type 0
@@ -162,7 +193,7 @@ module _ {R E W F : Type 0} (source : Reader R E) (sink : Writer W F) where
   StopsCopy count room old (r.Read e.TooLong) new =
       StopsAtTitle count old e.TooLong new ⊎ (StopsTooDeep count old new ⊎ StopsInBody count room old e.TooLong new)
   StopsCopy count room old (r.Read e.Waiting) new = ⊥
-  StopsCopy count room old (r.Write fault) new = StopsWriting count old new
+  StopsCopy count room old (r.Write fault) new = StopsWriting count room old new
 
   -- the copy of so many elements
   abbrev pub CopiesElements : ℕ → ℕ → Sides R W → Result (Unit {0}) (RecodeError E F) → Sides R W → Type 0

@@ -9,6 +9,7 @@ use Rattle.ciborium_ll_decoder.specs.declared.dec.Decoder.{Decoder}
 use Rattle.ciborium_ll_decoder.specs.declared.dec.Error.{Error}
 use Rattle.ciborium_ll_decoder.specs.declared.dec.Error.TheVariants as e
 use Rattle.ciborium_ll_decoder.specs.declared.seg.Body.{Body}
+use Rattle.ciborium_ll_decoder.specs.declared.seg.Parser.{Ghosts as Parser}
 use Rattle.ciborium_ll_decoder.specs.declared.seg.Progress.{Progress}
 use Rattle.ciborium_ll_decoder.specs.declared.seg.Segments.{Segments}
 use Rattle.ciborium_ll_decoder.specs.declared.seg.Progress.TheVariants as p
@@ -18,20 +19,24 @@ use Rattle.ciborium_ll_decoder.specs.Decoding.{Passes, PullsHeader, PullsTitle}
 
 -- ---- what a string is to its callers
 
-module _ {R P : Type 0} where
+module _ {R P : Type 0} {parser : Parser P} where
   -- the decoder that the string holds, and its reference
-  abbrev pub string_decoder : Segments R P → Decoder R
+  abbrev pub string_decoder : Segments R P parser → Decoder R
   string_decoder s = s.decoder.now
 
-  abbrev pub string_reference : Segments R P → GName
+  abbrev pub string_reference : Segments R P parser → GName
   string_reference s = s.decoder.ghost_name
 
   -- how far its titles were read
-  abbrev pub progress_of : Segments R P → Progress
+  abbrev pub progress_of : Segments R P parser → Progress
   progress_of s = s.progress
 
+  -- whether it is strict: it then takes no open inside another
+  abbrev pub string_strict : Segments R P parser → Bool
+  string_strict s = s.strict
+
   -- none of its titles was read
-  abbrev pub IsAtBeginning : Segments R P → Type 0
+  abbrev pub IsAtBeginning : Segments R P parser → Type 0
   IsAtBeginning s = s.progress ≡ p.Open 0
 
 -- ---- opens and breaks in a row
@@ -47,18 +52,11 @@ pub data Nests (kind : Kind) (opens : ℕ) : List ℕ → ℕ → Type 0 where
 
 -- ---- the segments of a string
 
--- how many opens are counted
-abbrev pub opens_of : Progress → ℕ
-opens_of (p.Open opens) = opens
-opens_of p.Ended = 0
-opens_of (p.Damaged place) = 0
-opens_of p.TooDeep = 0
-
 -- a header that may not stand where so many opens aren't closed
 abbrev pub IsMisplacedAt : Kind → ℕ → Header → Type 0
 IsMisplacedAt kind opens header = ((opens ≡ 0) × (header ≡ h.Break)) ⊎ IsMisplaced kind header
 
--- a header that a decoder refuses there: a strict one a further open too
+-- a header that a string refuses there: a strict one a further open too
 abbrev pub IsRefusedAt : Bool → Kind → ℕ → Header → Type 0
 IsRefusedAt strict kind opens header =
     IsMisplacedAt kind opens header ⊎ ((0 < opens) × (strict ≡ true) × (header ≡ kind_header kind None))
@@ -93,36 +91,11 @@ module _ {R E : Type 0} (source : Ghosts R E) (kind : Kind) where
     pub last : opens ≡ 1
     pub after : progress ≡ p.Ended
 
-  -- a header that may not stand there damages the string at the place of its title
-  pub record FindsOther (opens : ℕ) (old : Decoder R) (at : ℕ) (progress : Progress) (new : Decoder R) : Type 0 where
-    pub other : PullsOther source (IsRefusedAt old.strict kind opens) old at new
-    pub after : progress ≡ p.Damaged at
-
   -- an open behind as many as can be counted
   pub record NestsTooDeep (opens : ℕ) (old : Decoder R) (progress : Progress) (new : Decoder R) : Type 0 where
     pub pulled : PullsTitle source old (kind_header kind None) new
     pub most : opens ≡ 2 ^ 64 - 1
     pub after : progress ≡ p.TooDeep
-
-  -- how the titles of a string lead to an answer, with so many opens that aren't closed
-  abbrev pub EndsAdvance : ℕ → Decoder R → Result (Option Body) (Error E) → Progress → Decoder R → Type 0
-  EndsAdvance opens old (Ok (Some body)) progress new = FindsBody opens old body progress new
-  EndsAdvance opens old (Ok None) progress new = ClosesString opens old progress new
-  EndsAdvance opens old (Err (e.Io fault)) progress new = PullsHeader source old (Err (e.Io fault)) new
-      × (progress ≡ p.Open opens)
-  EndsAdvance opens old (Err (e.Syntax place)) progress new =
-      (PullsHeader source old (Err (e.Syntax place)) new × (progress ≡ p.Damaged place)) ⊎ FindsOther opens old
-      place progress new
-  EndsAdvance opens old (Err e.TooLong) progress new =
-      (PullsHeader source old (Err e.TooLong) new × (progress ≡ p.Open opens)) ⊎ NestsTooDeep opens old progress new
-  EndsAdvance opens old (Err e.Waiting) progress new = ⊥
-
-  -- a title that leads on: a further open, or a break behind which one is left
-  pub record Deepens (opens : ℕ) (old : Decoder R) (progress : Progress) (new : Decoder R) : Type 0 where
-    pub pulled : PullsTitle source old (kind_header kind None) new
-    pub after : progress ≡ p.Open (opens + 1)
-    -- a strict decoder takes the first open alone
-    pub level : IsTrue old.strict → opens ≡ 0
 
   -- a break behind which an open is left
   pub record ClosesInner (opens : ℕ) (old : Decoder R) (progress : Progress) (new : Decoder R) : Type 0 where
@@ -130,11 +103,38 @@ module _ {R E : Type 0} (source : Ghosts R E) (kind : Kind) where
     pub inner : 1 < opens
     pub after : progress ≡ p.Open (opens - 1)
 
+module _ {R E : Type 0} (source : Ghosts R E) (kind : Kind) (strict : Bool) where
+  -- a header that may not stand there damages the string at the place of its title
+  pub record FindsOther (opens : ℕ) (old : Decoder R) (at : ℕ) (progress : Progress) (new : Decoder R) : Type 0 where
+    pub other : PullsOther source (IsRefusedAt strict kind opens) old at new
+    pub after : progress ≡ p.Damaged at
+
+  -- how the titles of a string lead to an answer, with so many opens that aren't closed
+  abbrev pub EndsAdvance : ℕ → Decoder R → Result (Option Body) (Error E) → Progress → Decoder R → Type 0
+  EndsAdvance opens old (Ok (Some body)) progress new = FindsBody source kind opens old body progress new
+  EndsAdvance opens old (Ok None) progress new = ClosesString source kind opens old progress new
+  EndsAdvance opens old (Err (e.Io fault)) progress new = PullsHeader source old (Err (e.Io fault)) new
+      × (progress ≡ p.Open opens)
+  EndsAdvance opens old (Err (e.Syntax place)) progress new =
+      (PullsHeader source old (Err (e.Syntax place)) new × (progress ≡ p.Damaged place)) ⊎ FindsOther opens old
+      place progress new
+  EndsAdvance opens old (Err e.TooLong) progress new =
+      (PullsHeader source old (Err e.TooLong) new × (progress ≡ p.Open opens)) ⊎
+      NestsTooDeep source kind opens old progress new
+  EndsAdvance opens old (Err e.Waiting) progress new = ⊥
+
+  -- a further open, which leads on
+  pub record Deepens (opens : ℕ) (old : Decoder R) (progress : Progress) (new : Decoder R) : Type 0 where
+    pub pulled : PullsTitle source old (kind_header kind None) new
+    pub after : progress ≡ p.Open (opens + 1)
+    -- a strict string takes the first open alone
+    pub level : IsTrue strict → opens ≡ 0
+
   -- one title of a string
   abbrev pub StepsOver : ℕ → Decoder R → Result (Option Body) (Error E) → Progress → Decoder R → Type 0
-  StepsOver opens old (Ok (Some body)) progress new = FindsBody opens old body progress new
-  StepsOver opens old (Ok None) progress new = ClosesString opens old progress new ⊎
-      (Deepens opens old progress new ⊎ ClosesInner opens old progress new)
+  StepsOver opens old (Ok (Some body)) progress new = FindsBody source kind opens old body progress new
+  StepsOver opens old (Ok None) progress new = ClosesString source kind opens old progress new ⊎
+      (Deepens opens old progress new ⊎ ClosesInner source kind opens old progress new)
   StepsOver opens old (Err error) progress new = EndsAdvance opens old (Err error) progress new
 
   -- `advance` with so many opens that aren't closed: opens and breaks in a row, and the title that decides
@@ -145,8 +145,8 @@ module _ {R E : Type 0} (source : Ghosts R E) (kind : Kind) where
     pub nests : Nests kind opens nest left
     pub between : Decoder R
     pub passed : Passes source old nest between
-    -- of a strict decoder no title leads on but the first open
-    pub shallow : IsTrue old.strict → opens ≤ 1 → opens + length nest ≤ 1
+    -- in a strict string no title leads on but the first open
+    pub shallow : IsTrue strict → opens + length nest ≤ 1
     pub ends : EndsAdvance left between result progress new
 
   -- `advance`: an answer that stays is given again, and nothing is read

@@ -148,7 +148,6 @@ impl<R: Read> Decoder<R> {
         ensures header { PullsHeader R.Read self.old result self.new }
         ensures covered { IfOk result (λ header. title_len header ≤ offset_of self.new) }
         ensures full { waiting_of self.old ≡ None → offset_of self.old ≡ usize.MAX → IsErrOf result Error.TooLong }
-        ensures mode { strict_of self.new ≡ strict_of self.old }
         ensures moves_on { MovesOn R.Read self.old self.new }
     {
         // No call here takes `&mut self`: so in a loop over a slice the decoder's fields stay in registers.
@@ -172,7 +171,6 @@ impl<R: Read> Decoder<R> {
         ensures parts { IfOk result (λ pulled. IsParts pulled.1) }
         ensures title { IfOk result (λ pulled. IsTitle (title_bytes pulled.1) pulled.0) }
         ensures full { waiting_of self.old ≡ None → offset_of self.old ≡ usize.MAX → IsErrOf result Error.TooLong }
-        ensures mode { strict_of self.new ≡ strict_of self.old }
         ensures moves_on { MovesOn R.Read self.old self.new }
     {
         if let Some(header) = self.waiting {
@@ -190,7 +188,6 @@ impl<R: Read> Decoder<R> {
         ensures parts { IfOk result (λ pulled. IsParts pulled.1) }
         ensures title { IfOk result (λ pulled. IsTitle (title_bytes pulled.1) pulled.0) }
         ensures full { offset_of self.old ≡ usize.MAX → IsErrOf result Error.TooLong }
-        ensures mode { strict_of self.new ≡ strict_of self.old }
         ensures moves_on { MovesOn R.Read self.old self.new }
     {
         let start = self.offset;
@@ -218,7 +215,6 @@ impl<R: Read> Decoder<R> {
         ensures header { PullsTitle R.Read self.old result.0 self.new }
         ensures parts { IsParts result.1 }
         ensures title { IsTitle (title_bytes result.1) result.0 }
-        ensures mode { strict_of self.new ≡ strict_of self.old }
         ensures moves_on { MovesOn R.Read self.old self.new }
     {
         self.waiting = None;
@@ -251,7 +247,6 @@ impl<R: Read> Decoder<R> {
         requires affix { IsAffix affix (first % 32) }
         requires none_waits { waiting_of self.old ≡ None }
         ensures minor { ReadsMinor R.Read first self.old result self.new }
-        ensures mode { strict_of self.new ≡ strict_of self.old }
         ensures moves_on { MovesOn R.Read self.old self.new }
     {
         let minor = match affix {
@@ -291,7 +286,6 @@ impl<R: Read> Decoder<R> {
         requires { waiting_of self.old ≡ None }
         ensures bytes { MatchResult result (λ bytes. ReadsAll R.Read self.old bytes self.new)
             (λ error. ReadsBytes R.Read self.old (Err error) (replicate N 0) self.new) }
-        ensures mode { strict_of self.new ≡ strict_of self.old }
         ensures moves_on { MovesOn R.Read self.old self.new }
     {
         let mut bytes = [0; N];
@@ -304,7 +298,6 @@ impl<R: Read> Decoder<R> {
     pub(crate) fn read(&mut self, data: &mut [u8]) -> Result<(), Error<R::Error>>
         requires { waiting_of self.old ≡ None }
         ensures bytes { ReadsBytes R.Read self.old result «data».new self.new }
-        ensures mode { strict_of self.new ≡ strict_of self.old }
         ensures moves_on { MovesOn R.Read self.old self.new }
     {
         if data.len() > usize::MAX - self.offset {
@@ -321,7 +314,7 @@ impl<R: Read> Read for Decoder<R> {
     ghost use Rattle.std.specs.Io.KnownBytes.{Consumes};
     ghost use Rattle.std.proofs.Common.{rules};
     ghost use Rattle.ciborium_ll_decoder.specs.Decoding.{CountsRefusal, IsSteady, ReadsBytes, reader_of};
-    ghost use Rattle.ciborium_ll_decoder.specs.Decoding.{refusals_of, told_unless_waiting, waiting_of};
+    ghost use Rattle.ciborium_ll_decoder.specs.Decoding.{refusals_of, strict_of, told_unless_waiting, waiting_of};
 
     type Error = Error<R::Error>;
 
@@ -349,6 +342,7 @@ impl<R: Read> Read for Decoder<R> {
         // The decoder's own.
         ensures read { ReadsBytes R.Read self.old result «data».new self.new }
         ensures steady { IsSteady R.Read self.old → IsSteady R.Read self.new }
+        ensures mode { strict_of self.new ≡ strict_of self.old }
         ensures refusals { MatchResult result (λ _. refusals_of self.new ≡ refusals_of self.old)
             (λ error. CountsRefusal error (refusals_of self.old) (refusals_of self.new)) }
     {

@@ -5,17 +5,18 @@ ghost use Rattle.ciborium_ll_grammar.specs.Title.{title_len};
 ghost use Rattle.ciborium_ll_grammar.specs.Strings.{kind_header};
 ghost use Rattle.ciborium_ll_decoder.specs.Decoding.{MovesOn, offset_of, waiting_of};
 ghost use Rattle.ciborium_ll_encoder.specs.Encoding.{writer_of};
-ghost use Rattle.ciborium_ll_decoder.specs.Chunks.{IsWhole, segment_decoder, segment_reference};
 ghost use Rattle.ciborium_ll_grammar.specs.Faults.{RunInFront};
 ghost use Rattle.ciborium_ll_decoder.specs.RecodingTold.{IsReady, IsReadyAs, IsTold, IsToldAs, RecodesAnyhow};
 ghost use Rattle.ciborium_ll_decoder.specs.RecodingTold.{RecodesTold};
 ghost use Rattle.ciborium_ll_decoder.specs.StrictRecoding.{RecodesStrictly, RecodesStrictlyAnyhow, StrictRunInFront};
-ghost use Rattle.ciborium_ll_decoder.specs.Recoding.{CopiesBehind, CopiesBody, CopiesElement, CopiesElements};
+ghost use Rattle.ciborium_ll_decoder.specs.Recoding.{CopiesBehind, CopiesElement, CopiesElements};
 ghost use Rattle.ciborium_ll_decoder.specs.Recoding.{CopiesSegments, WritesHeader};
 ghost use Rattle.ciborium_ll_decoder.specs.Sides.{sides_of};
 
+mod body;
 mod strict;
 
+use self::body::copy_body;
 pub use self::strict::strict_len;
 use crate::dec::{Decoder, Error};
 use crate::seg::{Body, Bytes, Chunked, Segment, Segments, Text};
@@ -30,35 +31,6 @@ pub enum RecodeError<E, F> {
     Read(Error<E>),
     /// The writer failed, and this is its error.
     Write(F),
-}
-
-/// Copies the body of a segment, each chunk as soon as it is handed out.
-#[inline(always)]
-fn copy_body<R: Read, W: Write, P: Chunked>(
-    segment: &mut Segment<'_, R, P>,
-    encoder: &mut Encoder<W>,
-    body: Body,
-    buffer: &mut [u8],
-) -> Result<(), RecodeError<R::Error, W::Error>>
-    requires room { 4 ≤ length buffer.old }
-    requires whole { IsWhole body segment.old }
-    ensures copied { CopiesBody R.Read W.Write P.kind body.length (length buffer.old) body.place
-        (sides_of (segment_decoder segment.old) encoder.old) result
-        (sides_of (segment_decoder segment.new) encoder.new) }
-    ensures same_reference { segment_reference segment.new ≡ segment_reference segment.old }
-    ensures moves_on { MovesOn R.Read (segment_decoder segment.old) (segment_decoder segment.new) }
-    ensures target { W.target (writer_of encoder.new) ≡ W.target (writer_of encoder.old) }
-{
-    'chunks: loop {
-        let chunk = match P::chunk(segment, buffer) {
-            Ok(Some(chunk)) => chunk,
-            Ok(None) => return Ok(()),
-            Err(error) => return Err(RecodeError::Read(error)),
-        };
-        if let Err(fault) = encoder.write_all(chunk) {
-            return Err(RecodeError::Write(fault));
-        }
-    }
 }
 
 /// Writes a header.
@@ -99,7 +71,7 @@ fn copy_definite<R: Read, W: Write, P: Chunked>(
         place: decoder.offset() - P::header(Some(len)).title_len(),
     };
     let mut segment = Segment::<R, P>::new(decoder, body);
-    copy_body(&mut segment, encoder, body, buffer)
+    copy_body(&mut segment, body, encoder, buffer)
 }
 
 /// Copies a string of indefinite length, behind its open.
@@ -141,8 +113,7 @@ fn copy_segments<R: Read, W: Write, P: Chunked>(
             Err(error) => return Err(RecodeError::Read(error)),
         };
         write_header::<R::Error, W>(encoder, P::header(Some(body.length)))?;
-        let mut segment = Segment::<R, P>::new(&mut *segments.decoder, body);
-        copy_body(&mut segment, encoder, body, buffer)?;
+        segments.copy(body, encoder, buffer)?;
     }
 }
 

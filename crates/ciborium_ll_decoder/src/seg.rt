@@ -1,12 +1,13 @@
 //! Strings, lent piece by piece (RFC 7049, 2.2.2).
 
 ghost use Rattle.std.specs.Prelude.{◌≡◌, ◌≤◌, ◌<◌, ◌+◌, ◌^◌, ◌⊎◌, length, take, drop, true, IfOk, IfSome, IfNone, []};
-ghost use Rattle.std.specs.Prelude.{None, Some};
+ghost use Rattle.std.specs.Prelude.{None, Some, IsTrue};
 ghost use Rattle.ciborium_ll_text.specs.States.{after};
 ghost use Rattle.ciborium_ll_text.specs.declared.state.State.TheVariants.{Between};
 ghost use Rattle.ciborium_ll_grammar.specs.declared.hdr.Header.TheVariants.{Break};
 ghost use Rattle.ciborium_ll_grammar.specs.Strings.{Kind, kind_header, Bytes as byte_strings, IsMisplaced};
 ghost use Rattle.ciborium_ll_decoder.specs.Kept.{kept_bytes};
+ghost use Rattle.ciborium_ll_decoder.specs.Progress.{opens_of};
 ghost use Rattle.ciborium_ll_text.specs.Text.{IsStuck};
 
 mod chunked;
@@ -16,7 +17,7 @@ pub use self::chunked::Chunked;
 use crate::dec::{Decoder, Error};
 use ciborium_ll_grammar::hdr::Header;
 use ciborium_ll_io::io::Read;
-use ciborium_ll_text::state::{State, text_front};
+use ciborium_ll_text::state::{State, text_front, text_of};
 use std::marker::PhantomData;
 
 /// A kind of string: which headers begin one.
@@ -100,16 +101,18 @@ pub(crate) enum Progress {
 pub struct Segments<'r, R, P: Parser> {
     pub(crate) decoder: &'r mut Decoder<R>,
     progress: Progress,
+    strict: bool,
     parser: PhantomData<P>,
+    ghost shallow: { IsTrue strict → opens_of progress ≤ 1 },
 }
 
 impl<'r, R: Read, P: Parser> Segments<'r, R, P> {
     ghost use Rattle.std.specs.Prelude.{OnOk};
     ghost use Rattle.ciborium_ll_decoder.specs.declared.seg.Progress.TheVariants.{Open};
-    ghost use Rattle.ciborium_ll_decoder.specs.Decoding.{MovesOn, offset_of, waiting_of};
+    ghost use Rattle.ciborium_ll_decoder.specs.Decoding.{MovesOn, offset_of, strict_of, waiting_of};
     ghost use Rattle.std.specs.Borrow.{sem};
-    ghost use Rattle.ciborium_ll_decoder.specs.Segments.{AdvancesTo, GivesAgain, IsAtBeginning, StepsOver, opens_of};
-    ghost use Rattle.ciborium_ll_decoder.specs.Segments.{progress_of, string_decoder, string_reference};
+    ghost use Rattle.ciborium_ll_decoder.specs.Segments.{AdvancesTo, GivesAgain, IsAtBeginning, StepsOver};
+    ghost use Rattle.ciborium_ll_decoder.specs.Segments.{progress_of, string_decoder, string_reference, string_strict};
     ghost use Rattle.ciborium_ll_decoder.specs.Chunks.{IsWhole, PullsSegment, segment_decoder};
     ghost use Rattle.ciborium_ll_decoder.specs.Lend.{lends_segment, pulls_segment};
 
@@ -117,11 +120,14 @@ impl<'r, R: Read, P: Parser> Segments<'r, R, P> {
     pub(crate) fn new(decoder: &'r mut Decoder<R>) -> Segments<'r, R, P>
         ensures lent { string_decoder result ≡ decoder.old }
         ensures fresh { IsAtBeginning result }
+        ensures mode { string_strict result ≡ strict_of decoder.old }
         ensures same_reference { string_reference result ≡ decoder.entry.ghost_name }
     {
+        let strict = decoder.is_strict();
         Segments {
             decoder,
             progress: Progress::Open(0),
+            strict,
             parser: PhantomData,
         }
     }
@@ -130,11 +136,14 @@ impl<'r, R: Read, P: Parser> Segments<'r, R, P> {
     pub(crate) fn opened(decoder: &'r mut Decoder<R>) -> Segments<'r, R, P>
         ensures lent { string_decoder result ≡ decoder.old }
         ensures opened { progress_of result ≡ Open 1 }
+        ensures mode { string_strict result ≡ strict_of decoder.old }
         ensures same_reference { string_reference result ≡ decoder.entry.ghost_name }
     {
+        let strict = decoder.is_strict();
         Segments {
             decoder,
             progress: Progress::Open(1),
+            strict,
             parser: PhantomData,
         }
     }
@@ -147,10 +156,11 @@ impl<'r, R: Read, P: Parser> Segments<'r, R, P> {
     /// can't be counted, which stays. An answer that stays reads nothing.
     #[inline(always)]
     pub fn advance(&mut self) -> Result<Option<Body>, Error<R::Error>>
-        ensures advances { AdvancesTo R.Read P.kind (progress_of self.old) (string_decoder self.old) result
-            (progress_of self.new) (string_decoder self.new) }
+        ensures advances { AdvancesTo R.Read P.kind (string_strict self.old) (progress_of self.old)
+            (string_decoder self.old) result (progress_of self.new) (string_decoder self.new) }
         ensures opens { opens_of (progress_of self.new) + offset_of (string_decoder self.old)
             ≤ opens_of (progress_of self.old) + offset_of (string_decoder self.new) }
+        ensures mode { string_strict self.new ≡ string_strict self.old }
         ensures same_reference { string_reference self.new ≡ string_reference self.old }
         ensures moves_on { MovesOn R.Read (string_decoder self.old) (string_decoder self.new) }
     {
@@ -199,7 +209,8 @@ impl<'r, R: Read, P: Parser> Segments<'r, R, P> {
     /// ```
     pub fn pull(&mut self) -> Result<Option<Segment<'_, R, P>>, Error<R::Error>>
         ensures* lends { sem 𝓛 (pulls_segment R.row P.row R.Read self.entry result) }
-        ensures pulls { PullsSegment R.Read P.kind (progress_of self.old) (string_decoder self.old) result }
+        ensures pulls { PullsSegment R.Read P.kind (string_strict self.old) (progress_of self.old)
+            (string_decoder self.old) result }
         ensures stays { GivesAgain (progress_of self.old) result }
     {
         match self.advance() {
@@ -213,11 +224,12 @@ impl<'r, R: Read, P: Parser> Segments<'r, R, P> {
     #[inline(always)]
     fn step(&mut self, opens: usize) -> Result<Option<Body>, Error<R::Error>>
         requires { progress_of self.old ≡ Open opens }
-        ensures steps { StepsOver R.Read P.kind opens (string_decoder self.old) result (progress_of self.new)
-            (string_decoder self.new) }
+        ensures steps { StepsOver R.Read P.kind (string_strict self.old) opens (string_decoder self.old) result
+            (progress_of self.new) (string_decoder self.new) }
         ensures goes_on { OnOk result (offset_of (string_decoder self.old) < offset_of (string_decoder self.new)) }
         ensures opens { opens_of (progress_of self.new) + offset_of (string_decoder self.old)
             ≤ opens + offset_of (string_decoder self.new) }
+        ensures mode { string_strict self.new ≡ string_strict self.old }
         ensures same_reference { string_reference self.new ≡ string_reference self.old }
         ensures moves_on { MovesOn R.Read (string_decoder self.old) (string_decoder self.new) }
     {
@@ -242,7 +254,7 @@ impl<'r, R: Read, P: Parser> Segments<'r, R, P> {
                 self.progress = Progress::TooDeep;
                 Err(Error::TooLong)
             }
-            Some(None) if opens > 0 && self.decoder.is_strict() => {
+            Some(None) if opens > 0 && self.strict => {
                 self.progress = Progress::Damaged(place);
                 Err(Error::Syntax(place))
             }
@@ -415,13 +427,33 @@ impl<'r, R: Read> Segment<'r, R, Text> {
     ghost use Rattle.ciborium_ll_decoder.specs.Chunks.{segment_reference};
 
     /// Reads the next bytes of the body, as many as there are and the buffer holds, and hands out the longest front of
-    /// them that is text. Up to three bytes behind it are kept, since they may begin a character.
+    /// them that is text. Up to three bytes behind it are kept. They may begin a character; where they don't, or where
+    /// the body ends with them, a later call answers `Syntax`.
     ///
     /// `None` says that the body has ended. A buffer of fewer than four bytes may give an empty chunk while bytes are
     /// left. The errors are `Syntax` with the segment's place where the body is no text, which stays and reads nothing;
     /// `Io` where the reader failed, and `TooLong` where the offset would pass `usize::MAX`: both leave the segment as
     /// it was. A damaged end can give a chunk first, and its error on the next call.
     pub fn pull<'a>(&mut self, buffer: &'a mut [u8]) -> Result<Option<&'a str>, Error<R::Error>>
+        ensures chunk { PullsChunk R.Read (length buffer.old) self.old result self.new }
+        ensures left { IfOk result (λ chunk. IfSome chunk (λ c. length c.now + left_of self.new ≡ left_of self.old)) }
+        ensures rest { IfOk result (λ chunk. IfSome chunk
+            (λ c. Consumes (rest R.Read self.old) (rest R.Read self.new) c.now)) }
+        ensures same_reference { segment_reference self.new ≡ segment_reference self.old }
+        ensures moves_on { MovesOn R.Read (segment_decoder self.old) (segment_decoder self.new) }
+    {
+        match self.pull_front(buffer)? {
+            Some(front) => Ok(Some(text_of(front))),
+            None => Ok(None),
+        }
+    }
+
+    /// What `pull` hands out, as bytes. The state has read them as text already: whoever needs no `&str` is spared the
+    /// second reading, which makes one.
+    pub(crate) fn pull_front<'a>(
+        &mut self,
+        buffer: &'a mut [u8],
+    ) -> Result<Option<&'a [u8]>, Error<R::Error>>
         ensures chunk { PullsChunk R.Read (length buffer.old) self.old result self.new }
         ensures left { IfOk result (λ chunk. IfSome chunk (λ c. length c.now + left_of self.new ≡ left_of self.old)) }
         ensures rest { IfOk result (λ chunk. IfSome chunk
@@ -442,17 +474,17 @@ impl<'r, R: Read> Segment<'r, R, Text> {
         let size = buffer.len().min(self.unread + kept);
         if size <= kept {
             self.read_nothing()?;
-            return Ok(Some(""));
+            return Ok(Some(&[]));
         }
         let filled = &mut buffer[..size];
         self.fill(filled)?;
-        let (text, state) = text_front(filled, kept, self.state);
+        let (front, state) = text_front(filled, kept, self.state);
         self.unread -= size - kept;
-        match Kept::keep(&filled[text.len()..]) {
+        match Kept::keep(&filled[front.len()..]) {
             Some(rest) => {
                 self.kept = rest;
                 self.state = state;
-                Ok(Some(text))
+                Ok(Some(front))
             }
             None => Err(self.damage()),
         }

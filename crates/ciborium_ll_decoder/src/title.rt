@@ -3,7 +3,7 @@
 ghost use Rattle.std.specs.Prelude.{Err, IfOk, MatchResult};
 ghost use Rattle.ciborium_ll_grammar.specs.Parts.{IsParts, title_bytes};
 ghost use Rattle.ciborium_ll_grammar.specs.Title.{IsTitle};
-ghost use Rattle.ciborium_ll_decoder.specs.Decoding.{PullsHeader, PullsTitle};
+ghost use Rattle.ciborium_ll_decoder.specs.Decoding.{MovesOn, PullsHeader, PullsTitle};
 
 use crate::dec::{Decoder, Error};
 use ciborium_ll_grammar::hdr::{Header, Title};
@@ -17,6 +17,7 @@ pub fn pull_title<R: Read>(decoder: &mut Decoder<R>) -> Result<(Header, Title), 
         (λ error. PullsHeader R.Read decoder.old (Err error) decoder.new) }
     ensures parts { IfOk result (λ pulled. IsParts pulled.1) }
     ensures title { IfOk result (λ pulled. IsTitle (title_bytes pulled.1) pulled.0) }
+    ensures moves_on { MovesOn R.Read decoder.old decoder.new }
 {
     decoder.pull_title()
 }

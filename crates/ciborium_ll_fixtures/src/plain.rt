@@ -11,8 +11,9 @@ pub enum Fault {
     Syntax(usize),
     /// The bytes end too early.
     Short,
-    /// The bytes end within a body of text, which is damaged before its end.
-    ShortAndDamaged,
+    /// The bytes end within a body of text, which is damaged before its end. Who finds the damage first names this
+    /// offset.
+    ShortAndDamaged(usize),
 }
 
 /// A title in its parts.
@@ -37,6 +38,20 @@ impl Title {
     /// Whether it ends what an open began.
     pub fn is_break(&self) -> bool {
         self.major == 7 && self.minor == 31
+    }
+
+    /// Whether its number stands in the fewest bytes (RFC 7049, 3.9), and it is no simple value below 32 in two bytes
+    /// (2.3). A float has one form alone.
+    pub fn is_strict(&self) -> bool {
+        match (self.major, self.minor) {
+            (7, 24) => self.number > 31,
+            (7, _) => true,
+            (_, 24) => self.number > 23,
+            (_, 25) => self.number > 0xff,
+            (_, 26) => self.number > 0xffff,
+            (_, 27) => self.number > 0xffff_ffff,
+            _ => true,
+        }
     }
 
     /// Whether it begins a string.
@@ -117,6 +132,15 @@ pub fn next_title(bytes: &[u8], offset: &mut usize) -> Result<Title, Fault> {
     })
 }
 
+/// The title that was read, or the fault that a strict decoder finds in it.
+pub fn strictly(title: Title) -> Result<Title, Fault> {
+    if title.is_strict() {
+        Ok(title)
+    } else {
+        Err(Fault::Syntax(title.place))
+    }
+}
+
 /// Puts the shortest title of the same header behind bytes. A float has one title alone.
 fn put_title(output: &mut Vec<u8>, title: Title) -> Result<(), Fail> {
     let is_float = title.major == 7 && (25..=27).contains(&title.minor);
@@ -155,6 +179,18 @@ pub struct Copied {
     pub offset: usize,
     /// Why it stops before its end, if it does.
     pub fault: Option<Fault>,
+    /// Whether it is that of a strict decoder.
+    is_strict: bool,
+}
+
+/// Reads the next title of a copy.
+fn due_title(copied: &mut Copied, bytes: &[u8]) -> Result<Title, Fault> {
+    let next = next_title(bytes, &mut copied.offset)?;
+    if copied.is_strict {
+        strictly(next)
+    } else {
+        Ok(next)
+    }
 }
 
 /// Copies a body, which is one read of at most 64 bytes. A damaged end of at most three bytes is found late.
@@ -170,7 +206,7 @@ fn body(copied: &mut Copied, bytes: &[u8], title: Title, place: usize) -> Result
         let is_damaged = title.major == 3
             && matches!(std::str::from_utf8(rest), Err(error) if error.error_len().is_some());
         copied.fault = Some(if is_damaged {
-            Fault::ShortAndDamaged
+            Fault::ShortAndDamaged(place)
         } else {
             Fault::Short
         });
@@ -196,7 +232,7 @@ fn body(copied: &mut Copied, bytes: &[u8], title: Title, place: usize) -> Result
 fn segments(copied: &mut Copied, bytes: &[u8], major: u8) -> Result<(), Fail> {
     let mut depth = 1usize;
     for _ in 0..=bytes.len() {
-        match next_title(bytes, &mut copied.offset) {
+        match due_title(copied, bytes) {
             Ok(next) if next.is_break() => {
                 depth = depth.saturating_sub(1);
                 if depth == 0 {
@@ -204,7 +240,10 @@ fn segments(copied: &mut Copied, bytes: &[u8], major: u8) -> Result<(), Fail> {
                     return Ok(());
                 }
             }
-            Ok(next) if next.major == major && next.is_open() => depth = depth.saturating_add(1),
+            Ok(next) if next.major == major && next.is_open() && !copied.is_strict => {
+                depth = depth.saturating_add(1);
+            }
+            Ok(next) if next.is_open() => copied.fault = Some(Fault::Syntax(next.place)),
             Ok(next) if next.major == major => body(copied, bytes, next, next.place)?,
             Ok(next) => copied.fault = Some(Fault::Syntax(next.place)),
             Err(fault) => copied.fault = Some(fault),
@@ -218,7 +257,7 @@ fn segments(copied: &mut Copied, bytes: &[u8], major: u8) -> Result<(), Fail> {
 
 /// Copies an element.
 fn element(copied: &mut Copied, bytes: &[u8]) -> Result<(), Fail> {
-    match next_title(bytes, &mut copied.offset) {
+    match due_title(copied, bytes) {
         Ok(first) if first.is_string() && first.is_open() => {
             put_title(&mut copied.output, first)?;
             segments(copied, bytes, first.major)
@@ -235,25 +274,55 @@ fn element(copied: &mut Copied, bytes: &[u8]) -> Result<(), Fail> {
     }
 }
 
-/// Copies elements. With `are_headers` each title is one, and what stands behind it is none of it.
-pub fn copy(alloc: Global, are_headers: bool, count: usize, bytes: &[u8]) -> Result<Copied, Fail> {
-    let mut copied = Copied {
+/// A copy that has not begun.
+fn fresh(alloc: Global, is_strict: bool) -> Copied {
+    Copied {
         output: Vec::new(alloc),
         offset: 0,
         fault: None,
-    };
+        is_strict,
+    }
+}
+
+/// Copies elements up to a fault.
+fn elements(copied: &mut Copied, count: usize, bytes: &[u8]) -> Result<(), Fail> {
     for _ in 0..count {
-        if are_headers {
-            match next_title(bytes, &mut copied.offset) {
-                Ok(next) => put_title(&mut copied.output, next)?,
-                Err(fault) => copied.fault = Some(fault),
-            }
-        } else {
-            element(&mut copied, bytes)?;
-        }
+        element(copied, bytes)?;
         if copied.fault.is_some() {
             break;
         }
     }
+    Ok(())
+}
+
+/// Copies titles up to a fault. What stands behind one is none of it.
+fn headers(copied: &mut Copied, count: usize, bytes: &[u8]) -> Result<(), Fail> {
+    for _ in 0..count {
+        match due_title(copied, bytes) {
+            Ok(next) => put_title(&mut copied.output, next)?,
+            Err(fault) => {
+                copied.fault = Some(fault);
+                break;
+            }
+        }
+    }
+    Ok(())
+}
+
+/// Copies elements. With `are_headers` each title is one, and what stands behind it is none of it.
+pub fn copy(alloc: Global, are_headers: bool, count: usize, bytes: &[u8]) -> Result<Copied, Fail> {
+    let mut copied = fresh(alloc, false);
+    if are_headers {
+        headers(&mut copied, count, bytes)?;
+    } else {
+        elements(&mut copied, count, bytes)?;
+    }
+    Ok(copied)
+}
+
+/// Copies elements as a strict decoder gives them.
+pub fn strict_copy(alloc: Global, count: usize, bytes: &[u8]) -> Result<Copied, Fail> {
+    let mut copied = fresh(alloc, true);
+    elements(&mut copied, count, bytes)?;
     Ok(copied)
 }

@@ -68,7 +68,7 @@ impl<'a> Tape<'a> {
         self.take(affix_len(minor))?;
         next_title(self.bytes, &mut start).map_err(|fault| match fault {
             Fault::Syntax(place) => Stop::Syntax(place),
-            Fault::Short | Fault::ShortAndDamaged => Stop::Short,
+            Fault::Short | Fault::ShortAndDamaged(_) => Stop::Short,
         })
     }
 }

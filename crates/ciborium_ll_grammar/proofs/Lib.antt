@@ -8,6 +8,7 @@ pub mod OneFault
 pub mod OpenStrings
 pub mod PartsLaws
 pub mod RefusedBytes
+pub mod StartLaws
 pub mod StepLaws
 pub mod StringLaws
 pub mod TightLaws

@@ -38,7 +38,7 @@ numbered_parts major (m.Eight k) n header p e f = subst (IsTitle (parts_bytes (m
 numbered_parts major m.Open n header p e f = absurd cc
 
 -- a title is of one header
-one_header : (w : List ℕ) (mine header : Header) → IsTitle w mine → IsTitle w header → mine ≡ header
+pub one_header : (w : List ℕ) (mine header : Header) → IsTitle w mine → IsTitle w header → mine ≡ header
 one_header w mine header a b = (one_title w w [] [] mine header a b refl).1
 
 -- the parts of the least size are the shortest title of a number
@@ -138,3 +138,23 @@ bytes_parts minor header p t = string_parts ByteString minor h.Bytes header p (�
 pub text_parts : (minor : Minor) (header : Header) → IsMinor minor → IsTitle (parts_bytes 3 minor) header → header
     ≡ h.Text (minor_number minor)
 text_parts minor header p t = string_parts TextString minor h.Text header p (λ s n. refl) refl t
+
+pub array_parts : (minor : Minor) (header : Header) → IsMinor minor → IsTitle (parts_bytes 4 minor) header → header
+    ≡ h.Array (minor_number minor)
+array_parts minor header p t = string_parts Array minor h.Array header p (λ s n. refl) refl t
+
+pub map_parts : (minor : Minor) (header : Header) → IsMinor minor → IsTitle (parts_bytes 5 minor) header → header
+    ≡ h.Map (minor_number minor)
+map_parts minor header p t = string_parts Map minor h.Map header p (λ s n. refl) refl t
+
+-- the parts of a title with a number tell the header, under a major type that reads every number alike
+number_parts : (major : Major) (minor : Minor) (n : ℕ) (mine header : Header) → IsMinor minor → minor_number minor
+    ≡ Some n
+    → ((size : Size) → numbered_header major size n ≡ mine) → IsTitle (parts_bytes (major_code major) minor) header
+    → header ≡ mine
+number_parts major minor n mine header p e alike t =
+    sym (one_header (parts_bytes (major_code major) minor) mine header (numbered_parts major minor n mine p e alike) t)
+
+pub tag_parts : (minor : Minor) (n : ℕ) (header : Header) → IsMinor minor → minor_number minor ≡ Some n
+    → IsTitle (parts_bytes 6 minor) header → header ≡ h.Tag n
+tag_parts minor n header p e t = number_parts Tag minor n (h.Tag n) header p e (λ s. refl) t

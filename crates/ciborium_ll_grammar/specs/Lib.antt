@@ -2,6 +2,8 @@ pub mod Elements
 pub mod Faults
 pub mod Items
 pub mod Parts
+pub mod Starts
+pub mod StrictElements
 pub mod Strings
 pub mod Title
 pub mod TitleRows

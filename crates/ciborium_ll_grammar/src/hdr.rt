@@ -10,8 +10,10 @@ ghost use Rattle.ciborium_ll_grammar.specs.Parts.{parts_first, title_bytes};
 ghost use Rattle.ciborium_ll_grammar.specs.Elements.{IsPlain};
 ghost use Rattle.ciborium_ll_grammar.specs.TitleRows.{IsTitleKind};
 
+mod start;
 pub mod table;
 
+pub use self::start::Start;
 use crate::hdr::table::TitleKind;
 
 /// A float by its width and its raw bits (RFC 7049, 2.3).
@@ -75,7 +77,7 @@ pub enum Minor {
 
 impl Minor {
     /// The number, where there is one.
-    fn number(self) -> Option<u64>
+    pub(crate) fn number(self) -> Option<u64>
         ensures { result ≡ minor_number self }
     {
         match self {

@@ -9,9 +9,11 @@ use std::test::Fail;
 // Reads bytes as titles and as elements, and compares all of it with a plain reading.
 fn reads(rt: &impl Abort, alloc: Global, count: usize, bytes: &[u8]) -> Result<(), Fail> {
     let never = usize::MAX;
-    assert!(rt; !reads_titles(rt, bytes, never));
+    assert!(rt; !reads_titles(rt, false, bytes, never));
+    assert!(rt; !reads_titles(rt, true, bytes, never));
     agrees(rt, alloc, Kind::Headers, count, bytes)?;
-    agrees(rt, alloc, Kind::Elements, count, bytes)
+    agrees(rt, alloc, Kind::Elements, count, bytes)?;
+    agrees(rt, alloc, Kind::StrictElements, count, bytes)
 }
 
 // Reads each beginning of bytes.

@@ -27,6 +27,15 @@ pub fn decoder(bytes: &[u8]) -> Decoder<SliceReader<'_>> {
     Decoder::from(SliceReader::new(bytes))
 }
 
+// A decoder of bytes, which may be strict.
+pub fn decoder_as(is_strict: bool, bytes: &[u8]) -> Decoder<SliceReader<'_>> {
+    if is_strict {
+        Decoder::strict(SliceReader::new(bytes))
+    } else {
+        Decoder::from(SliceReader::new(bytes))
+    }
+}
+
 // An encoder into a space.
 pub fn encoder(space: &mut [u8]) -> Encoder<SliceWriter<'_>> {
     Encoder::from(SliceWriter::new(space))
@@ -35,6 +44,19 @@ pub fn encoder(space: &mut [u8]) -> Encoder<SliceWriter<'_>> {
 // A decoder whose reader fails where it is told to.
 pub fn failing_decoder(bytes: &[u8], failing: Failing) -> Decoder<FailingReader<'_>> {
     Decoder::from(FailingReader::new(bytes, failing))
+}
+
+// The same, which may be strict.
+pub fn failing_decoder_as(
+    is_strict: bool,
+    bytes: &[u8],
+    failing: Failing,
+) -> Decoder<FailingReader<'_>> {
+    if is_strict {
+        Decoder::strict(FailingReader::new(bytes, failing))
+    } else {
+        failing_decoder(bytes, failing)
+    }
 }
 
 // An encoder whose writer fails where it is told to.

@@ -1,4 +1,6 @@
-use crate::calls::{decoded, failing_decoder, failing_encoder, front_of, holds, recodes};
+use crate::calls::{
+    decoded, failing_decoder, failing_decoder_as, failing_encoder, front_of, holds, recodes,
+};
 use ciborium_ll::io::{EndOfFile, OutOfSpace, SliceReader, SliceWriter};
 use ciborium_ll::laws::copy_headers;
 use ciborium_ll::{Decoder, Encoder, Error, RecodeError};
@@ -16,6 +18,8 @@ use std::test::Fail;
 pub enum Kind {
     Headers,
     Elements,
+    // Elements, as a strict decoder gives them.
+    StrictElements,
 }
 
 // How a copy ended.
@@ -84,7 +88,7 @@ fn copies_headers(
 }
 
 // The copy of elements.
-fn copies_elements(
+pub fn copies_elements(
     rt: &impl Abort,
     decoder: &mut Decoder<FailingReader<'_>>,
     encoder: &mut Encoder<FailingWriter<'_>>,
@@ -104,11 +108,14 @@ pub fn copies(
     failing: (Failing, Failing),
 ) -> Result<Outcome, Fail> {
     let mut space = [0; 64];
-    let mut decoder = failing_decoder(bytes, failing.0);
+    let is_strict = matches!(kind, Kind::StrictElements);
+    let mut decoder = failing_decoder_as(is_strict, bytes, failing.0);
     let mut encoder = failing_encoder(&mut space, failing.1);
     let answer = match kind {
         Kind::Headers => copies_headers(&mut decoder, &mut encoder, count),
-        Kind::Elements => copies_elements(rt, &mut decoder, &mut encoder, count, &mut [0; 64]),
+        Kind::Elements | Kind::StrictElements => {
+            copies_elements(rt, &mut decoder, &mut encoder, count, &mut [0; 64])
+        }
     };
     let offset = decoder.offset();
     let reader = decoder.into_inner();
@@ -124,7 +131,11 @@ pub fn copies(
 
 // What a plain reading of bytes gives.
 fn copies_plainly(alloc: Global, kind: Kind, count: usize, bytes: &[u8]) -> Result<Copied, Fail> {
-    plain::copy(alloc, matches!(kind, Kind::Headers), count, bytes)
+    match kind {
+        Kind::Headers => plain::copy(alloc, true, count, bytes),
+        Kind::Elements => plain::copy(alloc, false, count, bytes),
+        Kind::StrictElements => plain::strict_copy(alloc, count, bytes),
+    }
 }
 
 // An answer is the fault that is wanted, if one is.
@@ -132,7 +143,7 @@ pub fn is_fault(answer: Answer, want: Option<Fault>) -> bool {
     match answer {
         Answer::Done => want.is_none(),
         Answer::Syntax(place) => want == Some(Fault::Syntax(place)),
-        Answer::Short => matches!(want, Some(Fault::Short | Fault::ShortAndDamaged)),
+        Answer::Short => matches!(want, Some(Fault::Short | Fault::ShortAndDamaged(_))),
         Answer::Unread | Answer::Unwritten | Answer::Wrong => false,
     }
 }
@@ -283,6 +294,17 @@ fn each_call_fails_under_copies_of_elements(rt: HostRuntime) -> Result<(), Fail>
         each_call_fails(&rt, rt.alloc(), Kind::Elements, count, hex)?;
     }
     each_call_fails_in_titles(&rt, rt.alloc(), Kind::Elements)
+}
+
+#[test]
+fn each_call_fails_under_strict_copies(rt: HostRuntime) -> Result<(), Fail> {
+    for &(count, hex) in &COPIES {
+        each_call_fails(&rt, rt.alloc(), Kind::StrictElements, count, hex)?;
+    }
+    for &(hex, _, _) in &LONGER_TITLES {
+        each_call_fails(&rt, rt.alloc(), Kind::StrictElements, 2, hex)?;
+    }
+    each_call_fails_in_titles(&rt, rt.alloc(), Kind::StrictElements)
 }
 
 // A string of indefinite length, whose one body is "ab".

@@ -16,6 +16,8 @@ mod segments;
 #[cfg(test)]
 mod streams;
 #[cfg(test)]
+mod strict;
+#[cfg(test)]
 mod strings;
 #[cfg(test)]
 mod titles;

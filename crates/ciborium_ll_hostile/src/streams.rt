@@ -23,7 +23,7 @@ fn is_read_answer(
         Ok(()) => want.is_none(),
         Err(RecodeError::Read(Error::Syntax(place))) => want == Some(Fault::Syntax(place)),
         Err(RecodeError::Read(Error::Io(ReadFault::End))) => {
-            matches!(want, Some(Fault::Short | Fault::ShortAndDamaged))
+            matches!(want, Some(Fault::Short | Fault::ShortAndDamaged(_)))
         }
         Err(_) => false,
     }

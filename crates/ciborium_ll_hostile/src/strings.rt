@@ -134,9 +134,11 @@ fn is_ending(ending: Ending, has_read_failed: bool, has_write_failed: bool) -> b
 // Two drains of a text of a definite length.
 fn drains_text(
     rt: &impl Abort,
-    mut segments: Segments<'_, FailingReader<'_>, Text>,
+    decoder: &mut Decoder<FailingReader<'_>>,
+    length: Option<usize>,
     sink: &mut Encoder<FailingWriter<'_>>,
 ) -> [Ending; 2] {
+    let mut segments = text_of(rt, decoder, length);
     let Ok(Some(mut segment)) = segments.pull() else {
         panic!(rt; "no segment");
     };
@@ -148,9 +150,11 @@ fn drains_text(
 // Two drains of a byte string of a definite length.
 fn drains_bytes(
     rt: &impl Abort,
-    mut segments: Segments<'_, FailingReader<'_>, Bytes>,
+    decoder: &mut Decoder<FailingReader<'_>>,
+    length: Option<usize>,
     sink: &mut Encoder<FailingWriter<'_>>,
 ) -> [Ending; 2] {
+    let mut segments = bytes_of(rt, decoder, length);
     let Ok(Some(mut segment)) = segments.pull() else {
         panic!(rt; "no segment");
     };
@@ -167,8 +171,8 @@ fn drains(
     sink: &mut Encoder<FailingWriter<'_>>,
 ) -> [Ending; 2] {
     match header {
-        Header::Text(length) => drains_text(rt, text_of(rt, decoder, length), sink),
-        Header::Bytes(length) => drains_bytes(rt, bytes_of(rt, decoder, length), sink),
+        Header::Text(length) => drains_text(rt, decoder, length, sink),
+        Header::Bytes(length) => drains_bytes(rt, decoder, length, sink),
         _ => panic!(rt; "no string"),
     }
 }

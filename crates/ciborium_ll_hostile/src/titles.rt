@@ -1,4 +1,7 @@
-use crate::calls::{decoded, decoder, failing_decoder, failing_encoder, holds, pull_fails, pulls};
+use crate::calls::{
+    decoded, decoder, failing_decoder, failing_decoder_as, failing_encoder, holds, pull_fails,
+    pulls,
+};
 use ciborium_ll::io::Write;
 use ciborium_ll::{Decoder, Error, Header};
 use ciborium_ll_fixtures::devices::{DeviceFault, Failing, FailingReader};
@@ -54,10 +57,12 @@ fn reads_of(title: Result<Title, Fault>) -> usize {
     }
 }
 
-// Reads bytes as titles, and compares each answer with a plain reading from the offset at which that call begins.
+// Reads bytes as titles, and compares each answer with a plain reading from the offset at which that call begins, to
+// which on a strict decoder a title may be a fault.
 fn reads_on(
     rt: &impl Abort,
     decoder: &mut Decoder<FailingReader<'_>>,
+    is_strict: bool,
     bytes: &[u8],
     failing: usize,
 ) {
@@ -67,14 +72,19 @@ fn reads_on(
         let answer = pulled_of(pulls(decoder));
         let offset = decoder.offset();
         let mut behind = start;
-        let want = plain::next_title(bytes, &mut behind);
+        let title = plain::next_title(bytes, &mut behind);
+        let want = if is_strict {
+            title.and_then(plain::strictly)
+        } else {
+            title
+        };
         let is_right = if matches!(answer, Pulled::Unread) {
             is_unread(start, offset, calls, failing)
         } else {
             is_plain(answer, want) && offset == behind
         };
         holds(rt, is_right, failing, bytes);
-        calls = calls.saturating_add(reads_of(want));
+        calls = calls.saturating_add(reads_of(title));
         if want.err() == Some(Fault::Short) && start >= bytes.len() {
             break;
         }
@@ -82,9 +92,9 @@ fn reads_on(
 }
 
 // Reads bytes as titles by a reader that fails at one call. It tells whether that call has come.
-pub fn reads_titles(rt: &impl Abort, bytes: &[u8], failing: usize) -> bool {
-    let mut decoder = failing_decoder(bytes, Failing::Call(failing));
-    reads_on(rt, &mut decoder, bytes, failing);
+pub fn reads_titles(rt: &impl Abort, is_strict: bool, bytes: &[u8], failing: usize) -> bool {
+    let mut decoder = failing_decoder_as(is_strict, bytes, Failing::Call(failing));
+    reads_on(rt, &mut decoder, is_strict, bytes, failing);
     let offset = decoder.offset();
     let reader = decoder.into_inner();
     assert!(rt; offset.saturating_add(reader.left().len()) == bytes.len());
@@ -92,9 +102,9 @@ pub fn reads_titles(rt: &impl Abort, bytes: &[u8], failing: usize) -> bool {
 }
 
 // The call of each number fails in turn, until none does. Nothing but that one answer is another one.
-fn each_read_fails(rt: &impl Abort, alloc: Global, hex: &str) -> Result<(), Fail> {
+fn each_read_fails(rt: &impl Abort, alloc: Global, is_strict: bool, hex: &str) -> Result<(), Fail> {
     let bytes = decoded(alloc, hex)?;
-    let last = (1..=64usize).find(|call| !reads_titles(rt, bytes.as_slice(), *call));
+    let last = (1..=64usize).find(|call| !reads_titles(rt, is_strict, bytes.as_slice(), *call));
     assert!(rt; last.is_some(), "at {hex}");
     Ok(())
 }
@@ -102,7 +112,8 @@ fn each_read_fails(rt: &impl Abort, alloc: Global, hex: &str) -> Result<(), Fail
 #[test]
 fn each_read_fails_under_pull(rt: HostRuntime) -> Result<(), Fail> {
     for (_, hex) in samples::all(rt.alloc())? {
-        each_read_fails(&rt, rt.alloc(), hex)?;
+        each_read_fails(&rt, rt.alloc(), false, hex)?;
+        each_read_fails(&rt, rt.alloc(), true, hex)?;
     }
     Ok(())
 }

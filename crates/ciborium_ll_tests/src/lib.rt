@@ -2,6 +2,8 @@
 #![tactic(auto)]
 
 #[cfg(test)]
+mod bodies;
+#[cfg(test)]
 mod buffered;
 #[cfg(test)]
 mod calls;
@@ -13,6 +15,8 @@ mod drains;
 mod elements;
 #[cfg(test)]
 mod exactly;
+#[cfg(test)]
+mod first_bytes;
 #[cfg(test)]
 mod messages;
 #[cfg(test)]

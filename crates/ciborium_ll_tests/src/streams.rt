@@ -73,6 +73,7 @@ fn flushes_std<T: io::Write>(writer: &mut StdWriter<T>) -> Failure {
     write_failure(flushes(writer).err())
 }
 
+// No contract says that a read over std succeeds. An adapter that always answered `End` would fail here.
 #[test]
 fn a_reader_in_memory(rt: HostRuntime) {
     let mut decoder = Decoder::from(StdReader::new([0x18, 24, 1, 2].as_slice()));
@@ -153,6 +154,7 @@ fn more_than_a_million_bytes(rt: HostRuntime) -> Result<(), Fail> {
     Ok(())
 }
 
+// Nor that a write does. An adapter that always answered `Zero` would fail here.
 #[test]
 fn a_writer_in_memory(rt: HostRuntime) {
     let mut encoder = Encoder::from(StdWriter::new(Vec::new(rt.alloc())));

@@ -138,7 +138,7 @@ static ROWS: [u64; 256] = [
 
 impl State {
     /// The state behind one more byte.
-    pub(crate) fn step(self, byte: u8) -> State
+    pub fn step(self, byte: u8) -> State
         ensures { result ≡ after_byte self byte }
     {
         State::at((ROWS[byte as usize] >> self.shift()) % ENTRY)

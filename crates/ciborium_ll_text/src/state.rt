@@ -149,9 +149,9 @@ fn behind_window(x: u8, y: u8, z: u8) -> State
     }
 }
 
-/// The bytes as text, which they are.
+/// The bytes as a `&str`. They are text, and are read once more to make it.
 #[inline(always)]
-fn text_of(bytes: &[u8]) -> &str
+pub fn text_of(bytes: &[u8]) -> &str
     requires { IsCharacters bytes.now }
     ensures { result.now ≡ bytes.now }
 {
@@ -161,10 +161,10 @@ fn text_of(bytes: &[u8]) -> &str
     }
 }
 
-/// The longest front of the bytes that is text, and the state behind them. `state` is that behind the first `kept` of
-/// them, in which no character ends.
+/// The longest front of the bytes that is text, and the state behind them all. `state` is that behind the first `kept`
+/// of them, in which no character ends.
 #[inline(always)]
-pub fn text_front(bytes: &[u8], kept: usize, state: State) -> (&str, State)
+pub fn text_front(bytes: &[u8], kept: usize, state: State) -> (&[u8], State)
     requires within { kept ≤ length bytes.now }
     requires told { state ≡ after Between (take kept bytes.now) }
     requires stuck { IsLastEnd (take kept bytes.now) 0 }
@@ -173,5 +173,5 @@ pub fn text_front(bytes: &[u8], kept: usize, state: State) -> (&str, State)
 {
     let behind = state.run(&bytes[kept..]);
     let len = state.front_len(bytes, kept, behind);
-    (text_of(&bytes[..len]), behind)
+    (&bytes[..len], behind)
 }

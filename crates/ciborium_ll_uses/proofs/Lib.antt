@@ -1,3 +1,4 @@
+mod CoseLaws
 mod MapLaws
 mod ShortestLaws
 mod StreamLaws

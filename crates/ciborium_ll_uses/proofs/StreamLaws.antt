@@ -1,85 +1,219 @@
 -- A copy of a stream, and the flush behind it.
-use Rattle.std.proofs.Common.{◌≡◌, ℕ, zero, suc, ◌+◌, ◌<◌, ◌≤◌, ◌^◌, IsOk, IsTrue, List, length, MatchResult, None}
-use Rattle.std.proofs.Common.{Some, Result, Ok, Err, refl, sym, ap, subst, ◌∙◌, inr, arith}
+use Rattle.std.proofs.Common.{◌≡◌, ℕ, zero, suc, ◌+◌, IsTrue, IsSome, Option, List, [], ◌++◌, length, drop, MatchResult}
+use Rattle.std.proofs.Common.{None, Some, Result, Ok, Err, refl, sym, ap, subst, ◌∙◌, inl, inr, arith}
 use Rattle.ciborium_ll.specs.Types.Read.{Ghosts as Reader}
 use Rattle.ciborium_ll.specs.Types.Write.{Ghosts as Writer}
 use Rattle.ciborium_ll.specs.Types.Decoder.{Decoder}
+use Rattle.ciborium_ll.specs.Types.Error.{Error}
+use Rattle.ciborium_ll.specs.Types.Error.TheVariants as e
 use Rattle.ciborium_ll.specs.Types.RecodeError.{RecodeError}
 use Rattle.ciborium_ll.specs.Types.RecodeError.TheVariants as r
-use Rattle.ciborium_ll.specs.Faults.{RunInFront}
-use Rattle.ciborium_ll.specs.Decoding.{IsFresh, behind_waiting}
-use Rattle.ciborium_ll.specs.RecodingTold.{CopiesFront, IsReady, IsTold, RecodesTold}
-use Rattle.ciborium_ll.specs.Sides.{sides}
-use Rattle.ciborium_ll_uses.specs.Streams.{IsNormalised, Normalises}
+use Rattle.ciborium_ll.specs.Transfer.{Shrinks}
+use Rattle.ciborium_ll.specs.Strings.{Kind}
+use Rattle.ciborium_ll.specs.Elements.{spelling}
+use Rattle.ciborium_ll.specs.Faults.{Answer, Short, Syntax}
+use Rattle.ciborium_ll.specs.Decoding.{Passes, IsFresh, behind_waiting, view}
+use Rattle.ciborium_ll.specs.Finishing.{EndsBody}
+use Rattle.ciborium_ll.specs.Recoding.{CopiesAll, StopsAtTitle, StopsInBody, StopsCopy}
+use Rattle.ciborium_ll.specs.RecodingTold.{CopiesFront, IsReady, IsTold, MeetsFault, RecodesTold, RecodesAnyhow}
+use Rattle.ciborium_ll.specs.RecodingTold.{StopsShort}
+use Rattle.ciborium_ll.specs.Sides.{Sides, sides}
+use Rattle.ciborium_ll.proofs.FaultLaws.{no_fault}
+use Rattle.ciborium_ll_uses.specs.Streams.{AreReady, CopiesSo, IsNormalised, Normalises, NormalisesAnyhow, StopsAtFault}
+use Rattle.ciborium_ll_uses.specs.Streams.{StopsReading, TellBytes}
+
+-- a room that is told stays told
+room_stays : (old new : Option ℕ) (count room : ℕ) → old ≡ Some room → Shrinks old new count → IsSome new
+room_stays None new count room told shrinks = absurd cc
+room_stays (Some old) None count room told shrinks = absurd shrinks
+room_stays (Some old) (Some new) count room told shrinks = refl
 
 module _ {R E W F : Type 0} (source : Reader R E) (sink : Writer W F) where
+  -- ---- the decoder and the writer at first
+
   -- a fresh decoder and encoder, over a reader and a writer that tell their bytes
   pub told : (reader : R) (writer writer' : W) (decoder : Decoder R) (due written : List ℕ) → IsFresh reader 0 decoder
-      → writer' ≡ writer → source.ahead reader ≡ Some due → sink.written writer ≡ Some written
+      → writer' ≡ writer → TellBytes source sink reader writer due written
       → IsTold source sink (sides decoder writer') due written
-  told reader writer writer' decoder due written fresh same ahead output = record {
+  told reader writer writer' decoder due written fresh same tell = record {
     mode = fresh.mode;
     due-told = ap (λ w. behind_waiting w (source.ahead decoder.reader)) fresh.none_waits
-        ∙ ap source.ahead fresh.reader ∙ ahead;
-    written-told = ap sink.written same ∙ output;
+        ∙ ap source.ahead fresh.reader ∙ tell.ahead;
+    written-told = ap sink.written same ∙ tell.output;
   }
 
   -- they are ready for a copy
-  pub ready : (count room : ℕ) (reader : R) (writer writer' : W) (decoder : Decoder R) (due written : List ℕ)
-      → IsFresh reader 0 decoder → writer' ≡ writer → IsTrue (source.steady reader) → source.ahead reader ≡ Some due
-      → sink.written writer ≡ Some written → sink.room writer ≡ Some room → length due ≤ room → length due + 64 < 2 ^ 64
+  pub ready : (count : ℕ) (reader : R) (writer writer' : W) (decoder : Decoder R) (due written : List ℕ)
+      → IsFresh reader 0 decoder → writer' ≡ writer → AreReady source sink count reader writer due written
       → IsReady source sink count 64 (sides decoder writer') due written
-  ready count room reader writer writer' decoder due written fresh same steady ahead output space enough fits = record {
-    steady = subst (λ (r : R). IsTrue (source.steady r)) (sym fresh.reader) steady;
-    told = told reader writer writer' decoder due written fresh same ahead output;
-    room = room;
-    room-told = ap sink.room same ∙ space;
-    enough = inr enough;
-    fits-title = omega (arith, fresh.offset, fits);
-    fits-chunk = omega (arith, fresh.offset, fits);
+  ready count reader writer writer' decoder due written fresh same are = record {
+    steady = subst (λ (r : R). IsTrue (source.steady r)) (sym fresh.reader) are.steady;
+    told = told reader writer writer' decoder due written fresh same are.tell;
+    room = are.room;
+    room-told = ap sink.room same ∙ are.room-told;
+    enough = are.enough;
+    fits-title = (let fits = are.fits in omega (arith, fresh.offset, fits));
+    fits-chunk = (let fits = are.fits in omega (arith, fresh.offset, fits));
   }
 
-  -- no header waits behind a copy from a fresh decoder
-  settled : (count : ℕ) (due written : List ℕ) (old new : Decoder R) (writer' : W) → old.waiting ≡ None
+  -- ---- no header waits behind a copy from a fresh decoder
+
+  passed_settled : (old new : Decoder R) (bytes : List ℕ) → Passes source old bytes new → old.waiting ≡ None
+      → new.waiting ≡ None
+  passed_settled old new bytes passed none = elim passed.waiting
+      [ inl same ↦ ap (λ d. d.waiting) same.1 ∙ none | inr settled ↦ settled ]
+
+  copied_settled : (count : ℕ) (due written : List ℕ) (old new : Decoder R) (writer' : W) → old.waiting ≡ None
       → CopiesFront source sink count due written old (sides new writer') → new.waiting ≡ None
-  settled zero due written old new writer' none copied = copied.still refl ∙ none
-  settled (suc count) due written old new writer' none copied = copied.settled (omega arith)
+  copied_settled zero due written old new writer' none copied = copied.still refl ∙ none
+  copied_settled (suc count) due written old new writer' none copied = copied.settled (omega arith)
 
-  pub normalises : (count : ℕ) (due written : List ℕ) (reader reader' : R) (old new : Decoder R) (writer' last : W)
-      → IsFresh reader 0 old → CopiesFront source sink count due written old (sides new writer') → reader' ≡ new.reader
-      → sink.flushed writer' last → Normalises source sink count due written reader' last
-  normalises count due written reader reader' old new writer' last fresh copied same flushed =
-      let none = settled count due written old new writer' fresh.none_waits copied in
-      record {
-        front = copied.front;
-        left = ap source.ahead same ∙ sym (ap (λ w. behind_waiting w (source.ahead new.reader)) none) ∙ copied.left;
-        copied = writer';
-        output = copied.output;
-        flushed = flushed;
-      }
+  title_settled : (count : ℕ) (old new : Sides R W) (error : Error E) → StopsAtTitle source sink count old error new
+      → new.decoder.waiting ≡ None
+  title_settled count old new (e.Io fault) stops = stops.fails.none_waits
+  title_settled count old new (e.Syntax at) stops = elim stops.fails
+      [ inl refused ↦ refused.none_waits | inr longer ↦ longer.none_waits ]
+  title_settled count old new e.TooLong stops = stops.fails.none_waits
+  title_settled count old new e.Waiting stops = absurd stops.fails
 
-  -- the answer of the flush is that of the call
-  pub flushed_answer : (count : ℕ) (due written : List ℕ) (reader' : R) (writer' last : W)
-      (result : Result (Unit {0}) (RecodeError E F))
-      → MatchResult result (λ _. sink.flushed writer' last) (λ error. (fault : F) × (error ≡ r.Write fault))
-      → (sink.flushed writer' last → Normalises source sink count due written reader' last) → RunInFront count due
-      → IsNormalised source sink count due written result reader' last
-  flushed_answer count due written reader' writer' last (Ok done) answer all front = all answer
-  flushed_answer count due written reader' writer' last (Err (r.Read error)) answer all front =
-      absurd (let e = answer.1 in cc)
-  flushed_answer count due written reader' writer' last (Err (r.Write fault)) answer all front = front
+  ends_settled : (kind : Kind) (len room place : ℕ) (old new : Decoder R) (error : Error E) → old.waiting ≡ None
+      → EndsBody source kind [] len room place old (Err error) new → new.waiting ≡ None
+  ends_settled kind len room place old new (e.Io fault) none ends = ends.fails.none_waits
+  ends_settled kind len room place old new (e.Syntax at) none ends =
+      passed_settled old new ends.1.read ends.1.passed none
+  ends_settled kind len room place old new e.TooLong none ends =
+      ends.untouched.waiting ∙ passed_settled old ends.between ends.part.read ends.part.passed none
+  ends_settled kind len room place old new e.Waiting none ends = absurd ends
 
-  pub flushed_ok : (count : ℕ) (due written : List ℕ) (reader' : R) (writer' last : W)
-      (result : Result (Unit {0}) (RecodeError E F)) → IsOk result
-      → MatchResult result (λ _. sink.flushed writer' last) (λ error. (fault : F) × (error ≡ r.Write fault))
-      → (sink.flushed writer' last → Normalises source sink count due written reader' last)
-      → Normalises source sink count due written reader' last
-  flushed_ok count due written reader' writer' last (Ok done) ok answer all = all answer
-  flushed_ok count due written reader' writer' last (Err error) ok answer all = absurd cc
+  body_settled : (count room : ℕ) (old new : Sides R W) (error : Error E) → old.decoder.waiting ≡ None
+      → StopsInBody source sink count room old error new → new.decoder.waiting ≡ None
+  body_settled count room old new error none stops =
+      ends_settled stops.kind stops.len room (old.decoder.offset + stops.start) stops.between.decoder new.decoder error
+      (passed_settled old.decoder stops.between.decoder stops.bytes stops.copied.passed none) stops.stopped.ends
 
-  -- a copy that has room fails on the reader's side alone
-  pub copy_failed : (count : ℕ) (due written : List ℕ) (old new : Decoder R) (writer' last : W) (reader' : R)
-      (error : RecodeError E F) → RecodesTold source sink count due written old (Err error) (sides new writer')
-      → (RunInFront count due → ⊥) → IsNormalised source sink count due written (Err error) reader' last
-  copy_failed count due written old new writer' last reader' (r.Read error) told none = none
-  copy_failed count due written old new writer' last reader' (r.Write fault) told none = absurd told
+  stop_settled : (count room : ℕ) (old new : Sides R W) (error : RecodeError E F) → old.decoder.waiting ≡ None
+      → StopsCopy source sink count room old error new → new.decoder.waiting ≡ None
+  stop_settled count room old new (r.Read (e.Io fault)) none (inl stops) =
+      title_settled count old new (e.Io fault) stops
+  stop_settled count room old new (r.Read (e.Io fault)) none (inr stops) =
+      body_settled count room old new (e.Io fault) none stops
+  stop_settled count room old new (r.Read (e.Syntax at)) none (inl stops) =
+      title_settled count old new (e.Syntax at) stops
+  stop_settled count room old new (r.Read (e.Syntax at)) none (inr (inl stops)) = stops.other.pulled.none_waits
+  stop_settled count room old new (r.Read (e.Syntax at)) none (inr (inr stops)) =
+      body_settled count room old new (e.Syntax at) none stops
+  stop_settled count room old new (r.Read e.TooLong) none (inl stops) = title_settled count old new e.TooLong stops
+  stop_settled count room old new (r.Read e.TooLong) none (inr (inl stops)) = stops.pulled.none_waits
+  stop_settled count room old new (r.Read e.TooLong) none (inr (inr stops)) =
+      body_settled count room old new e.TooLong none stops
+  stop_settled count room old new (r.Read e.Waiting) none stops = absurd stops
+  stop_settled count room old new (r.Write fault) none stops =
+      passed_settled old.decoder new.decoder (stops.bytes ++ stops.read) stops.passed none
+
+  -- the bytes that are due are then those of the reader
+  due_ahead : (new : Decoder R) (reader' : R) (rest : List ℕ) → new.waiting ≡ None → reader' ≡ new.reader
+      → view source new ≡ Some rest → source.ahead reader' ≡ Some rest
+  due_ahead new reader' rest none same due =
+      ap source.ahead same ∙ sym (ap (λ w. behind_waiting w (source.ahead new.reader)) none) ∙ due
+
+  -- ---- the copy, from a fresh decoder
+
+  module _ (count : ℕ) (due written : List ℕ) (reader reader' : R) (writer : W) (old new : Decoder R) (writer' : W)
+      (fresh : IsFresh reader 0 old) (same : reader' ≡ new.reader) where
+    pub copies_so : CopiesFront source sink count due written old (sides new writer')
+        → CopiesSo source sink count due written reader' writer'
+    copies_so copied = record {
+      front = copied.front;
+      output = copied.output;
+      left = due_ahead new reader' copied.front.rest
+          (copied_settled count due written old new writer' fresh.none_waits copied) same copied.left;
+    }
+
+    -- a writer that told its room tells it still
+    pub room_told : (room : ℕ) → sink.room writer ≡ Some room
+        → CopiesAll source sink count (sides old writer) (sides new writer') → IsSome (sink.room writer')
+    room_told room told all =
+        room_stays (sink.room writer) (sink.room writer') (length (spelling all.elements.marks)) room told
+        all.elements.copied.written.room
+
+    at_fault : (answer : Answer) → new.waiting ≡ None
+        → MeetsFault source sink count due written answer old (sides new writer')
+        → StopsAtFault source sink count due written answer reader' writer'
+    at_fault answer none meets = record {
+      fault = meets.fault;
+      answered = meets.answered;
+      fewer = λ front. no_fault count due front meets.fault;
+      output = meets.output;
+      left = due_ahead new reader' (drop meets.fault.consumed meets.fault.ahead) none same meets.left;
+    }
+
+    at_syntax : (place start : ℕ) → place ≡ old.offset + start → new.waiting ≡ None
+        → MeetsFault source sink count due written (Syntax start) old (sides new writer')
+        → StopsAtFault source sink count due written (Syntax place) reader' writer'
+    at_syntax place start at none meets =
+        let from_start : start ≡ place = omega (arith, at, fresh.offset) in
+        at_fault (Syntax place) none (subst (λ (n : ℕ). MeetsFault source sink count due written (Syntax n) old
+        (sides new writer')) from_start meets)
+
+    pub error_told : (error : RecodeError E F)
+        → StopsCopy source sink count 64 (sides old writer) error (sides new writer')
+        → RecodesTold source sink count due written old (Err error) (sides new writer')
+        → IsNormalised source sink count due written (Err error) reader' writer'
+    error_told (r.Read (e.Io fault)) stops told =
+        at_fault Short (stop_settled count 64 _ _ (r.Read (e.Io fault)) fresh.none_waits stops) told
+    error_told (r.Read (e.Syntax place)) stops told =
+        at_syntax place told.0 told.1 (stop_settled count 64 _ _ (r.Read (e.Syntax place)) fresh.none_waits stops)
+        told.2
+    error_told (r.Read e.TooLong) stops told = absurd told
+    error_told (r.Read e.Waiting) stops told = absurd told
+    error_told (r.Write fault) stops told = absurd told
+
+    abbrev short : StopsShort source sink count due written old (sides new writer')
+        → StopsReading source sink count due written writer'
+    short stops = record { stop = stops.stop; output = stops.output }
+
+    pub error_anyhow : (error : RecodeError E F)
+        → StopsCopy source sink count 64 (sides old writer) error (sides new writer')
+        → RecodesAnyhow source sink count 64 due written old (Err error) (sides new writer')
+        → NormalisesAnyhow source sink count due written (Err error) reader' writer'
+    error_anyhow (r.Read (e.Io fault)) stops anyhow = short anyhow
+    error_anyhow (r.Read (e.Syntax place)) stops anyhow =
+        at_syntax place anyhow.0 anyhow.1 (stop_settled count 64 _ _ (r.Read (e.Syntax place)) fresh.none_waits stops)
+        anyhow.2
+    error_anyhow (r.Read e.TooLong) stops anyhow =
+        let at = anyhow.0.offset in
+        let full = anyhow.1 in
+        (short anyhow.0, omega (arith, at, full, fresh.offset))
+    error_anyhow (r.Read e.Waiting) stops anyhow = absurd anyhow
+    error_anyhow (r.Write fault) stops anyhow = inl (record {
+      stop = anyhow.stop;
+      output = anyhow.output;
+      left = due_ahead new reader' anyhow.stop.rest
+          (stop_settled count 64 _ _ (r.Write fault) fresh.none_waits stops) same anyhow.left;
+    })
+
+  -- ---- the flush behind it, whose answer is that of the call
+
+  module _ (count : ℕ) (due written : List ℕ) (reader' : R) (copied last : W)
+      (copies : CopiesSo source sink count due written reader' copied)
+      (kept : IsSome (sink.room copied) → sink.written last ≡ sink.written copied) where
+    -- what the flush of a writer answers
+    abbrev pub FlushAnswer : Result (Unit {0}) (RecodeError E F) → Type 0
+    FlushAnswer result =
+        MatchResult result (λ _. sink.flushed copied last) (λ error. (fault : F) × (error ≡ r.Write fault))
+
+    normalises : sink.flushed copied last → Normalises source sink count due written reader' last
+    normalises flushed = record { copied = copied; copies = copies; flushed = flushed }
+
+    pub flush_told : IsSome (sink.room copied) → (result : Result (Unit {0}) (RecodeError E F)) → FlushAnswer result
+        → IsNormalised source sink count due written result reader' last
+    flush_told told (Ok done) answer = normalises answer
+    flush_told told (Err (r.Read error)) answer = absurd (let e = answer.1 in cc)
+    flush_told told (Err (r.Write fault)) answer =
+        record { front = copies.front; output = kept told ∙ copies.output; left = copies.left }
+
+    pub flush_anyhow : (result : Result (Unit {0}) (RecodeError E F)) → FlushAnswer result
+        → NormalisesAnyhow source sink count due written result reader' last
+    flush_anyhow (Ok done) answer = normalises answer
+    flush_anyhow (Err (r.Read error)) answer = absurd (let e = answer.1 in cc)
+    flush_anyhow (Err (r.Write fault)) answer = inr (record { copied = copied; copies = copies; kept = kept })

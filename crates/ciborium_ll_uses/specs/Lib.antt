@@ -1,3 +1,4 @@
+pub mod Cose
 pub mod Maps
 pub mod Shortest
 pub mod Streams

@@ -1,6 +1,7 @@
 -- A text that is read whole, segment by segment.
-use Rattle.std.specs.Prelude.{◌≡◌, ℕ, zero, suc, ◌+◌, ◌-◌, ◌<◌, ◌≤◌, ◌^◌, ◌⊎◌, min, List, [], ◌++◌, length, Option}
-use Rattle.std.specs.Prelude.{Some, None, Result, Ok, Err}
+use Rattle.std.specs.Prelude.{◌≡◌, ℕ, ◌+◌, ◌-◌, ◌<◌, ◌≤◌, ◌^◌, ◌⊎◌, min, List, [], ◌∷◌, ◌++◌, length, Option, Some}
+use Rattle.std.specs.Prelude.{None}
+use Rattle.std.specs.Prelude.{Result, Ok, Err}
 use Rattle.ciborium_ll.specs.Types.Read.{Ghosts}
 use Rattle.ciborium_ll.specs.Types.Header.{Header}
 use Rattle.ciborium_ll.specs.Types.Header.TheVariants as h
@@ -9,11 +10,13 @@ use Rattle.ciborium_ll.specs.Types.Error.{Error}
 use Rattle.ciborium_ll.specs.Types.Body.{Body}
 use Rattle.ciborium_ll.specs.Types.Progress.{Progress}
 use Rattle.ciborium_ll.specs.Types.Progress.TheVariants as p
-use Rattle.ciborium_ll.specs.Text.{IsCharacters}
-use Rattle.ciborium_ll.specs.Strings.{Text}
-use Rattle.ciborium_ll.specs.Decoding.{Passes, PullsHeader, PullsTitle}
-use Rattle.ciborium_ll.specs.Finishing.{BeginsRest, EndsBody}
-use Rattle.ciborium_ll.specs.Segments.{AdvancesTo, PullsOther}
+use Rattle.ciborium_ll.specs.Text.{joined}
+use Rattle.ciborium_ll.specs.Strings.{IsString, Text}
+use Rattle.ciborium_ll.specs.Elements.{AreWritable}
+use Rattle.ciborium_ll.specs.Chunks.{GoesOnTo}
+use Rattle.ciborium_ll.specs.Decoding.{Passes, PullsHeader, PullsTitle, TakesBack}
+use Rattle.ciborium_ll.specs.Finishing.{BeginsRest, EndsBody, ReadsRest}
+use Rattle.ciborium_ll.specs.Segments.{PullsOther}
 use Rattle.ciborium_ll_uses.specs.declared.texts.TextError.{TextError}
 use Rattle.ciborium_ll_uses.specs.declared.texts.TextError.TheVariants as t
 
@@ -26,69 +29,80 @@ abbrev pub most_segments : ℕ → ℕ
 most_segments limit = min (limit + 1) (2 ^ 64 - 2)
 
 module _ {R E : Type 0} (source : Ghosts R E) where
-  -- a body of this length was read, which is UTF-8 by itself, and was appended to the text
-  pub record AppendsBody (len : ℕ) (old : Decoder R) (text : List ℕ) (new : Decoder R) (text' : List ℕ) : Type 0 where
-    pub body : List ℕ
-    pub all : length body ≡ len
-    pub sound : IsCharacters body
-    pub passed : Passes source old body new
-    pub appended : text' ≡ text ++ body
+  -- ---- the text that was read
 
-  -- `Gathers progress count text progress'`: from the start of a string on, so many bodies were announced by `advance`,
-  -- one after the other, and each was read whole behind its title. The text is these bodies, joined in order. Where the
-  -- decoder stands between a body and the next title is left open, since a segment's loan does not tell its caller
-  pub data Gathers (progress : Progress) : ℕ → List ℕ → Progress → Type 0 where
-    none : Gathers progress zero [] progress
-    more : {count : ℕ} {text text' : List ℕ} {progress' progress'' : Progress} (body : Body)
-        (now titled new : Decoder R) → Gathers progress count text progress'
-        → AdvancesTo source Text progress' now (Ok (Some body)) progress'' titled
-        → AppendsBody body.length titled text new text' → Gathers progress (suc count) text' progress''
-
-  -- behind so many bodies, which are the text, `advance` gave this answer and left this decoder
-  pub record GoesOn (progress : Progress) (count : ℕ) (text : List ℕ) (answer : Result (Option Body) (Error E))
-      (new : Decoder R) : Type 0 where
-    pub last : Progress
-    pub gathers : Gathers progress count text last
-    pub now : Decoder R
-    pub after : Progress
-    pub advances : AdvancesTo source Text last now answer after new
-
-  -- so it went up to the end of the string, with no more segments than the limit allows
-  pub record GathersAll (limit : ℕ) (progress : Progress) (text : List ℕ) (new : Decoder R) : Type 0 where
-    pub count : ℕ
-    pub few : count ≤ most_segments limit
-    pub ends : GoesOn progress count text (Ok None) new
-
-  -- the header of a text came, and its segments were read up to the end of the string: they are the text
+  -- just the bytes of one string were consumed (RFC 7049, 2.1 and 2.2.2). Its bodies are UTF-8, each by itself, no more
+  -- than the limit allows, and joined they are the text
   pub record ReadsText (limit : ℕ) (old : Decoder R) (text : List ℕ) (new : Decoder R) : Type 0 where
+    pub bytes : List ℕ
+    pub bodies : List (List ℕ)
+    pub is_string : IsString Text bytes bodies
+    pub sound : AreWritable Text bodies
+    pub whole : text ≡ joined bodies
+    pub few : length bodies ≤ most_segments limit
+    pub passed : Passes source old bytes new
+
+  -- ---- how it is read
+
+  -- `Gathers progress old bodies progress' new`: `advance` announced so many bodies, one after the other, and each was
+  -- read whole, so that the decoder is behind it
+  pub data Gathers (progress : Progress) (old : Decoder R) : List (List ℕ) → Progress → Decoder R → Type 0 where
+    none : Gathers progress old [] progress old
+    more : {bodies : List (List ℕ)} {last : Progress} {now titled new : Decoder R} (body : Body)
+        → Gathers progress old bodies last now
+        → (announced : GoesOnTo source Text old.strict last now (Ok (Some body)) titled)
+        → (reads : ReadsRest source Text [] body.length titled new)
+        → Gathers progress old (bodies ++ reads.read ∷ []) announced.after new
+
+  -- behind these bodies `advance` gave this answer and left this decoder
+  pub record GoesOn (progress : Progress) (old : Decoder R) (bodies : List (List ℕ))
+      (answer : Result (Option Body) (Error E)) (new : Decoder R) : Type 0 where
+    pub last : Progress
+    pub now : Decoder R
+    pub gathers : Gathers progress old bodies last now
+    pub advances : GoesOnTo source Text old.strict last now answer new
+
+  -- so it went up to the end of the string: its bodies are the text
+  pub record GathersAll (limit : ℕ) (progress : Progress) (old : Decoder R) (text : List ℕ) (new : Decoder R) : Type 0
+    where
+      pub bodies : List (List ℕ)
+      pub whole : text ≡ joined bodies
+      pub few : length bodies ≤ most_segments limit
+      pub ends : GoesOn progress old bodies (Ok None) new
+
+  -- the header of a text came and waited again, and then this was done behind it
+  pub record IsBehindHeader (Done : Decoder R → Decoder R → Type 0) (old new : Decoder R) : Type 0 where
     pub len : Option ℕ
     pub titled : Decoder R
     pub pulled : PullsTitle source old (h.Text len) titled
-    pub segments : GathersAll limit (p.Open 0) text new
+    pub pushed : Decoder R
+    pub back : TakesBack source titled (h.Text len) pushed
+    pub done : Done pushed new
+
+  -- the header of a text came, and its segments were read up to the end of the string
+  abbrev pub GathersText : ℕ → Decoder R → List ℕ → Decoder R → Type 0
+  GathersText limit old text new = IsBehindHeader (λ pushed left. GathersAll limit (p.Open 0) pushed text left) old new
 
   -- ---- why no text was read
 
   -- `advance` failed behind bodies that were read
-  pub record FailsAtTitle (progress : Progress) (error : Error E) (new : Decoder R) : Type 0 where
-    pub count : ℕ
-    pub text : List ℕ
-    pub fails : GoesOn progress count text (Err error) new
+  pub record FailsAtTitle (progress : Progress) (old : Decoder R) (error : Error E) (new : Decoder R) : Type 0 where
+    pub bodies : List (List ℕ)
+    pub fails : GoesOn progress old bodies (Err error) new
 
-  -- a body was announced with which the text is longer than the limit
-  pub record MeetsLongBody (limit : ℕ) (progress : Progress) (new : Decoder R) : Type 0 where
-    pub count : ℕ
-    pub text : List ℕ
+  -- a body was announced with which the text is longer than the limit, and nothing of it was read
+  pub record MeetsLongBody (limit : ℕ) (progress : Progress) (old new : Decoder R) : Type 0 where
+    pub bodies : List (List ℕ)
     pub body : Body
-    pub goes_on : GoesOn progress count text (Ok (Some body)) new
-    pub too_long : limit < length text + body.length
+    pub goes_on : GoesOn progress old bodies (Ok (Some body)) new
+    pub too_long : limit < length (joined bodies) + body.length
 
-  -- more segments were read than the limit allows
-  pub record MeetsTooMany (limit : ℕ) (progress : Progress) : Type 0 where
-    pub count : ℕ
-    pub text : List ℕ
+  -- more segments were read than the limit allows, and nothing behind the last one
+  pub record MeetsTooMany (limit : ℕ) (progress : Progress) (old new : Decoder R) : Type 0 where
+    pub bodies : List (List ℕ)
     pub last : Progress
-    pub gathers : Gathers progress count text last
-    pub too_many : most_segments limit < count
+    pub gathers : Gathers progress old bodies last new
+    pub too_many : most_segments limit < length bodies
 
   -- a beginning of a body was read, of a byte at least, and there was no memory for the text with it
   pub record LacksMemory (len : ℕ) (old new : Decoder R) : Type 0 where
@@ -103,29 +117,26 @@ module _ {R E : Type 0} (source : Ghosts R E) where
   BodyStops body old t.Memory new = LacksMemory body.length old new
 
   -- a body was announced, and was not read whole or not appended
-  pub record StopsInBody (progress : Progress) (error : TextError E) : Type 0 where
-    pub count : ℕ
-    pub text : List ℕ
+  pub record StopsInBody (progress : Progress) (old : Decoder R) (error : TextError E) (new : Decoder R) : Type 0 where
+    pub bodies : List (List ℕ)
     pub body : Body
     pub titled : Decoder R
-    pub goes_on : GoesOn progress count text (Ok (Some body)) titled
-    pub ended : Decoder R
-    pub stops : BodyStops body titled error ended
+    pub goes_on : GoesOn progress old bodies (Ok (Some body)) titled
+    pub stops : BodyStops body titled error new
 
   -- why the segments of a text were not read whole
-  abbrev pub SegmentsStop : ℕ → Progress → TextError E → Decoder R → Type 0
-  SegmentsStop limit progress (t.Read error) new =
-      FailsAtTitle progress error new ⊎ StopsInBody progress (t.Read error)
-  SegmentsStop limit progress (t.NoText at) new = ⊥
-  SegmentsStop limit progress t.TooLong new = MeetsLongBody limit progress new ⊎ MeetsTooMany limit progress
-  SegmentsStop limit progress t.Memory new = StopsInBody progress t.Memory
+  abbrev pub SegmentsStop : ℕ → Progress → Decoder R → TextError E → Decoder R → Type 0
+  SegmentsStop limit progress old (t.Read error) new =
+      FailsAtTitle progress old error new ⊎ StopsInBody progress old (t.Read error) new
+  SegmentsStop limit progress old (t.NoText at) new = ⊥
+  SegmentsStop limit progress old t.TooLong new =
+      MeetsLongBody limit progress old new ⊎ MeetsTooMany limit progress old new
+  SegmentsStop limit progress old t.Memory new = StopsInBody progress old t.Memory new
 
   -- the header of a text came, and its segments were not read whole
-  pub record StopsInText (limit : ℕ) (old : Decoder R) (error : TextError E) (new : Decoder R) : Type 0 where
-    pub len : Option ℕ
-    pub titled : Decoder R
-    pub pulled : PullsTitle source old (h.Text len) titled
-    pub stops : SegmentsStop limit (p.Open 0) error new
+  abbrev pub StopsInText : ℕ → Decoder R → TextError E → Decoder R → Type 0
+  StopsInText limit old error new =
+      IsBehindHeader (λ pushed left. SegmentsStop limit (p.Open 0) pushed error left) old new
 
   -- why no text was read
   abbrev pub StopsText : ℕ → Decoder R → TextError E → Decoder R → Type 0

@@ -1,14 +1,14 @@
 //! Callers of the library, as a user writes them. Each contract says what the function is for.
 #![tactic(auto)]
 
+mod cose;
 mod maps;
 mod shortest;
 mod streams;
 mod sums;
-#[cfg(test)]
-mod tests;
 mod texts;
 
+pub use self::cose::{CoseError, MAP_DEPTH, Sign1, Span, read_sign1};
 pub use self::maps::{Entry, write_strings};
 pub use self::shortest::shortest_item_len;
 pub use self::streams::normalise;

@@ -1,6 +1,6 @@
 //! Whether an item stands in its shortest spelling.
 
-ghost use Rattle.std.specs.Prelude.{ℕ, ◌+◌, ◌<◌, ◌^◌, MatchOption, length};
+ghost use Rattle.std.specs.Prelude.{ℕ, MatchOption};
 ghost use Rattle.ciborium_ll_uses.specs.Shortest.{ShortestInFront};
 
 use cbor_skip::skip_item;
@@ -16,7 +16,6 @@ pub const DEPTH: usize = 64;
 /// It is `None` where no such item stands in front, with tags, arrays and maps nested at most 64 levels deep. A check
 /// of a message that was signed as bytes may rest on it.
 pub fn shortest_item_len(bytes: &[u8]) -> Option<usize>
-    requires fits { length bytes.now + 64 < 2 ^ 64 }
     ensures { MatchOption result ((len : ℕ) → ShortestInFront DEPTH bytes.now len → ⊥)
         (λ len. ShortestInFront DEPTH bytes.now len) }
 {

@@ -1,7 +1,7 @@
 //! A stream, copied to its shortest spelling.
 
-ghost use Rattle.std.specs.Prelude.{◌≡◌, ◌≤◌, ◌+◌, ◌<◌, ◌^◌, ℕ, IsOk, IsTrue, List, MatchResult, Some, length};
-ghost use Rattle.ciborium_ll_uses.specs.Streams.{IsNormalised, Normalises};
+ghost use Rattle.std.specs.Prelude.{◌≡◌, ℕ, IsSome, List, MatchResult};
+ghost use Rattle.ciborium_ll_uses.specs.Streams.{AreReady, IsNormalised, NormalisesAnyhow, TellBytes};
 
 use ciborium_ll::io::{Read, Write};
 use ciborium_ll::recode::recode;
@@ -10,16 +10,17 @@ use ciborium_ll::{Decoder, Encoder, RecodeError};
 /// Copies so many elements from a reader to a writer, each in its shortest spelling, and flushes the writer. It hands
 /// back both. An element is a header that begins no string, or a whole string (RFC 7049, 2.1 and 2.2).
 ///
-/// The errors are those of `recode`, behind which nothing is flushed, and `Write` where the flush failed.
+/// The errors are those of `recode`, behind which nothing is flushed, and `Write` where the flush failed. The reader
+/// and the writer are then as `recode` left them: what was read of the elements is gone, and what was written of them
+/// stands in the writer.
 pub fn normalise<R: Read, W: Write>(
     reader: R,
     writer: W,
     count: usize,
 ) -> (R, W, Result<(), RecodeError<R::Error, W::Error>>)
-    ensures copied { (due written : List ℕ) → R.ahead reader ≡ Some due → W.written writer ≡ Some written
-        → IsOk result.2 → Normalises R.Read W.Write count due written result.0 result.1 }
-    ensures exactly { (due written : List ℕ) (room : ℕ) → IsTrue (R.steady reader) → R.ahead reader ≡ Some due
-        → W.written writer ≡ Some written → W.room writer ≡ Some room → length due ≤ room → length due + 64 < 2 ^ 64
+    ensures anyhow { (due written : List ℕ) → TellBytes R.Read W.Write reader writer due written
+        → NormalisesAnyhow R.Read W.Write count due written result.2 result.0 result.1 }
+    ensures exactly { (due written : List ℕ) → AreReady R.Read W.Write count reader writer due written
         → IsNormalised R.Read W.Write count due written result.2 result.0 result.1 }
 {
     let mut buffer = [0; 64];
@@ -37,8 +38,9 @@ pub fn normalise<R: Read, W: Write>(
 
 /// Flushes the writer.
 fn flushed<E, W: Write>(writer: &mut W) -> Result<(), RecodeError<E, W::Error>>
-    ensures { MatchResult result (λ _. W.flushed writer.old writer.new)
+    ensures answer { MatchResult result (λ _. W.flushed writer.old writer.new)
         (λ error. (fault : W.Error) × (error ≡ RecodeError.Write fault)) }
+    ensures kept { IsSome (W.room writer.old) → W.written writer.new ≡ W.written writer.old }
 {
     match writer.flush() {
         Ok(()) => Ok(()),

@@ -3,7 +3,7 @@
 ghost use Rattle.std.specs.Prelude.{◌≡◌, ◌+ℤ◌, FitsSigned, negsuc, None, Some};
 ghost use Rattle.std.specs.Int.{w64};
 ghost use Rattle.std.specs.Option.{SomeIff};
-ghost use Rattle.ciborium_ll.specs.Decoding.{IsSteady};
+ghost use Rattle.ciborium_ll.specs.Decoding.{MovesOn};
 ghost use Rattle.ciborium_ll_uses.specs.Sums.{AddsNext, SumsArray, SumsBehind};
 
 use ciborium_ll::io::Read;
@@ -38,7 +38,8 @@ impl<E> From<Error<E>> for SumError<E> {
 /// with which the sum so far leaves the range of `i64`. `Read` carries the decoder's error. What was read before an
 /// error is consumed.
 pub fn sum_numbers<R: Read>(decoder: &mut Decoder<R>) -> Result<i64, SumError<R::Error>>
-    ensures { SumsArray R.Read decoder.old result decoder.new }
+    ensures sums { SumsArray R.Read decoder.old result decoder.new }
+    ensures moves_on { MovesOn R.Read decoder.old decoder.new }
 {
     let place = decoder.offset();
     match decoder.pull()? {
@@ -51,6 +52,7 @@ pub fn sum_numbers<R: Read>(decoder: &mut Decoder<R>) -> Result<i64, SumError<R:
 /// The sum of so many integers.
 fn sum_counted<R: Read>(decoder: &mut Decoder<R>, count: usize) -> Result<i64, SumError<R::Error>>
     ensures sums { SumsBehind R.Read (Header.Array (Some count)) decoder.old result decoder.new }
+    ensures moves_on { MovesOn R.Read decoder.old decoder.new }
 {
     let mut total = 0;
     'numbers: for _read in 0..count {
@@ -66,6 +68,7 @@ fn sum_counted<R: Read>(decoder: &mut Decoder<R>, count: usize) -> Result<i64, S
 /// The sum of integers up to a break.
 fn sum_open<R: Read>(decoder: &mut Decoder<R>) -> Result<i64, SumError<R::Error>>
     ensures sums { SumsBehind R.Read (Header.Array None) decoder.old result decoder.new }
+    ensures moves_on { MovesOn R.Read decoder.old decoder.new }
 {
     let mut total = 0;
     // It ends: each title takes a byte, and no offset is greater than `usize::MAX`.
@@ -83,7 +86,7 @@ fn next_sum<R: Read>(
     total: i64,
 ) -> Result<Option<i64>, SumError<R::Error>>
     ensures adds { AddsNext R.Read total decoder.old result decoder.new }
-    ensures steady { IsSteady R.Read decoder.old → IsSteady R.Read decoder.new }
+    ensures moves_on { MovesOn R.Read decoder.old decoder.new }
 {
     let place = decoder.offset();
     let sum = match decoder.pull()? {

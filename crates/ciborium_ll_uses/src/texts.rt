@@ -1,14 +1,15 @@
 //! A text of any length, read whole.
 
-ghost use Rattle.std.specs.Prelude.{◌≡◌, ◌≤◌, ◌+◌, IfErr, IfOk, OnOk, string_bytes, string_len};
-ghost use Rattle.ciborium_ll.specs.Types.Body.{Body as AnyBody};
-ghost use Rattle.ciborium_ll.specs.Chunks.{IsWhole, segment_decoder, segment_reference};
-ghost use Rattle.ciborium_ll.specs.Decoding.{IsSteady};
-ghost use Rattle.ciborium_ll.specs.Segments.{progress_of, string_decoder, string_reference};
-ghost use Rattle.ciborium_ll_uses.specs.Texts.{AppendsBody, BodyStops, GathersAll, ReadsText, SegmentsStop, StopsText};
+ghost use Rattle.std.specs.Prelude.{◌≡◌, ◌≤◌, ◌+◌, ℕ, List, [], None, Some, IfErr, IfOk, IsOk, OnErr, OnOk};
+ghost use Rattle.std.specs.Prelude.{length, string_bytes, string_len};
+ghost use Rattle.std.specs.Io.KnownBytes.{Appends};
+ghost use Rattle.ciborium_ll.specs.Decoding.{MovesOn, strict_of};
+ghost use Rattle.ciborium_ll.specs.Segments.{progress_of, string_decoder, string_reference, string_strict};
+ghost use Rattle.ciborium_ll.specs.Transfer.{AppendsFront};
+ghost use Rattle.ciborium_ll_uses.specs.Texts.{GathersAll, GathersText, ReadsText, SegmentsStop, StopsText};
 
-use ciborium_ll::io::Read;
-use ciborium_ll::{Decoder, Error, Header, Segment, Segments, Text};
+use ciborium_ll::io::{Failures, Read, Write};
+use ciborium_ll::{Decoder, Error, Header, RecodeError, Segments, Text};
 use std::alloc::Global;
 
 /// Why no text was read.
@@ -47,65 +48,139 @@ pub fn read_string<R: Read>(
 ) -> Result<String, TextError<R::Error>>
     ensures limited { IfOk result (λ text. string_len text ≤ limit) }
     ensures whole { IfOk result (λ text. ReadsText R.Read limit decoder.old (string_bytes text) decoder.new) }
+    ensures steps { IfOk result (λ text. GathersText R.Read limit decoder.old (string_bytes text) decoder.new) }
     ensures stops { IfErr result (λ error. StopsText R.Read limit decoder.old error decoder.new) }
+    ensures moves_on { MovesOn R.Read decoder.old decoder.new }
 {
     let place = decoder.offset();
     let Header::Text(len) = decoder.pull()? else {
         return Err(TextError::NoText(place));
     };
     let mut segments = decoder.text(len);
-    read_segments(alloc, &mut segments, limit)
+    let mut text = Gathered::new(alloc);
+    read_segments(&mut segments, &mut text, limit)?;
+    match String::from_utf8(text.into_vec()) {
+        Ok(text) => Ok(text),
+        // Each body is UTF-8 by itself, so all of them joined are.
+        Err(_) => unreachable!(),
+    }
 }
 
-/// Reads the segments of a text, and joins them.
+/// Reads the segments of a text, and appends their bodies.
 fn read_segments<R: Read>(
-    alloc: Global,
     segments: &mut Segments<'_, R, Text>,
+    text: &mut Gathered,
     limit: usize,
-) -> Result<String, TextError<R::Error>>
-    ensures limited { IfOk result (λ text. string_len text ≤ limit) }
-    ensures gathers { IfOk result (λ text. GathersAll R.Read limit (progress_of segments.old) (string_bytes text)
-        (string_decoder segments.new)) }
-    ensures stops { IfErr result (λ error. SegmentsStop R.Read limit (progress_of segments.old) error
-        (string_decoder segments.new)) }
+) -> Result<(), TextError<R::Error>>
+    requires empty { text.old.bytes.items ≡ [] }
+    requires mode { string_strict segments.old ≡ strict_of (string_decoder segments.old) }
+    ensures limited { OnOk result (length text.new.bytes.items ≤ limit) }
+    ensures gathers { OnOk result (GathersAll R.Read limit (progress_of segments.old) (string_decoder segments.old)
+        text.new.bytes.items (string_decoder segments.new)) }
+    ensures stops { IfErr result (λ error. SegmentsStop R.Read limit (progress_of segments.old)
+        (string_decoder segments.old) error (string_decoder segments.new)) }
     ensures same_reference { string_reference segments.new ≡ string_reference segments.old }
+    ensures moves_on { MovesOn R.Read (string_decoder segments.old) (string_decoder segments.new) }
 {
-    let mut text = String::new(alloc);
+    let mut buffer = [0; 64];
     // Empty segments could come without an end.
     'segments: for _read in 0..limit.saturating_add(2) {
         let Some(body) = segments.advance()? else {
-            return Ok(text);
+            return Ok(());
         };
         if body.length > limit - text.len() {
             return Err(TextError::TooLong);
         }
-        let mut segment = segments.segment(body);
-        read_body(&mut segment, &mut text)?;
+        match segments.copy(body, text, &mut buffer) {
+            Ok(()) => {}
+            Err(RecodeError::Read(error)) => return Err(TextError::Read(error)),
+            Err(RecodeError::Write(NoMemory)) => return Err(TextError::Memory),
+        }
     }
     Err(TextError::TooLong)
 }
 
-/// Reads a segment to its end, and appends its body.
-fn read_body<R: Read>(
-    segment: &mut Segment<'_, R, Text>,
-    text: &mut String,
-) -> Result<(), TextError<R::Error>>
-    ensures appends { (body : AnyBody) → IsWhole body segment.old → OnOk result (AppendsBody R.Read body.length
-        (segment_decoder segment.old) (string_bytes text.old) (segment_decoder segment.new) (string_bytes text.new)) }
-    ensures stops { (body : AnyBody) → IsWhole body segment.old → IfErr result (λ error. BodyStops R.Read body
-        (segment_decoder segment.old) error (segment_decoder segment.new)) }
-    ensures grows { (body : AnyBody) → IsWhole body segment.old
-        → OnOk result (string_len text.new ≡ string_len text.old + body.length) }
-    ensures same_reference { segment_reference segment.new ≡ segment_reference segment.old }
-    ensures steady { IsSteady R.Read (segment_decoder segment.old) → IsSteady R.Read (segment_decoder segment.new) }
-{
-    let mut buffer = [0; 64];
-    // It ends: each chunk takes bytes of the body that were not read yet.
-    'chunks: while let Some(chunk) = segment.pull(&mut buffer)? {
-        match text.push_str(chunk) {
-            Ok(()) => {}
-            Err(_) => return Err(TextError::Memory),
+/// There was no memory for a chunk, and nothing of it was appended.
+#[derive(Drop)]
+struct NoMemory;
+
+/// The bodies of a text so far, joined. As a writer it appends what it is given.
+#[derive(Drop)]
+struct Gathered {
+    bytes: Vec<u8>,
+    failures: Failures,
+}
+
+impl Gathered {
+    /// An empty text, which takes no memory yet.
+    fn new(alloc: Global) -> Gathered
+        ensures { result.bytes.items ≡ [] }
+    {
+        Gathered {
+            bytes: Vec::new(alloc),
+            failures: Failures::new(),
         }
     }
-    Ok(())
+
+    /// How many bytes it has.
+    fn len(&self) -> usize
+        ensures { result ≡ length self.now.bytes.items }
+    {
+        self.bytes.len()
+    }
+
+    /// Its bytes.
+    fn into_vec(self) -> Vec<u8>
+        ensures { result ≡ self.bytes }
+    {
+        self.bytes
+    }
+}
+
+impl Write for Gathered {
+    type Error = NoMemory;
+
+    ghost written = { λ text. Some text.bytes.items };
+
+    ghost room = { λ _. None };
+
+    ghost failures = { λ text. text.failures.count };
+
+    ghost flushed = { λ old new. new.bytes.items ≡ old.bytes.items };
+
+    ghost target = { λ _. None };
+
+    /// Appends the whole of `data`, or nothing where there is no memory for it.
+    fn write_all(&mut self, data: &[u8]) -> Result<(), NoMemory>
+        // The trait's.
+        ensures bytes { OnOk result (Appends (Some self.old.bytes.items) (Some self.new.bytes.items) «data».now) }
+        ensures front { OnErr result (AppendsFront (Some self.old.bytes.items) (Some self.new.bytes.items)
+            None None «data».now) }
+        ensures ok { OnOk result (self.new.failures.count ≡ self.old.failures.count) }
+        ensures err { OnErr result (self.new.failures.count ≡ self.old.failures.count + 1) }
+
+        // Its own.
+        ensures nothing { OnErr result (self.new.bytes.items ≡ self.old.bytes.items) }
+    {
+        match self.bytes.extend_from_slice(data) {
+            Ok(()) => Ok(()),
+            Err(_) => {
+                self.failures.raise();
+                Err(NoMemory)
+            }
+        }
+    }
+
+    /// Does nothing, since nothing was kept back.
+    fn flush(&mut self) -> Result<(), NoMemory>
+        // The trait's.
+        ensures flushed { OnOk result (self.new.bytes.items ≡ self.old.bytes.items) }
+        ensures ok { OnOk result (self.new.failures.count ≡ self.old.failures.count) }
+        ensures err { OnErr result (self.new.failures.count ≡ self.old.failures.count + 1) }
+
+        // Its own.
+        ensures done { IsOk result }
+    {
+        Ok(())
+    }
 }

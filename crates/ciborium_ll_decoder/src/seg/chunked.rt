@@ -2,7 +2,7 @@
 
 ghost use Rattle.std.specs.Prelude.{◌≡◌, ◌≤◌, ◌+◌, [], length, IfOk, IfSome, None};
 ghost use Rattle.ciborium_ll_decoder.specs.Decoding.{MovesOn, waiting_of};
-ghost use Rattle.ciborium_ll_decoder.specs.Segments.{progress_of, string_decoder, string_reference};
+ghost use Rattle.ciborium_ll_decoder.specs.Segments.{progress_of, string_decoder, string_reference, string_strict};
 ghost use Rattle.ciborium_ll_decoder.specs.Chunks.{PullsChunk, left_of, segment_decoder, segment_reference};
 ghost use Rattle.ciborium_ll_decoder.specs.Finishing.{EndsBody, Finishes};
 
@@ -13,7 +13,8 @@ use ciborium_ll_io::io::Read;
 /// A kind of string whose chunks are bytes: what [`Bytes`] and [`Text`] have in common. It is the bound of a loop that
 /// reads the segments of either kind.
 pub trait Chunked: Parser {
-    /// The next chunk of a segment: what its `pull` gives, as bytes. The errors are those of its `pull`.
+    /// The next chunk of a segment: what its `pull` gives, as bytes, of which no `&str` is made. The errors are those of
+    /// its `pull`.
     fn chunk<'a, R: Read>(
         segment: &mut Segment<'_, R, Self>,
         buffer: &'a mut [u8],
@@ -39,11 +40,7 @@ impl Chunked for Text {
         segment: &mut Segment<'_, R, Text>,
         buffer: &'a mut [u8],
     ) -> Result<Option<&'a [u8]>, Error<R::Error>> {
-        match segment.pull(buffer) {
-            Ok(Some(text)) => Ok(Some(text.as_bytes())),
-            Ok(None) => Ok(None),
-            Err(error) => Err(error),
-        }
+        segment.pull_front(buffer)
     }
 }
 
@@ -112,6 +109,7 @@ impl<'r, R: Read, P: Chunked> Segments<'r, R, P> {
             (string_decoder self.old) result (string_decoder self.new) }
         ensures same_reference { string_reference self.new ≡ string_reference self.old }
         ensures progress { progress_of self.new ≡ progress_of self.old }
+        ensures mode { string_strict self.new ≡ string_strict self.old }
         ensures moves_on { MovesOn R.Read (string_decoder self.old) (string_decoder self.new) }
     {
         Segment::<R, P>::new(&mut *self.decoder, body).finish(buffer)

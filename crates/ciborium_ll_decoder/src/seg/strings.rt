@@ -3,8 +3,8 @@
 ghost use Rattle.std.specs.Prelude.{◌≡◌, ◌≤◌, None};
 ghost use Rattle.ciborium_ll_grammar.specs.Title.{title_len};
 ghost use Rattle.ciborium_ll_grammar.specs.Strings.{kind_header};
-ghost use Rattle.ciborium_ll_decoder.specs.Decoding.{TakesBack, offset_of, refusals_of, waiting_of};
-ghost use Rattle.ciborium_ll_decoder.specs.Segments.{IsAtBeginning, string_decoder, string_reference};
+ghost use Rattle.ciborium_ll_decoder.specs.Decoding.{TakesBack, offset_of, refusals_of, strict_of, waiting_of};
+ghost use Rattle.ciborium_ll_decoder.specs.Segments.{IsAtBeginning, string_decoder, string_reference, string_strict};
 
 use crate::dec::Decoder;
 use crate::seg::{Bytes, Parser, Segments, Text};
@@ -21,6 +21,7 @@ impl<R: Read> Decoder<R> {
         requires covered { title_len (Header.Bytes len) ≤ offset_of self.old }
         ensures back { TakesBack R.Read self.old (Header.Bytes len) (string_decoder result) }
         ensures fresh { IsAtBeginning result }
+        ensures mode { string_strict result ≡ strict_of self.old }
         ensures same_reference { string_reference result ≡ self.entry.ghost_name }
         ensures refusals { refusals_of (string_decoder result) ≡ refusals_of self.old }
     {
@@ -36,6 +37,7 @@ impl<R: Read> Decoder<R> {
         requires covered { title_len (Header.Text len) ≤ offset_of self.old }
         ensures back { TakesBack R.Read self.old (Header.Text len) (string_decoder result) }
         ensures fresh { IsAtBeginning result }
+        ensures mode { string_strict result ≡ strict_of self.old }
         ensures same_reference { string_reference result ≡ self.entry.ghost_name }
         ensures refusals { refusals_of (string_decoder result) ≡ refusals_of self.old }
     {
@@ -48,6 +50,7 @@ impl<R: Read> Decoder<R> {
         requires covered { title_len (kind_header P.kind len) ≤ offset_of self.old }
         ensures back { TakesBack R.Read self.old (kind_header P.kind len) (string_decoder result) }
         ensures fresh { IsAtBeginning result }
+        ensures mode { string_strict result ≡ strict_of self.old }
         ensures same_reference { string_reference result ≡ self.entry.ghost_name }
         ensures refusals { refusals_of (string_decoder result) ≡ refusals_of self.old }
     {

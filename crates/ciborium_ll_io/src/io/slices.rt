@@ -73,7 +73,21 @@ fn copy(to: &mut [u8], from: &[u8])
         2 => copy_array::<2>(to, from),
         4 => copy_array::<4>(to, from),
         8 => copy_array::<8>(to, from),
-        _ => to.copy_from_slice(from),
+        _ => copy_chunk(to, from),
+    }
+}
+
+/// Copies all bytes. Those of a chunk through a buffer of 64 bytes, which is what a copy is lent most often, are one
+/// move too.
+#[inline(always)]
+pub(super) fn copy_chunk(to: &mut [u8], from: &[u8])
+    requires len { length to.old ≡ length from.now }
+    ensures copied { to.new ≡ from.now }
+{
+    if to.len() == 64 {
+        copy_array::<64>(to, from);
+    } else {
+        to.copy_from_slice(from);
     }
 }
 
@@ -186,7 +200,7 @@ impl<'a> Write for SliceWriter<'a> {
             return Err(OutOfSpace);
         }
         let end = self.filled + data.len();
-        self.buffer[self.filled..end].copy_from_slice(data);
+        copy_chunk(&mut self.buffer[self.filled..end], data);
         self.filled = end;
         Ok(())
     }

@@ -3,6 +3,7 @@
 ghost use Rattle.std.specs.Prelude.{◌≡◌, ◌-◌, ◌≤◌, ◌<◌, ◌++◌, [], IfOk, OnErr, length, take};
 ghost use Rattle.std.specs.Io.KnownBytes.{Consumes, IsAtEnd, Keeps};
 
+use super::slices::copy_chunk;
 use std::io;
 
 /// Holds bytes that were read ahead, or that are not yet written, in a slice that the caller lends.
@@ -74,7 +75,7 @@ impl<'a> Window<'a> {
         requires { length «data».old ≤ length (held self.old) }
         ensures { held self.old ≡ «data».new ++ held self.new }
     {
-        data.copy_from_slice(&self.held()[..data.len()]);
+        copy_chunk(data, &self.held()[..data.len()]);
         self.skip(data.len());
     }
 
@@ -94,7 +95,7 @@ impl<'a> Window<'a> {
         ensures { held self.new ≡ held self.old ++ «data».now }
     {
         let end = self.end + data.len();
-        self.space[self.end..end].copy_from_slice(data);
+        copy_chunk(&mut self.space[self.end..end], data);
         self.end = end;
     }
 

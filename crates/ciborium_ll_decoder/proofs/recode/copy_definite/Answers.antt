@@ -1,10 +1,11 @@
-use Rattle.std.proofs.Common.{sym, ap, subst, ◌∙◌, ◌≡◌, ◌+◌, ◌-◌, Err, Some, length, arith}
+use Rattle.std.proofs.Common.{sym, ap, subst, ◌∙◌, ◌≡◌, ◌+◌, ℕ, Err, Some, length, arith}
 use Rattle.std.proofs.lemmas.Result.{err_from_is_err_and}
 use Rattle.ciborium_ll_decoder.specs.declared.dec.Decoder.{Decoder}
 use Rattle.ciborium_ll_decoder.specs.Recoding.{CopiesBody, GoesOn}
 use Rattle.ciborium_ll_grammar.specs.Title.{title_len}
 use Rattle.ciborium_ll_grammar.specs.Strings.{kind_header}
 use Rattle.ciborium_ll_decoder.specs.Sides.{sides_of}
+use Rattle.ciborium_ll_decoder.proofs.BodyCopyLaws.{through_encoder}
 use Rattle.ciborium_ll_decoder.proofs.RecodeLaws.{definite_goes_on, definite_unwritten, header_error}
 use Rattle.ciborium_ll_decoder.proofs.recode.copy_definite.Goals as goal
 
@@ -31,16 +32,20 @@ returns-clause-copied g c = λ count before old title t taken behind.
     ∙ ap title_len c.header-2.ensures in
     let at : c.offset.result ≡ lent.offset = c.offset.ensures.value in
     let covered = c.requires.covered in
-    let copied = subst (λ (d : Decoder g.row.R.Denot). CopiesBody g.R.Read g.W.Write k c.args.len
-    (length c.args.buffer.now) (c.offset.result - c.title_len.result) (sides_of d c.write_header.new.encoder)
-    c.copy_body.result (sides_of c.copy_body.new.segment.decoder.now c.copy_body.new.encoder)) start
-    c.copy_body.ensures.copied in
-    let placed : (c.offset.result - c.title_len.result) + title_len (kind_header k (Some c.args.len))
-    ≡ lent.offset = omega (arith, size, at, covered) in
     let ended = c.decoder-1.given.1 (sym c.new-segment.ensures.same_reference
     ∙ sym c.copy_body.ensures.same_reference) in
+    -- whichever place the body was given, the title's shortest form has to reach from there to the body
+    let goes_on = λ (place : ℕ) (copied : CopiesBody g.R.Read g.W.Write k c.args.len (length c.args.buffer.now) place
+    (sides_of c.new-segment.result.decoder.now c.write_header.new.encoder) c.copy_body.result
+    (sides_of c.copy_body.new.segment.decoder.now c.copy_body.new.writer))
+    (placed : place + title_len (kind_header k (Some c.args.len)) ≡ lent.offset).
+    definite_goes_on g.R.Read g.W.Write count (length c.args.buffer.now) old before behind.bytes title behind.marks k
+    c.args.len place (sides_of lent c.args.encoder.now) _ _ c.copy_body.result behind.due t behind.run behind.copied
+    placed titled (subst (λ (d : Decoder g.row.R.Denot). CopiesBody g.R.Read g.W.Write k c.args.len
+    (length c.args.buffer.now) place (sides_of d c.write_header.new.encoder) c.copy_body.result
+    (sides_of c.copy_body.new.segment.decoder.now c.copy_body.new.writer)) start copied) taken behind.strict in
     subst (λ (d : Decoder g.row.R.Denot). GoesOn g.R.Read g.W.Write count before (length c.args.buffer.now) old
-    c.copy_body.result (sides_of d c.copy_body.new.encoder)) (sym ended)
-    (definite_goes_on g.R.Read g.W.Write count (length c.args.buffer.now) old before behind.bytes title behind.marks k
-    c.args.len (c.offset.result - c.title_len.result) (sides_of lent c.args.encoder.now) _ _ c.copy_body.result
-    behind.due t behind.run behind.copied placed titled copied taken behind.strict)
+    c.copy_body.result (sides_of d c.copy_body.new.writer)) (sym ended)
+    (goes_on _ (through_encoder g.R.Read g.W.Write k c.args.len (length c.args.buffer.now) _
+    c.new-segment.result.decoder.now c.copy_body.new.segment.decoder.now c.write_header.new.encoder
+    c.copy_body.new.writer c.copy_body.result c.copy_body.ensures.copied) (omega (arith, size, at, covered)))

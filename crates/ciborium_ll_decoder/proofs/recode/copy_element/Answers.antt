@@ -1,8 +1,8 @@
-use Rattle.std.proofs.Common.{subst, ◌≡◌, ◌≤◌, Ok, Err, List, ℕ, length}
+use Rattle.std.proofs.Common.{rules, subst, ◌≡◌, ◌≤◌, Ok, Err, List, ℕ, length}
 use Rattle.ciborium_ll_grammar.specs.declared.hdr.Header.{Header}
 use Rattle.ciborium_ll_grammar.specs.declared.hdr.Header.TheVariants as h
 use Rattle.ciborium_ll_decoder.specs.declared.recode.RecodeError.TheVariants as r
-use Rattle.ciborium_ll_grammar.specs.Title.{title_len}
+use Rattle.ciborium_ll_grammar.specs.Title.{shortest_title, title_len}
 use Rattle.ciborium_ll_encoder.specs.Encoding.{WritesAll, WritesFront}
 use Rattle.ciborium_ll_grammar.specs.Elements.{IsPlain}
 use Rattle.ciborium_ll_decoder.specs.Decoding.{PullsTitle}
@@ -61,8 +61,12 @@ returns-in-Ok-push_title g c =
       copied = λ count before old behind.
           let pulled = c.in-Ok.ensures.header in
           let plain : IsPlain c.in-Ok.pulled.0 = c.element.ensures.plain c.in-Plain.is in
-          let wrote = subst (λ (bytes : List ℕ). WritesAll g.W.Write c.args.encoder.now.writer bytes
-          c.push_title.new.encoder.writer) c.shortest.ensures.bytes c.in-Ok-push_title.ensures.title in
+          -- whichever title was written, it has to be the header's shortest one
+          let wrote_as = λ (bytes : List ℕ) (wrote : WritesAll g.W.Write c.args.encoder.now.writer bytes
+          c.push_title.new.encoder.writer) (same : bytes ≡ shortest_title c.in-Ok.pulled.0).
+          subst (λ (z : List ℕ). WritesAll g.W.Write c.args.encoder.now.writer z c.push_title.new.encoder.writer) same
+          wrote in
+          let wrote = wrote_as _ c.in-Ok-push_title.ensures.title (search rules) in
           plain_goes_on g.R.Read g.W.Write count before old (sides c.pull_title.new.self c.args.encoder.now.writer)
           (length c.args.buffer.now) c.in-Ok.pulled.0 pulled.title (Ok c.in-Ok-push_title.field-0)
           c.push_title.new.encoder.writer
@@ -81,8 +85,11 @@ returns-in-Err-push_title g c =
       copied = λ count before old behind.
           let pulled = c.in-Ok.ensures.header in
           let plain : IsPlain c.in-Ok.pulled.0 = c.element.ensures.plain c.in-Plain.is in
-          let wrote = subst (λ (bytes : List ℕ). WritesFront g.W.Write c.args.encoder.now.writer bytes
-          c.push_title.new.encoder.writer) c.shortest.ensures.bytes c.in-Err-push_title.ensures.title in
+          let wrote_as = λ (bytes : List ℕ) (wrote : WritesFront g.W.Write c.args.encoder.now.writer bytes
+          c.push_title.new.encoder.writer) (same : bytes ≡ shortest_title c.in-Ok.pulled.0).
+          subst (λ (z : List ℕ). WritesFront g.W.Write c.args.encoder.now.writer z c.push_title.new.encoder.writer) same
+          wrote in
+          let wrote = wrote_as _ c.in-Err-push_title.ensures.title (search rules) in
           plain_goes_on g.R.Read g.W.Write count before old (sides c.pull_title.new.self c.args.encoder.now.writer)
           (length c.args.buffer.now) c.in-Ok.pulled.0 pulled.title (Err (r.Write c.in-Err-push_title.fault))
           c.push_title.new.encoder.writer

@@ -15,9 +15,8 @@ returns-in_err-write_header-clause-copied g c = λ count before old title t only
     rw same (header_error g.R.Read g.W.Write count (length c.args.buffer.now) old
     (sides_of c.args.decoder.now c.args.encoder.now) _ _
     c.in_err-write_header.field-0.0 wrote (λ fault stopped.
-    open_unwritten g.R.Read g.W.Write count before old (sides_of c.args.decoder.now c.args.encoder.now) g.P.Parser.kind
-    title _ fault t
-    behind stopped))
+    open_unwritten g.R.Read g.W.Write count before old (sides_of c.args.decoder.now c.args.encoder.now)
+    (length c.args.buffer.now) g.P.Parser.kind title _ fault t behind stopped))
 
 pub returns-in_err-copy_segments-clause-copied : goal.returns-in_err-copy_segments-clause-copied
 returns-in_err-copy_segments-clause-copied g c = λ count before old title t only behind.

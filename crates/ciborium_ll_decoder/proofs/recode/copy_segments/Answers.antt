@@ -1,4 +1,4 @@
-use Rattle.std.proofs.Common.{refl, rules, sym, ap, subst, ◌∙◌, ◌≡◌, ◌<◌, ℕ, Some, None, Ok, Err, length, arith}
+use Rattle.std.proofs.Common.{refl, rules, sym, subst, ◌∙◌, ◌≡◌, ◌<◌, ℕ, Some, None, Ok, Err, length, arith}
 use Rattle.std.proofs.lemmas.Result.{err_from_is_err_and}
 use Rattle.ciborium_ll_decoder.specs.declared.dec.Decoder.{Decoder}
 use Rattle.ciborium_ll_decoder.specs.declared.recode.RecodeError.TheVariants as r
@@ -6,6 +6,7 @@ use Rattle.ciborium_ll_decoder.specs.Decoding.{MovesOn}
 use Rattle.ciborium_ll_decoder.specs.Recoding.{CopiesBody, ReadsString, StopsCopy, GoesOnWithin}
 use Rattle.ciborium_ll_decoder.specs.Sides.{sides_of}
 use Rattle.ciborium_ll_decoder.proofs.DecodingLaws.{MovesOn-none, MovesOn-then}
+use Rattle.ciborium_ll_decoder.proofs.BodyCopyLaws.{through_encoder}
 use Rattle.ciborium_ll_decoder.proofs.RecodeLaws.{header_error}
 use Rattle.ciborium_ll_decoder.proofs.SegmentLaws.{advances_among, segments_stop, segments_end, segment_unwritten}
 use Rattle.ciborium_ll_decoder.proofs.SegmentLaws.{segment_stops, segment_added, announced_rises, so_far_opened}
@@ -14,6 +15,7 @@ use Rattle.ciborium_ll_decoder.proofs.recode.copy_segments.Goals as goal
 pub segments-init : goal.segments-init
 segments-init g c = record {
   same = search rules;
+  mode = c.opened-segments.ensures.mode;
   so_far = so_far_opened g.R.Read g.W.Write g.P.Parser.kind (sides_of c.args.decoder.now c.args.encoder.now)
       c.opened-segments.result.decoder.now c.opened-segments.result.progress c.requires.none_waits
       c.opened-segments.ensures.opened c.opened-segments.ensures.lent;
@@ -28,9 +30,9 @@ returns-in-Ok-None-clause-copied g c = λ count before old within.
     let opened = sides_of c.args.decoder.now c.args.encoder.now in
     let now = sides_of c.segments.segments.decoder.now c.segments.encoder in
     let advances = rw c.in-Ok-None.field-0-is at c.in-Ok-None.ensures.advances in
-    let all = advances_among g.R.Read g.W.Write k opened now (Ok None)
+    let all = advances_among g.R.Read g.W.Write k opened now c.segments.segments.strict (Ok None)
     c.segments.segments.progress c.advance.new.self.progress c.advance.new.self.decoder.now
-    c.segments.invariant.so_far advances c.advance.ensures.moves_on.steady in
+    c.segments.invariant.mode c.segments.invariant.so_far advances c.advance.ensures.moves_on.steady in
     let fin = segments_end g.R.Read g.W.Write k count before old opened within now _ _ all in
     let ended = c.decoder-1.given.1 (sym c.opened-segments.ensures.same_reference ∙ sym c.segments.invariant.same
     ∙ sym c.advance.ensures.same_reference) in
@@ -42,9 +44,9 @@ returns-in-Err-clause-copied g c = λ count before old within.
     let k = g.P.Parser.kind in
     let opened = sides_of c.args.decoder.now c.args.encoder.now in
     let now = sides_of c.segments.segments.decoder.now c.segments.encoder in
-    let all = advances_among g.R.Read g.W.Write k opened now (Err c.in-Err.error)
+    let all = advances_among g.R.Read g.W.Write k opened now c.segments.segments.strict (Err c.in-Err.error)
     c.segments.segments.progress c.advance.new.self.progress c.advance.new.self.decoder.now
-    c.segments.invariant.so_far c.in-Err.ensures.advances c.advance.ensures.moves_on.steady in
+    c.segments.invariant.mode c.segments.invariant.so_far c.in-Err.ensures.advances c.advance.ensures.moves_on.steady in
     let ended = c.in-Err.decoder-in-Err-1-own.given.1 (sym c.opened-segments.ensures.same_reference
     ∙ sym c.segments.invariant.same ∙ sym c.advance.ensures.same_reference) in
     subst (λ (d : Decoder g.row.R.Denot). StopsCopy g.R.Read g.W.Write count (length c.args.buffer.now) old
@@ -62,9 +64,9 @@ returns-in_err-write_header-clause-copied g c = λ count before old within.
     let r = p.2 in
     let same : c.from_residual.result ≡ Err c.in_err-write_header.field-0.0 = cc in
     let advances = rw c.in-Ok-Some.field-0-is at c.in-Ok-Some.ensures.advances in
-    let all = advances_among g.R.Read g.W.Write k opened now (Ok (Some c.in-Ok-Some.body))
+    let all = advances_among g.R.Read g.W.Write k opened now c.segments.segments.strict (Ok (Some c.in-Ok-Some.body))
     c.segments.segments.progress c.advance.new.self.progress c.advance.new.self.decoder.now
-    c.segments.invariant.so_far advances c.advance.ensures.moves_on.steady in
+    c.segments.invariant.mode c.segments.invariant.so_far advances c.advance.ensures.moves_on.steady in
     let wrote = rw c.header.ensures at c.in_err-write_header.ensures.header in
     let ended = c.in_err-write_header.decoder-in-Break-1-own.given.1
     (sym c.opened-segments.ensures.same_reference ∙ sym c.segments.invariant.same
@@ -75,7 +77,8 @@ returns-in_err-write_header-clause-copied g c = λ count before old within.
     (sides_of c.advance.new.self.decoder.now c.segments.encoder) c.write_header.new.encoder.writer _
     c.in_err-write_header.field-0.0 wrote (λ fault stopped.
     segment_unwritten g.R.Read g.W.Write k count before old opened within now c.advance.new.self.decoder.now
-    c.advance.new.self.progress c.in-Ok-Some.body all c.write_header.new.encoder.writer fault stopped)))
+    c.advance.new.self.progress c.in-Ok-Some.body all (length c.args.buffer.now) c.write_header.new.encoder.writer fault
+    stopped)))
 
 pub segments-smaller : goal.segments-smaller
 segments-smaller g c =
@@ -83,16 +86,14 @@ segments-smaller g c =
     let opened = sides_of c.args.decoder.now c.args.encoder.now in
     let now = sides_of c.segments.segments.decoder.now c.segments.encoder in
     let advances = rw c.in-Ok-Some.field-0-is at c.in-Ok-Some.ensures.advances in
-    let all = advances_among g.R.Read g.W.Write k opened now (Ok (Some c.in-Ok-Some.body))
+    let all = advances_among g.R.Read g.W.Write k opened now c.segments.segments.strict (Ok (Some c.in-Ok-Some.body))
     c.segments.segments.progress c.advance.new.self.progress c.advance.new.self.decoder.now
-    c.segments.invariant.so_far advances c.advance.ensures.moves_on.steady in
+    c.segments.invariant.mode c.segments.invariant.so_far advances c.advance.ensures.moves_on.steady in
     let rises = announced_rises g.R.Read g.W.Write k opened now c.advance.new.self.decoder.now c.in-Ok-Some.body
     c.advance.new.self.progress all in
-    let copied = c.in_ok-copy_body.ensures.copied in
-    let lent = c.new-segment.ensures.lent in
-    let moved = ap (λ (d : Decoder g.row.R.Denot). d.offset) lent in
-    let more : c.segments.segments.decoder.now.offset < c.copy_body.new.segment.decoder.now.offset =
-    omega (arith, rises, copied.ends.passed.offset, moved) in
+    let more = c.in_ok-copy.ensures.moves_on.rises in
+    let risen : c.segments.segments.decoder.now.offset < c.copy.new.self.decoder.now.offset = omega (arith, rises, more)
+    in
     search rules
 
 pub segments-preserved : goal.segments-preserved
@@ -101,49 +102,53 @@ segments-preserved g c =
     let opened = sides_of c.args.decoder.now c.args.encoder.now in
     let now = sides_of c.segments.segments.decoder.now c.segments.encoder in
     let advances = rw c.in-Ok-Some.field-0-is at c.in-Ok-Some.ensures.advances in
-    let all = advances_among g.R.Read g.W.Write k opened now (Ok (Some c.in-Ok-Some.body))
+    let all = advances_among g.R.Read g.W.Write k opened now c.segments.segments.strict (Ok (Some c.in-Ok-Some.body))
     c.segments.segments.progress c.advance.new.self.progress c.advance.new.self.decoder.now
-    c.segments.invariant.so_far advances c.advance.ensures.moves_on.steady in
+    c.segments.invariant.mode c.segments.invariant.so_far advances c.advance.ensures.moves_on.steady in
     let titled = rw c.header.ensures at c.in_ok-write_header.ensures.header in
-    let whole = rw c.new-segment.ensures.lent at c.in_ok-copy_body.ensures.copied in
-    let copy = rw c.new-segment.ensures.lent at c.copy_body.ensures.moves_on in
+    let whole = through_encoder g.R.Read g.W.Write k c.in-Ok-Some.body.length (length c.segments.buffer)
+    c.in-Ok-Some.body.place c.advance.new.self.decoder.now c.copy.new.self.decoder.now c.write_header.new.encoder
+    c.copy.new.writer (Ok (tt {0})) c.in_ok-copy.ensures.copied in
     let advance = c.advance.ensures.moves_on in
+    let copy = c.copy.ensures.moves_on in
     record {
       same = search rules;
+      mode = c.copy.ensures.mode ∙ (c.advance.ensures.mode ∙ c.segments.invariant.mode);
       so_far = segment_added g.R.Read g.W.Write k opened now c.advance.new.self.decoder.now
-          c.write_header.new.encoder.writer (sides_of c.copy_body.new.segment.decoder.now c.copy_body.new.encoder) _
-          c.in-Ok-Some.body c.advance.new.self.progress c.requires.none_waits all titled whole copy.steady;
+          c.write_header.new.encoder.writer (sides_of c.copy.new.self.decoder.now c.copy.new.writer) _
+          c.in-Ok-Some.body c.copy.new.self.progress c.requires.none_waits
+          (rw (sym c.copy.ensures.progress) at all) titled whole copy.steady;
       moves_on = MovesOn-then g.R.Read _ _ _ c.segments.invariant.moves_on (MovesOn-then g.R.Read _ _ _ advance copy);
-      target = c.copy_body.ensures.target ∙ (c.write_header.ensures.target ∙ c.segments.invariant.target);
+      target = c.copy.ensures.target ∙ (c.write_header.ensures.target ∙ c.segments.invariant.target);
     }
 
-pub returns-in_err-copy_body-clause-copied : goal.returns-in_err-copy_body-clause-copied
-returns-in_err-copy_body-clause-copied g c = λ count before old within.
+pub returns-in_err-copy-clause-copied : goal.returns-in_err-copy-clause-copied
+returns-in_err-copy-clause-copied g c = λ count before old within.
     let k = g.P.Parser.kind in
     let opened = sides_of c.args.decoder.now c.args.encoder.now in
     let now = sides_of c.segments.segments.decoder.now c.segments.encoder in
-    let p = err_from_is_err_and c.from_residual-in_err-copy_body.result c.from_residual-in_err-copy_body.ensures.1 in
+    let p = err_from_is_err_and c.from_residual-in_err-copy.result c.from_residual-in_err-copy.ensures.1 in
     let q = p.1 in
     let r = p.2 in
-    let same : c.from_residual-in_err-copy_body.result ≡ Err c.in_err-copy_body.field-0.0 = cc in
+    let same : c.from_residual-in_err-copy.result ≡ Err c.in_err-copy.field-0.0 = cc in
     let advances = rw c.in-Ok-Some.field-0-is at c.in-Ok-Some.ensures.advances in
-    let all = advances_among g.R.Read g.W.Write k opened now (Ok (Some c.in-Ok-Some.body))
+    let all = advances_among g.R.Read g.W.Write k opened now c.segments.segments.strict (Ok (Some c.in-Ok-Some.body))
     c.segments.segments.progress c.advance.new.self.progress c.advance.new.self.decoder.now
-    c.segments.invariant.so_far advances c.advance.ensures.moves_on.steady in
+    c.segments.invariant.mode c.segments.invariant.so_far advances c.advance.ensures.moves_on.steady in
     let titled = rw c.header.ensures at c.in_ok-write_header.ensures.header in
-    let error = c.in_err-copy_body.field-0.0 in
-    let stops = subst (λ (d : Decoder g.row.R.Denot). CopiesBody g.R.Read g.W.Write k c.in-Ok-Some.body.length
-    (length c.args.buffer.now) c.in-Ok-Some.body.place (sides_of d c.write_header.new.encoder) (Err error)
-    (sides_of c.copy_body.new.segment.decoder.now c.copy_body.new.encoder)) c.new-segment.ensures.lent
-    (subst (λ (room : ℕ). CopiesBody g.R.Read g.W.Write k c.in-Ok-Some.body.length room c.in-Ok-Some.body.place
-    (sides_of c.new-segment.result.decoder.now c.write_header.new.encoder) (Err error)
-    (sides_of c.copy_body.new.segment.decoder.now c.copy_body.new.encoder))
-    c.segments.auto.buffer (rw c.in_err-copy_body.was at c.copy_body.ensures.copied)) in
-    let ended = c.in_err-copy_body.decoder-in-Break-branch-2-1-own.given.1
+    let error = c.in_err-copy.field-0.0 in
+    let body = c.in-Ok-Some.body in
+    let stops = subst (λ (room : ℕ). CopiesBody g.R.Read g.W.Write k body.length room body.place
+    (sides_of c.advance.new.self.decoder.now c.write_header.new.encoder) (Err error)
+    (sides_of c.copy.new.self.decoder.now c.copy.new.writer)) c.segments.auto.buffer
+    (through_encoder g.R.Read g.W.Write k body.length (length c.segments.buffer) body.place
+    c.advance.new.self.decoder.now c.copy.new.self.decoder.now c.write_header.new.encoder c.copy.new.writer
+    (Err error) (rw c.in_err-copy.was at c.copy.ensures.copied)) in
+    let ended = c.in_err-copy.decoder-in-Break-branch-2-1-own.given.1
     (sym c.opened-segments.ensures.same_reference ∙ sym c.segments.invariant.same
-    ∙ sym c.advance.ensures.same_reference) in
+    ∙ sym c.advance.ensures.same_reference ∙ sym c.copy.ensures.same_reference) in
     subst (λ (d : Decoder g.row.R.Denot). GoesOnWithin g.R.Read g.W.Write count before k (length c.args.buffer.now)
-    old c.from_residual-in_err-copy_body.result (sides_of d c.copy_body.new.encoder)) (sym ended)
+    old c.from_residual-in_err-copy.result (sides_of d c.copy.new.writer)) (sym ended)
     (rw same (segment_stops g.R.Read g.W.Write k count before old opened within now c.advance.new.self.decoder.now
     c.advance.new.self.progress c.in-Ok-Some.body all (length c.args.buffer.now) c.write_header.new.encoder.writer
-    (sides_of c.copy_body.new.segment.decoder.now c.copy_body.new.encoder) error titled stops))
+    (sides_of c.copy.new.self.decoder.now c.copy.new.writer) error titled stops))

@@ -7,6 +7,7 @@ use Rattle.ciborium_ll_decoder.proofs.recode.copy_segments.Given as goal
 abbrev pub invariant-segments : goal.invariant-segments
 invariant-segments g l = record {
   same : l.segments.decoder.ghost_name ≡ l.initial.segments.decoder.ghost_name;
+  mode : l.segments.strict ≡ l.fn.decoder.strict;
   so_far : StringSoFar g.R.Read g.W.Write g.P.Parser.kind (sides_of l.fn.decoder l.fn.encoder) l.segments.progress
       (sides_of l.segments.decoder.now l.encoder);
   moves_on : MovesOn g.R.Read l.fn.decoder l.segments.decoder.now;

@@ -1,50 +1,59 @@
-use Rattle.ciborium_ll.specs.Faults.{RunInFront}
-use Rattle.ciborium_ll_uses.proofs.StreamLaws.{told, ready, normalises, flushed_answer, flushed_ok, copy_failed}
+use Rattle.ciborium_ll_uses.proofs.StreamLaws.{told, ready, copies_so, room_told, error_told, error_anyhow, flush_told}
+use Rattle.ciborium_ll_uses.proofs.StreamLaws.{flush_anyhow}
 use Rattle.ciborium_ll_uses.proofs.streams.normalise.Goals as goal
 use Rattle.ciborium_ll_uses.proofs.streams.normalise.Goals.{in-Ok, in-Err}
 
-pub returns-clause-copied : goal.returns-clause-copied
-returns-clause-copied g c = λ due written ahead output ok.
+pub returns-clause-anyhow : goal.returns-clause-anyhow
+returns-clause-anyhow g c = λ due written tell.
     let R = g.R.Read in
     let W = g.W.Write in
     let fresh = c.from-decoder.ensures in
+    let old = c.from-decoder.result in
     let new = c.recode-copied.new.decoder in
+    let same = c.into_inner-reader.ensures in
+    let anyhow = c.recode-copied.ensures.anyhow due written
+    (told R W c.args.reader c.args.writer _ _ due written fresh c.from-encoder.ensures tell) in
     elim c.match-copied.branch [
       | in-Ok w ↦ (
-          let anyhow = c.recode-copied.ensures.anyhow due written
-          (told R W c.args.reader c.args.writer _ _ due written fresh c.from-encoder.ensures ahead output) in
           let copied = rw w.in-Ok.is at anyhow in
-          rw w.writer-is (flushed_ok R W c.args.count due written _ _ _ w.flushed-outcome.result
-          (rw w.outcome-is at ok) w.flushed-outcome.ensures
-          (λ flushed. normalises R W c.args.count due written c.args.reader _ _ new _ _ fresh copied
-          c.into_inner-reader.ensures
-          (rw c.into_inner-writer.ensures at flushed)))
+          let copies = copies_so R W c.args.count due written c.args.reader _ c.args.writer _ new _ fresh same copied in
+          rw (w.writer-is, w.outcome-is) (flush_anyhow R W c.args.count due written _ _ _
+          (rw c.into_inner-writer.ensures copies) w.flushed-outcome.ensures.kept w.flushed-outcome.result
+          w.flushed-outcome.ensures.answer)
           )
-      | in-Err w ↦ absurd (let failed = rw w.outcome-is at ok in cc)
+      | in-Err w ↦ (
+          let failed = rw w.in-Err.is at anyhow in
+          let stops = rw w.in-Err.is at c.recode-copied.ensures.copied in
+          rw (w.writer-is, w.outcome-is) (rw c.into_inner-writer.ensures (error_anyhow R W c.args.count due written
+          c.args.reader _ _ _ new _ fresh same w.in-Err.error stops failed))
+          )
     ]
 
 pub returns-clause-exactly : goal.returns-clause-exactly
-returns-clause-exactly g c = λ due written room steady ahead output space enough fits.
+returns-clause-exactly g c = λ due written are.
     let R = g.R.Read in
     let W = g.W.Write in
     let fresh = c.from-decoder.ensures in
     let new = c.recode-copied.new.decoder in
-    let is_ready = ready R W c.args.count room c.args.reader c.args.writer _ _ due written fresh
-    c.from-encoder.ensures steady ahead output space enough fits in
-    let exact = c.recode-copied.ensures.exactly due written is_ready in
+    let same = c.into_inner-reader.ensures in
+    let from_writer = c.from-encoder.ensures in
+    let is_ready = ready R W c.args.count c.args.reader c.args.writer _ _ due written fresh from_writer are in
     let copy = c.recode-copied.ensures.told due written is_ready in
     elim c.match-copied.branch [
       | in-Ok w ↦ (
           let copied = rw w.in-Ok.is at copy in
-          rw (w.writer-is, w.outcome-is) (flushed_answer R W c.args.count due written _ _ _ w.flushed-outcome.result
-          w.flushed-outcome.ensures
-          (λ flushed. normalises R W c.args.count due written c.args.reader _ _ new _ _ fresh copied
-          c.into_inner-reader.ensures
-          (rw c.into_inner-writer.ensures at flushed)) copied.front)
+          let all = rw w.in-Ok.is at c.recode-copied.ensures.copied in
+          let copies = copies_so R W c.args.count due written c.args.reader _ c.args.writer _ new _ fresh same copied in
+          let told = room_told R W c.args.count due written c.args.reader _ _ _ new _ fresh same is_ready.room
+          is_ready.room-told all in
+          rw (w.writer-is, w.outcome-is) (flush_told R W c.args.count due written _ _ _
+          (rw c.into_inner-writer.ensures copies) w.flushed-outcome.ensures.kept
+          (rw c.into_inner-writer.ensures told) w.flushed-outcome.result w.flushed-outcome.ensures.answer)
           )
       | in-Err w ↦ (
           let failed = rw w.in-Err.is at copy in
-          let none : RunInFront c.args.count due → _ = λ front. (let held = rw w.in-Err.is at (exact.1 front) in cc) in
-          rw w.outcome-is (copy_failed R W c.args.count due written _ new _ _ _ w.in-Err.error failed none)
+          let stops = rw w.in-Err.is at c.recode-copied.ensures.copied in
+          rw (w.writer-is, w.outcome-is) (rw c.into_inner-writer.ensures (error_told R W c.args.count due written
+          c.args.reader _ _ _ new _ fresh same w.in-Err.error stops failed))
           )
     ]

@@ -1,9 +1,13 @@
 use Rattle.std.proofs.Common.{ℕ, ◌-◌, ◌^◌}
+use Rattle.ciborium_ll.specs.Decoding.{MovesOn}
 use Rattle.ciborium_ll_uses.specs.Sums.{ReadsIntegers}
 use Rattle.ciborium_ll_uses.proofs.sums.sum_open.Given as goal
 
 abbrev pub invariant-numbers : goal.invariant-numbers
-invariant-numbers g l = (count : ℕ) × ReadsIntegers g.R.Read l.initial.decoder count l.total l.decoder
+invariant-numbers g l = record {
+  reads : (count : ℕ) × ReadsIntegers g.R.Read l.initial.decoder count l.total l.decoder;
+  moves_on : MovesOn g.R.Read l.initial.decoder l.decoder;
+}
 
 -- each title takes a byte
 abbrev pub decreases-numbers : goal.decreases-numbers

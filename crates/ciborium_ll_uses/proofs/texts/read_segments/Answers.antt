@@ -1,44 +1,31 @@
-use Rattle.std.proofs.Common.{rules, ◌≡◌, Err, inl, inr, refl, arith, add-one}
+use Rattle.std.proofs.Common.{rules, ◌≡◌, ◌∙◌, Err, inl, refl, sym, ap, arith, length, length-append}
 use Rattle.std.proofs.lemmas.Result.{err_from_is_err_and}
-use Rattle.ciborium_ll_uses.specs.Texts.{more}
+use Rattle.ciborium_ll.proofs.DecodingLaws.{MovesOn-none, MovesOn-then}
 use Rattle.ciborium_ll_uses.specs.declared.texts.TextError.TheVariants as t
-use Rattle.ciborium_ll_uses.proofs.TextLaws.{gathers_none, body_stops}
+use Rattle.ciborium_ll_uses.proofs.TextLaws.{as_strict, gathered_none, gathered_more, goes_on, body_fails}
+use Rattle.ciborium_ll_uses.proofs.TextLaws.{body_lacks}
 use Rattle.ciborium_ll_uses.proofs.texts.read_segments.Goals as goal
 
 pub segments-init : goal.segments-init
 segments-init g c = record {
   same = refl;
-  so_far = gathers_none g.R.Read _ _ c.new-text.ensures.bytes;
-  within = omega (arith, c.new-text.ensures.len);
+  mode = c.requires.mode;
+  so_far = gathered_none g.R.Read _ _ _ c.requires.empty;
+  within = search rules;
+  moves_on = MovesOn-none g.R.Read c.args.segments.now.decoder.now;
 }
 
 pub returns-in_default-clause-gathers : goal.returns-in_default-clause-gathers
 returns-in_default-clause-gathers g c =
-    let ends = rw c.in_default.is at c.in_ok-body.ensures.advances in
+    let so_far = c.segments.invariant.so_far in
     record {
-      count = c.segments._read;
-      few = omega (arith, c.segments-test.true);
-      ends = record {
-        last = c.segments.segments.progress;
-        gathers = c.segments.invariant.so_far;
-        now = c.segments.segments.decoder.now;
-        after = c.advance.new.self.progress;
-        advances = ends;
-      };
-    }
-
-pub segments-preserved : goal.segments-preserved
-segments-preserved g c =
-    let advances = rw c.in-Some.is at c.in_ok-body.ensures.advances in
-    let body = c.in-Some.body in
-    let whole = c.segment-segment.ensures.whole in
-    let appends = rw c.segment-segment.ensures.lent at (c.in_ok-read_body.ensures.appends body whole) in
-    let grows = c.in_ok-read_body.ensures.grows body whole in
-    record {
-      same = search rules;
-      so_far = simp add-one (more body c.segments.segments.decoder.now c.advance.new.self.decoder.now
-          c.read_body.new.segment.decoder.now c.segments.invariant.so_far advances appends);
-      within = omega (arith, grows, c.if-body-limit.false, c.segments.invariant.within);
+      bodies = so_far.bodies;
+      whole = so_far.whole;
+      few = omega (arith, c.segments-test.true, so_far.counted);
+      ends = goes_on g.R.Read c.segments.segments.strict _ _ _ _ _ c.advance.new.self.progress _ _ _
+          c.segments.invariant.mode so_far
+          (rw c.in_default.is at c.in_ok-body.ensures.advances) c.in_ok-body.ensures.opens
+          c.in_ok-body.ensures.moves_on;
     }
 
 pub returns-in_err-body-clause-stops : goal.returns-in_err-body-clause-stops
@@ -47,55 +34,76 @@ returns-in_err-body-clause-stops g c =
     let is_error = failed.1 in
     let is_same = failed.2 in
     let same : c.from_residual.result ≡ Err (t.Read c.in_err-body.field-0.0) = cc in
+    let so_far = c.segments.invariant.so_far in
     rw same (inl (record {
-      count = c.segments._read;
-      text = _;
-      fails = record {
-        last = c.segments.segments.progress;
-        gathers = c.segments.invariant.so_far;
-        now = c.segments.segments.decoder.now;
-        after = c.advance.new.self.progress;
-        advances = c.in_err-body.ensures.advances;
-      };
+      bodies = so_far.bodies;
+      fails = goes_on g.R.Read c.segments.segments.strict _ _ _ _ _ c.advance.new.self.progress _ _ _
+          c.segments.invariant.mode so_far
+          c.in_err-body.ensures.advances c.in_err-body.ensures.opens c.in_err-body.ensures.moves_on;
     }))
 
 pub returns-then-body-limit-clause-stops : goal.returns-then-body-limit-clause-stops
 returns-then-body-limit-clause-stops g c =
-    let advances = rw c.in-Some.is at c.in_ok-body.ensures.advances in
+    let so_far = c.segments.invariant.so_far in
+    let counted = ap length so_far.whole in
     inl (record {
-      count = c.segments._read;
-      text = _;
+      bodies = so_far.bodies;
       body = c.in-Some.body;
-      goes_on = record {
-        last = c.segments.segments.progress;
-        gathers = c.segments.invariant.so_far;
-        now = c.segments.segments.decoder.now;
-        after = c.advance.new.self.progress;
-        advances = advances;
-      };
-      too_long = omega (arith, c.if-body-limit.true, c.segments.invariant.within);
+      goes_on = goes_on g.R.Read c.segments.segments.strict _ _ _ _ _ c.advance.new.self.progress _ _ _
+          c.segments.invariant.mode so_far
+          (rw c.in-Some.is at c.in_ok-body.ensures.advances) c.in_ok-body.ensures.opens c.in_ok-body.ensures.moves_on;
+      too_long = omega (arith, c.if-body-limit.true, c.len.ensures, c.segments.invariant.within, counted);
     })
 
-pub returns-in_err-read_body-clause-stops : goal.returns-in_err-read_body-clause-stops
-returns-in_err-read_body-clause-stops g c =
-    let failed = err_from_is_err_and c.from_residual-in_err-read_body.result
-    c.from_residual-in_err-read_body.ensures.1 in
-    let is_error = failed.1 in
-    let is_same = failed.2 in
-    let same : c.from_residual-in_err-read_body.result ≡ Err c.in_err-read_body.field-0.0 = cc in
-    let advances = rw c.in-Some.is at c.in_ok-body.ensures.advances in
-    let body = c.in-Some.body in
-    let stops = rw c.segment-segment.ensures.lent at (c.in_err-read_body.ensures.stops body
-    c.segment-segment.ensures.whole) in
-    rw same (body_stops g.R.Read c.args.limit c.segments._read _ _ _ _ body c.segments.segments.decoder.now
-    c.advance.new.self.decoder.now c.read_body.new.segment.decoder.now _ c.in_err-read_body.field-0.0
-    c.segments.invariant.so_far advances stops)
+pub returns-in-Err-Read-clause-stops : goal.returns-in-Err-Read-clause-stops
+returns-in-Err-Read-clause-stops g c =
+    let copied = rw c.in-Err-Read.field-0-is at c.in-Err-Read.ensures.copied in
+    let so_far = c.segments.invariant.so_far in
+    body_fails g.R.Read c.args.limit c.args.segments.now.progress c.args.segments.now.decoder.now so_far.bodies
+    c.in-Some.body c.advance.new.self.decoder.now c.copy.new.self.decoder.now
+    (goes_on g.R.Read c.segments.segments.strict _ _ _ _ _ c.advance.new.self.progress _ _ _
+    c.segments.invariant.mode so_far
+    (rw c.in-Some.is at c.in_ok-body.ensures.advances) c.in_ok-body.ensures.opens c.in_ok-body.ensures.moves_on)
+    c.in-Err-Read.error _ (length c.segments.buffer) c.in-Err-Read.error-is (search rules) copied.ends
 
-pub returns-clause-stops : goal.returns-clause-stops
-returns-clause-stops g c = inr (record {
-  count = c.segments._read;
-  text = _;
-  last = c.segments.segments.progress;
-  gathers = c.segments.invariant.so_far;
-  too_many = omega (arith, c.segments-test.false, c.saturating_add-read-end.ensures);
-})
+pub returns-in-Err-Write-clause-stops : goal.returns-in-Err-Write-clause-stops
+returns-in-Err-Write-clause-stops g c =
+    let copied = rw c.in-Err-Write.field-0-is at c.in-Err-Write.ensures.copied in
+    let so_far = c.segments.invariant.so_far in
+    body_lacks g.R.Read c.args.limit c.args.segments.now.progress c.args.segments.now.decoder.now so_far.bodies
+    c.in-Some.body c.advance.new.self.decoder.now c.copy.new.self.decoder.now
+    (goes_on g.R.Read c.segments.segments.strict _ _ _ _ _ c.advance.new.self.progress _ _ _
+    c.segments.invariant.mode so_far
+    (rw c.in-Some.is at c.in_ok-body.ensures.advances) c.in_ok-body.ensures.opens c.in_ok-body.ensures.moves_on)
+    _ (length c.segments.buffer) c.segments.text c.copy.new.writer (search rules) copied
+
+pub segments-preserved : goal.segments-preserved
+segments-preserved g c =
+    let copied = c.in-Ok.ensures.copied in
+    let kept = c.segments.invariant in
+    let advance = c.in_ok-body.ensures.moves_on in
+    let copy = c.in-Ok.ensures.moves_on in
+    let advanced = rw (c.in-Some.is, sym c.in-Ok.ensures.progress) at c.in_ok-body.ensures.advances in
+    let opens = rw (sym c.in-Ok.ensures.progress) at c.in_ok-body.ensures.opens in
+    let appended = copied.written.appended in
+    let counted = ap length appended in
+    record {
+      same = search rules;
+      mode = c.in-Ok.ensures.mode ∙ (c.in_ok-body.ensures.mode ∙ kept.mode);
+      so_far = gathered_more g.R.Read _ _ _ _ c.copy.new.writer.bytes.items _ c.segments.segments.decoder.now
+          c.advance.new.self.decoder.now c.copy.new.self.decoder.now c.in-Some.body kept.so_far
+          (as_strict g.R.Read c.segments.segments.strict c.args.segments.now.decoder.now.strict _
+          c.copy.new.self.progress
+          _ _ _ kept.mode advanced opens advance)
+          copied.ends appended;
+      within = omega (
+        arith,
+        counted,
+        copied.ends.all,
+        c.if-body-limit.false,
+        c.len.ensures,
+        kept.within,
+        length-append c.segments.text.bytes.items copied.ends.read,
+      );
+      moves_on = MovesOn-then g.R.Read _ _ _ kept.moves_on (MovesOn-then g.R.Read _ _ _ advance copy);
+    }

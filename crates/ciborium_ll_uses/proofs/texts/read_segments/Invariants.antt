@@ -1,10 +1,14 @@
-use Rattle.std.proofs.Common.{◌≡◌, ◌≤◌, string_bytes, string_len}
-use Rattle.ciborium_ll_uses.specs.Texts.{Gathers}
+use Rattle.std.proofs.Common.{◌≡◌, ◌≤◌, length}
+use Rattle.ciborium_ll.specs.Decoding.{MovesOn}
+use Rattle.ciborium_ll_uses.proofs.TextLaws.{GatheredSoFar}
 use Rattle.ciborium_ll_uses.proofs.texts.read_segments.Given as goal
 
 abbrev pub invariant-segments : goal.invariant-segments
 invariant-segments g l = record {
   same : l.segments.decoder.ghost_name ≡ l.initial.segments.decoder.ghost_name;
-  so_far : Gathers g.R.Read l.initial.segments.progress l._read (string_bytes l.text) l.segments.progress;
-  within : string_len l.text ≤ l.limit;
+  mode : l.segments.strict ≡ l.initial.segments.decoder.now.strict;
+  so_far : GatheredSoFar g.R.Read l.initial.segments.progress l.initial.segments.decoder.now l._read
+      l.text.bytes.items l.segments.progress l.segments.decoder.now;
+  within : length l.text.bytes.items ≤ l.limit;
+  moves_on : MovesOn g.R.Read l.initial.segments.decoder.now l.segments.decoder.now;
 }

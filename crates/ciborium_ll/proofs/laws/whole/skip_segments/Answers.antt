@@ -1,11 +1,11 @@
-use Rattle.std.proofs.Common.{rules, sym, ◌≡◌, ◌<◌, ◌^◌, None, Err, length, arith}
+use Rattle.std.proofs.Common.{rules, sym, ◌≡◌, ◌∙◌, ◌<◌, ◌^◌, None, Err, length, arith}
 use Rattle.std.proofs.lemmas.Result.{err_from_is_err_and}
 use Rattle.ciborium_ll_decoder.proofs.DecodingLaws.{MovesOn-then}
 use Rattle.ciborium_ll.proofs.SkipLaws.{skips_end, skips_error, skips_body, skips_stop, found_rises}
 use Rattle.ciborium_ll.proofs.laws.whole.skip_segments.Goals as goal
 
 pub returns-in_err-body-clause-skipped : goal.returns-in_err-body-clause-skipped
-returns-in_err-body-clause-skipped g c = λ opened len range settled back.
+returns-in_err-body-clause-skipped g c = λ opened len range settled back meant.
     let p = err_from_is_err_and c.from_residual.result c.from_residual.ensures.1 in
     let q = p.1 in
     let r = p.2 in
@@ -13,16 +13,18 @@ returns-in_err-body-clause-skipped g c = λ opened len range settled back.
     let same : c.from_residual.result ≡ Err error = cc in
     let advances = rw c.in_err-body.was at c.advance.ensures.advances in
     let less : c.advance.new.self.decoder.now.offset < 2 ^ 64 = search rules in
-    rw same (skips_error g.R.Read g.P.Parser.kind len (length c.args.buffer.now) opened
+    rw same (skips_error g.R.Read g.P.Parser.kind c.segments.segments.strict len (length c.args.buffer.now) opened
     c.segments.segments.decoder.now c.advance.new.self.decoder.now c.segments.segments.progress
     c.advance.new.self.progress
-    error less (c.segments.invariant.so_far opened len range settled back) c.advance.ensures.moves_on.steady advances)
+    error less (c.segments.invariant.mode ∙ meant)
+    (c.segments.invariant.so_far opened len range settled back meant) c.advance.ensures.moves_on.steady advances)
 
 pub segments-smaller : goal.segments-smaller
 segments-smaller g c =
     let some = c.in-Some.is in
     let advances = rw (c.in_ok-body.was, some) at c.advance.ensures.advances in
-    let rises = found_rises g.R.Read g.P.Parser.kind c.segments.segments.progress c.advance.new.self.progress
+    let rises = found_rises g.R.Read g.P.Parser.kind c.segments.segments.strict c.segments.segments.progress
+    c.advance.new.self.progress
     c.segments.segments.decoder.now c.advance.new.self.decoder.now c.in-Some.body advances in
     let more = c.finish.ensures.moves_on.rises in
     let risen : c.segments.segments.decoder.now.offset < c.finish.new.self.decoder.now.offset =
@@ -36,10 +38,13 @@ segments-preserved g c =
     let reads = rw c.in_ok-finish.was at c.finish.ensures.finishes in
     record {
       same = search rules;
-      so_far = λ opened len range settled back.
-          skips_body g.R.Read g.P.Parser.kind len (length c.segments.buffer) opened c.segments.segments.decoder.now
-          c.advance.new.self.decoder.now c.finish.new.self.decoder.now c.segments.segments.progress
-          c.finish.new.self.progress c.in-Some.body (c.segments.invariant.so_far opened len range settled back)
+      mode = c.finish.ensures.mode ∙ (c.advance.ensures.mode ∙ c.segments.invariant.mode);
+      so_far = λ opened len range settled back meant.
+          skips_body g.R.Read g.P.Parser.kind c.segments.segments.strict len (length c.segments.buffer) opened
+          c.segments.segments.decoder.now c.advance.new.self.decoder.now c.finish.new.self.decoder.now
+          c.segments.segments.progress
+          c.finish.new.self.progress c.in-Some.body (c.segments.invariant.mode ∙ meant)
+          (c.segments.invariant.so_far opened len range settled back meant)
           c.advance.ensures.moves_on.steady c.finish.ensures.moves_on.steady
           (rw (sym c.finish.ensures.progress) at advances) reads;
       moves_on = MovesOn-then g.R.Read _ _ _ c.segments.invariant.moves_on
@@ -47,7 +52,7 @@ segments-preserved g c =
     }
 
 pub returns-in_err-finish-clause-skipped : goal.returns-in_err-finish-clause-skipped
-returns-in_err-finish-clause-skipped g c = λ opened len range settled back.
+returns-in_err-finish-clause-skipped g c = λ opened len range settled back meant.
     let p = err_from_is_err_and c.from_residual-in_err-finish.result c.from_residual-in_err-finish.ensures.1 in
     let q = p.1 in
     let r = p.2 in
@@ -56,15 +61,19 @@ returns-in_err-finish-clause-skipped g c = λ opened len range settled back.
     let some = c.in-Some.is in
     let advances = rw (c.in_ok-body.was, some) at c.advance.ensures.advances in
     let stops = rw c.in_err-finish.was at c.finish.ensures.finishes in
-    rw (same, sym c.segments.auto.buffer) (skips_stop g.R.Read g.P.Parser.kind len (length c.segments.buffer) opened
+    rw (same, sym c.segments.auto.buffer) (skips_stop g.R.Read g.P.Parser.kind c.segments.segments.strict len (length
+    c.segments.buffer) opened
     c.segments.segments.decoder.now c.advance.new.self.decoder.now c.finish.new.self.decoder.now
     c.segments.segments.progress c.advance.new.self.progress c.in-Some.body error
-    (c.segments.invariant.so_far opened len range settled back) c.advance.ensures.moves_on.steady advances stops)
+    (c.segments.invariant.mode ∙ meant)
+    (c.segments.invariant.so_far opened len range settled back meant) c.advance.ensures.moves_on.steady advances stops)
 
 pub returns-clause-skipped : goal.returns-clause-skipped
-returns-clause-skipped g c = λ opened len range settled back.
+returns-clause-skipped g c = λ opened len range settled back meant.
     let none : c.in_ok-body.field-0 ≡ None = search rules in
     let advances = rw (c.in_ok-body.was, none) at c.advance.ensures.advances in
-    skips_end g.R.Read g.P.Parser.kind len (length c.args.buffer.now) opened c.segments.segments.decoder.now
+    skips_end g.R.Read g.P.Parser.kind c.segments.segments.strict len (length c.args.buffer.now) opened
+    c.segments.segments.decoder.now
     c.advance.new.self.decoder.now c.segments.segments.progress c.advance.new.self.progress
-    (c.segments.invariant.so_far opened len range settled back) c.advance.ensures.moves_on.steady advances
+    (c.segments.invariant.mode ∙ meant)
+    (c.segments.invariant.so_far opened len range settled back meant) c.advance.ensures.moves_on.steady advances

@@ -1,5 +1,6 @@
-use Rattle.std.proofs.Common.{rules, arith, refl, ◌≡◌, Some, Ok, Err}
+use Rattle.std.proofs.Common.{rules, arith, refl, subst, ◌≡◌, ◌∙◌, Bool, Some, Ok, Err}
 use Rattle.std.proofs.lemmas.Result.{err_from_is_err_and}
+use Rattle.ciborium_ll_decoder.specs.Segments.{EndsAdvance}
 use Rattle.ciborium_ll_decoder.proofs.DecodingLaws.{MovesOn-none, MovesOn-then}
 use Rattle.ciborium_ll_decoder.proofs.AdvanceLaws.{Reached-start, Reached-step, Reached-ends}
 use Rattle.ciborium_ll_decoder.proofs.seg.Segments.advance.Goals as goal
@@ -7,7 +8,9 @@ use Rattle.ciborium_ll_decoder.proofs.seg.Segments.advance.Goals as goal
 pub titles-init : goal.titles-init
 titles-init g c = record {
   same = refl;
-  reached = Reached-start g.R.Read g.P.Parser.kind c.args.self.now.progress c.args.self.now.decoder.now;
+  mode = refl;
+  reached = Reached-start g.R.Read g.P.Parser.kind c.args.self.now.strict c.args.self.now.progress
+      c.args.self.now.decoder.now c.args.self.now.shallow;
   opens = omega arith;
   moves_on = MovesOn-none g.R.Read c.args.self.now.decoder.now;
 }
@@ -19,8 +22,10 @@ titles-preserved g c =
     let reached = rw c.in-Open.is at kept.reached in
     record {
       same = search rules;
-      reached = Reached-step g.R.Read g.P.Parser.kind c.args.self.now.progress c.in-Open.opens _ _ _ _ reached
-          step.moves_on.steady (rw c.in_default-2.is at step.steps);
+      mode = step.mode ∙ kept.mode;
+      reached = Reached-step g.R.Read g.P.Parser.kind c.args.self.now.strict c.args.self.now.progress c.in-Open.opens _
+          _ _ _ reached
+          step.moves_on.steady (rw (c.in_default-2.is, kept.mode) at step.steps);
       opens = let counted = rw c.in-Open.is at kept.opens in omega (arith, counted, step.opens);
       moves_on = MovesOn-then g.R.Read _ _ _ kept.moves_on step.moves_on;
     }
@@ -32,12 +37,16 @@ returns-in_err-body-clause-advances g c =
     let r = p.2 in
     let same : c.from_residual.result ≡ Err c.in_err-body.field-0.0 = cc in
     let reached = rw c.in-Open.is at c.titles.invariant.reached in
-    rw same (Reached-ends g.R.Read g.P.Parser.kind c.args.self.now.progress c.in-Open.opens _ _ _
-    (Err c.in_err-body.field-0.0) _ reached c.in_err-body.ensures.steps)
+    let step = subst (λ (strict : Bool). EndsAdvance g.R.Read g.P.Parser.kind strict c.in-Open.opens
+    c.titles.self.decoder.now (Err c.in_err-body.field-0.0) c.step.new.self.progress c.step.new.self.decoder.now)
+    c.titles.invariant.mode c.in_err-body.ensures.steps in
+    rw same (Reached-ends g.R.Read g.P.Parser.kind c.args.self.now.strict c.args.self.now.progress c.in-Open.opens _ _ _
+    (Err c.in_err-body.field-0.0) _ reached step)
 
 pub returns-in-Some-clause-advances : goal.returns-in-Some-clause-advances
 returns-in-Some-clause-advances g c =
     let reached = rw c.in-Open.is at c.titles.invariant.reached in
     let step = rw c.in-Some.is at c.in_ok-body.ensures.steps in
-    Reached-ends g.R.Read g.P.Parser.kind c.args.self.now.progress c.in-Open.opens _ _ _ (Ok (Some c.in-Some.body))
+    Reached-ends g.R.Read g.P.Parser.kind c.args.self.now.strict c.args.self.now.progress c.in-Open.opens _ _ _ (Ok
+    (Some c.in-Some.body))
     _ reached step

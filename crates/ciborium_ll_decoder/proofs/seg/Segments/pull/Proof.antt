@@ -67,7 +67,8 @@ use Rattle.std.specs.contracts.option.Option as option
 use Rattle.std.specs.contracts.result.Result as result
 use Rattle.ciborium_ll_decoder.specs.Chunks.{GoesOnTo, IsWhole, PullsSegment}
 use Rattle.ciborium_ll_decoder.specs.Decoding.{MovesOn, offset_of, waiting_of}
-use Rattle.ciborium_ll_decoder.specs.Segments.{AdvancesTo, GivesAgain, opens_of}
+use Rattle.ciborium_ll_decoder.specs.Progress.{opens_of}
+use Rattle.ciborium_ll_decoder.specs.Segments.{AdvancesTo, GivesAgain}
 use Rattle.ciborium_ll_decoder.specs.Lend.{with_decoder, HoldsDecoder, IsAdvanced, advance_answer, lent_reference}
 use Rattle.ciborium_ll_io.specs.declared.io.Read as read
 use Rattle.ciborium_ll_decoder.specs.declared.seg.Parser as parser
@@ -120,10 +121,10 @@ module _ (R P E : RattleType) (reads : read.Ghosts R.Denot E.Denot) (reads_dict 
   Fault = error.the_row (param 2 E)
 
   abbrev String : Type 0
-  String = Segments R.Denot P.Denot
+  String = Segments R.Denot P.Denot kind
 
   abbrev StringRow : Lfts 5 → RattleType
-  StringRow lifetimes = segments.the_row (named_lft 5 1 tt lifetimes) Reader Kind
+  StringRow lifetimes = segments.the_row (named_lft 5 1 tt lifetimes) Reader Kind kind
 
   abbrev SegmentRow : Lfts 5 → RattleType
   SegmentRow lifetimes = segment.the_row (named_lft 5 0 tt lifetimes) Reader Kind kind
@@ -220,7 +221,7 @@ module _ {M : Type 1} {𝓤 : Ura M} (𝓛 : Logic 𝓤) where
 module _ (R P E : RattleType) (R-laws : Laws R) (P-laws : Laws P) (E-laws : Laws E)
     (reads : read.Ghosts R.Denot E.Denot) (reads_dict : Dict) (kind : parser.Ghosts P.Denot) (kind_dict : Dict)
     {M : Type 1} {𝓤 : Ura M} (𝓛 : Logic 𝓤) (𝓜 : Model 𝓤 𝓛.H) (𝓡 : Running 𝓤 𝓛.H 𝓜)
-    (advances : Meets 𝓛 (advance.signature R P E) (𝓡.run
+    (advances : Meets 𝓛 (advance.signature R P E reads reads_dict kind kind_dict) (𝓡.run
     (𝓡.env (#advance (arguments R P E reads reads_dict kind kind_dict))))
     (advance.spec R P E reads reads_dict kind kind_dict 𝓛 𝓜.mem 𝓡.returns))
     (lends : Meets 𝓛 (lend.signature R P E reads reads_dict kind kind_dict)
@@ -303,7 +304,7 @@ module _ (R P E : RattleType) (R-laws : Laws R) (P-laws : Laws P) (E-laws : Laws
 
     -- the rows as the clause names them
     abbrev StringIn : RattleType
-    StringIn = segments.the_row (record { mir = named 1; lft = [] }) (param 0 R) (param 1 P)
+    StringIn = segments.the_row (record { mir = named 1; lft = [] }) (param 0 R) (param 1 P) kind
 
     abbrev DecoderIn : RattleType
     DecoderIn = decoder.the_row (param 0 R)
@@ -318,11 +319,11 @@ module _ (R P E : RattleType) (R-laws : Laws R) (P-laws : Laws P) (E-laws : Laws
         × HoldsDecoder answer new × (ends.0 d ≡ with_decoder new d)) × Advanced answer ends.1
 
     abbrev Pulls : Pull'.Denot → Type 0
-    Pulls answer = PullsSegment reads kind.kind old.progress old.decoder.now answer
+    Pulls answer = PullsSegment reads kind.kind old.strict old.progress old.decoder.now answer
 
     -- what `advance` promises of the string holds of its decoder
     goes_on : (result : Advance'.Denot) (new : State) → IsAdvanced reads kind.kind old result new
-        → GoesOnTo reads kind.kind old.progress old.decoder.now result new.decoder.now
+        → GoesOnTo reads kind.kind old.strict old.progress old.decoder.now result new.decoder.now
     goes_on result new is =
         record { after = new.progress; advanced = is.advances; opens = is.opens; moves_on = is.moves_on }
 
@@ -342,7 +343,7 @@ module _ (R P E : RattleType) (R-laws : Laws R) (P-laws : Laws P) (E-laws : Laws
         fpack ! (Tied answer) (λ ends. follows_if StringIn DecoderIn name (lent_reference answer) ends.0.0 ends.0.1)
         ((with_decoder new, new), (λ d. (new, advanced, holds, refl)), advanced) $
         use0 𝓛 (raw (fact 𝓤 (GivesAgain old.progress answer)))
-        (fact_i 𝓤 _ (emp 𝓤) (given_again reads kind.kind old.progress old.decoder.now answer pulls)) $
+        (fact_i 𝓤 _ (emp 𝓤) (given_again reads kind.kind old.strict old.progress old.decoder.now answer pulls)) $
         use0 𝓛 (raw (fact 𝓤 (Pulls answer))) (fact_i 𝓤 _ (emp 𝓤) pulls) $ join ! $ move ! (1 ∷ 0 ∷ []) $ join ! $ done !
 
     walk : lifetimes.1.1.0 ⊑ R.lives → lifetimes.1.1.1.0 ⊑ P.lives → lifetimes.1.1.1.1.0 ⊑ E.lives
@@ -374,7 +375,7 @@ module _ (R P E : RattleType) (R-laws : Laws R) (P-laws : Laws P) (E-laws : Laws
         (lends_again 𝓛 Row (named 0) outer call (right shares.0) name block at (named 0) old) $ await ! tt $ pick !
         (λ again. split ! $
         -- [the loan; the way back; the call's token; the way to end it; the other tokens]
-        let Advances = triple_of 𝓛 (advance.signature R P E)
+        let Advances = triple_of 𝓛 (advance.signature R P E reads reads_dict kind kind_dict)
         (advance.spec R P E reads reads_dict kind kind_dict 𝓛 𝓜.mem 𝓡.returns) in
         let in_outer : call ⊑ outer = meet_⊑_right (fresh ∷ []) outer in
         let given_advance : Advances.Ghost = (
@@ -408,18 +409,25 @@ module _ (R P E : RattleType) (R-laws : Laws R) (P-laws : Laws P) (E-laws : Laws
         ‵ (Advance'.own_val answer (value ∷ []))) ⊛
         some (λ (news : State × Unit {0}). ‵ (lasts (advance.ended R P E reads reads_dict kind kind_dict)
         given_advance.0.0 given_advance.0.3 news) ⊛
-        raw (fact 𝓤 (AdvancesTo reads kind.kind old.progress old.decoder.now answer news.0.progress
+        raw (fact 𝓤 (AdvancesTo reads kind.kind old.strict old.progress old.decoder.now answer news.0.progress
         news.0.decoder.now)) ⊛
         raw (fact 𝓤 (opens_of news.0.progress + offset_of old.decoder.now
         ≤ opens_of old.progress + offset_of news.0.decoder.now)) ⊛
+        raw (fact 𝓤 (news.0.strict ≡ old.strict)) ⊛
         raw (fact 𝓤 (news.0.decoder.ghost_name ≡ old.decoder.ghost_name)) ⊛
         raw (fact 𝓤 (MovesOn reads old.decoder.now news.0.decoder.now)))))) (id⊢ 𝓤 _) $
         await ! tt $ pick ! (λ answer. split ! $ split ! $ move ! (2 ∷ []) $ pick ! (λ news. split ! $ move ! (1 ∷ []) $
         split ! $ heard ! _ (λ advanced_to. split ! $ heard ! _
-        (λ opens. split ! $ heard ! _ (λ same_reference. heard ! _ (λ moves_on.
+        (λ opens. split ! $ heard ! _ (λ same_mode. split ! $ heard ! _ (λ same_reference. heard ! _ (λ moves_on.
         let new : State = news.0 in
-        let promised : IsAdvanced reads kind.kind old answer new = record
-        { same_reference = same_reference; advances = advanced_to; opens = opens; moves_on = moves_on } in
+        let promised : IsAdvanced reads kind.kind old answer new = record {
+          same_reference = same_reference;
+          advances = advanced_to;
+          same_mode = same_mode;
+          opens = opens;
+          moves_on =
+              moves_on;
+        } in
         -- [the loan's last value; the tokens; the answer; the way back; the way to end]
 
         -- given back: the call's lifetime ends, and the reference is whole again, at the value that `advance` left
@@ -442,7 +450,7 @@ module _ (R P E : RattleType) (R-laws : Laws R) (P-laws : Laws P) (E-laws : Laws
         (λ b u is_body e is_value.
         let found : IsAdvanced reads kind.kind old (Ok (Some b)) new =
         subst (λ r. IsAdvanced reads kind.kind old r new) e promised in
-        let none_waits = none_waits_for_body reads kind.kind old.progress old.decoder.now b new.progress
+        let none_waits = none_waits_for_body reads kind.kind old.strict old.progress old.decoder.now b new.progress
         new.decoder.now found.advances in
         let good_body : Good R P E reads reads_dict kind kind_dict (layout body.the_row) u =
         (((body_laws.the_row_laws).lawful 𝓛).typed b (u ∷ []) is_body).0 in
@@ -512,7 +520,7 @@ module _ (R P E : RattleType) (R-laws : Laws R) (P-laws : Laws P) (E-laws : Laws
         new) (sym stands) found) lent
         (record {
           body = b;
-          goes_on = subst (λ (d : Decoder R.Denot). GoesOnTo reads kind.kind old.progress
+          goes_on = subst (λ (d : Decoder R.Denot). GoesOnTo reads kind.kind old.strict old.progress
               old.decoder.now (Ok (Some b)) d) (sym lent) (goes_on (Ok (Some b)) new found);
           whole = is_whole;
         })))))))))))
@@ -567,7 +575,7 @@ module _ (R P E : RattleType) (R-laws : Laws R) (P-laws : Laws P) (E-laws : Laws
         sets_last ! (agg ! (and_then ! (lit ! tt) (and_then ! (get ! refl) (no_more !)))) refl good_out $
         exec ! 𝓣.C 𝓣.Λ locals leaving' (at_ret locals Post) $ sets ! (of_opd ! (get ! refl)) refl good_out $
         returns ! (look_at ! 0 refl) $ free_all ! refl $ by !
-        (leaves out (Err x) new found tt (new.decoder.now, goes_on (Err x) new found)))))))))))))))
+        (leaves out (Err x) new found tt (new.decoder.now, goes_on (Err x) new found))))))))))))))))
 
   -- the walk, taken to the contract
   meets : Meets 𝓛 ended'.signature (WpFn 𝓤 H 𝓣.C 𝓣.Λ code') (closing 𝓛 ended' spec)

@@ -1,5 +1,6 @@
 use Rattle.std.proofs.Common.{rules, refl}
 use Rattle.ciborium_ll_text.proofs.FrontLaws.{IsStuck-nil}
+use Rattle.ciborium_ll_decoder.proofs.LoanLaws.{string_back}
 use Rattle.ciborium_ll_decoder.proofs.seg.Segments.segment.Goals as goal
 
 pub invariant_of-result : goal.invariant_of-result
@@ -11,3 +12,9 @@ invariant_of-result g c = record {
       refl;
   text_alone = λ _. refl;
 }
+
+pub returns : goal.returns
+returns g c = (
+  (refl, λ w. string_back c.args.self.now _ _),
+  search rules,
+)

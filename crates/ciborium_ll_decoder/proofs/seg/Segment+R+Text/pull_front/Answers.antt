@@ -1,0 +1,114 @@
+use Rattle.std.proofs.Common.{ℕ, List, take, rules, arith, sym, ap, subst, inr, ◌∙◌, ◌≡◌, ◌<◌, [], ◌++◌, length, drop}
+use Rattle.std.proofs.Common.{length-append}
+use Rattle.std.proofs.lemmas.List.{take_rest}
+use Rattle.ciborium_ll_decoder.specs.declared.seg.Kept.{Kept}
+use Rattle.ciborium_ll_decoder.specs.Kept.{kept_bytes}
+use Rattle.ciborium_ll_text.specs.Text.{IsStuck, IsFront}
+use Rattle.ciborium_ll_decoder.proofs.ChunkLaws.{ReadsOn-none, rest_consumed}
+use Rattle.ciborium_ll_text.proofs.FrontLaws.{IsFront-stuck, IsStuck-rest}
+use Rattle.std.proofs.lemmas.List.{take_at}
+use Rattle.ciborium_ll_text.specs.States.{IsLastEnd}
+use Rattle.ciborium_ll_text.proofs.LastEndLaws.{stuck_end}
+use Rattle.ciborium_ll_decoder.proofs.seg.Segment+R+Text.pull_front.Goals as goal
+
+pub text_front-state-requires-clause-stuck : goal.text_front-state-requires-clause-stuck
+text_front-state-requires-clause-stuck g c =
+    let fill = c.in_ok-fill.ensures.filled in
+    let kept = kept_bytes c.args.self.now.kept in
+    let n = c.len-kept.result in
+    let front : take n c.fill.new.filled ≡ kept = ap (λ (z : List ℕ). take n z) fill.whole
+    ∙ take_at kept fill.read n (sym c.len-kept.ensures) in
+    subst (λ (z : List ℕ). IsLastEnd z 0) (sym front) (stuck_end kept c.args.self.now.stuck)
+
+pub returns-then-size-kept-clause-chunk : goal.returns-then-size-kept-clause-chunk
+returns-then-size-kept-clause-chunk g c =
+    let same = c.read_nothing.ensures.same in
+    record {
+      read = [];
+      reads = ReadsOn-none g.R.Read (length c.args.buffer.now) c.args.self.now c.read_nothing.new.self
+          (omega (arith, c.if-self-eq0.false)) c.if-self.false
+          (omega (arith, c.if-size-kept.true, c.min-size.ensures, c.len-kept.ensures)) same
+          c.in_ok-read_nothing.ensures.read;
+      split = subst (λ (k : Kept). IsFront (kept_bytes c.args.self.now.kept ++ []) [] (kept_bytes k))
+          (sym same.kept) (IsFront-stuck (kept_bytes c.args.self.now.kept) c.args.self.now.stuck);
+      still_sound = same.damaged ∙ c.if-self.false;
+    }
+
+pub invariant_of-self-clause-stuck : goal.invariant_of-self-clause-stuck
+invariant_of-self-clause-stuck g c =
+    let kept = c.in-Some.ensures.some ∙ take_rest c.fill.new.filled (length c.text_front-state.result.0.now) in
+    subst IsStuck (sym kept) (IsStuck-rest _ _ _ c.text_front-state.ensures.front)
+
+pub returns-in-None-clause-chunk : goal.returns-in-None-clause-chunk
+returns-in-None-clause-chunk g c =
+    let fill = c.in_ok-fill.ensures.filled in
+    let text = c.text_front-state.result.0.now in
+    let whole = fill.whole in
+    let counted = ap length whole in
+    let damage = c.damage-in-None.ensures in
+    let same = c.fill.ensures.same in
+    let size : length c.fill.new.filled ≡ c.min-size.result = search rules in
+    let behind : 3 < length (drop (length text) c.fill.new.filled) =
+    rw (take_rest c.fill.new.filled (length text)) at c.in-None.ensures.none in
+    rw damage.error (record {
+      place = same.place;
+      same_place = damage.place ∙ same.place;
+      damaged = damage.damaged;
+      cause = inr (inr (record {
+        read = fill.read;
+        reads = record {
+          some_unread = omega (arith, c.if-self-eq0.false);
+          sound = c.if-self.false;
+          count = omega (
+            arith,
+            counted,
+            size,
+            length-append (kept_bytes c.args.self.now.kept) fill.read,
+            c.min-size.ensures,
+            c.len-kept.ensures,
+            c.if-size-kept.false,
+          );
+          reads = rw damage.same fill.reads;
+          unread = omega (
+            arith,
+            counted,
+            size,
+            length-append (kept_bytes c.args.self.now.kept) fill.read,
+            c.min-size.ensures,
+            c.len-kept.ensures,
+            c.if-size-kept.false,
+            damage.unread,
+            same.unread,
+          );
+          place = damage.place ∙ same.place;
+        };
+        front = text;
+        left = drop (length text) c.fill.new.filled;
+        split = rw (← whole) c.text_front-state.ensures.front;
+        too_much = behind;
+      }));
+      none_kept = inr damage.kept;
+    })
+
+pub returns-in-Some-clause-rest : goal.returns-in-Some-clause-rest
+returns-in-Some-clause-rest g c =
+    let fill = c.in_ok-fill.ensures.filled in
+    let text = c.text_front-state.result.0.now in
+    let kept = kept_bytes c.args.self.now.kept in
+    let whole = fill.whole in
+    let counted = ap length whole in
+    let same = c.fill.ensures.same in
+    let size : length c.fill.new.filled ≡ c.min-size.result = search rules in
+    let behind = c.in-Some.ensures.some ∙ take_rest c.fill.new.filled (length text) in
+    rest_consumed _ _ c.args.self.now.unread _ kept (kept_bytes c.in-Some.rest) fill.read text fill.reads.bytes
+    (omega (
+      arith,
+      counted,
+      size,
+      length-append kept fill.read,
+      c.min-size.ensures,
+      c.len-kept.ensures,
+      c.if-size-kept.false,
+      same.unread,
+    ))
+    (sym whole ∙ c.text_front-state.ensures.front.parts ∙ ap (λ z. text ++ z) (sym behind))

@@ -1,0 +1,69 @@
+//! Bodies copied to a writer.
+
+ghost use Rattle.std.specs.Prelude.{◌≡◌, ◌≤◌, None, length};
+ghost use Rattle.ciborium_ll_decoder.specs.Chunks.{IsWhole, segment_decoder, segment_reference};
+ghost use Rattle.ciborium_ll_decoder.specs.Decoding.{MovesOn, waiting_of};
+ghost use Rattle.ciborium_ll_decoder.specs.Recoding.{CopiesBody};
+ghost use Rattle.ciborium_ll_decoder.specs.Segments.{progress_of, string_decoder, string_reference, string_strict};
+ghost use Rattle.ciborium_ll_decoder.specs.Sides.{sides};
+
+use super::RecodeError;
+use crate::seg::{Body, Chunked, Segment, Segments};
+use ciborium_ll_io::io::{Read, Write};
+
+impl<'r, R: Read, P: Chunked> Segments<'r, R, P> {
+    /// Writes the body that [`Segments::advance`] gave last to a writer, without its title: each chunk as soon as it is
+    /// handed out, by pulls through `buffer`.
+    ///
+    /// `Ok` says that the whole body was read and written, and that it is UTF-8 where it is of a text: the decoder is
+    /// then behind it. `Read` carries the decoder's error, one of those of [`Segments::finish`]. `Write` carries the
+    /// writer's error. What was read before an error is consumed, and the chunks before it are written.
+    #[inline(always)]
+    pub fn copy<W: Write>(
+        &mut self,
+        body: Body,
+        writer: &mut W,
+        buffer: &mut [u8],
+    ) -> Result<(), RecodeError<R::Error, W::Error>>
+        requires room { 4 ≤ length buffer.old }
+        requires none_waits { waiting_of (string_decoder self.old) ≡ None }
+        ensures copied { CopiesBody R.Read W.Write P.kind body.length (length buffer.old) body.place
+            (sides (string_decoder self.old) writer.old) result (sides (string_decoder self.new) writer.new) }
+        ensures same_reference { string_reference self.new ≡ string_reference self.old }
+        ensures progress { progress_of self.new ≡ progress_of self.old }
+        ensures mode { string_strict self.new ≡ string_strict self.old }
+        ensures moves_on { MovesOn R.Read (string_decoder self.old) (string_decoder self.new) }
+        ensures target { W.target writer.new ≡ W.target writer.old }
+    {
+        let mut segment = Segment::<R, P>::new(&mut *self.decoder, body);
+        copy_body(&mut segment, body, writer, buffer)
+    }
+}
+
+/// Writes the body of a segment, each chunk as soon as it is handed out.
+#[inline(always)]
+pub(super) fn copy_body<R: Read, W: Write, P: Chunked>(
+    segment: &mut Segment<'_, R, P>,
+    body: Body,
+    writer: &mut W,
+    buffer: &mut [u8],
+) -> Result<(), RecodeError<R::Error, W::Error>>
+    requires room { 4 ≤ length buffer.old }
+    requires whole { IsWhole body segment.old }
+    ensures copied { CopiesBody R.Read W.Write P.kind body.length (length buffer.old) body.place
+        (sides (segment_decoder segment.old) writer.old) result (sides (segment_decoder segment.new) writer.new) }
+    ensures same_reference { segment_reference segment.new ≡ segment_reference segment.old }
+    ensures moves_on { MovesOn R.Read (segment_decoder segment.old) (segment_decoder segment.new) }
+    ensures target { W.target writer.new ≡ W.target writer.old }
+{
+    'chunks: loop {
+        let chunk = match P::chunk(segment, buffer) {
+            Ok(Some(chunk)) => chunk,
+            Ok(None) => return Ok(()),
+            Err(error) => return Err(RecodeError::Read(error)),
+        };
+        if let Err(fault) = writer.write_all(chunk) {
+            return Err(RecodeError::Write(fault));
+        }
+    }
+}

@@ -1,0 +1,19 @@
+-- What a title begins within an item.
+use Rattle.ciborium_ll_grammar.specs.declared.hdr.Header.{Header}
+use Rattle.ciborium_ll_grammar.specs.declared.hdr.Header.TheVariants as h
+use Rattle.ciborium_ll_grammar.specs.declared.hdr.start.Start.{Start}
+use Rattle.ciborium_ll_grammar.specs.declared.hdr.start.Start.TheVariants as s
+
+-- what a title of the header begins: a value, a string, a tag, an array or a map, which items follow, or the end of an
+-- indefinite form (RFC 7049, 2.1 to 2.4)
+abbrev pub start_of : Header → Start
+start_of (h.Positive number) = s.Value
+start_of (h.Negative number) = s.Value
+start_of (h.Float float) = s.Value
+start_of (h.Simple number) = s.Value
+start_of (h.Bytes len) = s.Bytes len
+start_of (h.Text len) = s.Text len
+start_of (h.Tag number) = s.Nest (h.Tag number)
+start_of (h.Array len) = s.Nest (h.Array len)
+start_of (h.Map len) = s.Nest (h.Map len)
+start_of h.Break = s.Break

@@ -1,0 +1,190 @@
+-- A signed message, COSE_Sign1 (RFC 9052, 4.2): its parts, where they stand, and why none was read.
+use Rattle.std.specs.Prelude.{◌≡◌, ℕ, ◌+◌, ◌<◌, ◌≤◌, ◌⊎◌, List, [], ◌∷◌, ◌++◌, length, Option, Some, None, true}
+use Rattle.std.specs.Prelude.{Result, Err}
+use Rattle.std.specs.Io.KnownBytes.{Consumes}
+use Rattle.ciborium_ll.specs.Types.Read.{Ghosts}
+use Rattle.ciborium_ll.specs.Types.Header.{Header}
+use Rattle.ciborium_ll.specs.Types.Header.TheVariants as h
+use Rattle.ciborium_ll.specs.Types.Decoder.{Decoder}
+use Rattle.ciborium_ll.specs.Types.Error.{Error}
+use Rattle.ciborium_ll.specs.Title.{shortest_title}
+use Rattle.ciborium_ll.specs.Items.{IsItem}
+use Rattle.ciborium_ll.specs.Decoding.{view, IsSteady, Passes, PullsHeader, PullsTitle, ReadsBytes, TakesBack}
+use Rattle.ciborium_ll.specs.Segments.{PullsOther}
+use Rattle.cbor_skip.specs.declared.SkipError.{SkipError}
+use Rattle.cbor_skip.specs.Skipping.{SkipsItem}
+use Rattle.ciborium_ll_uses.specs.declared.cose.CoseError.{CoseError}
+use Rattle.ciborium_ll_uses.specs.declared.cose.CoseError.TheVariants as c
+use Rattle.ciborium_ll_uses.specs.declared.cose.Span.{Span}
+use Rattle.ciborium_ll_uses.specs.declared.cose.Sign1.{Sign1}
+use Rattle.ciborium_ll_uses.specs.declared.cose.TheConstants.{MAP_DEPTH}
+
+-- ---- the parts
+
+-- the bytes are a byte string under its shortest title, which begins at this offset; the span is that of its body
+pub record IsByteString (bytes : List ℕ) (at : ℕ) (span : Span) : Type 0 where
+  pub body : List ℕ
+  pub is : bytes ≡ shortest_title (h.Bytes (Some (length body))) ++ body
+  pub ends : span.end ≡ at + length bytes
+  pub starts : span.start + length body ≡ span.end
+
+-- the bytes are a map under its shortest title, which begins at this offset; the span is that of the whole map
+pub record IsMap (bytes : List ℕ) (at : ℕ) (span : Span) : Type 0 where
+  pub is_item : IsItem MAP_DEPTH bytes
+  pub len : Option ℕ
+  pub rest : List ℕ
+  pub is : bytes ≡ shortest_title (h.Map len) ++ rest
+  pub starts : span.start ≡ at
+  pub ends : span.end ≡ at + length bytes
+
+-- the bytes are a payload: null where it is detached, or a byte string
+abbrev pub IsPayload : List ℕ → ℕ → Option Span → Type 0
+IsPayload bytes at None = bytes ≡ 0xf6 ∷ []
+IsPayload bytes at (Some span) = IsByteString bytes at span
+
+-- the bytes begin with a tagged COSE_Sign1: tag 18, an array of four, and its parts at these places
+pub record BeginsSign1 (bytes : List ℕ) (parts : Sign1) : Type 0 where
+  pub protected : List ℕ
+  pub unprotected : List ℕ
+  pub payload : List ℕ
+  pub signature : List ℕ
+  pub rest : List ℕ
+  pub is : bytes ≡ (((((0xd2 ∷ 0x84 ∷ []) ++ protected) ++ unprotected) ++ payload) ++ signature) ++ rest
+  pub is_protected : IsByteString protected 2 parts.protected
+  pub is_unprotected : IsMap unprotected (2 + length protected) parts.unprotected
+  pub is_payload : IsPayload payload (2 + length protected + length unprotected) parts.payload
+  pub is_signature : IsByteString signature (2 + length protected + length unprotected + length payload)
+      parts.signature
+
+-- ---- how far a read comes
+
+-- the header of a byte string of a definite length, of a payload, of a map
+abbrev pub BeginsBytes : Header → Type 0
+BeginsBytes header = (len : ℕ) × (header ≡ h.Bytes (Some len))
+
+abbrev pub BeginsPayload : Header → Type 0
+BeginsPayload header = (header ≡ h.Simple 22) ⊎ BeginsBytes header
+
+abbrev pub BeginsMap : Header → Type 0
+BeginsMap header = (len : Option ℕ) × (header ≡ h.Map len)
+
+-- what is due next
+pub data Due : Type 0 where
+  TagDue : Due
+  ArrayDue : Due
+  ProtectedDue : Due
+  UnprotectedDue : Due
+  PayloadDue : Due
+  SignatureDue : Due
+
+-- the header may stand where this is due
+abbrev pub IsAllowed : Due → Header → Type 0
+IsAllowed TagDue header = header ≡ h.Tag 18
+IsAllowed ArrayDue header = header ≡ h.Array (Some 4)
+IsAllowed ProtectedDue header = BeginsBytes header
+IsAllowed UnprotectedDue header = BeginsMap header
+IsAllowed PayloadDue header = BeginsPayload header
+IsAllowed SignatureDue header = BeginsBytes header
+
+-- `Reaches bytes due`: the bytes are a beginning of a tagged COSE_Sign1, behind which this is due
+pub data Reaches : List ℕ → Due → Type 0 where
+  to_tag : Reaches [] TagDue
+  to_array : Reaches (0xd2 ∷ []) ArrayDue
+  to_protected : Reaches (0xd2 ∷ 0x84 ∷ []) ProtectedDue
+  to_unprotected : (before bytes : List ℕ) (span : Span) → Reaches before ProtectedDue
+      → IsByteString bytes (length before) span → Reaches (before ++ bytes) UnprotectedDue
+  to_payload : (before bytes : List ℕ) (span : Span) → Reaches before UnprotectedDue
+      → IsMap bytes (length before) span → Reaches (before ++ bytes) PayloadDue
+  to_signature : (before bytes : List ℕ) (span : Option Span) → Reaches before PayloadDue
+      → IsPayload bytes (length before) span → Reaches (before ++ bytes) SignatureDue
+
+module _ {R E : Type 0} (source : Ghosts R E) where
+  -- ---- what was read
+
+  -- these bytes were taken, and no header waits
+  pub record Took (old : Decoder R) (bytes : List ℕ) (new : Decoder R) : Type 0 where
+    pub consumed : Consumes (view source old) (view source new) bytes
+    pub offset : new.offset ≡ old.offset + length bytes
+    pub none_waits : new.waiting ≡ None
+    pub mode : new.strict ≡ old.strict
+
+  -- a body of this length was taken
+  pub record TookBody (len : ℕ) (old : Decoder R) (span : Span) (new : Decoder R) : Type 0 where
+    pub body : List ℕ
+    pub all : length body ≡ len
+    pub took : Took old body new
+    pub starts : span.start ≡ old.offset
+    pub ends : span.end ≡ new.offset
+
+  -- a byte string was taken
+  pub record TookString (old : Decoder R) (span : Span) (new : Decoder R) : Type 0 where
+    pub bytes : List ℕ
+    pub is_string : IsByteString bytes old.offset span
+    pub took : Took old bytes new
+
+  -- a payload was taken
+  pub record TookPayload (old : Decoder R) (span : Option Span) (new : Decoder R) : Type 0 where
+    pub bytes : List ℕ
+    pub is_payload : IsPayload bytes old.offset span
+    pub took : Took old bytes new
+
+  -- a map was taken
+  pub record TookMap (old : Decoder R) (span : Span) (new : Decoder R) : Type 0 where
+    pub bytes : List ℕ
+    pub is_map : IsMap bytes old.offset span
+    pub took : Took old bytes new
+
+  -- ---- why no more was read
+
+  -- a beginning of a body of this length was read, and the read of more of it failed
+  pub record BodyFails (len : ℕ) (old : Decoder R) (error : Error E) (new : Decoder R) : Type 0 where
+    pub read : List ℕ
+    pub asked : List ℕ
+    pub between : Decoder R
+    pub passed : Passes source old read between
+    pub some : 0 < length asked
+    pub within : length read + length asked ≤ len
+    pub fails : ReadsBytes source between (Err error) asked new
+
+  module _ (IsDue : Header → Type 0) where
+    -- the title of a byte string came that may stand here, and the read of its body failed
+    pub record StopsInBody (old : Decoder R) (error : Error E) (new : Decoder R) : Type 0 where
+      pub len : ℕ
+      pub titled : Decoder R
+      pub allowed : IsDue (h.Bytes (Some len))
+      pub pulled : PullsTitle source old (h.Bytes (Some len)) titled
+      pub fails : BodyFails len titled error new
+
+    -- the title of a map came that may stand here, and the read of the map from there failed
+    pub record StopsInMap (old : Decoder R) (error : SkipError E) (new : Decoder R) : Type 0 where
+      pub len : Option ℕ
+      pub titled : Decoder R
+      pub pushed : Decoder R
+      pub allowed : IsDue (h.Map len)
+      pub pulled : PullsTitle source old (h.Map len) titled
+      pub back : TakesBack source titled (h.Map len) pushed
+      pub fails : SkipsItem source MAP_DEPTH 64 pushed (Err error) new
+
+    -- why a part was not read where such a header is due: no title came, another one came, or the part is cut or
+    -- broken behind its title
+    abbrev pub StopsAt : Decoder R → CoseError E → Decoder R → Type 0
+    StopsAt old (c.Read error) new = PullsHeader source old (Err error) new ⊎ StopsInBody old error new
+    StopsAt old (c.Skip error) new = StopsInMap old error new
+    StopsAt old (c.Unexpected at) new = PullsOther source (λ header. IsDue header → ⊥) old at new
+
+  -- Why no COSE_Sign1 was read: the bytes begin as one does, and what is due behind them a strict decoder did not read,
+  -- to which they are those up to its offset, and which fails only where bytes are missing
+  pub record StopsSign1 (bytes : List ℕ) (error : CoseError E) : Type 0 where
+    pub before : List ℕ
+    pub rest : List ℕ
+    pub is : bytes ≡ before ++ rest
+    pub due : Due
+    pub reached : Reaches before due
+    pub decoder : Decoder R
+    pub told : view source decoder ≡ Some rest
+    pub place : decoder.offset ≡ length before
+    pub none_waits : decoder.waiting ≡ None
+    pub strict : decoder.strict ≡ true
+    pub steady : IsSteady source decoder
+    pub ended : Decoder R
+    pub stops : StopsAt (IsAllowed due) decoder error ended

@@ -1,0 +1,135 @@
+//! Signed messages: an example of RFC 9052, and messages that were worked by hand.
+
+use cbor_skip::SkipError;
+use ciborium_ll::Error;
+use ciborium_ll::io::EndOfFile;
+use ciborium_ll_uses::{CoseError, Sign1, Span, read_sign1};
+
+// RFC 9052, appendix C.2.1: the protected parameters {1: -7}, the unprotected ones {4: '11'}, the payload "This is the
+// content." and a signature of 64 bytes.
+static SINGLE_SIGNATURE: &[u8] =
+    b"\xd2\x84\x43\xa1\x01\x26\xa1\x04\x42\x31\x31\x54This is the content.\x58\x40\
+    \x8e\xb3\x3e\x4c\xa3\x1d\x1c\x46\x5a\xb0\x5a\xac\x34\xcc\x6b\x23\xd5\x8f\xef\x5c\x08\x31\x06\xc4\
+    \xd2\x5a\x91\xae\xf0\xb0\x11\x7e\x2a\xf9\xa2\x91\xaa\x32\xe1\x4a\xb8\x34\xdc\x56\xed\x2a\x22\x34\
+    \x44\x54\x7e\x01\xf1\x1d\x3b\x09\x16\xe5\xa4\xc3\x45\xca\xcb\x36";
+
+// What a read answers, as a plain value.
+#[derive(Clone, Copy, Debug, PartialEq, Eq, Drop)]
+enum Outcome {
+    Parts(Sign1),
+    Unexpected(usize),
+    Syntax(usize),
+    Short,
+    MapSyntax(usize),
+    MapBreak(usize),
+    MapDeep(usize),
+    MapShort,
+    Other,
+}
+
+fn outcome_of(bytes: &[u8]) -> Outcome {
+    match read_sign1(bytes) {
+        Ok(parts) => Outcome::Parts(parts),
+        Err(CoseError::Unexpected(place)) => Outcome::Unexpected(place),
+        Err(CoseError::Read(error)) => outcome_of_error(error),
+        Err(CoseError::Skip(error)) => outcome_of_map(error),
+    }
+}
+
+fn outcome_of_error(error: Error<EndOfFile>) -> Outcome {
+    match error {
+        Error::Syntax(place) => Outcome::Syntax(place),
+        Error::Io(EndOfFile) => Outcome::Short,
+        _ => Outcome::Other,
+    }
+}
+
+fn outcome_of_map(error: SkipError<EndOfFile>) -> Outcome {
+    match error {
+        SkipError::Break(place) => Outcome::MapBreak(place),
+        SkipError::Deep(place) => Outcome::MapDeep(place),
+        SkipError::Read(Error::Syntax(place)) => Outcome::MapSyntax(place),
+        SkipError::Read(Error::Io(EndOfFile)) => Outcome::MapShort,
+        SkipError::Read(_) => Outcome::Other,
+    }
+}
+
+fn parts(protected: Span, unprotected: Span, payload: Option<Span>, signature: Span) -> Outcome {
+    Outcome::Parts(Sign1 {
+        protected,
+        unprotected,
+        payload,
+        signature,
+    })
+}
+
+fn span(start: usize, end: usize) -> Span {
+    Span { start, end }
+}
+
+#[test]
+fn an_example_of_the_standard(rt: HostRuntime) {
+    let payload = Some(span(12, 32));
+    let want = parts(span(3, 6), span(6, 11), payload, span(34, 98));
+    assert_eq!(rt; SINGLE_SIGNATURE.len(), 98);
+    assert_eq!(rt; outcome_of(SINGLE_SIGNATURE), want);
+}
+
+#[test]
+fn messages(rt: HostRuntime) {
+    // Empty strings and an empty map, and a byte behind the message.
+    let empty = parts(span(3, 3), span(3, 4), Some(span(5, 5)), span(6, 6));
+    assert_eq!(rt; outcome_of(b"\xd2\x84\x40\xa0\x40\x40\xff"), empty);
+    // A detached payload.
+    let detached = parts(span(3, 3), span(3, 4), None, span(6, 7));
+    assert_eq!(rt; outcome_of(b"\xd2\x84\x40\xa0\xf6\x41s"), detached);
+    // A map of indefinite length, which holds an array.
+    let open = parts(span(3, 4), span(4, 9), None, span(11, 13));
+    assert_eq!(rt;
+        outcome_of(b"\xd2\x84\x41\xa0\xbf\x01\x81\x02\xff\xf6\x42ok"),
+        open
+    );
+}
+
+#[test]
+fn what_is_refused(rt: HostRuntime) {
+    let rows: [(&[u8], Outcome); 18] = [
+        // another tag, none, and an array of three and of any number
+        (b"\xd1\x84\x40\xa0\xf6\x41s", Outcome::Unexpected(0)),
+        (b"\x84\x40\xa0\xf6\x41s", Outcome::Unexpected(0)),
+        (b"\xd2\x83\x40\xa0\xf6", Outcome::Unexpected(1)),
+        (b"\xd2\x9f\x40\xa0\xf6\x41s\xff", Outcome::Unexpected(1)),
+        // each part as something else, and a byte string of indefinite length
+        (b"\xd2\x84\xf6\xa0\xf6\x41s", Outcome::Unexpected(2)),
+        (b"\xd2\x84\x5f\xff\xa0\xf6\x41s", Outcome::Unexpected(2)),
+        (b"\xd2\x84\x40\x80\xf6\x41s", Outcome::Unexpected(3)),
+        (b"\xd2\x84\x40\xa0\xf7\x41s", Outcome::Unexpected(4)),
+        (b"\xd2\x84\x40\xa0\xf6\xf6", Outcome::Unexpected(5)),
+        // titles that are not the shortest, and one that is none
+        (b"\xd2\x84\x58\x00\xa0\xf6\x41s", Outcome::Syntax(2)),
+        (b"\xd8\x12\x84\x40\xa0\xf6\x41s", Outcome::Syntax(0)),
+        (b"\xd2\x84\x40\xa0\x5c", Outcome::Syntax(4)),
+        // bytes that end within a body, and in front of a title
+        (b"\xd2\x84\x40\xa0\xf6\x42s", Outcome::Short),
+        (b"", Outcome::Short),
+        // a map with a key alone, that holds no title, that is nested too deep, and that ends too early
+        (b"\xd2\x84\x40\xbf\x01\xff\xf6\x41s", Outcome::MapBreak(5)),
+        (b"\xd2\x84\x40\xa1\x1c\x01", Outcome::MapSyntax(4)),
+        (
+            b"\xd2\x84\x40\xa1\x81\x81\x81\x81\x81\x81\x81\x81\x81\x81\x81\x81\x81\x81\x81\x81\x01\x02",
+            Outcome::MapDeep(19),
+        ),
+        (b"\xd2\x84\x40\xa1\x01", Outcome::MapShort),
+    ];
+    for (bytes, want) in rows {
+        assert_eq!(rt; outcome_of(bytes), want);
+    }
+}
+
+#[test]
+fn a_message_that_is_cut(rt: HostRuntime) {
+    for len in 0..SINGLE_SIGNATURE.len() {
+        let outcome = outcome_of(&SINGLE_SIGNATURE[..len]);
+        assert!(rt; matches!(outcome, Outcome::Short | Outcome::MapShort));
+    }
+}

@@ -1,0 +1,7 @@
+//! Tests of the callers, and short callers that the documents show.
+#![tactic(auto)]
+
+#[cfg(test)]
+mod calls;
+#[cfg(test)]
+mod cose;
