@@ -10,6 +10,7 @@
 #include <stdlib.h>
 
 #include "ciborium_ll.h"
+#include "count.h"
 
 /* Reads a whole file, of which it gives the length. It gives null where that fails. */
 static uint8_t *read_all(const char *name, size_t *len)
@@ -21,7 +22,7 @@ static uint8_t *read_all(const char *name, size_t *len)
     *len = 0;
     while (file != NULL) {
         if (*len == room) {
-            uint8_t *more = realloc(data, room = 2 * room + 4096);
+            uint8_t *more = (uint8_t *)realloc(data, room = 2 * room + 4096);
             if (more == NULL)
                 break;
             data = more;
@@ -53,9 +54,8 @@ static int write_all(const char *name, const uint8_t *data, size_t len)
 
 int main(int argc, char **argv)
 {
-    char *end = NULL;
-    unsigned long long count = argc == 4 ? strtoull(argv[1], &end, 10) : 0;
-    if (argc != 4 || end == argv[1] || *end != '\0') {
+    uint64_t count;
+    if (argc != 4 || !read_count(argv[1], &count)) {
         fprintf(stderr, "usage: normalize COUNT IN OUT\n");
         return 2;
     }
@@ -63,7 +63,7 @@ int main(int argc, char **argv)
     size_t len;
     uint8_t *data = read_all(argv[2], &len);
     /* No spelling is longer than what it is read from. */
-    uint8_t *out = data != NULL ? malloc(len + 1) : NULL;
+    uint8_t *out = data != NULL ? (uint8_t *)malloc(len + 1) : NULL;
     if (out == NULL) {
         fprintf(stderr, "normalize: %s can't be read\n", argv[2]);
         free(data);

@@ -7,10 +7,10 @@
  * The status is 0 where they do, and their length is printed; 1 where they don't, and 2 for other arguments.
  */
 #include <stdio.h>
-#include <stdlib.h>
 #include <string.h>
 
 #include "ciborium_ll.h"
+#include "count.h"
 
 /* The value of a hexadecimal digit, or 16. */
 static unsigned digit(char c)
@@ -23,8 +23,9 @@ static unsigned digit(char c)
 int main(int argc, char **argv)
 {
     static uint8_t data[4096];
+    uint64_t count = 0;
     size_t len = argc == 3 ? strlen(argv[2]) / 2 : 0;
-    int fits = argc == 3 && strlen(argv[2]) % 2 == 0 && len <= sizeof data;
+    int fits = argc == 3 && read_count(argv[1], &count) && strlen(argv[2]) % 2 == 0 && len <= sizeof data;
     for (size_t i = 0; fits && i < len; i++) {
         unsigned high = digit(argv[2][2 * i]), low = digit(argv[2][2 * i + 1]);
         fits = high < 16 && low < 16;
@@ -36,7 +37,7 @@ int main(int argc, char **argv)
     }
 
     cll_report report;
-    uint32_t answer = cll_strict(data, len, strtoull(argv[1], NULL, 10), &report);
+    uint32_t answer = cll_strict(data, len, count, &report);
     if (answer == CLL_OK)
         printf("strict %llu\n", (unsigned long long)report.consumed);
     else if (answer == CLL_SYNTAX)

@@ -1,9 +1,18 @@
 /*
  * CBOR (RFC 7049, 2.1 to 2.4) out of memory and into memory. C99, and C++.
  *
- * No call takes memory but for its stack, and none calls anything outside of this library. Each call returns an answer,
- * one of the numbers from CLL_OK on, and says in its report how far it came. `data`, `out`, `header` and `report` must
- * not be null, also where a length is 0, and must not overlap.
+ * No call takes memory but for its stack, and none calls anything outside of this library but memcpy, memmove and
+ * memset. Each call returns an answer, one of the numbers of cll_answer, and says in its report how far it came.
+ *
+ * `header` and `report` must not be null. `data` and `out` may be null where their length is 0. What a call writes must
+ * not overlap anything else that it is given: so no call works in place. cll_overlap tells whether two pieces of memory
+ * overlap.
+ *
+ * Nothing is kept between calls. So calls may run in several threads at once, where none writes what another one uses.
+ *
+ * Of the stack, as measured on x86-64, cll_pull, cll_push, cll_push_wide and cll_utf8 take less than 128 bytes,
+ * cll_recode and cll_strict less than 2 KiB. cll_skip takes less than 2 KiB and 288 bytes for each level that it goes
+ * down: 7 KiB at 16 levels, 20 KiB at 64, and 74 KiB at 256.
  */
 #ifndef CIBORIUM_LL_H
 #define CIBORIUM_LL_H
@@ -15,21 +24,30 @@
 extern "C" {
 #endif
 
+/* The version of this header. cll_version gives that of the library. */
+#define CLL_VERSION_MAJOR 0
+#define CLL_VERSION_MINOR 1
+#define CLL_VERSION_PATCH 0
+
 /*
- * What a title means. `kind` is one of the numbers from CLL_POSITIVE on. `value` is the number; of CLL_BYTES and
- * CLL_TEXT the length in bytes; of CLL_ARRAY the count of items, of CLL_MAP that of pairs; of CLL_HALF, CLL_SINGLE and
- * CLL_DOUBLE the raw bits. `indefinite` is 1 for the indefinite form of the middle four, and else 0. Of an indefinite
- * form and of CLL_BREAK `value` is 0. CLL_NEGATIVE means -1 - value.
+ * What a title means. `kind` is one of the numbers of cll_kind. `value` is the number; of CLL_BYTES and CLL_TEXT the
+ * length in bytes; of CLL_ARRAY the count of items, of CLL_MAP that of pairs; of CLL_HALF, CLL_SINGLE and CLL_DOUBLE
+ * the raw bits. `indefinite` is 1 for the indefinite form of the middle four, and else 0. Of an indefinite form and of
+ * CLL_BREAK `value` is 0. CLL_NEGATIVE means -1 - value.
  */
 typedef struct { uint64_t value; uint8_t kind; uint8_t indefinite; } cll_header;
 
 /*
  * How far a call came: how many bytes it consumed, how many it wrote, and with CLL_SYNTAX, CLL_BREAK_DUE and
  * CLL_TOO_DEEP the offset in `data` that the answer names, else 0.
+ *
+ * It is that of a title, and for cll_utf8 that of the byte behind the front. But for the body of a text that is no
+ * UTF-8, in a string that no open begins, it is the end of the string's title less the length of the shortest one, so
+ * it lies inside a title that is longer than that.
  */
 typedef struct { uint64_t consumed; uint64_t written; uint64_t place; } cll_report;
 
-enum {
+typedef enum cll_kind {
     CLL_POSITIVE,
     CLL_NEGATIVE,
     CLL_BYTES,
@@ -42,18 +60,21 @@ enum {
     CLL_SINGLE,
     CLL_DOUBLE,
     CLL_BREAK
-};
+} cll_kind;
 
-enum {
+typedef enum cll_answer {
     CLL_OK,        /* all that was asked for was done */
     CLL_SHORT,     /* the bytes end too early; `consumed` says where the read stopped */
-    CLL_SYNTAX,    /* at `place` stands no CBOR that could stand there */
-    CLL_ROOM,      /* `out` is full */
+    CLL_SYNTAX,    /* at `place` stands no CBOR, or for cll_utf8 no UTF-8, that could stand there */
+    CLL_ROOM,      /* what is to be written next does not fit into `out` */
     CLL_TOO_LONG,  /* an offset would pass the greatest number, which no bytes in memory make it do: never answered */
     CLL_BREAK_DUE, /* at `place` a break stands where an item is due */
     CLL_TOO_DEEP,  /* at `place` a tag, an array or a map stands deeper than was allowed */
     CLL_ARGUMENT   /* an argument is out of its range, and nothing was done */
-};
+} cll_answer;
+
+/* The version of the library: 65536 times its major number, 256 times its minor one, and its patch number. */
+uint32_t cll_version(void);
 
 /*
  * Reads the one title in front of `data`, and says in `header` what it means. `consumed` is the length of the title.
@@ -74,13 +95,29 @@ uint32_t cll_pull(const uint8_t *data, size_t len, cll_header *header, cll_repor
 uint32_t cll_push(const cll_header *header, uint8_t *out, size_t room, cll_report *report);
 
 /*
+ * Writes the title of a header that has `width` bytes behind its first one in front of `out`, whole or not at all. It
+ * need not be the shortest one: so a length may get its place before it is known. A number stands in a width of 0 where
+ * it is below 24, and else in 1, 2, 4 or 8; a simple value in 0 or 1; a float has the one width of its kind, and a
+ * break and each indefinite form have 0. `written` is 1 more than `width`.
+ *
+ * CLL_OK; CLL_ROOM where the title is longer than `room`; CLL_ARGUMENT where cll_push gives that, and where the header
+ * has no title of that width. After the last two `out` is as it was.
+ */
+uint32_t cll_push_wide(const cll_header *header, uint32_t width, uint8_t *out, size_t room, cll_report *report);
+
+/*
  * Copies `count` elements to `out`, each in its shortest spelling. An element is a title that begins no string, or a
  * whole string. `consumed` and `written` say how many bytes they took and take. They take no more than before, so `len`
  * bytes are always room enough.
  *
  * CLL_OK; CLL_SHORT where `data` ends before so many elements do; CLL_SYNTAX for a title that is none or may not stand
- * within its string, and for a body of a text that is not UTF-8 by itself; CLL_ROOM. What was written before an error
- * stands in `out`, and behind what was written `out` is as it was.
+ * within its string, and for a body of a text that is not UTF-8 by itself; CLL_ROOM where what is to be written next
+ * does not fit: the shortest title of a header that was read, or a chunk of a body, of at most 1,024 bytes. What was
+ * written before an error stands in `out`, with CLL_ROOM at most a beginning of what did not fit behind it, which
+ * `written` counts too. Behind what was written `out` is as it was.
+ *
+ * Bodies are read through a buffer of 1,024 bytes. So the body of a text that is no UTF-8, and of which `data` ends too
+ * early, is answered by CLL_SHORT or by CLL_SYNTAX, depending on its length and on where it goes wrong.
  */
 uint32_t cll_recode(const uint8_t *data, size_t len, uint64_t count, uint8_t *out, size_t room, cll_report *report);
 
@@ -89,7 +126,8 @@ uint32_t cll_recode(const uint8_t *data, size_t len, uint64_t count, uint8_t *ou
  * string of indefinite length inside another. Nothing is written. `consumed` is their length.
  *
  * CLL_OK; CLL_SHORT where `data` ends before so many elements do; CLL_SYNTAX as in cll_recode, and at the title that is
- * longer than it need be, is such a simple value, or opens such a string.
+ * longer than it need be, is such a simple value, or opens such a string. A text that is no UTF-8 and ends too early is
+ * answered as by cll_recode.
  */
 uint32_t cll_strict(const uint8_t *data, size_t len, uint64_t count, cll_report *report);
 
@@ -99,12 +137,58 @@ uint32_t cll_strict(const uint8_t *data, size_t len, uint64_t count, cll_report 
  *
  * CLL_OK; CLL_SHORT where `data` ends before the item does; CLL_SYNTAX as in cll_recode; CLL_BREAK_DUE for a break in
  * place of an item, also in place of a value of a map; CLL_TOO_DEEP, of which the title is consumed; and CLL_ARGUMENT
- * for a depth above 256.
+ * for a depth above 256. A text that is no UTF-8 and ends too early is answered as by cll_recode.
  */
 uint32_t cll_skip(const uint8_t *data, size_t len, uint32_t depth, cll_report *report);
+
+/*
+ * Finds the longest front of `data` that is UTF-8 (RFC 3629). `consumed` is its length.
+ *
+ * CLL_OK where it is all of `data`; CLL_SHORT where the bytes behind it, from one to three, begin a character, and end
+ * inside it; CLL_SYNTAX, with the length of the front as the place, where no UTF-8 begins with the bytes behind it,
+ * whatever came behind them.
+ *
+ * So a text may come in pieces. What is behind the front then stands in front of the next piece: the whole text is
+ * UTF-8 just where that is. Where none follows, CLL_SHORT says that the text ends too early.
+ */
+uint32_t cll_utf8(const uint8_t *data, size_t len, cll_report *report);
 
 #ifdef __cplusplus
 }
 #endif
+
+/* What an answer says, in a few words. */
+static inline const char *cll_strerror(uint32_t answer)
+{
+    switch (answer) {
+    case CLL_OK:
+        return "all was done";
+    case CLL_SHORT:
+        return "the bytes end too early";
+    case CLL_SYNTAX:
+        return "no CBOR, or no UTF-8, that could stand there";
+    case CLL_ROOM:
+        return "the output has no room";
+    case CLL_TOO_LONG:
+        return "an offset is too great";
+    case CLL_BREAK_DUE:
+        return "a break stands where an item is due";
+    case CLL_TOO_DEEP:
+        return "nested too deep";
+    case CLL_ARGUMENT:
+        return "an argument is out of its range";
+    default:
+        return "no answer of this library";
+    }
+}
+
+/* Whether two pieces of memory overlap: 1 where they do, else 0. One without bytes overlaps none. */
+static inline int cll_overlap(const void *one, size_t one_len, const void *other, size_t other_len)
+{
+    const uintptr_t first = (uintptr_t)one, second = (uintptr_t)other;
+    if (one_len == 0 || other_len == 0)
+        return 0;
+    return first <= second ? second - first < one_len : first - second < other_len;
+}
 
 #endif

@@ -1,5 +1,7 @@
 -- What a copy by a fresh decoder says of the bytes ahead.
-use Rattle.std.proofs.Common.{◌≡◌, ℕ, ◌+◌, ◌<◌, ◌≤◌, ◌^◌, ◌∙◌, ◌↔◌, IsTrue, IsOk, Bool, max, List, [], ◌++◌, drop}
+use Rattle.std.proofs.Common.{◌≡◌, ℕ, ◌+◌, ◌<◌, ◌≤◌, ◌^◌, ◌∙◌, ◌↔◌, IsTrue, IsOk, Bool, false, max, List, [], ◌++◌}
+use Rattle.std.proofs.Common.{take, drop}
+use Rattle.std.proofs.lemmas.List.{take-append-drop}
 use Rattle.std.proofs.Common.{length, Option, Result, Ok, Err, Some, ap, sym, subst, refl, arith, length-append}
 use Rattle.ciborium_ll.specs.Types.Read.{Ghosts as Reader}
 use Rattle.ciborium_ll.specs.Types.Write.{Ghosts as Writer}
@@ -10,9 +12,10 @@ use Rattle.ciborium_ll.specs.Types.RecodeError.{RecodeError}
 use Rattle.ciborium_ll.specs.Types.RecodeError.TheVariants as r
 use Rattle.ciborium_ll.specs.Elements.{spelling}
 use Rattle.ciborium_ll.specs.Faults.{Place, Due, In, BodyDue, Syntax}
-use Rattle.ciborium_ll.specs.Decoding.{IsFreshAs, offset_limit}
-use Rattle.ciborium_ll.specs.RecodingTold.{IsReadyAs, IsToldAs, RecodesAnyhow, RecodesTold, StopsAt}
-use Rattle.ciborium_ll.specs.Sides.{sides}
+use Rattle.ciborium_ll.specs.Decoding.{IsFreshAs, IsSteady, offset_limit}
+use Rattle.ciborium_ll.specs.Recoding.{CopiesElements, StopsWriting}
+use Rattle.ciborium_ll.specs.RecodingTold.{IsReadyAs, IsToldAs, RecodesTold, StopsAt, StopsShort}
+use Rattle.ciborium_ll.specs.Sides.{Sides, sides}
 use Rattle.ciborium_ll.specs.Slices.{slice_before, slice_target}
 use Rattle.ciborium_ll.specs.StrictRecoding.{RecodesStrictly}
 use Rattle.ciborium_ll.specs.Transfer.{Target}
@@ -21,7 +24,11 @@ use Rattle.ciborium_ll_c.specs.declared.answer.CllAnswer.TheVariants as a
 use Rattle.ciborium_ll_c.specs.declared.answer.CllReport.{CllReport}
 use Rattle.ciborium_ll_c.specs.Answers.{Reports}
 use Rattle.ciborium_ll_c.specs.Checking.{Checks}
-use Rattle.ciborium_ll_c.specs.Copying.{CopiesInto, CopiesAnyhow, HasRoom, StandInFront, copy_answer, copy_place}
+use Rattle.ciborium_ll_c.specs.Copying.{CopiesInto, CopiesAnyhow, HasRoom, StandInFront, StopsForRoom, buffer_size}
+use Rattle.ciborium_ll_c.specs.Copying.{copy_answer, copy_place}
+use Rattle.ciborium_ll.proofs.CopyingTold.{appends_told, consumes_told, shrinks_told}
+use Rattle.ciborium_ll_decoder.proofs.RecodeAnyhowLaws.{recode_anyhow}
+use Rattle.ciborium_ll_decoder.proofs.RecodeReadyLaws.{short_told}
 use Rattle.ciborium_ll_c.proofs.PullLaws.{due_ahead, still_steady}
 
 same_bytes : (known : Option (List ℕ)) (one other : List ℕ) → known ≡ Some one → known ≡ Some other → one ≡ other
@@ -131,63 +138,86 @@ module _ {R E W F : Type 0} (source : Reader R E) (sink : Writer W F) where
   copy_reported count due old new writer' (Err (r.Write fault)) report output before after told start out
       reports stands = absurd told
 
-  anyhow_reported :
-      (count : ℕ) (due : List ℕ) (old new : Decoder R) (writer' : W) (result : Result (Unit {0}) (RecodeError E F))
-      (report : CllReport) (output before after : List ℕ)
-      → RecodesAnyhow source sink count 1024 due [] old result (sides new writer') → length due < 2 ^ 63 → old.offset
-      ≡ 0
-      → sink.written writer' ≡ Some output → Reports report new.offset (length output) (copy_place result)
-      → StandInFront output before after → CopiesAnyhow count due before (copy_answer result) after report
-  anyhow_reported count due old new writer' (Ok done) report output before after told object start out
-      reports stands = (
-        told.front,
-        stands_too (sink.written writer') output (spelling told.front.marks) before after out told.output stands,
+  -- a writer that tells its room failed where what was due next did not fit
+  room_stops : (count room : ℕ) (due : List ℕ) (old new : Sides R W) → IsToldAs source sink false old due []
+      → sink.room old.writer ≡ Some room → StopsWriting source sink count buffer_size old new
+      → (stop : StopsForRoom count due room) × (sink.written new.writer ≡ Some stop.written)
+      × (new.decoder.offset ≡ old.decoder.offset + (length stop.before + length stop.read))
+  room_stops count room due old new told space stops =
+      let gone = consumes_told _ _ due (stops.bytes ++ stops.read) told.due-told stops.passed.consumed in
+      let between = appends_told _ _ [] stops.whole told.written-told stops.written.appended in
+      let left = shrinks_told _ _ room (length stops.whole) space stops.written.room in
+      let less : left.0 < length stops.next = rw left.1 at stops.fails.full in
+      let front = stops.fails.front in
+      let part = take front.0 stops.next in (
         record {
-          consumed_is = omega (arith, reports.consumed_is, told.offset, start);
-          written_is = reports.written_is ∙ same_length (sink.written writer') output (spelling told.front.marks) out
-              told.output;
-          place_is = reports.place_is;
+          before = stops.bytes;
+          read = stops.read;
+          rest = gone.0;
+          whole = stops.whole;
+          next = stops.next;
+          written = stops.whole ++ part;
+          next_write = stops.next_write;
+          is = gone.2;
+          fits = omega (arith, left.2);
+          lacks = omega (arith, left.2, less);
+          begun = (part, refl, (drop front.0 stops.next, sym (take-append-drop front.0 stops.next)));
         },
+        appends_told _ _ stops.whole part between front.1.0,
+        omega (arith, stops.passed.offset, length-append stops.bytes stops.read),
       )
-  anyhow_reported count due old new writer' (Err (r.Read (e.Io fault))) report output before after told object start
-      out reports stands = (
-        told.stop,
-        stands_too (sink.written writer') output told.stop.written before after out told.output stands,
-        record {
-          consumed_is = omega (arith, reports.consumed_is, told.offset, start);
-          written_is = reports.written_is ∙ same_length (sink.written writer') output told.stop.written out told.output;
-          place_is = reports.place_is;
-        },
-      )
-  anyhow_reported count due old new writer' (Err (r.Read (e.Syntax place))) report output before after told object
-      start out reports stands =
-      let named : told.0 ≡ report.place = omega (arith, told.1, start, reports.place_is) in
-      let met = told.2 in (
-        met.fault,
-        met.answered ∙ ap Syntax named,
-        stands_too (sink.written writer') output met.fault.written before after out met.output stands,
-        record {
-          consumed_is = omega (arith, reports.consumed_is, met.offset, start);
-          written_is = reports.written_is ∙ same_length (sink.written writer') output met.fault.written out met.output;
-          place_is = refl;
-        },
-      )
-  anyhow_reported count due old new writer' (Err (r.Read e.TooLong)) report output before after told object start
-      out reports stands =
+
+  -- no bytes in memory make the offset pass its greatest number
+  never_too_long : (count : ℕ) (due : List ℕ) (old : Decoder R) (new : Sides R W)
+      → StopsShort source sink count due [] old new × (offset_limit ≤ new.decoder.offset + max 8 buffer_size)
+      → length due < 2 ^ 63 → old.offset ≡ 0 → ⊥
+  never_too_long count due old new told object start =
       let stop = told.0.stop in
       let parts = ap length stop.is in
       let few = no_more stop.place stop.ahead stop.more stop.consumed stop.stops in
-      let full : 2 ^ 64 ≤ new.offset + max 8 1024 = told.1 in
-      absurd (omega (arith, object, parts, few, full, told.0.offset, start, length-append stop.before stop.ahead))
-  anyhow_reported count due old new writer' (Err (r.Read e.Waiting)) report output before after told object start out
-      reports stands = absurd told
-  anyhow_reported count due old new writer' (Err (r.Write fault)) report output before after told object start
-      out reports stands = (
-        told.stop,
-        stands_too (sink.written writer') output told.stop.written before after out told.output stands,
+      let full : 2 ^ 64 ≤ new.decoder.offset + max 8 buffer_size = told.1 in
+      omega (arith, object, parts, few, full, told.0.offset, start, length-append stop.before stop.ahead)
+
+  anyhow_reported :
+      (count : ℕ) (due : List ℕ) (old new : Decoder R) (writer writer' : W)
+      (result : Result (Unit {0}) (RecodeError E F)) (report : CllReport) (output before after : List ℕ)
+      → CopiesElements source sink count buffer_size (sides old writer) result (sides new writer')
+      → IsSteady source old → IsToldAs source sink false (sides old writer) due []
+      → sink.room writer ≡ Some (length before) → length due < 2 ^ 63 → old.offset ≡ 0
+      → sink.written writer' ≡ Some output → Reports report new.offset (length output) (copy_place result)
+      → StandInFront output before after → CopiesAnyhow count due before (copy_answer result) after report
+  anyhow_reported count due old new writer writer' (Ok done) report output before after copied steady told space
+      object start out reports stands =
+      copy_reported count due old new writer' (Ok done) report output before after
+      (recode_anyhow source sink count buffer_size (sides old writer) due [] told refl (sides new writer') (Ok done)
+      copied)
+      start out reports stands
+  anyhow_reported count due old new writer writer' (Err (r.Read (e.Io fault))) report output before after copied
+      steady told space object start out reports stands =
+      copy_reported count due old new writer' (Err (r.Read (e.Io fault))) report output before after
+      (short_told source sink count buffer_size (sides old writer) due [] steady told fault (sides new writer') copied)
+      start out reports stands
+  anyhow_reported count due old new writer writer' (Err (r.Read (e.Syntax place))) report output before after copied
+      steady told space object start out reports stands =
+      copy_reported count due old new writer' (Err (r.Read (e.Syntax place))) report output before after
+      (recode_anyhow source sink count buffer_size (sides old writer) due [] told refl (sides new writer')
+      (Err (r.Read (e.Syntax place))) copied)
+      start out reports stands
+  anyhow_reported count due old new writer writer' (Err (r.Read e.TooLong)) report output before after copied steady
+      told space object start out reports stands =
+      absurd (never_too_long count due old (sides new writer')
+      (recode_anyhow source sink count buffer_size (sides old writer) due [] told refl (sides new writer')
+      (Err (r.Read e.TooLong)) copied) object start)
+  anyhow_reported count due old new writer writer' (Err (r.Read e.Waiting)) report output before after copied steady
+      told space object start out reports stands = absurd copied
+  anyhow_reported count due old new writer writer' (Err (r.Write fault)) report output before after copied steady told
+      space object start out reports stands =
+      let met = room_stops count (length before) due (sides old writer) (sides new writer') told space copied in (
+        met.0,
+        stands_too (sink.written writer') output met.0.written before after out met.1 stands,
         record {
-          consumed_is = omega (arith, reports.consumed_is, told.offset, start);
-          written_is = reports.written_is ∙ same_length (sink.written writer') output told.stop.written out told.output;
+          consumed_is = omega (arith, reports.consumed_is, met.2, start);
+          written_is = reports.written_is ∙ same_length (sink.written writer') output met.0.written out met.1;
           place_is = reports.place_is;
         },
       )
@@ -209,16 +239,19 @@ module _ {R E W F : Type 0} (source : Reader R E) (sink : Writer W F) where
       subst (λ (x : CllAnswer). CopiesInto count due before x after report) (sym same) said
 
   pub anyhow_said :
-      (count : ℕ) (due : List ℕ) (old new : Decoder R) (writer' : W) (result : Result (Unit {0}) (RecodeError E F))
-      (report : CllReport) (output before after : List ℕ)
-      (answer : CllAnswer) (place behind : ℕ) → RecodesAnyhow source sink count 1024 due [] old result
-      (sides new writer') → length due < 2 ^ 63 → old.offset ≡ 0 → sink.written writer' ≡ Some output
-      → answer ≡ copy_answer result → place ≡ copy_place result → behind ≡ new.offset
-      → Reports report behind (length output) place
+      (count : ℕ) (due : List ℕ) (old new : Decoder R) (writer writer' : W)
+      (result : Result (Unit {0}) (RecodeError E F)) (report : CllReport) (output before after : List ℕ)
+      (answer : CllAnswer) (place behind : ℕ)
+      → CopiesElements source sink count buffer_size (sides old writer) result (sides new writer')
+      → IsSteady source old → IsToldAs source sink false (sides old writer) due []
+      → sink.room writer ≡ Some (length before) → length due < 2 ^ 63 → old.offset ≡ 0
+      → sink.written writer' ≡ Some output → answer ≡ copy_answer result → place ≡ copy_place result
+      → behind ≡ new.offset → Reports report behind (length output) place
       → StandInFront output before after → CopiesAnyhow count due before answer after report
-  anyhow_said count due old new writer' result report output before after answer place behind told object start out
-      same named at reports stands =
-      let said = anyhow_reported count due old new writer' result report output before after told object start out
+  anyhow_said count due old new writer writer' result report output before after answer place behind copied steady
+      told space object start out same named at reports stands =
+      let said = anyhow_reported count due old new writer writer' result report output before after copied steady told
+      space object start out
       record {
         consumed_is = reports.consumed_is ∙ at;
         written_is = reports.written_is;

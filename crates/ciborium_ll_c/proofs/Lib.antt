@@ -1,4 +1,6 @@
 pub mod CopyLaws
 pub mod PullLaws
 pub mod SkipLaws
+pub mod TextFronts
 pub mod TitleParts
+pub mod WideLaws

@@ -1,5 +1,5 @@
 -- What a call for C answers and reports.
-use Rattle.std.specs.Prelude.{◌≡◌, ℕ}
+use Rattle.std.specs.Prelude.{◌≡◌, ℕ, ◌+◌, ◌*◌}
 use Rattle.ciborium_ll_c.specs.declared.answer.CllAnswer.{CllAnswer}
 use Rattle.ciborium_ll_c.specs.declared.answer.CllAnswer.TheVariants as a
 use Rattle.ciborium_ll_c.specs.declared.answer.CllReport.{CllReport}
@@ -14,6 +14,10 @@ code a.TooLong = 4
 code a.BreakDue = 5
 code a.TooDeep = 6
 code a.Argument = 7
+
+-- the number of a version, as the header for C has it
+abbrev pub version_code : ℕ → ℕ → ℕ → ℕ
+version_code major minor patch = 65536 * major + 256 * minor + patch
 
 -- a report says that so many bytes were consumed and so many were written, and names this place
 pub record Reports (report : CllReport) (consumed written place : ℕ) : Type 0 where

@@ -1,11 +1,12 @@
 -- What `cll_recode` does.
-use Rattle.std.specs.Prelude.{◌≡◌, ℕ, ◌+◌, ◌≤◌, ◌⊎◌, List, ◌++◌, drop, length, Result, Ok, Err}
+use Rattle.std.specs.Prelude.{◌≡◌, ℕ, ◌+◌, ◌<◌, ◌≤◌, ◌⊎◌, List, ◌++◌, drop, length, Result, Ok, Err}
 use Rattle.ciborium_ll.specs.Types.Error.TheVariants as e
 use Rattle.ciborium_ll.specs.Types.RecodeError.{RecodeError}
 use Rattle.ciborium_ll.specs.Types.RecodeError.TheVariants as r
 use Rattle.ciborium_ll.specs.Elements.{spelling}
 use Rattle.ciborium_ll.specs.Faults.{Short, Syntax, RunInFront, HasFault}
-use Rattle.ciborium_ll.specs.RecodingTold.{StopInReading, StopInWriting}
+use Rattle.ciborium_ll.specs.Decoding.{Begins}
+use Rattle.ciborium_ll.specs.Recoding.{NextWrite}
 use Rattle.ciborium_ll_c.specs.declared.answer.CllAnswer.{CllAnswer}
 use Rattle.ciborium_ll_c.specs.declared.answer.CllAnswer.TheVariants as a
 use Rattle.ciborium_ll_c.specs.declared.answer.CllReport.{CllReport}
@@ -41,17 +42,31 @@ CopiesInto count bytes old a.Short new report =
 CopiesInto count bytes old a.Syntax new report = OutputsUpToFault count bytes old new report
 CopiesInto count bytes old answer new report = ⊥
 
--- the same where the room may be too small
+-- how many bytes the buffer holds that bodies go through
+abbrev pub buffer_size : ℕ
+buffer_size = 1024
+
+-- In so much room the copy stops, since what is due next does not fit: the shortest title of a header that was read, or
+-- a chunk of a body. All before it was written, and of it at most a beginning
+pub record StopsForRoom (count : ℕ) (bytes : List ℕ) (room : ℕ) : Type 0 where
+  pub before : List ℕ
+  pub read : List ℕ
+  pub rest : List ℕ
+  pub whole : List ℕ
+  pub next : List ℕ
+  pub written : List ℕ
+  pub next_write : NextWrite count buffer_size before read whole next
+  pub is : bytes ≡ (before ++ read) ++ rest
+  pub fits : length whole ≤ room
+  pub lacks : room < length whole + length next
+  pub begun : (part : List ℕ) × (written ≡ whole ++ part) × Begins part next
+
+-- the same where the room may be too small: it is so just where what is due next does not fit
 abbrev pub CopiesAnyhow : ℕ → List ℕ → List ℕ → CllAnswer → List ℕ → CllReport → Type 0
-CopiesAnyhow count bytes old a.Ok new report = OutputsElements count bytes old new report
-CopiesAnyhow count bytes old a.Short new report =
-    (stop : StopInReading count bytes) × StandInFront stop.written old new
-    × Reports report (length stop.before + stop.consumed) (length stop.written) 0
-CopiesAnyhow count bytes old a.Syntax new report = OutputsUpToFault count bytes old new report
 CopiesAnyhow count bytes old a.Room new report =
-    (stop : StopInWriting count bytes) × StandInFront stop.written old new
+    (stop : StopsForRoom count bytes (length old)) × StandInFront stop.written old new
     × Reports report (length stop.before + length stop.read) (length stop.written) 0
-CopiesAnyhow count bytes old answer new report = ⊥
+CopiesAnyhow count bytes old answer new report = CopiesInto count bytes old answer new report
 
 module _ {E F : Type 0} where
   -- the answer that stands for what `recode` gave

@@ -5,3 +5,5 @@ pub mod Headers
 pub mod Pulling
 pub mod Pushing
 pub mod Skipping
+pub mod Texts
+pub mod Widths

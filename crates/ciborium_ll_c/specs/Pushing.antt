@@ -9,6 +9,12 @@ use Rattle.ciborium_ll_c.specs.declared.header.CllHeader.{CllHeader}
 use Rattle.ciborium_ll_c.specs.Answers.{Reports}
 use Rattle.ciborium_ll_c.specs.Headers.{IsNoHeader, Says}
 
+-- bytes stand in front of the output, whole or not at all, by the answer
+abbrev pub Puts : List ℕ → List ℕ → CllAnswer → List ℕ → CllReport → Type 0
+Puts bytes old a.Ok new report = (new ≡ bytes ++ drop (length bytes) old) × Reports report 0 (length bytes) 0
+Puts bytes old a.Room new report = (length old < length bytes) × (new ≡ old) × Reports report 0 0 0
+Puts bytes old answer new report = ⊥
+
 -- the shortest title of the header that has the parts stands in front of the output, by the answer; where there is no
 -- room for all of it, or no such header, the output is as it was
 abbrev pub Pushes : CllHeader → List ℕ → CllAnswer → List ℕ → CllReport → Type 0

@@ -10,9 +10,9 @@ pub enum CllAnswer {
     Ok,
     /// The bytes end too early.
     Short,
-    /// At the place that is reported stands no CBOR that could stand there.
+    /// At the place that is reported stands no CBOR, or for `cll_utf8` no UTF-8, that could stand there.
     Syntax,
-    /// The output is full.
+    /// What is to be written next does not fit into the output.
     Room,
     /// An offset would pass the greatest number, which no bytes in memory make it do.
     TooLong,

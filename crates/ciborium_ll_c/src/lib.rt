@@ -5,34 +5,43 @@
 //! [`CllAnswer`], and says in a [`CllReport`] how far it came.
 #![tactic(auto)]
 
-ghost use Rattle.std.specs.Prelude.{◌≡◌, ◌↔◌, ◌≤◌, ◌<◌, ℕ, List, IsOk, length};
+ghost use Rattle.std.specs.Prelude.{◌≡◌, ◌↔◌, ◌≤◌, ◌<◌, List, ◌++◌, drop, length, ℕ};
 ghost use Rattle.ciborium_ll.specs.Faults.{RunInFront};
-ghost use Rattle.ciborium_ll.specs.RecodingTold.{IsReady, IsTold, RecodesAnyhow, RecodesTold};
+ghost use Rattle.ciborium_ll.specs.Recoding.{CopiesElements};
 ghost use Rattle.ciborium_ll.specs.Sides.{sides};
 ghost use Rattle.ciborium_ll.specs.Slices.{slice_target};
 ghost use Rattle.ciborium_ll.specs.StrictRecoding.{StrictRunInFront};
+ghost use Rattle.ciborium_ll_grammar.specs.Parts.{IsParts, title_bytes};
+ghost use Rattle.ciborium_ll_text.specs.Text.{IsCharacters};
 ghost use Rattle.cbor_skip.specs.ItemFaults.{ItemInFront};
 ghost use Rattle.ciborium_ll_c.specs.declared.answer.CllAnswer.{CllAnswer};
 ghost use Rattle.ciborium_ll_c.specs.declared.answer.CllAnswer.TheVariants as a;
-ghost use Rattle.ciborium_ll_c.specs.Answers.{Reports, code};
+ghost use Rattle.ciborium_ll_c.specs.Answers.{Reports, code, version_code};
 ghost use Rattle.ciborium_ll_c.specs.Checking.{Checks};
 ghost use Rattle.ciborium_ll_c.specs.Copying.{CopiesInto, CopiesAnyhow, HasRoom, copy_answer, copy_place};
 ghost use Rattle.ciborium_ll_c.specs.Pulling.{Pulls, TitleInFront};
-ghost use Rattle.ciborium_ll_c.specs.Pushing.{Pushes};
+ghost use Rattle.ciborium_ll_c.specs.Pushing.{Pushes, Puts};
 ghost use Rattle.ciborium_ll_c.specs.Skipping.{Skips, skip_answer, skip_place};
+ghost use Rattle.ciborium_ll_c.specs.Texts.{FindsText};
+ghost use Rattle.ciborium_ll_c.specs.Widths.{PushesWide};
 
 mod answer;
 mod header;
 #[cfg(test)]
 mod tests;
+mod wide;
 
 pub use self::answer::{CllAnswer, CllReport};
 pub use self::header::CllHeader;
+use self::wide::title_in;
 use cbor_skip::{SkipError, skip_item};
 use ciborium_ll::io::{Discard, EndOfFile, OutOfSpace, Read, SliceReader, SliceWriter, Write};
 use ciborium_ll::recode::recode;
 use ciborium_ll::{Decoder, Encoder, Error, RecodeError};
 use ciborium_ll_decoder::title::pull_title;
+use ciborium_ll_encoder::enc::push_title;
+use ciborium_ll_grammar::hdr::{Title, shortest};
+use ciborium_ll_text::state::{State, text_front};
 use std::mem;
 
 /// How many bytes of a string are read at a time, at most.
@@ -40,6 +49,15 @@ const BUFFER_SIZE: usize = 1024;
 
 /// How many bytes the longest title has.
 const TITLE_SIZE: usize = 9;
+
+/// The version of the library, which is 0.1.0: 65536 times its major number, 256 times its minor one, and its patch
+/// number.
+#[unsafe(no_mangle)]
+pub extern "C" fn cll_version() -> u32
+    ensures { result ≡ version_code 0 1 0 }
+{
+    0x00_01_00
+}
 
 /// Reads the title in front of the bytes.
 fn pull(bytes: &[u8], header: &mut CllHeader, report: &mut CllReport) -> CllAnswer
@@ -78,28 +96,40 @@ pub extern "C" fn cll_pull(bytes: &[u8], header: &mut CllHeader, report: &mut Cl
     pull(bytes, header, report).code()
 }
 
+/// Writes a title in front of the output, whole or not at all.
+#[inline(always)]
+fn put(title: Title, out: &mut [u8], report: &mut CllReport) -> CllAnswer
+    requires { IsParts title }
+    ensures { Puts (title_bytes title) out.old result out.new report.new }
+{
+    report.say(0, 0, 0);
+    // A loan that an encoder holds is followed to no end (`copy_onto`), so the title is copied out of space of its own.
+    let mut space = [0; TITLE_SIZE];
+    let mut encoder = Encoder::from(SliceWriter::new(&mut space));
+    if push_title(&mut encoder, title).is_err() {
+        return CllAnswer::Room;
+    }
+    let writer = encoder.into_inner();
+    let bytes = writer.written();
+    if out.len() < bytes.len() {
+        return CllAnswer::Room;
+    }
+    out[..bytes.len()].copy_from_slice(bytes);
+    report.say(0, bytes.len(), 0);
+    CllAnswer::Ok
+}
+
 /// Writes the shortest title of a header in front of the output.
 fn push(header: &CllHeader, out: &mut [u8], report: &mut CllReport) -> CllAnswer
     ensures { Pushes header.now out.old result out.new report.new }
 {
-    report.say(0, 0, 0);
-    let Some(pushed) = header.header() else {
-        return CllAnswer::Argument;
-    };
-    if out.len() < pushed.title_len() {
-        return CllAnswer::Room;
+    match header.header() {
+        Some(pushed) => put(shortest(pushed), out, report),
+        None => {
+            report.say(0, 0, 0);
+            CllAnswer::Argument
+        }
     }
-    // A loan that an encoder holds is followed to no end (`copy_onto`), so the title is copied out of space of its own.
-    let mut space = [0; TITLE_SIZE];
-    let mut encoder = Encoder::from(SliceWriter::new(&mut space));
-    if encoder.push(pushed).is_err() {
-        return CllAnswer::Room;
-    }
-    let writer = encoder.into_inner();
-    let title = writer.written();
-    out[..title.len()].copy_from_slice(title);
-    report.say(0, title.len(), 0);
-    CllAnswer::Ok
 }
 
 /// Writes the shortest title of a header in front of `out` (RFC 7049, 3.9), whole or not at all.
@@ -111,6 +141,38 @@ pub extern "C" fn cll_push(header: &CllHeader, out: &mut [u8], report: &mut CllR
     ensures { (answer : CllAnswer) × (result ≡ code answer) × Pushes header.now out.old answer out.new report.new }
 {
     push(header, out, report).code()
+}
+
+/// Writes the title of a header in a width in front of the output.
+fn push_wide(header: &CllHeader, width: u32, out: &mut [u8], report: &mut CllReport) -> CllAnswer
+    ensures { PushesWide header.now width out.old result out.new report.new }
+{
+    match title_in(header, width) {
+        Some(title) => put(title, out, report),
+        None => {
+            report.say(0, 0, 0);
+            CllAnswer::Argument
+        }
+    }
+}
+
+/// Writes the title of a header that has `width` bytes behind its first one in front of `out` (RFC 7049, 2.1), whole or
+/// not at all. It need not be the shortest one.
+///
+/// The answers are `Ok`; `Room` where the title is longer than `out`; and `Argument` where `header` has no title of
+/// that width: it is of no kind, its value or form is none of its kind, or its number does not stand in so many bytes.
+/// After the last two `out` is as it was.
+#[unsafe(no_mangle)]
+pub extern "C" fn cll_push_wide(
+    header: &CllHeader,
+    width: u32,
+    out: &mut [u8],
+    report: &mut CllReport,
+) -> u32
+    ensures { (answer : CllAnswer) × (result ≡ code answer)
+        × PushesWide header.now width out.old answer out.new report.new }
+{
+    push_wide(header, width, out, report).code()
 }
 
 /// The answer to a copy, and its place.
@@ -135,19 +197,8 @@ fn copy_onto<'a, R: Read>(
     buffer: &mut [u8],
 ) -> Result<(), RecodeError<R::Error, OutOfSpace>>
     requires room { 4 ≤ length buffer.old }
-    ensures told { (due written : List ℕ)
-        → IsReady R.Read ⟦<SliceWriter<'a> as Write>⟧ count (length buffer.old)
-        (sides decoder.old writer.old) due written
-        → RecodesTold R.Read ⟦<SliceWriter<'a> as Write>⟧ count due written decoder.old result
-        (sides decoder.new writer.new) }
-    ensures exactly { (due written : List ℕ)
-        → IsReady R.Read ⟦<SliceWriter<'a> as Write>⟧ count (length buffer.old)
-        (sides decoder.old writer.old) due written
-        → (IsOk result ↔ RunInFront count due) }
-    ensures anyhow { (due written : List ℕ)
-        → IsTold R.Read ⟦<SliceWriter<'a> as Write>⟧ (sides decoder.old writer.old) due written
-        → RecodesAnyhow R.Read ⟦<SliceWriter<'a> as Write>⟧ count (length buffer.old) due written
-        decoder.old result (sides decoder.new writer.new) }
+    ensures copied { CopiesElements R.Read ⟦<SliceWriter<'a> as Write>⟧ count (length buffer.old)
+        (sides decoder.old writer.old) result (sides decoder.new writer.new) }
     ensures target { slice_target writer.new ≡ slice_target writer.old }
 {
     // A loan inside a writer is followed to its end, and one inside an encoder over it is not. So the encoder has the
@@ -180,8 +231,14 @@ fn copy(bytes: &[u8], count: usize, out: &mut [u8], report: &mut CllReport) -> C
 /// begins no string, or a whole string (2.1 and 2.2). No spelling is longer than what it is read from.
 ///
 /// The answers are `Ok`; `Short` where the bytes end before so many elements do; `Syntax` for a title that is none or
-/// may not stand within its string, and for a body of a text that is no UTF-8; and `Room` where `out` is full. What
-/// was written before stands in `out`. Behind what was written `out` is as it was, whatever the answer.
+/// may not stand within its string, and for a body of a text that is no UTF-8; and `Room` where what is to be written
+/// next does not fit: the shortest title of a header that was read, or a chunk of a body. What was written before
+/// stands in `out`, and of what did not fit at most a beginning. Behind what was written `out` is as it was, whatever
+/// the answer.
+///
+/// The place of a `Syntax` is the offset of a title; or of a body that is no text, in a string that no open begins, the
+/// end of its title less the length of the shortest one, which may lie inside the title. A text that is damaged and cut
+/// off is answered by `Short` or by `Syntax`, as the buffer falls.
 #[unsafe(no_mangle)]
 #[tactic(auto, using(crate::proofs::PullLaws::code_exactly))]
 pub extern "C" fn cll_recode(
@@ -276,4 +333,38 @@ pub extern "C" fn cll_skip(bytes: &[u8], depth: u32, report: &mut CllReport) -> 
         return CllAnswer::Argument.code();
     }
     skip(bytes, depth as usize, report).code()
+}
+
+/// Finds the longest front of the bytes that is text.
+fn find_text(bytes: &[u8], report: &mut CllReport) -> CllAnswer
+    ensures found { FindsText bytes.now result report.new }
+    ensures exactly { result ≡ a.Ok ↔ IsCharacters bytes.now }
+    ensures pieces { (more : List ℕ)
+        → (IsCharacters (bytes.now ++ more) ↔ IsCharacters (drop report.new.consumed bytes.now ++ more)) }
+{
+    let (front, behind) = text_front(bytes, 0, State::Between);
+    let len = front.len();
+    let (answer, place) = match behind {
+        State::Between => (CllAnswer::Ok, 0),
+        State::Damaged => (CllAnswer::Syntax, len),
+        _ => (CllAnswer::Short, 0),
+    };
+    report.say(len, 0, place);
+    answer
+}
+
+/// Finds the longest front of the bytes that is UTF-8 (RFC 3629), of which it says that it was consumed.
+///
+/// The answers are `Ok` where that is all of the bytes; `Short` where a character stands behind it that is cut off; and
+/// `Syntax`, with its length as the place, where behind it no text begins. So a text may come in pieces: what is behind
+/// the front stands in front of the next one.
+#[unsafe(no_mangle)]
+#[tactic(auto, using(crate::proofs::PullLaws::code_exactly))]
+pub extern "C" fn cll_utf8(bytes: &[u8], report: &mut CllReport) -> u32
+    ensures found { (answer : CllAnswer) × (result ≡ code answer) × FindsText bytes.now answer report.new }
+    ensures exactly { result ≡ code a.Ok ↔ IsCharacters bytes.now }
+    ensures pieces { (more : List ℕ)
+        → (IsCharacters (bytes.now ++ more) ↔ IsCharacters (drop report.new.consumed bytes.now ++ more)) }
+{
+    find_text(bytes, report).code()
 }

@@ -1,7 +1,8 @@
 // Each call once for each answer that it has, by bytes and numbers from outside.
 
 use super::{
-    CllAnswer, CllHeader, CllReport, cll_pull, cll_push, cll_recode, cll_skip, cll_strict,
+    CllAnswer, CllHeader, CllReport, cll_pull, cll_push, cll_push_wide, cll_recode, cll_skip,
+    cll_strict, cll_utf8, cll_version,
 };
 use std::process::Abort;
 
@@ -46,6 +47,25 @@ fn pushed(kind: u8, indefinite: u8, value: u64, room: usize) -> (u32, [u64; 3], 
     let mut out = [0xee; 16];
     let mut report = nothing();
     let code = cll_push(&header, &mut out[..room.min(16)], &mut report);
+    (code, told(&report), out)
+}
+
+// What a push in a width into the first of 16 bytes gives.
+fn pushed_wide(
+    kind: u8,
+    indefinite: u8,
+    value: u64,
+    width: u32,
+    room: usize,
+) -> (u32, [u64; 3], [u8; 16]) {
+    let header = CllHeader {
+        value,
+        kind,
+        indefinite,
+    };
+    let mut out = [0xee; 16];
+    let mut report = nothing();
+    let code = cll_push_wide(&header, width, &mut out[..room.min(16)], &mut report);
     (code, told(&report), out)
 }
 
@@ -185,6 +205,72 @@ fn no_headers(rt: HostRuntime) {
     no_header_row(&rt, 6, 1, 0);
     no_header_row(&rt, 2, 1, 5);
     no_header_row(&rt, 4, 2, 0);
+}
+
+// A header in its parts and a width, and the title that is written into 16 bytes; and into a byte less, nothing.
+fn wide_row(rt: &impl Abort, kind: u8, indefinite: u8, value: u64, width: u32, want: &[u8]) {
+    let report = [0, want.len() as u64, 0];
+    let whole = pushed_wide(kind, indefinite, value, width, 16);
+    assert!(rt; whole == (0, report, in_front(want)), "at {want:?}");
+    let room = want.len().saturating_sub(1);
+    let none = (CllAnswer::Room.code(), [0, 0, 0], in_front(&[]));
+    assert!(rt;
+        pushed_wide(kind, indefinite, value, width, room) == none,
+        "at {want:?}"
+    );
+}
+
+#[test]
+fn wide_titles(rt: HostRuntime) {
+    wide_row(&rt, 0, 0, 5, 0, &[0x05]);
+    wide_row(&rt, 0, 0, 5, 1, &[0x18, 0x05]);
+    wide_row(&rt, 1, 0, 5, 2, &[0x39, 0x00, 0x05]);
+    wide_row(&rt, 2, 0, 5, 4, &[0x5a, 0x00, 0x00, 0x00, 0x05]);
+    wide_row(&rt, 3, 0, 5, 8, &[0x7b, 0, 0, 0, 0, 0, 0, 0, 5]);
+    wide_row(&rt, 4, 0, 0x1234, 4, &[0x9a, 0x00, 0x00, 0x12, 0x34]);
+    wide_row(&rt, 5, 1, 0, 0, &[0xbf]);
+    wide_row(&rt, 6, 0, 1, 2, &[0xd9, 0x00, 0x01]);
+    wide_row(&rt, 7, 0, 20, 0, &[0xf4]);
+    wide_row(&rt, 7, 0, 20, 1, &[0xf8, 0x14]);
+    wide_row(&rt, 8, 0, 0x7e00, 2, &[0xf9, 0x7e, 0x00]);
+    wide_row(&rt, 9, 0, 1, 4, &[0xfa, 0, 0, 0, 1]);
+    wide_row(&rt, 10, 0, 1, 8, &[0xfb, 0, 0, 0, 0, 0, 0, 0, 1]);
+    wide_row(&rt, 11, 0, 0, 0, &[0xff]);
+}
+
+// Parts that no header has with so many bytes behind the first one of its title.
+fn no_width_row(rt: &impl Abort, kind: u8, indefinite: u8, value: u64, width: u32) {
+    let none = (CllAnswer::Argument.code(), [0, 0, 0], in_front(&[]));
+    assert!(rt;
+        pushed_wide(kind, indefinite, value, width, 16) == none,
+        "at {kind} {indefinite} {value} {width}"
+    );
+}
+
+#[test]
+fn no_widths(rt: HostRuntime) {
+    no_width_row(&rt, 0, 0, 24, 0);
+    no_width_row(&rt, 0, 0, 256, 1);
+    no_width_row(&rt, 2, 0, 0x1_0000, 2);
+    no_width_row(&rt, 6, 0, 0x1_0000_0000, 4);
+    no_width_row(&rt, 0, 0, 5, 3);
+    no_width_row(&rt, 0, 0, 5, 9);
+    no_width_row(&rt, 0, 0, 5, u32::MAX);
+    no_width_row(&rt, 4, 1, 0, 1);
+    no_width_row(&rt, 4, 1, 5, 0);
+    no_width_row(&rt, 7, 0, 20, 2);
+    no_width_row(&rt, 7, 0, 24, 0);
+    no_width_row(&rt, 7, 0, 256, 2);
+    no_width_row(&rt, 8, 0, 1, 0);
+    no_width_row(&rt, 9, 0, 1, 2);
+    no_width_row(&rt, 10, 0, 1, 4);
+    no_width_row(&rt, 11, 0, 0, 1);
+    no_width_row(&rt, 12, 0, 0, 0);
+}
+
+#[test]
+fn versions(rt: HostRuntime) {
+    assert!(rt; cll_version() == 256);
 }
 
 // A copy into a room: what stands in front of the output, and behind it what stood there before.
@@ -339,4 +425,116 @@ fn strict_elements(rt: HostRuntime) {
     strict_row(&rt, &[0x43, 0x01], 1, CllAnswer::Short, 1, 0);
     strict_row(&rt, &[], 1, CllAnswer::Short, 0, 0);
     strict_row(&rt, &[], 0, CllAnswer::Ok, 0, 0);
+}
+
+// How far bytes are text: the number, and the report.
+fn found(bytes: &[u8]) -> (u32, [u64; 3]) {
+    let mut report = nothing();
+    let code = cll_utf8(bytes, &mut report);
+    (code, told(&report))
+}
+
+// Bytes that are text.
+fn text_row(rt: &impl Abort, bytes: &[u8]) {
+    let all = (CllAnswer::Ok.code(), [bytes.len() as u64, 0, 0]);
+    assert!(rt; found(bytes) == all, "at {bytes:?}");
+}
+
+// Bytes that end inside a character, which begins at an offset.
+fn cut_row(rt: &impl Abort, bytes: &[u8], front: u64) {
+    let cut = (CllAnswer::Short.code(), [front, 0, 0]);
+    assert!(rt; found(bytes) == cut, "at {bytes:?}");
+}
+
+// Bytes with no character at an offset, up to which they are text.
+fn damage_row(rt: &impl Abort, bytes: &[u8], front: u64) {
+    let damage = (CllAnswer::Syntax.code(), [front, 0, front]);
+    assert!(rt; found(bytes) == damage, "at {bytes:?}");
+}
+
+// The examples of RFC 3629, 7, and the first and last bytes of each row of Unicode's Table 3-7.
+#[test]
+fn texts(rt: HostRuntime) {
+    text_row(&rt, &[]);
+    text_row(&rt, &[0x41, 0xe2, 0x89, 0xa2, 0xce, 0x91, 0x2e]);
+    text_row(&rt, &[0xed, 0x95, 0x9c, 0xea, 0xb5, 0xad, 0xec, 0x96, 0xb4]);
+    text_row(&rt, &[0xe6, 0x97, 0xa5, 0xe6, 0x9c, 0xac, 0xe8, 0xaa, 0x9e]);
+    text_row(&rt, &[0xef, 0xbb, 0xbf, 0xf0, 0xa3, 0x8e, 0xb4]);
+    text_row(&rt, &[0x00, 0x7f, 0xc2, 0x80, 0xdf, 0xbf]);
+    text_row(&rt, &[0xe0, 0xa0, 0x80, 0xe0, 0xbf, 0xbf]);
+    text_row(&rt, &[0xe1, 0x80, 0x80, 0xec, 0xbf, 0xbf]);
+    text_row(&rt, &[0xed, 0x80, 0x80, 0xed, 0x9f, 0xbf]);
+    text_row(&rt, &[0xee, 0x80, 0x80, 0xef, 0xbf, 0xbf]);
+    text_row(&rt, &[0xf0, 0x90, 0x80, 0x80, 0xf0, 0xbf, 0xbf, 0xbf]);
+    text_row(&rt, &[0xf1, 0x80, 0x80, 0x80, 0xf3, 0xbf, 0xbf, 0xbf]);
+    text_row(&rt, &[0xf4, 0x80, 0x80, 0x80, 0xf4, 0x8f, 0xbf, 0xbf]);
+    text_row(&rt, &[0x61; 40]);
+}
+
+#[test]
+fn cut_texts(rt: HostRuntime) {
+    cut_row(&rt, &[0xc2], 0);
+    cut_row(&rt, &[0x61, 0xdf], 1);
+    cut_row(&rt, &[0xe0], 0);
+    cut_row(&rt, &[0xe0, 0xa0], 0);
+    cut_row(&rt, &[0xed, 0x9f], 0);
+    cut_row(&rt, &[0xc3, 0xa9, 0xe6, 0x97], 2);
+    cut_row(&rt, &[0xf0], 0);
+    cut_row(&rt, &[0xf0, 0x90], 0);
+    cut_row(&rt, &[0xf0, 0x90, 0x80], 0);
+    cut_row(&rt, &[0xf4, 0x8f], 0);
+    cut_row(&rt, &[0x61, 0x62, 0xf4, 0x8f, 0xbf], 2);
+}
+
+// What is in no row of the table. The last ones of RFC 3629, 10 are slashes that are longer than they need be.
+#[test]
+fn damaged_texts(rt: HostRuntime) {
+    damage_row(&rt, &[0x80], 0);
+    damage_row(&rt, &[0x61, 0xbf, 0x61], 1);
+    damage_row(&rt, &[0xc0], 0);
+    damage_row(&rt, &[0xc1, 0xbf], 0);
+    damage_row(&rt, &[0x61, 0xc2, 0x61], 1);
+    damage_row(&rt, &[0xe0, 0x9f], 0);
+    damage_row(&rt, &[0xe6, 0x97, 0xa5, 0xe6, 0x97, 0xc0], 3);
+    damage_row(&rt, &[0xed, 0xa0], 0);
+    damage_row(&rt, &[0xed, 0xa0, 0x80, 0xed, 0xb0, 0x80], 0);
+    damage_row(&rt, &[0xf0, 0x8f, 0xbf, 0xbf], 0);
+    damage_row(&rt, &[0xf4, 0x90], 0);
+    damage_row(&rt, &[0xc3, 0xa9, 0xf5], 2);
+    damage_row(&rt, &[0xff], 0);
+    damage_row(&rt, &[0x2f, 0xc0, 0xae, 0x2e, 0x2f], 1);
+}
+
+// Texts of ten characters of three bytes, with one byte changed or left out.
+#[test]
+fn long_texts(rt: HostRuntime) {
+    let mut bytes = [
+        0xe6, 0x97, 0xa5, 0xe6, 0x97, 0xa5, 0xe6, 0x97, 0xa5, 0xe6, 0x97, 0xa5, 0xe6, 0x97, 0xa5,
+        0xe6, 0x97, 0xa5, 0xe6, 0x97, 0xa5, 0xe6, 0x97, 0xa5, 0xe6, 0x97, 0xa5, 0xe6, 0x97, 0xa5,
+    ];
+    text_row(&rt, &bytes);
+    cut_row(&rt, &bytes[..29], 27);
+    cut_row(&rt, &bytes[..28], 27);
+    text_row(&rt, &bytes[..27]);
+    bytes[13] = 0x61;
+    damage_row(&rt, &bytes, 12);
+    bytes[13] = 0x97;
+    bytes[29] = 0xc0;
+    damage_row(&rt, &bytes, 27);
+}
+
+// A text in two pieces, cut at each of its bytes: what is behind the first front begins the second piece.
+#[test]
+fn texts_in_pieces(rt: HostRuntime) {
+    let text = [0x41, 0xce, 0x91, 0xe6, 0x97, 0xa5, 0xf0, 0xa3, 0x8e, 0xb4];
+    let fronts = [0, 1, 1, 3, 3, 3, 6, 6, 6, 6, 10];
+    for cut in 0..=text.len() {
+        let front = fronts[cut];
+        if front == cut {
+            text_row(&rt, &text[..cut]);
+        } else {
+            cut_row(&rt, &text[..cut], front as u64);
+        }
+        text_row(&rt, &text[front..]);
+    }
 }

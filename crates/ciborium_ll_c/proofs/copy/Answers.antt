@@ -1,6 +1,8 @@
 use Rattle.std.proofs.Common.{false, length, ap, ◌∙◌, [], refl, sym, arith}
 use Rattle.ciborium_ll_c.proofs.CopyLaws.{anyhow_said, copy_exactly, copy_said, ready_to_copy, stands_behind}
 use Rattle.ciborium_ll_c.proofs.CopyLaws.{told_to_copy}
+use Rattle.ciborium_ll_decoder.proofs.RecodeReadyLaws.{recode_exactly, recode_told}
+use Rattle.ciborium_ll.specs.Sides.{sides}
 use Rattle.ciborium_ll.specs.Transfer.{Target}
 use Rattle.ciborium_ll_c.specs.Copying.{HasRoom}
 use Rattle.ciborium_ll_c.proofs.copy.Goals as goal
@@ -13,6 +15,7 @@ returns c =
     let behind = c.copy_onto-copied.new.writer in
     let new = c.copy_onto-copied.new.decoder in
     let copied = c.copy_onto-copied.result in
+    let all = c.copy_onto-copied.ensures.copied in
     let stop = c.stop_of_copy-answer in
     let output = c.written-written.ensures.written in
     let output_is = c.written-written.result.now in
@@ -28,18 +31,18 @@ returns c =
     record {
       copied = λ room.
           copy_said _ _ c.args.count due old new behind copied c.say.new.self output_is c.args.out.now _
-          stop.result.0 stop.result.1 c.offset.result (c.copy_onto-copied.ensures.told due [] (ready room))
+          stop.result.0 stop.result.1 c.offset.result
+          (recode_told _ _ c.args.count 1024 (sides old writer) due [] (ready room) refl (sides new behind) copied all)
           c.from-decoder.ensures.offset output stop.ensures.answer stop.ensures.place c.offset.ensures.value
           c.say.ensures stands;
       exactly = λ room. copy_exactly copied stop.result.0 stop.ensures.answer
-          (c.copy_onto-copied.ensures.exactly due [] (ready room));
+          (recode_exactly _ _ c.args.count 1024 (sides old writer) due [] (ready room) refl (sides new behind) copied
+          all);
       anyhow =
-          anyhow_said _ _ c.args.count due old new behind copied c.say.new.self output_is c.args.out.now _
-          stop.result.0 stop.result.1 c.offset.result
-          (c.copy_onto-copied.ensures.anyhow due []
+          anyhow_said _ _ c.args.count due old new writer behind copied c.say.new.self output_is c.args.out.now _
+          stop.result.0 stop.result.1 c.offset.result all refl
           (told_to_copy _ _ false c.new.result old writer due c.from-decoder.ensures c.new.ensures.ahead
-          c.new-writer.ensures.written))
-          (omega arith) c.from-decoder.ensures.offset output stop.ensures.answer stop.ensures.place
-          c.offset.ensures.value
-          c.say.ensures stands;
+          c.new-writer.ensures.written)
+          c.new-writer.ensures.room (omega arith) c.from-decoder.ensures.offset output stop.ensures.answer
+          stop.ensures.place c.offset.ensures.value c.say.ensures stands;
     }

@@ -7,8 +7,6 @@ returns g c =
     let begun : c.from-encoder.result.writer ≡ c.args.writer.now = c.from-encoder.ensures ∙ c.replace.ensures.value in
     let ended = sym c.into_inner.ensures in
     record {
-      told = rw ended at rw begun at c.recode-copied.ensures.told;
-      exactly = rw begun at c.recode-copied.ensures.exactly;
-      anyhow = rw ended at rw begun at c.recode-copied.ensures.anyhow;
+      copied = rw ended at rw begun at c.recode-copied.ensures.copied;
       target = same_target (rw ended at rw begun at c.recode-copied.ensures.target);
     }

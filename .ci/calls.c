@@ -1,0 +1,194 @@
+/*
+ * Tries what titles.c does not: each call without bytes, where null stands for them; a copy into each room that is too
+ * small; the places of faults; texts that are damaged and cut off; and what the header itself defines. It says which
+ * row went wrong, and then ends with the status 1. It is C99, and C++.
+ */
+#include <stdio.h>
+#include <string.h>
+
+#include "ciborium_ll.h"
+
+enum { SPACE = 4096 };
+
+static uint8_t space[SPACE];
+static cll_report report;
+
+/* Whether a call answered so, and reported these numbers. */
+static int told(uint32_t answer, uint32_t want, uint64_t consumed, uint64_t written, uint64_t place)
+{
+    return answer == want && report.consumed == consumed && report.written == written && report.place == place;
+}
+
+/* Null is taken where there are no bytes, as a vector without elements has it. */
+static int takes_null(void)
+{
+    static const uint8_t one[] = {0x05};
+    cll_header header = {5, CLL_POSITIVE, 0};
+    return told(cll_pull(NULL, 0, &header, &report), CLL_SHORT, 0, 0, 0) && header.value == 5
+        && told(cll_push(&header, NULL, 0, &report), CLL_ROOM, 0, 0, 0)
+        && told(cll_push_wide(&header, 0, NULL, 0, &report), CLL_ROOM, 0, 0, 0)
+        && told(cll_recode(NULL, 0, 0, NULL, 0, &report), CLL_OK, 0, 0, 0)
+        && told(cll_recode(NULL, 0, 1, NULL, 0, &report), CLL_SHORT, 0, 0, 0)
+        && told(cll_recode(NULL, 0, 1, space, SPACE, &report), CLL_SHORT, 0, 0, 0)
+        && told(cll_recode(one, 1, 1, NULL, 0, &report), CLL_ROOM, 1, 0, 0)
+        && told(cll_strict(NULL, 0, 0, &report), CLL_OK, 0, 0, 0)
+        && told(cll_strict(NULL, 0, 1, &report), CLL_SHORT, 0, 0, 0)
+        && told(cll_skip(NULL, 0, 256, &report), CLL_SHORT, 0, 0, 0)
+        && told(cll_utf8(NULL, 0, &report), CLL_OK, 0, 0, 0);
+}
+
+/* In less room than a copy takes it is answered that there is too little, and what is written begins the copy. */
+static int lacks_room(void)
+{
+    static const uint8_t data[] = {0x5f, 0x5f, 0x58, 0x01, 0x01, 0xff, 0xff, 0x19, 0x00, 0x18, 0x62, 0xc3, 0xa9};
+    static const uint8_t copy[] = {0x5f, 0x41, 0x01, 0xff, 0x18, 0x18, 0x62, 0xc3, 0xa9};
+    for (size_t room = 0; room < sizeof copy; room++) {
+        memset(space, 0xee, sizeof copy);
+        if (cll_recode(data, sizeof data, 3, space, room, &report) != CLL_ROOM || report.written > room
+            || report.place != 0 || memcmp(space, copy, (size_t)report.written) != 0)
+            return 0;
+        for (size_t i = (size_t)report.written; i < sizeof copy; i++) {
+            if (space[i] != 0xee)
+                return 0;
+        }
+    }
+    return told(cll_recode(data, sizeof data, 3, space, sizeof copy, &report), CLL_OK, sizeof data, sizeof copy, 0)
+        && memcmp(space, copy, sizeof copy) == 0;
+}
+
+/* The place of a body that is no text, behind the shortest title and a longer one, by itself and behind an open. */
+static int names_places(void)
+{
+    static const uint8_t alone[] = {0x62, 0x61, 0xff}, longer[] = {0x78, 0x02, 0x61, 0xff};
+    static const uint8_t longest[] = {0x7b, 0, 0, 0, 0, 0, 0, 0, 0x02, 0x61, 0xff};
+    static const uint8_t piece[] = {0x7f, 0x78, 0x02, 0x61, 0xff, 0xff};
+    return told(cll_recode(alone, sizeof alone, 1, space, SPACE, &report), CLL_SYNTAX, 3, 2, 0)
+        && told(cll_recode(longer, sizeof longer, 1, space, SPACE, &report), CLL_SYNTAX, 4, 2, 1)
+        && told(cll_recode(longest, sizeof longest, 1, space, SPACE, &report), CLL_SYNTAX, 11, 2, 8)
+        && told(cll_recode(piece, sizeof piece, 1, space, SPACE, &report), CLL_SYNTAX, 5, 3, 1)
+        && told(cll_skip(longer, sizeof longer, 0, &report), CLL_SYNTAX, 4, 0, 1)
+        && told(cll_strict(alone, sizeof alone, 1, &report), CLL_SYNTAX, 3, 0, 0);
+}
+
+/* A text of 3000 bytes goes wrong at its eleventh. It is found out once 1024 bytes of it are there. */
+static int cuts_damaged_text(void)
+{
+    static uint8_t data[3003] = {0x79, 0x0b, 0xb8};
+    memset(data + 3, 'a', 3000);
+    data[13] = 0xff;
+    for (size_t there = 11; there < 3000; there++) {
+        const uint32_t want = there < 1024 ? CLL_SHORT : CLL_SYNTAX;
+        if (cll_recode(data, 3 + there, 1, space, SPACE, &report) != want || report.place != 0
+            || cll_strict(data, 3 + there, 1, &report) != want || cll_skip(data, 3 + there, 0, &report) != want)
+            return 0;
+    }
+    return 1;
+}
+
+/* A title in each width is read as the same header again, and in no other width is one written. */
+static int writes_widths(void)
+{
+    static const cll_header headers[] = {
+        {23, CLL_POSITIVE, 0}, {24, CLL_NEGATIVE, 0}, {255, CLL_BYTES, 0}, {256, CLL_TEXT, 0}, {65536, CLL_ARRAY, 0},
+        {UINT64_MAX, CLL_MAP, 0}, {0, CLL_MAP, 1}, {1, CLL_TAG, 0}, {23, CLL_SIMPLE, 0}, {24, CLL_SIMPLE, 0},
+        {1, CLL_HALF, 0}, {1, CLL_SINGLE, 0}, {1, CLL_DOUBLE, 0}, {0, CLL_BREAK, 0},
+    };
+    /* Which widths each of them has: the bit of each is set. */
+    static const unsigned widths[] = {
+        0x117, 0x116, 0x116, 0x114, 0x110, 0x100, 0x001, 0x117, 0x003, 0x002, 0x004, 0x010, 0x100, 0x001,
+    };
+    for (size_t i = 0; i < sizeof headers / sizeof *headers; i++) {
+        for (uint32_t width = 0; width < 10; width++) {
+            cll_header again = {99, 99, 99};
+            const uint32_t answer = cll_push_wide(&headers[i], width, space, SPACE, &report);
+            if ((widths[i] >> width & 1) == 0) {
+                if (!told(answer, CLL_ARGUMENT, 0, 0, 0))
+                    return 0;
+            } else if (!told(answer, CLL_OK, 0, width + 1, 0)
+                || !told(cll_push_wide(&headers[i], width, space, width, &report), CLL_ROOM, 0, 0, 0)
+                || !told(cll_pull(space, width + 1, &again, &report), CLL_OK, width + 1, 0, 0)
+                || again.value != headers[i].value || again.kind != headers[i].kind
+                || again.indefinite != headers[i].indefinite)
+                return 0;
+        }
+    }
+    return 1;
+}
+
+/*
+ * A text in pieces of each length: what is behind a front stands in front of the next piece. In the place of each byte
+ * one that is in no UTF-8 ends the front where its character begins.
+ */
+static int joins_pieces(void)
+{
+    /* "A\u2262\u0391." of RFC 3629, 7, five times, with U+233B4 behind each. */
+    static const uint8_t part[] = {0x41, 0xe2, 0x89, 0xa2, 0xce, 0x91, 0x2e, 0xf0, 0xa3, 0x8e, 0xb4};
+    static const unsigned begins[] = {0, 1, 1, 1, 4, 4, 6, 7, 7, 7, 7};
+    enum { PART = sizeof part, TEXT = 5 * PART };
+    uint8_t text[TEXT];
+    for (size_t i = 0; i < TEXT; i++)
+        text[i] = part[i % PART];
+    for (size_t piece = 1; piece <= TEXT; piece++) {
+        size_t front = 0, there = 0;
+        while (there < TEXT) {
+            there += TEXT - there < piece ? TEXT - there : piece;
+            const size_t want = there - there % PART + begins[there % PART];
+            const uint32_t answer = cll_utf8(text + front, there - front, &report);
+            if (!told(answer, want == there ? CLL_OK : CLL_SHORT, want - front, 0, 0))
+                return 0;
+            front = want;
+        }
+    }
+    for (size_t i = 0; i < TEXT; i++) {
+        const size_t want = i - i % PART + begins[i % PART];
+        text[i] = 0xff;
+        if (!told(cll_utf8(text, TEXT, &report), CLL_SYNTAX, want, 0, want))
+            return 0;
+        text[i] = part[i % PART];
+    }
+    return 1;
+}
+
+/* Each answer has a text of its own, and so has what is none. */
+static int tells_answers(void)
+{
+    for (uint32_t one = CLL_OK; one <= CLL_ARGUMENT + 1u; one++) {
+        if (cll_strerror(one)[0] == '\0')
+            return 0;
+        for (uint32_t other = CLL_OK; other < one; other++) {
+            if (strcmp(cll_strerror(one), cll_strerror(other)) == 0)
+                return 0;
+        }
+    }
+    return strcmp(cll_strerror(99), cll_strerror(CLL_ARGUMENT + 1u)) == 0;
+}
+
+/* Whether the memory of one call overlaps that of another, or its input its output. */
+static int finds_overlaps(void)
+{
+    return cll_overlap(space, 4, space, 4) && cll_overlap(space, 4, space + 3, 4) && cll_overlap(space + 3, 4, space, 4)
+        && cll_overlap(space, 8, space + 2, 1) && cll_overlap(space + 2, 1, space, 8)
+        && !cll_overlap(space, 4, space + 4, 4) && !cll_overlap(space + 4, 4, space, 4)
+        && !cll_overlap(space, 0, space, 4) && !cll_overlap(space, 4, space, 0) && !cll_overlap(NULL, 0, NULL, 0);
+}
+
+static int is_this_version(void)
+{
+    return cll_version() == 65536u * CLL_VERSION_MAJOR + 256u * CLL_VERSION_MINOR + CLL_VERSION_PATCH;
+}
+
+int main(void)
+{
+    static const struct { const char *name; int (*holds)(void); } rows[] = {
+        {"null", takes_null},           {"room", lacks_room},         {"places", names_places},
+        {"damage", cuts_damaged_text},  {"widths", writes_widths},    {"pieces", joins_pieces},
+        {"answers", tells_answers},     {"overlaps", finds_overlaps}, {"version", is_this_version},
+    };
+    for (size_t i = 0; i < sizeof rows / sizeof *rows; i++) {
+        if (!rows[i].holds()) {
+            fprintf(stderr, "calls: %s\n", rows[i].name);
+            return 1;
+        }
+    }
+    return 0;
+}

@@ -1,0 +1,96 @@
+/*
+ * Prints how many bytes of the stack each call uses, one line NAME BYTES for each: of cll_skip for some depths, each
+ * filled with arrays down to a text and to a byte string of indefinite length.
+ *
+ * A call runs on a stack of its own, which was filled before with one value. What it changed is what it used. What a
+ * call of nothing uses is taken off.
+ */
+#define _XOPEN_SOURCE 600
+#include <stdio.h>
+#include <stdlib.h>
+#include <string.h>
+#include <ucontext.h>
+
+#include "ciborium_ll.h"
+
+enum { STACK = 1 << 18, FILL = 0xa5, DEEPEST = 256, ROOM = 4096, TITLE = 3 };
+
+static uint8_t data[ROOM], out[ROOM];
+static size_t len;
+static uint32_t depth;
+static uint32_t answer;
+static cll_header header;
+static cll_report report;
+
+static void nothing(void) { answer = CLL_OK; }
+static void pull(void) { answer = cll_pull(data, len, &header, &report); }
+static void push(void) { answer = cll_push(&header, out, sizeof out, &report); }
+static void push_wide(void) { answer = cll_push_wide(&header, 8, out, sizeof out, &report); }
+static void recode(void) { answer = cll_recode(data, len, 1, out, sizeof out, &report); }
+static void strict(void) { answer = cll_strict(data, len, 1, &report); }
+static void skip(void) { answer = cll_skip(data, len, depth, &report); }
+static void utf8(void) { answer = cll_utf8(data + TITLE, len - TITLE, &report); }
+
+/* Of a text with its title in front, which is no UTF-8. */
+static void no_utf8(void) { answer = cll_utf8(data, len, &report) == CLL_SYNTAX ? CLL_OK : CLL_ARGUMENT; }
+
+/* How many bytes of a stack a call changed. It has to answer CLL_OK. */
+static size_t used(void (*call)(void))
+{
+    static uint8_t stack[STACK];
+    static ucontext_t here, there;
+    memset(stack, FILL, sizeof stack);
+    getcontext(&there);
+    there.uc_stack.ss_sp = stack;
+    there.uc_stack.ss_size = sizeof stack;
+    there.uc_link = &here;
+    makecontext(&there, call, 0);
+    swapcontext(&here, &there);
+    if (answer != CLL_OK) {
+        fprintf(stderr, "stack: a call answered %lu\n", (unsigned long)answer);
+        exit(1);
+    }
+    size_t untouched = 0;
+    while (untouched < sizeof stack && stack[untouched] == FILL)
+        untouched++;
+    return sizeof stack - untouched;
+}
+
+/* A text of 1000 characters of three bytes each. */
+static void make_text(void)
+{
+    static const uint8_t title[TITLE] = {0x79, 0x0b, 0xb8}, character[] = {0xe6, 0xb0, 0xb4};
+    memcpy(data, title, TITLE);
+    for (len = TITLE; len < TITLE + 3000; len += sizeof character)
+        memcpy(data + len, character, sizeof character);
+}
+
+/* So many arrays within one another, with a text and a byte string in the innermost one. */
+static void make_nest(unsigned levels)
+{
+    static const uint8_t inner[] = {0x82, 0x63, 0xe6, 0xb0, 0xb4, 0x5f, 0x42, 1, 2, 0x41, 3, 0xff};
+    memset(data, 0x81, levels - 1);
+    memcpy(data + levels - 1, inner, sizeof inner);
+    len = levels - 1 + sizeof inner;
+    depth = levels;
+}
+
+int main(void)
+{
+    static const struct { const char *name; void (*call)(void); } calls[] = {
+        {"cll_pull", pull},     {"cll_push", push},     {"cll_push_wide", push_wide},
+        {"cll_recode", recode}, {"cll_strict", strict}, {"cll_utf8/text", utf8},
+        {"cll_utf8/damage", no_utf8},
+    };
+    static const unsigned depths[] = {1, 16, 64, 128, DEEPEST};
+    const size_t plain = used(nothing);
+
+    make_text();
+    for (size_t i = 0; i < sizeof calls / sizeof *calls; i++)
+        printf("%s %zu\n", calls[i].name, used(calls[i].call) - plain);
+    for (size_t i = 0; i < sizeof depths / sizeof *depths; i++) {
+        make_nest(depths[i]);
+        printf("cll_skip/%u %zu\n", depths[i], used(skip) - plain);
+    }
+    return 0;
+}

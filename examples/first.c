@@ -1,0 +1,14 @@
+/* Prints the number that a title says. */
+#include <ciborium_ll.h>
+#include <stdio.h>
+
+int main(void)
+{
+    const uint8_t data[] = {0x19, 0x03, 0xe8};
+    cll_header header;
+    cll_report report;
+    if (cll_pull(data, sizeof data, &header, &report) != CLL_OK || header.kind != CLL_POSITIVE)
+        return 1;
+    printf("%llu in %llu bytes\n", (unsigned long long)header.value, (unsigned long long)report.consumed);
+    return 0;
+}
