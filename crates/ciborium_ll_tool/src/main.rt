@@ -4,9 +4,6 @@
 //! so many elements from standard input to standard output.
 #![tactic(auto)]
 
-#[cfg(test)]
-mod tests;
-
 use ciborium_ll_requests::arguments::chosen;
 use ciborium_ll_requests::choice::Chosen;
 use ciborium_ll_service::fault::{Fault, fault_of_raw, fault_of_run};

@@ -1,7 +1,7 @@
 // Lines on each beginning of each sample, beside answers that a plain reading of the bytes gives.
 
+use super::answers::is_answered;
 use super::every::{add_bytes, add_end, add_line, add_number, add_rest, add_title};
-use super::is_answered;
 use ciborium_ll_fixtures::plain::{self, Fault};
 use ciborium_ll_fixtures::samples;
 use std::alloc::{AllocError, Global};
@@ -16,7 +16,7 @@ fn add_heads(text: &mut String, bytes: &[u8]) -> Result<(), AllocError> {
         match plain::next_title(bytes, &mut offset) {
             Ok(title) => add_title(text, start, title.header())?,
             Err(Fault::Syntax(place)) => return add_end(text, "syntax", place),
-            Err(Fault::Short | Fault::ShortAndDamaged) => {
+            Err(Fault::Short | Fault::ShortAndDamaged(_)) => {
                 let word = if start == bytes.len() { "end" } else { "short" };
                 return add_end(text, word, offset);
             }
@@ -32,7 +32,7 @@ fn add_copy(alloc: Global, text: &mut String, count: usize, bytes: &[u8]) -> Res
     match copied.fault {
         None => add_rest(text, bytes.get(copied.offset..).unwrap_or(&[]))?,
         Some(Fault::Syntax(place)) => add_end(text, " syntax", place)?,
-        Some(Fault::Short | Fault::ShortAndDamaged) => add_end(text, " short", copied.offset)?,
+        Some(Fault::Short | Fault::ShortAndDamaged(_)) => add_end(text, " short", copied.offset)?,
     }
     Ok(())
 }

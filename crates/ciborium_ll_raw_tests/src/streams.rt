@@ -1,7 +1,6 @@
 // Copies of raw bytes between streams that move few bytes a call, or fail at one, beside a plain reading.
 
 use super::copies::{self, End, long_elements};
-use super::{decoded, front_of};
 use ciborium_ll_fixtures::plain::{self, Copied, Fault};
 use ciborium_ll_fixtures::samples::COPIES;
 use ciborium_ll_fixtures::streams::{PartReader, PartWriter};
@@ -9,6 +8,16 @@ use std::alloc::Global;
 use std::io;
 use std::process::Abort;
 use std::test::Fail;
+
+// The bytes that digits say.
+fn decoded(alloc: Global, hex: &str) -> Result<Vec<u8>, Fail> {
+    Ok(hex::decode(alloc, hex)?)
+}
+
+// The first bytes, as many as are told. There are as many.
+fn front_of(bytes: &[u8], length: usize) -> &[u8] {
+    bytes.get(..length).unwrap_or(&[])
+}
 
 const INTERRUPTED: io::ErrorKind = io::ErrorKind::Interrupted;
 
@@ -49,7 +58,7 @@ fn is_answer(copied: End, want: Option<Fault>) -> bool {
     match copied {
         End::Done => want.is_none(),
         End::Syntax(place) => want == Some(Fault::Syntax(place)),
-        End::Short => matches!(want, Some(Fault::Short | Fault::ShortAndDamaged)),
+        End::Short => matches!(want, Some(Fault::Short | Fault::ShortAndDamaged(_))),
         _ => false,
     }
 }
@@ -75,7 +84,7 @@ fn is_flushed(ended: &Ended, want: &Copied) -> bool {
 
 // A copy whose reader was interrupted tells it, and stops within a title or a body.
 fn is_interrupted(ended: &Ended, want: &Copied) -> bool {
-    let is_short = matches!(want.fault, Some(Fault::Short | Fault::ShortAndDamaged));
+    let is_short = matches!(want.fault, Some(Fault::Short | Fault::ShortAndDamaged(_)));
     is_short && ended.copied == End::Read(INTERRUPTED)
 }
 

@@ -1,6 +1,6 @@
 // Lines of each kind, each with what it is answered.
 
-use super::answers;
+use super::answers::answers;
 use std::alloc::Global;
 use std::process::Abort;
 use std::test::Fail;
@@ -20,6 +20,7 @@ fn answer_blocks(rt: &impl Abort, alloc: Global, blocks: &str) -> Result<(), Fai
     Ok(())
 }
 
+// A program that always answered `error: memory`, or printed its input again, would fail here.
 #[test]
 fn heads_of_each_kind(rt: HostRuntime) -> Result<(), Fail> {
     let blocks = "\

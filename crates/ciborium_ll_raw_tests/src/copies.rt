@@ -1,6 +1,6 @@
 // Copies of raw bytes.
 
-use super::is_printed_as;
+use super::faults::is_printed_as;
 use ciborium_ll::io::{ReadFault, WriteFault};
 use ciborium_ll::{Error, RecodeError};
 use ciborium_ll_fixtures::streams::{PartReader, PartWriter};
@@ -118,6 +118,7 @@ fn is_unread(alloc: Global, bytes: &[u8]) -> bool {
     matches!(&copy.fault, Some(Fault::Read))
 }
 
+// A copy that always answered that its reader failed would fail here.
 #[test]
 fn raw_copies(rt: HostRuntime) {
     assert!(rt; is_copied(rt.alloc(), &[0x58, 1, 1, 0], &[0x41, 1], &[0]));

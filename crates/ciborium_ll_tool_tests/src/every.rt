@@ -1,6 +1,6 @@
 // Every list of one and of two bytes, answered by `run`, beside what is printed here from `pull` and `recode`.
 
-use super::answers;
+use super::answers::answers;
 use ciborium_ll::io::{SliceReader, SliceWriter};
 use ciborium_ll::recode::recode;
 use ciborium_ll::{Decoder, Encoder, Error, Float, Header, RecodeError};
@@ -147,6 +147,7 @@ fn assert_same(rt: &impl Abort, output: &str, want: &str) {
     assert_eq!(rt; output.len(), want.len());
 }
 
+// A program that only knew some lines by heart would fail here.
 #[test]
 fn every_list_of_one_and_two_bytes(rt: HostRuntime) -> Result<(), Fail> {
     let mut input = String::new(rt.alloc());

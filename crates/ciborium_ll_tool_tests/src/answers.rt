@@ -1,0 +1,34 @@
+// Runs of the program's lines over bytes in memory.
+
+use ciborium_ll_service::service::{ToolError, run};
+use std::alloc::{AllocError, Global};
+use std::test::Fail;
+
+// What `run` writes for an input.
+pub fn answers(alloc: Global, input: &[u8]) -> Result<Vec<u8>, ToolError> {
+    let mut output = Vec::new(alloc);
+    run(alloc, input, &mut output)?;
+    Ok(output)
+}
+
+// Runs lines, and compares what is written.
+pub fn is_answered(alloc: Global, input: &[u8], want: &[u8]) -> Result<bool, Fail> {
+    let output = answers(alloc, input)?;
+    Ok(output.as_slice() == want)
+}
+
+// A line with digits that come so many times.
+pub fn line_of(
+    alloc: Global,
+    front: &[u8],
+    digits: &[u8],
+    times: usize,
+    end: &[u8],
+) -> Result<Vec<u8>, AllocError> {
+    let mut line = front.to_vec(alloc)?;
+    for _ in 0..times {
+        line.extend_from_slice(digits)?;
+    }
+    line.extend_from_slice(end)?;
+    Ok(line)
+}
