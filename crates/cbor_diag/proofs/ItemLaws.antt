@@ -1,0 +1,81 @@
+-- The show of an item behind its header, which was pulled, as a read of the item.
+use Rattle.std.proofs.Common.{◌≡◌, ℕ, suc, Bool, [], Option, Result, Err, IfErr, inr}
+use Rattle.ciborium_ll.specs.Types.Read.{Ghosts}
+use Rattle.ciborium_ll.specs.Types.Header.{Header}
+use Rattle.ciborium_ll.specs.Types.Decoder.{Decoder}
+use Rattle.ciborium_ll.specs.Types.Error.{Error}
+use Rattle.ciborium_ll.specs.Strings.{Kind, kind_header}
+use Rattle.ciborium_ll.specs.Items.{Completes}
+use Rattle.ciborium_ll.specs.Decoding.{IsSteady, PullsTitle}
+use Rattle.ciborium_ll.specs.Skipping.{SkipsString}
+use Rattle.cbor_skip.specs.declared.SkipError.{SkipError}
+use Rattle.cbor_skip.specs.declared.SkipError.TheVariants as s
+use Rattle.cbor_skip.specs.Due.{IsNest}
+use Rattle.cbor_skip.specs.Skipping.{StopsItem, ReadsWithin, SkipsWithin}
+use Rattle.cbor_skip.proofs.ItemSteps.{reads_plain, reads_string, reads_nest, stops_here, stops_nest}
+use Rattle.cbor_diag.specs.declared.DiagError.{DiagError}
+use Rattle.cbor_diag.specs.Showing.{IsWriting, OnReading, OnString, ReadsFrom}
+use Rattle.cbor_diag.proofs.ShowLaws.{reading_whole, reading_stops, reading_string}
+
+module _ {R E : Type 0} (source : Ghosts R E) (outer : Bool) (depth : ℕ) (before : Decoder R) where
+  -- what is said of the read, with the decoder as it is left
+  abbrev pub ItemRead : Decoder R → Result (Unit {0}) (SkipError E) → Type 0
+  ItemRead new answer = ReadsFrom source outer depth 64 before answer new
+
+  -- a tag, an array or a map for which no level is left
+  pub nest_deep : (titled : Decoder R) (header : Header) (place : ℕ) → depth ≡ 0 → place ≡ before.offset → IsNest header
+      → PullsTitle source before header titled → StopsItem source outer depth 64 before (s.Deep place) titled
+  nest_deep titled header place none at nest pulled = stops_here source (record {
+    none_left = none;
+    place = at;
+    header = header;
+    is_nest = nest;
+    pulled = pulled;
+  })
+
+module _ {R E F : Type 0} (source : Ghosts R E) (outer : Bool) (depth : ℕ) (before titled : Decoder R)
+    (steady : IsSteady source before → IsSteady source titled) where
+  -- an item that is a header alone
+  pub scalar_read : (header : Header) (result : Result (Unit {0}) (DiagError E F)) → Completes depth header []
+      → PullsTitle source before header titled → IfErr result IsWriting
+      → OnReading (ItemRead source outer depth before titled) result
+  scalar_read header result completes pulled writing =
+      reading_whole (ItemRead source outer depth before titled) result (reads_plain source pulled steady completes)
+      writing
+
+  -- a string
+  pub string_read : (kind : Kind) (len : Option ℕ) (new : Decoder R) (result : Result (Unit {0}) (DiagError E F))
+      → PullsTitle source before (kind_header kind len) titled
+      → OnString (λ answer. SkipsString source kind len 64 titled answer new) result
+      → OnReading (ItemRead source outer depth before new) result
+  string_read kind len new result pulled reads =
+      let One : Result (Unit {0}) (Error E) → Type 0 = λ answer. SkipsString source kind len 64 titled answer new in
+      reading_string One (ItemRead source outer depth before new) result (λ whole. reads_string source kind len
+      pulled steady whole)
+      (λ fault fails. stops_here source (inr (record {
+        kind = kind;
+        len = len;
+        titled = titled;
+        pulled = pulled;
+        steady = steady;
+        fails = fails;
+      }))) reads
+
+  -- one of which all that it contains was read
+  pub nest_read : (levels : ℕ) (header : Header) (new : Decoder R) (result : Result (Unit {0}) (DiagError E F))
+      → suc levels ≡ depth → PullsTitle source before header titled → ReadsWithin source header levels titled new
+      → IfErr result IsWriting → OnReading (ItemRead source outer depth before new) result
+  nest_read levels header new result level pulled inner writing =
+      reading_whole (ItemRead source outer depth before new) result (reads_nest source level pulled steady inner)
+      writing
+
+  -- one of which the read stopped
+  pub nest_stops : (levels : ℕ) (header : Header) (new : Decoder R) (error : DiagError E F) → suc levels ≡ depth
+      → PullsTitle source before header titled
+      → OnReading {T = Bool} (λ answer. SkipsWithin source header levels 64 titled answer new) (Err error)
+      → OnReading {T = Unit {0}} (ItemRead source outer depth before new) (Err error)
+  nest_stops levels header new error level pulled reads =
+      let One : Result (Unit {0}) (SkipError E) → Type 0 =
+      λ answer. SkipsWithin source header levels 64 titled answer new in
+      reading_stops Bool (Unit {0}) One (ItemRead source outer depth before new) error
+      (λ stop stops. stops_nest source level pulled steady stops) reads

@@ -1,0 +1,3 @@
+mod ItemLaws
+mod QuoteLaws
+mod ShowLaws

@@ -1,0 +1,79 @@
+-- What is said of a read, by the answer of a show.
+use Rattle.std.proofs.Common.{◌≡◌, ◌∙◌, ℕ, Option, Result, Ok, Err, IfErr, OnOk, arith}
+use Rattle.ciborium_ll.specs.Types.Read.{Ghosts}
+use Rattle.ciborium_ll.specs.Types.Decoder.{Decoder}
+use Rattle.ciborium_ll.specs.Types.Error.{Error}
+use Rattle.ciborium_ll.specs.Strings.{Kind}
+use Rattle.ciborium_ll.specs.Decoding.{MovesOn, refusals_of}
+use Rattle.ciborium_ll.specs.Skipping.{SkipsWhole}
+use Rattle.cbor_skip.specs.declared.SkipError.{SkipError}
+use Rattle.cbor_skip.specs.declared.SkipError.TheVariants as s
+use Rattle.cbor_diag.specs.declared.DiagError.{DiagError}
+use Rattle.cbor_diag.specs.declared.DiagError.TheVariants as d
+use Rattle.cbor_diag.specs.Showing.{IsWriting, OnReading, OnString}
+
+module _ {E F : Type 0} where
+  -- where the writer failed, anything holds of the read
+  pub reading_unread : (T : Type 0) (Holds : Result (Unit {0}) (SkipError E) → Type 0) (error : DiagError E F)
+      → IsWriting error → OnReading {T = T} Holds (Err error)
+  reading_unread T Holds (d.Read error) writing = absurd writing
+  reading_unread T Holds (d.Write fault) writing = tt
+
+  pub string_unread : (Holds : Result (Unit {0}) (Error E) → Type 0) (error : DiagError E F) → IsWriting error
+      → OnString Holds (Err error)
+  string_unread Holds (d.Read error) writing = absurd writing
+  string_unread Holds (d.Write fault) writing = tt
+
+  -- where it is the writer alone that may fail, what holds of a whole read holds
+  pub reading_whole : (Holds : Result (Unit {0}) (SkipError E) → Type 0) (result : Result (Unit {0}) (DiagError E F))
+      → Holds (Ok (tt {0})) → IfErr result IsWriting → OnReading Holds result
+  reading_whole Holds (Ok done) holds writing = holds
+  reading_whole Holds (Err error) holds writing = reading_unread (Unit {0}) Holds error writing
+
+  pub string_whole : (Holds : Result (Unit {0}) (Error E) → Type 0) (result : Result (Unit {0}) (DiagError E F))
+      → Holds (Ok (tt {0})) → IfErr result IsWriting → OnString Holds result
+  string_whole Holds (Ok done) holds writing = holds
+  string_whole Holds (Err error) holds writing = string_unread Holds error writing
+
+  -- what an error of one read says of another one
+  pub reading_stops : (T U : Type 0) (One Other : Result (Unit {0}) (SkipError E) → Type 0) (error : DiagError E F)
+      → ((stop : SkipError E) → One (Err stop) → Other (Err stop)) → OnReading {T = T} One (Err error)
+      → OnReading {T = U} Other (Err error)
+  reading_stops T U One Other (d.Read stop) goes holds = goes stop holds
+  reading_stops T U One Other (d.Write fault) goes holds = tt
+
+  pub string_stops : (One Other : Result (Unit {0}) (Error E) → Type 0) (error : DiagError E F)
+      → ((fault : Error E) → One (Err fault) → Other (Err fault)) → OnString One (Err error)
+      → OnString Other (Err error)
+  string_stops One Other (d.Read (s.Read fault)) goes holds = goes fault holds
+  string_stops One Other (d.Read (s.Break at)) goes holds = holds
+  string_stops One Other (d.Read (s.Deep at)) goes holds = holds
+  string_stops One Other (d.Write fault) goes holds = tt
+
+  -- what the read of a string says of that of an item
+  pub reading_string : (One : Result (Unit {0}) (Error E) → Type 0) (Other : Result (Unit {0}) (SkipError E) → Type 0)
+      (result : Result (Unit {0}) (DiagError E F)) → (One (Ok (tt {0})) → Other (Ok (tt {0})))
+      → ((fault : Error E) → One (Err fault) → Other (Err (s.Read fault))) → OnString One result
+      → OnReading Other result
+  reading_string One Other (Ok done) whole stops holds = whole holds
+  reading_string One Other (Err (d.Read (s.Read fault))) whole stops holds = stops fault holds
+  reading_string One Other (Err (d.Read (s.Break at))) whole stops holds = absurd holds
+  reading_string One Other (Err (d.Read (s.Deep at))) whole stops holds = absurd holds
+  reading_string One Other (Err (d.Write fault)) whole stops holds = tt
+
+-- a fact where the answer is Ok
+pub when_ok : {T F : Type 0} (P : Type 0) (result : Result T F) → P → OnOk result P
+when_ok P (Ok done) holds = holds
+when_ok P (Err error) holds = tt
+
+module _ {R E : Type 0} (source : Ghosts R E) where
+  -- behind a whole string the decoder moved on, whose header was pushed back
+  pub whole_moves : (kind : Kind) (len : Option ℕ) (opened pushed new : Decoder R)
+      → SkipsWhole source kind len opened new → MovesOn source pushed new → refusals_of pushed ≡ refusals_of opened
+      → MovesOn source opened new
+  whole_moves kind len opened pushed new whole moves same = record {
+    steady = whole.passed.steady;
+    mode = whole.passed.mode;
+    refusals = moves.refusals ∙ same;
+    rises = omega (arith, whole.passed.offset);
+  }

@@ -1,0 +1,154 @@
+use Rattle.std.proofs.Common.{rules, ◌≡◌, ◌-◌, suc, Bool, true, false, [], Result, Err, sym, subst, refl, inl, inr}
+use Rattle.std.proofs.Common.{arith}
+use Rattle.std.proofs.lemmas.Result.{err_from_is_err_and}
+use Rattle.ciborium_ll.specs.Types.Header.{Header}
+use Rattle.ciborium_ll.specs.Items.{Completes, positive, negative, float, simple}
+use Rattle.ciborium_ll.specs.Strings.{Bytes, Text}
+use Rattle.ciborium_ll.proofs.DecodingLaws.{MovesOn-none, MovesOn-then}
+use Rattle.cbor_skip.specs.declared.SkipError.{SkipError}
+use Rattle.cbor_skip.specs.Due.{IsNest}
+use Rattle.cbor_skip.specs.Remaining.{is_done, closes}
+use Rattle.cbor_skip.specs.Skipping.{SkipsWithin}
+use Rattle.cbor_skip.proofs.ItemSteps.{none_read, one_more, stops_here, pull_stops, stops_within, ended, closed}
+use Rattle.cbor_diag.specs.Showing.{ReadsFrom}
+use Rattle.cbor_diag.proofs.ShowLaws.{reading_stops}
+use Rattle.cbor_diag.proofs.ItemLaws.{scalar_read, string_read, nest_deep, nest_read, nest_stops}
+use Rattle.cbor_diag.proofs.nests.+items.Goals as goal
+
+-- ---- an item
+
+pub show_item-returns-in-Positive-clause-reads : goal.show_item-returns-in-Positive-clause-reads
+show_item-returns-in-Positive-clause-reads g t c = λ before outer at pulled steady.
+    let completes = subst (λ (x : Header). Completes c.args.depth x []) (sym c.in-Positive.is) positive in
+    scalar_read g.R.Read outer c.args.depth before c.args.decoder.now steady c.args.header c.said.result completes
+    pulled
+    c.said.ensures
+
+pub show_item-returns-in-Negative-clause-reads : goal.show_item-returns-in-Negative-clause-reads
+show_item-returns-in-Negative-clause-reads g t c = λ before outer at pulled steady.
+    let completes = subst (λ (x : Header). Completes c.args.depth x []) (sym c.in-Negative.is) negative in
+    scalar_read g.R.Read outer c.args.depth before c.args.decoder.now steady c.args.header c.said-in-Negative.result
+    completes pulled
+    c.said-in-Negative.ensures
+
+pub show_item-returns-in-Float-clause-reads : goal.show_item-returns-in-Float-clause-reads
+show_item-returns-in-Float-clause-reads g t c = λ before outer at pulled steady.
+    let completes = subst (λ (x : Header). Completes c.args.depth x []) (sym c.in-Float.is) float in
+    scalar_read g.R.Read outer c.args.depth before c.args.decoder.now steady c.args.header c.said-in-Float.result
+    completes pulled
+    c.said-in-Float.ensures
+
+pub show_item-returns-in-Simple-clause-reads : goal.show_item-returns-in-Simple-clause-reads
+show_item-returns-in-Simple-clause-reads g t c = λ before outer at pulled steady.
+    let completes = subst (λ (x : Header). Completes c.args.depth x []) (sym c.in-Simple.is) simple in
+    scalar_read g.R.Read outer c.args.depth before c.args.decoder.now steady c.args.header c.said-in-Simple.result
+    completes pulled
+    c.said-in-Simple.ensures
+
+pub show_item-returns-in-Bytes-clause-reads : goal.show_item-returns-in-Bytes-clause-reads
+show_item-returns-in-Bytes-clause-reads g t c = λ before outer at pulled steady.
+    string_read g.R.Read outer c.args.depth before c.args.decoder.now steady Bytes c.in-Bytes.len
+    c.show_bytes.new.decoder
+    c.show_bytes.result (rw c.in-Bytes.is at pulled) c.show_bytes.ensures.reads
+
+pub show_item-returns-in-Text-clause-reads : goal.show_item-returns-in-Text-clause-reads
+show_item-returns-in-Text-clause-reads g t c = λ before outer at pulled steady.
+    string_read g.R.Read outer c.args.depth before c.args.decoder.now steady Text c.in-Text.len c.show_text.new.decoder
+    c.show_text.result (rw c.in-Text.is at pulled) c.show_text.ensures.reads
+
+pub show_item-returns-then-depth-eq0-clause-reads : goal.show_item-returns-then-depth-eq0-clause-reads
+show_item-returns-then-depth-eq0-clause-reads g t c = λ before outer at pulled steady.
+    let nest : IsNest c.args.header = elim c.in-Tag.is [
+      | inl is ↦ subst IsNest (sym is.1) tt
+      | inr (inl is) ↦ subst IsNest (sym is.1) tt
+      | inr (inr is) ↦ subst IsNest (sym is.1) tt
+    ] in
+    nest_deep g.R.Read outer c.args.depth before c.args.decoder.now c.args.header c.args.place
+    c.if-depth-eq0.true at nest pulled
+
+pub show_item-returns-in_err-is_empty-in-Tag-clause-reads : goal.show_item-returns-in_err-is_empty-in-Tag-clause-reads
+show_item-returns-in_err-is_empty-in-Tag-clause-reads g t c = λ before outer at pulled steady.
+    let residual = c.from_residual-in_err-is_empty-in-Tag in
+    let from = err_from_is_err_and residual.result residual.ensures.1 in
+    let is_error = from.1 in
+    let is_same = from.2 in
+    let error = c.in_err-is_empty-in-Tag.field-0.0 in
+    let same : residual.result ≡ Err error = cc in
+    let level : suc (c.args.depth - 1) ≡ c.args.depth = omega (arith, c.if-depth-eq0.false) in
+    rw same (nest_stops g.R.Read outer c.args.depth before c.args.decoder.now steady (c.args.depth - 1) c.args.header
+    c.show_within.new.decoder error level pulled c.in_err-is_empty-in-Tag.ensures.reads)
+
+pub show_item-returns-in_ok-is_empty-in-Tag-clause-reads : goal.show_item-returns-in_ok-is_empty-in-Tag-clause-reads
+show_item-returns-in_ok-is_empty-in-Tag-clause-reads g t c = λ before outer at pulled steady.
+    let level : suc (c.args.depth - 1) ≡ c.args.depth = omega (arith, c.if-depth-eq0.false) in
+    nest_read g.R.Read outer c.args.depth before c.args.decoder.now steady (c.args.depth - 1) c.args.header
+    c.show_within.new.decoder c.close.result level pulled c.in_ok-is_empty-in-Tag.ensures.reads c.close.ensures
+
+-- ---- the items within a nest
+
+pub show_within-items-init : goal.show_within-items-init
+show_within-items-init g t c = record {
+  so_far = none_read g.R.Read c.behind-remaining.ensures;
+  moves_on = MovesOn-none g.R.Read c.args.decoder.now;
+}
+
+pub show_within-returns-clause-reads : goal.show_within-returns-clause-reads
+show_within-returns-clause-reads g t c =
+    let done : is_done c.items.remaining ≡ true = search rules in
+    ended g.R.Read c.items.invariant.so_far done
+
+pub show_within-returns-then-closes-clause-reads : goal.show_within-returns-then-closes-clause-reads
+show_within-returns-then-closes-clause-reads g t c =
+    let may : closes c.items.remaining ≡ true = search rules in
+    let pulled = rw (c.offset-place.ensures.same, c.in-Break.is) at c.in-Ok.ensures.header in
+    let steady = rw c.offset-place.ensures.same at c.in-Ok.ensures.moves_on.steady in
+    closed g.R.Read c.items.invariant.so_far may pulled steady
+
+pub show_within-returns-in-Err-clause-reads : goal.show_within-returns-in-Err-clause-reads
+show_within-returns-in-Err-clause-reads g t c =
+    let some : is_done c.items.remaining ≡ false = search rules in
+    stops_within g.R.Read c.items.invariant.so_far some refl
+    (pull_stops g.R.Read c.offset-place.ensures.same c.in-Err.ensures.header)
+
+pub show_within-returns-in-Break-clause-reads : goal.show_within-returns-in-Break-clause-reads
+show_within-returns-in-Break-clause-reads g t c =
+    let may : closes c.items.remaining ≡ false = search rules in
+    let some : is_done c.items.remaining ≡ false = search rules in
+    stops_within g.R.Read c.items.invariant.so_far some refl (stops_here g.R.Read (record {
+      not_closable = may;
+      place = c.offset-place.ensures.value;
+      pulled = rw (c.offset-place.ensures.same, c.in-Break.is) at c.in-Ok.ensures.header;
+    }))
+
+pub show_within-returns-in_err-show_item-clause-reads : goal.show_within-returns-in_err-show_item-clause-reads
+show_within-returns-in_err-show_item-clause-reads g t c =
+    let residual = c.from_residual-in_err-show_item in
+    let from = err_from_is_err_and residual.result residual.ensures.1 in
+    let is_error = from.1 in
+    let is_same = from.2 in
+    let error = c.in_err-show_item.field-0.0 in
+    let same : residual.result ≡ Err error = cc in
+    let some : is_done c.items.remaining ≡ false = search rules in
+    let pulled = rw c.offset-place.ensures.same at c.in-Ok.ensures.header in
+    let steady = rw c.offset-place.ensures.same at c.in-Ok.ensures.moves_on.steady in
+    let now = c.items.decoder in
+    let new = c.show_item.new.decoder in
+    let outer = closes c.items.remaining in
+    let One : Result (Unit {0}) (SkipError g.row.R-Error.Denot) → Type 0 =
+    λ answer. ReadsFrom g.R.Read outer c.args.depth 64 now answer new in
+    let Other : Result (Unit {0}) (SkipError g.row.R-Error.Denot) → Type 0 =
+    λ answer. SkipsWithin g.R.Read c.args.header c.args.depth 64 c.args.decoder.now answer new in
+    rw same (reading_stops (Unit {0}) Bool One Other error
+    (λ stop stops. stops_within g.R.Read c.items.invariant.so_far some refl stops)
+    (c.in_err-show_item.ensures.reads now outer c.offset-place.ensures.value pulled steady))
+
+pub show_within-items-preserved : goal.show_within-items-preserved
+show_within-items-preserved g t c =
+    let pulled = rw c.offset-place.ensures.same at c.in-Ok.ensures.header in
+    let first = rw c.offset-place.ensures.same at c.in-Ok.ensures.moves_on in
+    let item = c.in_ok-show_item.ensures.reads c.items.decoder false c.offset-place.ensures.value pulled first.steady in
+    record {
+      so_far = one_more g.R.Read c.items.invariant.so_far (c.after_item-remaining.ensures c.args.header) item;
+      moves_on = MovesOn-then g.R.Read _ _ _ c.items.invariant.moves_on
+          (MovesOn-then g.R.Read _ _ _ first c.in_ok-show_item.ensures.moves_on);
+    }

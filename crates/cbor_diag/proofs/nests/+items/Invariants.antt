@@ -1,0 +1,19 @@
+use Rattle.std.proofs.Common.{◌+◌, ◌-◌, ◌*◌, ◌^◌}
+use Rattle.ciborium_ll.specs.Decoding.{MovesOn}
+use Rattle.cbor_skip.proofs.ItemSteps.{SoFar}
+use Rattle.cbor_diag.proofs.nests.+items.Given as goal
+
+abbrev pub decreases-show_item : goal.decreases-show_item
+decreases-show_item g l = 2 * l.depth
+
+abbrev pub decreases-show_within : goal.decreases-show_within
+decreases-show_within g l = 2 * l.depth + 1
+
+abbrev pub invariant-show_within-items : goal.invariant-show_within-items
+invariant-show_within-items g l = record {
+  so_far : SoFar g.R.Read l.fn.header l.depth l.fn.decoder l.decoder l.remaining;
+  moves_on : MovesOn g.R.Read l.fn.decoder l.decoder;
+}
+
+abbrev pub decreases-show_within-items : goal.decreases-show_within-items
+decreases-show_within-items g l = 2 ^ 64 - l.decoder.offset

@@ -1,0 +1,3 @@
+pub mod DiagTexts
+pub mod Notation
+pub mod Showing

@@ -1,0 +1,45 @@
+-- The diagnostic notation of what a header says by itself (RFC 8949, section 8).
+use Rattle.std.specs.Prelude.{ℕ, ◌+◌, ◌/◌, ◌%◌, ◌==◌, nat_lt, List, [], ◌∷◌, ◌++◌, codes, decimal, if◌then◌else◌}
+use Rattle.cbor_diag.specs.declared.strings.quotes.Quotes.{Quotes}
+use Rattle.cbor_diag.specs.declared.strings.quotes.Quotes.TheVariants as q
+
+-- a simple value: the four that have names by these
+abbrev pub simple_text : ℕ → List ℕ
+simple_text number =
+    if number == 20 then codes "false"
+    else (if number == 21 then codes "true"
+    else (if number == 22 then codes "null"
+    else (if number == 23 then codes "undefined"
+    else (codes "simple(" ++ decimal number) ++ codes ")")))
+
+-- the hexadecimal digit of a number below 16, in lower case
+abbrev pub hex_digit : ℕ → ℕ
+hex_digit number = if nat_lt number 10 then 48 + number else 87 + number
+
+-- a byte of a byte string, between the quotes of h''
+abbrev pub hex_text : ℕ → List ℕ
+hex_text byte = hex_digit (byte / 16) ∷ hex_digit (byte % 16) ∷ []
+
+-- a byte of a text, between its quotes, with the escapes of JSON (RFC 8259, 7): a backslash, which is 92, in front of a
+-- quote, a backslash, or the letter of a control character, or of u and four digits; each other byte as it is
+abbrev pub escaped_text : ℕ → List ℕ
+escaped_text byte =
+    if byte == 34 then 92 ∷ 34 ∷ []
+    else (if byte == 92 then 92 ∷ 92 ∷ []
+    else (if byte == 8 then 92 ∷ 98 ∷ []
+    else (if byte == 9 then 92 ∷ 116 ∷ []
+    else (if byte == 10 then 92 ∷ 110 ∷ []
+    else (if byte == 12 then 92 ∷ 102 ∷ []
+    else (if byte == 13 then 92 ∷ 114 ∷ []
+    else (if nat_lt byte 32 then (92 ∷ 117 ∷ 48 ∷ 48 ∷ []) ++ hex_text byte
+    else byte ∷ [])))))))
+
+-- a byte between quotes of the kind
+abbrev pub byte_text : Quotes → ℕ → List ℕ
+byte_text q.Hex byte = hex_text byte
+byte_text q.Text byte = escaped_text byte
+
+-- bytes between quotes of the kind
+abbrev pub body_text : Quotes → List ℕ → List ℕ
+body_text quotes [] = []
+body_text quotes (byte ∷ bytes) = byte_text quotes byte ++ body_text quotes bytes

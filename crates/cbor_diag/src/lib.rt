@@ -1,0 +1,57 @@
+//! One item of CBOR in diagnostic notation (RFC 8949, section 8). No call takes memory.
+#![tactic(auto)]
+
+ghost use Rattle.std.specs.Prelude.{◌≤◌, OnOk};
+ghost use Rattle.ciborium_ll.specs.Decoding.{MovesOn};
+ghost use Rattle.cbor_skip.specs.Skipping.{SkipsItem};
+ghost use Rattle.cbor_diag.specs.Showing.{OnReading};
+
+mod layout;
+mod messages;
+mod nests;
+mod put;
+mod scalars;
+mod strings;
+
+pub use self::layout::Layout;
+use self::layout::Line;
+use self::nests::show_within;
+use cbor_skip::SkipError;
+use ciborium_ll::io::{Read, Write};
+use ciborium_ll::{Decoder, Header};
+
+/// Why an item was not shown whole.
+#[derive(Debug, Drop)]
+pub enum DiagError<E, F> {
+    /// The read of the item stopped, and this is why.
+    Read(SkipError<E>),
+    /// The writer failed, and this is its error.
+    Write(F),
+}
+
+/// Shows the one item that is next in diagnostic notation (RFC 8949, section 8), as UTF-8, with tags, arrays and maps
+/// nested at most `depth` levels deep.
+///
+/// Where the writer does not fail the item is read as `cbor_skip::skip_item` reads it: `Ok` says that one whole item
+/// was there, and the decoder is behind it; `Read` carries the error that `skip_item` answers, and the decoder is where
+/// that leaves it. What stands before the fault was written. `Write` carries the writer's error.
+///
+/// Floats have the indicator of their width, `_2` or `_3`, where a shorter one holds the same value. No other indicator
+/// is written but that of the indefinite forms: how long the titles of integers, lengths and tags are is not shown.
+pub fn diagnose<R: Read, W: Write>(
+    decoder: &mut Decoder<R>,
+    writer: &mut W,
+    depth: usize,
+    layout: Layout,
+) -> Result<(), DiagError<R::Error, W::Error>>
+    requires shallow { depth ≤ 256 }
+    ensures reads { OnReading (λ answer. SkipsItem R.Read depth 64 decoder.old answer decoder.new) result }
+    ensures moves_on { OnOk result (MovesOn R.Read decoder.old decoder.new) }
+{
+    let line = Line { layout, level: 0 };
+    // What a tag contains is one item.
+    match show_within(decoder, writer, Header::Tag(0), depth, line) {
+        Ok(_) => Ok(()),
+        Err(error) => Err(error),
+    }
+}

@@ -1,0 +1,53 @@
+//! Pieces of text, written.
+
+ghost use Rattle.std.specs.Prelude.{◌≡◌, ◌++◌, IfErr};
+ghost use Rattle.ciborium_ll.specs.Encoding.{WritesBytes};
+ghost use Rattle.cbor_diag.specs.Showing.{IsWriting};
+
+use crate::DiagError;
+use ciborium_ll::io::Write;
+
+/// Writes a text.
+pub(crate) fn put<W: Write>(writer: &mut W, text: &[u8]) -> Result<(), W::Error>
+    ensures { WritesBytes W.Write writer.old result text.now writer.new }
+{
+    writer.write_all(text)
+}
+
+/// Writes two texts, one behind the other.
+pub(crate) fn put_two<W: Write>(writer: &mut W, first: &[u8], second: &[u8]) -> Result<(), W::Error>
+    ensures { WritesBytes W.Write writer.old result (first.now ++ second.now) writer.new }
+{
+    put(writer, first)?;
+    put(writer, second)
+}
+
+/// Writes three texts, one behind the other.
+pub(crate) fn put_three<W: Write>(
+    writer: &mut W,
+    first: &[u8],
+    second: &[u8],
+    third: &[u8],
+) -> Result<(), W::Error>
+    ensures { WritesBytes W.Write writer.old result ((first.now ++ second.now) ++ third.now) writer.new }
+{
+    put_two(writer, first, second)?;
+    put(writer, third)
+}
+
+/// Writes a text. The error is the writer's.
+pub(crate) fn say<E, W: Write>(writer: &mut W, text: &[u8]) -> Result<(), DiagError<E, W::Error>>
+    ensures { IfErr result IsWriting }
+{
+    said(put(writer, text))
+}
+
+/// What a write answered, as the answer of a show.
+pub(crate) fn said<E, F>(answer: Result<(), F>) -> Result<(), DiagError<E, F>>
+    ensures { IfErr result IsWriting }
+{
+    match answer {
+        Ok(()) => Ok(()),
+        Err(fault) => Err(DiagError::Write(fault)),
+    }
+}

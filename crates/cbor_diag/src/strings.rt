@@ -1,0 +1,140 @@
+//! Strings, in quotes.
+
+ghost use Rattle.std.specs.Prelude.{◌≡◌, ◌≤◌, ℕ, [], Option, None, IfErr, OnOk};
+ghost use Rattle.ciborium_ll.specs.Types.Decoder.{Decoder as AnyDecoder};
+ghost use Rattle.ciborium_ll.specs.Types.Header.TheVariants as Header;
+ghost use Rattle.ciborium_ll.specs.Title.{IsInRange, title_len};
+ghost use Rattle.ciborium_ll.specs.Strings.{Bytes as byte_strings, Text as text_strings, kind_header};
+ghost use Rattle.ciborium_ll.specs.Decoding.{MovesOn, TakesBack, offset_of, refusals_of, strict_of, waiting_of};
+ghost use Rattle.ciborium_ll.specs.Finishing.{EndsBody};
+ghost use Rattle.ciborium_ll.specs.Segments.{IsAtBeginning, progress_of, string_decoder, string_reference};
+ghost use Rattle.ciborium_ll.specs.Segments.{string_strict};
+ghost use Rattle.ciborium_ll.specs.Skipping.{SkipsString};
+ghost use Rattle.cbor_diag.specs.Showing.{IsWriting, OnString};
+
+mod quotes;
+
+use self::quotes::{Quoted, Quotes};
+use crate::DiagError;
+use crate::put::say;
+use cbor_skip::SkipError;
+use ciborium_ll::io::{Read, Write};
+use ciborium_ll::{Body, Bytes, Chunked, Decoder, RecodeError, Segments, Text};
+
+/// Shows a byte string, behind its header with this length.
+pub(crate) fn show_bytes<R: Read, W: Write>(
+    decoder: &mut Decoder<R>,
+    writer: &mut W,
+    len: Option<usize>,
+) -> Result<(), DiagError<R::Error, W::Error>>
+    requires none_waits { waiting_of decoder.old ≡ None }
+    requires covered { title_len (Header.Bytes len) ≤ offset_of decoder.old }
+    ensures reads { OnString (λ answer. SkipsString R.Read byte_strings len 64 decoder.old answer decoder.new) result }
+    ensures moves_on { OnOk result (MovesOn R.Read decoder.old decoder.new) }
+{
+    let mut segments = decoder.bytes(len);
+    show_segments::<R, W, Bytes>(&mut segments, writer, Quotes::Hex, len.is_none())
+}
+
+/// Shows a text string, behind its header with this length.
+pub(crate) fn show_text<R: Read, W: Write>(
+    decoder: &mut Decoder<R>,
+    writer: &mut W,
+    len: Option<usize>,
+) -> Result<(), DiagError<R::Error, W::Error>>
+    requires none_waits { waiting_of decoder.old ≡ None }
+    requires covered { title_len (Header.Text len) ≤ offset_of decoder.old }
+    ensures reads { OnString (λ answer. SkipsString R.Read text_strings len 64 decoder.old answer decoder.new) result }
+    ensures moves_on { OnOk result (MovesOn R.Read decoder.old decoder.new) }
+{
+    let mut segments = decoder.text(len);
+    show_segments::<R, W, Text>(&mut segments, writer, Quotes::Text, len.is_none())
+}
+
+/// Shows the segments of a string that was just begun, in brackets where it is of the indefinite form.
+fn show_segments<R: Read, W: Write, P: Chunked>(
+    segments: &mut Segments<'_, R, P>,
+    writer: &mut W,
+    quotes: Quotes,
+    is_open: bool,
+) -> Result<(), DiagError<R::Error, W::Error>>
+    requires fresh { IsAtBeginning segments.old }
+    ensures reads { (opened : AnyDecoder R) (len : Option ℕ) → IsInRange (kind_header P.kind len)
+        → waiting_of opened ≡ None → TakesBack R.Read opened (kind_header P.kind len) (string_decoder segments.old)
+        → string_strict segments.old ≡ strict_of opened
+        → OnString (λ answer. SkipsString R.Read P.kind len 64 opened answer (string_decoder segments.new)) result }
+    ensures moves_on { (opened : AnyDecoder R) (len : Option ℕ) → IsInRange (kind_header P.kind len)
+        → waiting_of opened ≡ None → TakesBack R.Read opened (kind_header P.kind len) (string_decoder segments.old)
+        → string_strict segments.old ≡ strict_of opened
+        → refusals_of (string_decoder segments.old) ≡ refusals_of opened
+        → OnOk result (MovesOn R.Read opened (string_decoder segments.new)) }
+    ensures same_reference { string_reference segments.new ≡ string_reference segments.old }
+{
+    let mut is_first = true;
+    'segments: loop {
+        let body = match segments.advance() {
+            Ok(Some(body)) => body,
+            Ok(None) => return close(writer, quotes, is_open, is_first),
+            Err(error) => return Err(DiagError::Read(SkipError::Read(error))),
+        };
+        open(writer, is_open, is_first)?;
+        show_body(segments, writer, body, quotes)?;
+        is_first = false;
+    }
+}
+
+/// Writes what stands in front of a segment.
+fn open<E, W: Write>(
+    writer: &mut W,
+    is_open: bool,
+    is_first: bool,
+) -> Result<(), DiagError<E, W::Error>>
+    ensures { IfErr result IsWriting }
+{
+    match (is_open, is_first) {
+        (false, _) => Ok(()),
+        (true, true) => say::<E, W>(writer, b"(_ "),
+        (true, false) => say::<E, W>(writer, b", "),
+    }
+}
+
+/// Writes what stands behind the last segment. A string of the indefinite form that has none is told by its quotes.
+fn close<E, W: Write>(
+    writer: &mut W,
+    quotes: Quotes,
+    is_open: bool,
+    is_empty: bool,
+) -> Result<(), DiagError<E, W::Error>>
+    ensures { IfErr result IsWriting }
+{
+    match (is_open, is_empty) {
+        (false, _) => Ok(()),
+        (true, true) => say::<E, W>(writer, quotes.none()),
+        (true, false) => say::<E, W>(writer, b")"),
+    }
+}
+
+/// Shows the body that `advance` gave last, in quotes.
+fn show_body<R: Read, W: Write, P: Chunked>(
+    segments: &mut Segments<'_, R, P>,
+    writer: &mut W,
+    body: Body,
+    quotes: Quotes,
+) -> Result<(), DiagError<R::Error, W::Error>>
+    requires none_waits { waiting_of (string_decoder segments.old) ≡ None }
+    ensures reads { OnString (λ answer. EndsBody R.Read P.kind [] body.length 64 body.place
+        (string_decoder segments.old) answer (string_decoder segments.new)) result }
+    ensures same_reference { string_reference segments.new ≡ string_reference segments.old }
+    ensures progress { progress_of segments.new ≡ progress_of segments.old }
+    ensures mode { string_strict segments.new ≡ string_strict segments.old }
+    ensures moves_on { MovesOn R.Read (string_decoder segments.old) (string_decoder segments.new) }
+{
+    say::<R::Error, W>(writer, quotes.opening())?;
+    let mut quoted = Quoted::new(writer, quotes);
+    match segments.copy(body, &mut quoted, &mut [0; 64]) {
+        Ok(()) => {}
+        Err(RecodeError::Read(error)) => return Err(DiagError::Read(SkipError::Read(error))),
+        Err(RecodeError::Write(fault)) => return Err(DiagError::Write(fault)),
+    }
+    say::<R::Error, W>(writer, quotes.closing())
+}

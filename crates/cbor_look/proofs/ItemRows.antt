@@ -1,0 +1,97 @@
+-- Rows of items in lists of bytes: how many they are, and what may follow some of them.
+use Rattle.std.proofs.Common.{◌≡◌, ℕ, suc, ◌<◌, ◌≤◌, ◌⊎◌, List, [], ◌∷◌, ◌++◌, length, Some, refl}
+use Rattle.std.proofs.Common.{sym, ap, subst, ◌∙◌, inl, inr, arith, append_assoc, length-append}
+use Rattle.ciborium_ll.specs.Title.{BeginsRefused}
+use Rattle.ciborium_ll.specs.Strings.{Kind, kind_header}
+use Rattle.ciborium_ll.specs.Items.{AreItems, no_items, more_items}
+use Rattle.ciborium_ll.specs.Faults.{Place, Due, IsInside, opened, deeper, Answer, Short}
+use Rattle.ciborium_ll.specs.Faults.{FirstFault, CutTitle, NoTitle, OtherTitle, DamagedText, CutBody, CutDamagedText}
+use Rattle.ciborium_ll.proofs.ItemLaws.{one_item}
+use Rattle.ciborium_ll.proofs.NestLaws.{title_some}
+use Rattle.cbor_skip.specs.Due.{ReachesItem, at_item, at_string, at_body, at_piece}
+use Rattle.cbor_skip.specs.ItemFaults.{ItemInFront}
+use Rattle.cbor_skip.proofs.ItemSteps.{item_of}
+
+-- ---- lengths
+
+-- an empty list in front of another one is none
+pub nothing : (u : List ℕ) → length u ≡ 0 → u ≡ []
+nothing [] e = refl
+nothing (byte ∷ u) e = absurd (omega (arith, e))
+
+-- an item takes a byte at least
+pub items_counted : (d n : ℕ) (u : List ℕ) → AreItems d n u → n ≤ length u
+items_counted d n u no_items = omega arith
+items_counted d n u (more_items {count = m} {title = t} {rest = r} {others = a} {header = x} p c i) =
+    omega (arith, items_counted d m a i, title_some t x p, length-append t (r ++ a), length-append r a)
+
+-- ---- two rows
+
+-- the first item of a row, with what follows it
+item_apart : (t r a s : List ℕ) → (t ++ (r ++ a)) ++ s ≡ (t ++ r) ++ (a ++ s)
+item_apart t r a s =
+    append_assoc t (r ++ a) s ∙ (ap (λ (z : List ℕ). t ++ z) (append_assoc r a s) ∙ sym (append_assoc t r (a ++ s)))
+
+-- behind some items of a whole row one more comes, or those were all
+pub rows_meet : (d m : ℕ) (u : List ℕ) → AreItems d m u → (n : ℕ) (w : List ℕ) → AreItems d n w → (s : List ℕ)
+    → w ≡ u ++ s → ItemInFront d s ⊎ ((n ≡ m) × (s ≡ []))
+rows_meet d m u no_items n w no_items s e = inr (refl, sym e)
+rows_meet d m u no_items n w (more_items {title = t} {rest = r} {others = a} {header = x} p c i) s e =
+    inl (record { item = t ++ r; rest = a; is_item = item_of d t r x p c; is = sym e ∙ sym (append_assoc t r a) })
+rows_meet d m u (more_items {title = t} {rest = r} {others = a} {header = x} p c i) n w no_items s e =
+    let counted = ap length e in
+    absurd (omega (arith, counted, title_some t x p, length-append t (r ++ a), length-append (t ++ (r ++ a)) s))
+rows_meet d m u (more_items {count = j} {title = t} {rest = r} {others = a} {header = x} p c i) n w
+    (more_items {count = k} {title = t'} {rest = r'} {others = a'} {header = x'} p' c' i') s e =
+    let both : (t' ++ r') ++ a' ≡ (t ++ r) ++ (a ++ s) = append_assoc t' r' a' ∙ (e ∙ item_apart t r a s) in
+    let o = one_item d d (t' ++ r') (t ++ r) a' (a ++ s) (item_of d t' r' x' p' c') (item_of d t r x p c) both in
+    elim (rows_meet d j a i k a' i' s o.1) [
+      | inl comes ↦ inl comes
+      | inr ends ↦ inr (ap suc ends.0, ends.1)
+    ]
+
+-- ---- no byte of an item
+
+-- an open takes a byte
+inside_some : (k : Kind) (u : List ℕ) (bs : List (List ℕ)) → IsInside k u bs → 0 < length u
+inside_some k u bs (opened {title = t} {strings = x} p s) =
+    omega (arith, title_some t (kind_header k _) p, length-append t x)
+inside_some k u bs (deeper {outer = x} {inner = y} {bodies = cs} p q) =
+    omega (arith, inside_some k x cs p, length-append x y)
+
+-- before a byte was read an item is due
+pub due_first : (d : ℕ) (u : List ℕ) (at : Place) → ReachesItem d u at → u ≡ [] → at ≡ Due
+due_first d u at (at_item p) e = refl
+due_first d u at (at_string {bytes = a} {opens = y} {bodies = bs} {kind = k} p q ok) e =
+    let counted = ap length e in absurd (omega (arith, counted, inside_some k y bs q, length-append a y))
+due_first d u at (at_body {bytes = a} {title = t} {len = l} k r p) e =
+    let counted = ap length e in
+    absurd (omega (arith, counted, title_some t (kind_header k (Some l)) p, length-append a t))
+due_first d u at (at_piece {bytes = a} {title = t} {len = l} {kind = k} r p) e =
+    let counted = ap length e in
+    absurd (omega (arith, counted, title_some t (kind_header k (Some l)) p, length-append a t))
+
+-- where no byte is consumed of what is short there is none
+pub short_first : (before : List ℕ) (at : Place) (ahead : List ℕ) (answer : Answer) (written : List ℕ) (consumed : ℕ)
+    → FirstFault before [] at ahead answer written consumed → at ≡ Due → answer ≡ Short → consumed ≡ 0 → ahead ≡ []
+short_first before at ahead answer written consumed (CutTitle title cut) due is none = nothing ahead (omega (
+  arith,
+  none,
+))
+short_first before at ahead answer written consumed (NoTitle title refused) due is none = absurd cc
+short_first before at ahead answer written consumed (OtherTitle header rest p m e) due is none = absurd cc
+short_first before at ahead answer written consumed (DamagedText front rest l damaged e t c) due is none = absurd cc
+short_first before at ahead answer written consumed (CutBody front rest l e w a b c) due is none = absurd cc
+short_first before at ahead answer written consumed (CutDamagedText front rest l damaged e t c) due is none = absurd cc
+
+-- where there is none, it is short, and none is consumed
+pub first_short : (before : List ℕ) (at : Place) (ahead : List ℕ) (answer : Answer) (written : List ℕ) (consumed : ℕ)
+    → FirstFault before [] at ahead answer written consumed → at ≡ Due → ahead ≡ [] → (answer ≡ Short) × (consumed ≡ 0)
+first_short before at ahead answer written consumed (CutTitle title cut) due none =
+    let counted = ap length none in (refl, omega (arith, counted))
+first_short before at ahead answer written consumed (NoTitle title refused) due none =
+    absurd (subst BeginsRefused none refused)
+first_short before at ahead answer written consumed (OtherTitle header rest p m e) due none = absurd cc
+first_short before at ahead answer written consumed (DamagedText front rest l damaged e t c) due none = absurd cc
+first_short before at ahead answer written consumed (CutBody front rest l e w a b c) due none = absurd cc
+first_short before at ahead answer written consumed (CutDamagedText front rest l damaged e t c) due none = absurd cc

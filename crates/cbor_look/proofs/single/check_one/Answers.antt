@@ -1,0 +1,35 @@
+use Rattle.std.proofs.Common.{length, Err}
+use Rattle.cbor_skip.specs.Skipping.{ReadsItem, SkipsItem}
+use Rattle.cbor_look.specs.declared.single.NotOne.TheVariants as n
+use Rattle.cbor_look.proofs.SingleLaws.{ends_one, one_told, one_exactly}
+use Rattle.cbor_look.proofs.single.check_one.Goals as goal
+
+pub returns-in-Err-clause-exactly : goal.returns-in-Err-clause-exactly
+returns-in-Err-clause-exactly g c =
+    let old = c.args.decoder.now in
+    let depth = c.args.depth in
+    let room = length c.args.buffer.now in
+    let new = c.skip_item.new.decoder in
+    let fails : SkipsItem g.R.Read depth room old (Err c.in-Err.error) new =
+    rw c.offset-start.ensures.same at c.in-Err.ensures.skipped in
+    λ due ready. one_exactly g.R.Read depth room old due ready new (Err (n.Item c.in-Err.error)) fails
+
+pub returns : goal.returns
+returns g c =
+    let old = c.args.decoder.now in
+    let depth = c.args.depth in
+    let room = length c.args.buffer.now in
+    let new = c.offset.new.self in
+    let result = c.alone.result in
+    let reads : ReadsItem g.R.Read depth old c.skip_item.new.decoder =
+    rw c.offset-start.ensures.same at c.in_default.ensures.skipped in
+    let pulls = rw (← c.offset.ensures.same, c.offset-place.ensures.same) at c.pull-pulled.ensures.header in
+    let checks =
+    ends_one g.R.Read depth room c.offset-start.result c.offset-place.result c.offset.result old
+    c.skip_item.new.decoder new c.pull-pulled.result result reads pulls c.alone.ensures c.offset-start.ensures.value
+    c.offset-place.ensures.value (rw c.offset.ensures.same c.offset.ensures.value) in
+    record {
+      checks = checks;
+      told = λ due ready. one_told g.R.Read depth room old due ready new result checks;
+      exactly = λ due ready. one_exactly g.R.Read depth room old due ready new result checks;
+    }

@@ -1,0 +1,4 @@
+pub mod Sequences
+pub mod Singles
+pub mod Dumps
+pub mod Takings

@@ -1,0 +1,85 @@
+-- Sequences of items (RFC 8742), and what `check` does with them.
+use Rattle.std.specs.Prelude.{◌≡◌, ℕ, ◌+◌, ◌-◌, List, [], ◌++◌, length, Some, Result, Ok, Err}
+use Rattle.ciborium_ll.specs.Types.Read.{Ghosts}
+use Rattle.ciborium_ll.specs.Types.Decoder.{Decoder}
+use Rattle.ciborium_ll.specs.Types.Error.TheVariants as e
+use Rattle.ciborium_ll.specs.Items.{AreItems}
+use Rattle.ciborium_ll.specs.Decoding.{view, Passes}
+use Rattle.cbor_skip.specs.declared.SkipError.{SkipError}
+use Rattle.cbor_skip.specs.declared.SkipError.TheVariants as s
+use Rattle.cbor_skip.specs.ItemFaults.{ItemInFront}
+use Rattle.cbor_skip.specs.Skipping.{SkipsItem}
+use Rattle.cbor_skip.specs.SkippingTold.{SkipsTold}
+use Rattle.cbor_look.specs.declared.sequence.Sequence.{Sequence}
+use Rattle.cbor_look.specs.declared.sequence.Stopped.{Stopped}
+
+-- the bytes are items of that depth, one behind the other, and nothing else (RFC 8742, 2)
+abbrev pub IsSequence : ℕ → List ℕ → Type 0
+IsSequence depth bytes = (count : ℕ) × AreItems depth count bytes
+
+-- Whether an error says that no byte of an item came: the reader failed, and the offset is that of the item's place
+abbrev pub IsEnd : {E : Type 0} → SkipError E → ℕ → ℕ → Type 0
+IsEnd (s.Read (e.Io fault)) place stop = stop ≡ place
+IsEnd error place stop = ⊥
+
+-- what the end of the read says: the first item begins at the start, the last one at the place, and there it stopped
+abbrev pub EndsSequence : {E : Type 0} → SkipError E → ℕ → ℕ → ℕ → ℕ → Result (Sequence E) (Stopped E) → Type 0
+EndsSequence error items start place stop (Ok sequence) = (error ≡ s.Read (e.Io sequence.«end»)) × (stop ≡ place)
+    × (sequence.items ≡ items) × (sequence.bytes ≡ place - start)
+EndsSequence error items start place stop (Err stopped) =
+    (stopped ≡ record { items = items; place = place; error = error }) × (IsEnd error place stop → ⊥)
+
+module _ {R E : Type 0} (source : Ghosts R E) where
+  -- so many items were read
+  pub record ReadsItems (depth count : ℕ) (old new : Decoder R) : Type 0 where
+    pub bytes : List ℕ
+    pub are_items : AreItems depth count bytes
+    pub passed : Passes source old bytes new
+
+  -- so many items were read, and where a further one is due the reader failed with nothing consumed
+  pub record FindsEnd (depth room : ℕ) (old : Decoder R) (sequence : Sequence E) (new : Decoder R) : Type 0 where
+    pub between : Decoder R
+    pub reads : ReadsItems depth sequence.items old between
+    pub counted : sequence.bytes ≡ length reads.bytes
+    pub fails : SkipsItem source depth room between (Err (s.Read (e.Io sequence.«end»))) new
+    pub still : new.offset ≡ between.offset
+
+  -- so many items were read, and the read of a further one failed, not at its end
+  pub record FindsNoItem (depth room : ℕ) (old : Decoder R) (stopped : Stopped E) (new : Decoder R) : Type 0 where
+    pub between : Decoder R
+    pub reads : ReadsItems depth stopped.items old between
+    pub place : stopped.place ≡ between.offset
+    pub fails : SkipsItem source depth room between (Err stopped.error) new
+    pub no_end : IsEnd stopped.error between.offset new.offset → ⊥
+
+  -- `check` through a buffer of so much room, by its answer
+  abbrev pub ChecksItems : ℕ → ℕ → Decoder R → Result (Sequence E) (Stopped E) → Decoder R → Type 0
+  ChecksItems depth room old (Ok sequence) new = FindsEnd depth room old sequence new
+  ChecksItems depth room old (Err stopped) new = FindsNoItem depth room old stopped new
+
+  -- the bytes are a sequence of so many items, and none is left
+  pub record FindsSequence (depth : ℕ) (due : List ℕ) (old : Decoder R) (sequence : Sequence E) (new : Decoder R)
+      : Type 0 where
+    pub are_items : AreItems depth sequence.items due
+    pub counted : sequence.bytes ≡ length due
+    pub left : view source new ≡ Some []
+    pub offset : new.offset ≡ old.offset + length due
+
+  -- behind so many items bytes follow that begin with none, and what stops the read of one is met
+  pub record FindsFault (depth : ℕ) (due : List ℕ) (old : Decoder R) (stopped : Stopped E) (new : Decoder R)
+      : Type 0 where
+    pub before : List ℕ
+    pub ahead : List ℕ
+    pub are_items : AreItems depth stopped.items before
+    pub is : due ≡ before ++ ahead
+    pub place : stopped.place ≡ old.offset + length before
+    pub no_item : ItemInFront depth ahead → ⊥
+    pub no_end : ahead ≡ [] → ⊥
+    pub between : Decoder R
+    pub at : between.offset ≡ stopped.place
+    pub met : SkipsTold source depth ahead between (Err stopped.error) new
+
+  -- `check` where the bytes are told, by its answer
+  abbrev pub ChecksTold : ℕ → List ℕ → Decoder R → Result (Sequence E) (Stopped E) → Decoder R → Type 0
+  ChecksTold depth due old (Ok sequence) new = FindsSequence depth due old sequence new
+  ChecksTold depth due old (Err stopped) new = FindsFault depth due old stopped new

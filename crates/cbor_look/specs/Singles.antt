@@ -1,0 +1,60 @@
+-- One item and nothing behind it, and what `check_one` does.
+use Rattle.std.specs.Prelude.{◌≡◌, ℕ, ◌+◌, ◌-◌, List, [], length, Result, Ok, Err}
+use Rattle.ciborium_ll.specs.Types.Read.{Ghosts}
+use Rattle.ciborium_ll.specs.Types.Header.{Header}
+use Rattle.ciborium_ll.specs.Types.Decoder.{Decoder}
+use Rattle.ciborium_ll.specs.Types.Error.{Error}
+use Rattle.ciborium_ll.specs.Types.Error.TheVariants as e
+use Rattle.ciborium_ll.specs.Decoding.{PullsHeader}
+use Rattle.cbor_skip.specs.ItemFaults.{ItemInFront}
+use Rattle.cbor_skip.specs.Skipping.{ReadsItem, SkipsItem}
+use Rattle.cbor_skip.specs.SkippingTold.{SkipsTold}
+use Rattle.cbor_look.specs.declared.sequence.Sequence.{Sequence}
+use Rattle.cbor_look.specs.declared.single.NotOne.{NotOne}
+use Rattle.cbor_look.specs.declared.single.NotOne.TheVariants as n
+use Rattle.cbor_look.specs.Sequences.{FindsSequence}
+
+-- what the pull behind an item says: it stands from the start to the place, and there the pull stopped
+abbrev pub EndsOne : {E : Type 0} → Result Header (Error E) → ℕ → ℕ → ℕ → Result (Sequence E) (NotOne E) → Type 0
+EndsOne pulled start place stop (Ok sequence) = (pulled ≡ Err (e.Io sequence.«end»)) × (stop ≡ place)
+    × (sequence.items ≡ 1) × (sequence.bytes ≡ place - start)
+EndsOne pulled start place stop (Err (n.Item error)) = ⊥
+EndsOne {E} pulled start place stop (Err (n.More at next)) = (at ≡ place) × (next ≡ pulled)
+    × ((fault : E) → pulled ≡ Err (e.Io fault) → stop ≡ place → ⊥)
+
+module _ {R E : Type 0} (source : Ghosts R E) where
+  -- an item was read, and behind it the reader failed with nothing consumed
+  pub record FindsAlone (depth : ℕ) (old : Decoder R) (sequence : Sequence E) (new : Decoder R) : Type 0 where
+    pub between : Decoder R
+    pub reads : ReadsItem source depth old between
+    pub one : sequence.items ≡ 1
+    pub counted : sequence.bytes ≡ length reads.item
+    pub fails : PullsHeader source between (Err (e.Io sequence.«end»)) new
+    pub still : new.offset ≡ between.offset
+
+  -- an item was read, and the pull behind it found no end
+  pub record FindsMore (depth : ℕ) (old : Decoder R) (at : ℕ) (next : Result Header (Error E)) (new : Decoder R)
+      : Type 0 where
+    pub between : Decoder R
+    pub reads : ReadsItem source depth old between
+    pub place : at ≡ between.offset
+    pub pulls : PullsHeader source between next new
+    pub no_end : (fault : E) → next ≡ Err (e.Io fault) → new.offset ≡ between.offset → ⊥
+
+  -- `check_one` through a buffer of so much room, by its answer
+  abbrev pub ChecksOne : ℕ → ℕ → Decoder R → Result (Sequence E) (NotOne E) → Decoder R → Type 0
+  ChecksOne depth room old (Ok sequence) new = FindsAlone depth old sequence new
+  ChecksOne depth room old (Err (n.Item error)) new = SkipsItem source depth room old (Err error) new
+  ChecksOne depth room old (Err (n.More at next)) new = FindsMore depth old at next new
+
+  -- an item is in front, and some bytes follow it, from this offset on
+  pub record HasMore (depth : ℕ) (due : List ℕ) (old : Decoder R) (at : ℕ) : Type 0 where
+    pub front : ItemInFront depth due
+    pub some : front.rest ≡ [] → ⊥
+    pub place : at ≡ old.offset + length front.item
+
+  -- `check_one` where the bytes are told, by its answer
+  abbrev pub ChecksOneTold : ℕ → List ℕ → Decoder R → Result (Sequence E) (NotOne E) → Decoder R → Type 0
+  ChecksOneTold depth due old (Ok sequence) new = (sequence.items ≡ 1) × FindsSequence source depth due old sequence new
+  ChecksOneTold depth due old (Err (n.Item error)) new = SkipsTold source depth due old (Err error) new
+  ChecksOneTold depth due old (Err (n.More at next)) new = HasMore depth due old at

@@ -1,0 +1,24 @@
+-- The bytes of a row: just those that were consumed for it.
+use Rattle.std.specs.Prelude.{◌≡◌, ℕ, List, ◌++◌, take, None}
+use Rattle.std.specs.Io.KnownBytes.{Consumes}
+use Rattle.ciborium_ll.specs.Types.Read.{Ghosts}
+use Rattle.ciborium_ll.specs.Types.Decoder.{Decoder}
+use Rattle.ciborium_ll.specs.Decoding.{view, IsSteady}
+use Rattle.cbor_look.specs.declared.taken.Taken.{Taken}
+
+-- the bytes that were read
+abbrev pub taken_bytes : Taken → List ℕ
+taken_bytes taken = take taken.len taken.bytes
+
+module _ {R E : Type 0} (source : Ghosts R E) where
+  -- the reader fails only where bytes are missing, and no header waits
+  pub record IsIdle (decoder : Decoder R) : Type 0 where
+    pub steady : IsSteady source decoder
+    pub none_waits : decoder.waiting ≡ None
+
+  -- what was consumed is what came behind the bytes before
+  pub record Keeps (before after : List ℕ) (old new : Decoder R) : Type 0 where
+    pub bytes : List ℕ
+    pub appended : after ≡ before ++ bytes
+    pub consumed : Consumes (view source old) (view source new) bytes
+    pub idle : IsIdle new

@@ -1,0 +1,10 @@
+//! A look at bytes of CBOR (RFC 7049, 2.1 to 2.4; sequences of items: RFC 8742). No call takes memory.
+#![tactic(auto)]
+
+pub mod dump;
+pub mod rows;
+pub mod sequence;
+pub mod single;
+mod strings;
+mod taken;
+mod walk;

@@ -1,0 +1,69 @@
+//! One item, and nothing behind it.
+
+ghost use Rattle.std.specs.Prelude.{◌≡◌, ◌≤◌, ◌↔◌, ℕ, List, length, IsOk};
+ghost use Rattle.ciborium_ll.specs.Items.{IsItem};
+ghost use Rattle.cbor_skip.specs.SkippingTold.{IsReadyToSkip};
+ghost use Rattle.cbor_look.specs.Singles.{ChecksOne, ChecksOneTold, EndsOne};
+
+use crate::sequence::Sequence;
+use cbor_skip::{SkipError, skip_item};
+use ciborium_ll::io::Read;
+use ciborium_ll::{Decoder, Error, Header};
+
+/// Why the input isn't one item.
+#[derive(Debug, Drop)]
+pub enum NotOne<E> {
+    /// No item stands in front, and this is why.
+    Item(SkipError<E>),
+    /// One does, and from this offset on, behind it, more follows, of which this was pulled: a header, or the decoder's
+    /// error.
+    More(usize, Result<Header, Error<E>>),
+}
+
+/// Reads one item, with tags, arrays and maps nested at most `depth` levels deep, and the end behind it.
+///
+/// `Ok` says that one whole item was there, and that the reader failed behind it before a byte more came. Over a reader
+/// that fails only where bytes are missing that is the end. What follows an item is read for as long as one title.
+///
+/// `Item` carries the error of `skip_item`. `More` names the offset behind the item.
+pub fn check_one<R: Read>(
+    decoder: &mut Decoder<R>,
+    depth: usize,
+    buffer: &mut [u8],
+) -> Result<Sequence<R::Error>, NotOne<R::Error>>
+    requires shallow { depth ≤ 256 }
+    requires room { 4 ≤ length buffer.old }
+    ensures checks { ChecksOne R.Read depth (length buffer.old) decoder.old result decoder.new }
+    ensures told { (due : List ℕ) → IsReadyToSkip R.Read (length buffer.old) decoder.old due
+        → ChecksOneTold R.Read depth due decoder.old result decoder.new }
+    ensures exactly { (due : List ℕ) → IsReadyToSkip R.Read (length buffer.old) decoder.old due
+        → (IsOk result ↔ IsItem depth due) }
+{
+    let start = decoder.offset();
+    if let Err(error) = skip_item(decoder, depth, buffer) {
+        return Err(NotOne::Item(error));
+    }
+    let place = decoder.offset();
+    let pulled = decoder.pull();
+    alone(pulled, start, place, decoder.offset())
+}
+
+/// What stands behind an item from `start` to `place`: there the next title was pulled, up to the offset `stop`.
+fn alone<E>(
+    pulled: Result<Header, Error<E>>,
+    start: usize,
+    place: usize,
+    stop: usize,
+) -> Result<Sequence<E>, NotOne<E>>
+    requires behind { start ≤ place }
+    ensures { EndsOne pulled start place stop result }
+{
+    match pulled {
+        Err(Error::Io(end)) if stop == place => Ok(Sequence {
+            items: 1,
+            bytes: place - start,
+            end,
+        }),
+        next => Err(NotOne::More(place, next)),
+    }
+}

@@ -1,0 +1,122 @@
+//! What the arguments ask for.
+
+ghost use Rattle.std.specs.Prelude.{◌≤◌, length, IfSome};
+
+use cbor_diag::Layout;
+use ciborium_ll_requests::number::{MOST_DEPTH, number_up_to};
+
+/// What is done.
+#[derive(Debug, Clone, Copy, PartialEq, Eq)]
+pub enum Word {
+    /// The input is checked.
+    Check,
+    /// It is shown.
+    Show(View),
+}
+
+/// What of an input is shown.
+#[derive(Debug, Clone, Copy, PartialEq, Eq)]
+pub enum View {
+    /// Its titles.
+    Titles,
+    /// Its items, in diagnostic notation.
+    Notation,
+}
+
+/// How it is done.
+#[derive(Debug, Clone, Copy, PartialEq, Eq)]
+pub struct Options {
+    /// Whether the shortest spelling alone is taken.
+    pub strict: bool,
+    /// Whether just one item is wanted.
+    pub one: bool,
+    /// Whether the input is hexadecimal digits.
+    pub hex: bool,
+    /// Whether each line of a dump has its offset.
+    pub offsets: bool,
+    /// How items in diagnostic notation are laid out.
+    pub layout: Layout,
+    /// How many levels deep tags, arrays and maps may be nested.
+    pub depth: usize,
+    ghost shallow: { depth ≤ 256 },
+}
+
+impl Options {
+    /// What holds where nothing else is asked for.
+    pub fn new() -> Options {
+        Options {
+            strict: false,
+            one: false,
+            hex: false,
+            offsets: false,
+            layout: Layout::OneLine,
+            depth: 256,
+        }
+    }
+
+    /// Takes a depth. `None` says that no read of an item takes it, or that the word is no number.
+    fn set_depth(&mut self, word: &str) -> Option<()> {
+        self.depth = number_up_to(MOST_DEPTH, word)?;
+        Some(())
+    }
+
+    /// Takes an option that has no word behind it. `None` says that there is no such one for what is done.
+    fn set(&mut self, word: Word, option: &str) -> Option<()> {
+        match (option, word) {
+            ("--strict", _) => self.strict = true,
+            ("--one", Word::Check) => self.one = true,
+            ("--hex", _) => self.hex = true,
+            ("--offsets", Word::Show(View::Titles)) => self.offsets = true,
+            ("--pretty", Word::Show(View::Notation)) => self.layout = Layout::Indented,
+            _ => return None,
+        }
+        Some(())
+    }
+}
+
+/// What the words ask for.
+#[derive(Debug, Drop)]
+pub struct Asked {
+    /// What is done.
+    pub word: Word,
+    /// How it is done.
+    pub options: Options,
+    /// From which word on files are named.
+    pub files: usize,
+}
+
+/// What the words behind the program's name ask for: one for what is done, then options, then files. `--` ends the
+/// options, and `-` is a file. Other words ask for nothing.
+pub fn asked_by(words: &[String]) -> Option<Asked>
+    ensures within { IfSome result (λ asked. asked.files ≤ length words.now) }
+{
+    let word = match words.first()?.as_str() {
+        "check" => Word::Check,
+        "dump" => Word::Show(View::Titles),
+        "diag" => Word::Show(View::Notation),
+        _ => return None,
+    };
+    let mut options = Options::new();
+    let mut at = 1;
+    'options: while at < words.len() {
+        let option = words[at].as_str();
+        if !option.as_bytes().starts_with(b"-") || option == "-" {
+            break;
+        }
+        at += 1;
+        if option == "--" {
+            break;
+        }
+        if option == "--depth" {
+            options.set_depth(words.get(at)?.as_str())?;
+            at += 1;
+        } else {
+            options.set(word, option)?;
+        }
+    }
+    Some(Asked {
+        word,
+        options,
+        files: at,
+    })
+}

@@ -1,0 +1,177 @@
+//! A program that looks at files of CBOR.
+//!
+//! It joins what the words on its command line ask for with what the libraries do: `check` says whether the bytes are
+//! well-formed, `dump` shows them title by title, and `diag` writes them in diagnostic notation.
+#![tactic(auto)]
+
+mod arguments;
+mod check;
+mod diag;
+mod digits;
+mod dump;
+#[cfg(test)]
+mod tests;
+mod verdict;
+
+use crate::arguments::{Asked, Options, View, Word, asked_by};
+use crate::check::check_input;
+use crate::diag::diag_input;
+use crate::digits::Digits;
+use crate::dump::dump_input;
+use crate::verdict::{Status, Verdict};
+use std::fs::File;
+use std::io::BufWriter;
+use std::process::ExitCode;
+use std::{env, io};
+
+/// What the program says to other arguments.
+const USAGE: &str = "usage: cbor check [--strict] [--depth N] [--one] [--hex] [FILE..]
+       cbor dump [--strict] [--depth N] [--offsets] [--hex] [FILE..]
+       cbor diag [--strict] [--depth N] [--pretty] [--hex] [FILE..]";
+
+fn main(rt: HostRuntime) -> ExitCode {
+    let Ok(words) = words_of(&rt) else {
+        let _ = eprintln!(rt; "cbor: the arguments can't be read");
+        return ExitCode::from(Status::Failed.code());
+    };
+    let status = match asked_by(words.as_slice()) {
+        Some(asked) => answered(&rt, &asked, &words[asked.files..]),
+        None => {
+            let _ = eprintln!(rt; "{USAGE}");
+            Status::Usage
+        }
+    };
+    ExitCode::from(status.code())
+}
+
+/// The words behind the program's name. The error is that of the arguments, or says that there is no memory.
+fn words_of(rt: &HostRuntime) -> io::Result<Vec<String>> {
+    let mut words = Vec::new(rt.alloc());
+    for word in env::args(rt)?.skip(1) {
+        words
+            .push(word)
+            .map_err(|_| io::Error::from(io::ErrorKind::OutOfMemory))?;
+    }
+    Ok(words)
+}
+
+/// Answers for each file, and for standard input where none is named. The status is the worst one.
+fn answered(rt: &HostRuntime, asked: &Asked, files: &[String]) -> Status {
+    if files.is_empty() {
+        return answered_for(rt, asked, "-", false);
+    }
+    let mut status = Status::Well;
+    for file in files {
+        status = status.worse(answered_for(rt, asked, file.as_str(), files.len() > 1));
+    }
+    status
+}
+
+/// Answers for one file, in a line that has its name where there are several.
+fn answered_for(rt: &HostRuntime, asked: &Asked, file: &str, several: bool) -> Status {
+    match asked.word {
+        Word::Check => said(rt, file, several, checked(rt, asked.options, file)),
+        Word::Show(view) => shown(rt, file, several, view, asked.options),
+    }
+}
+
+/// Checks a file, or standard input for `-`.
+fn checked(rt: &HostRuntime, options: Options, file: &str) -> Verdict {
+    if file == "-" {
+        return checked_bytes(rt.reader(), options);
+    }
+    match File::open(rt, file) {
+        Ok(file) => checked_bytes(file, options),
+        Err(error) => Verdict::Failed(error),
+    }
+}
+
+/// Checks what a reader gives: bytes, or with `--hex` their digits.
+fn checked_bytes<R: io::Read + Drop>(reader: R, options: Options) -> Verdict {
+    if options.hex {
+        check_input(Digits::new(reader), options)
+    } else {
+        check_input(reader, options)
+    }
+}
+
+/// Shows a file, or standard input for `-`, behind a line with its name where there are several.
+fn shown(rt: &HostRuntime, file: &str, several: bool, view: View, options: Options) -> Status {
+    let named = if several {
+        println!(rt; "# {file}")
+    } else {
+        Ok(())
+    };
+    let outcome = match named {
+        Ok(()) => written(rt, view, options, file),
+        Err(error) => Err(Verdict::Output(error)),
+    };
+    match outcome {
+        Ok(()) => Status::Well,
+        Err(verdict) => {
+            let _ = eprintln!(rt; "cbor: {file}: {verdict}");
+            verdict.status()
+        }
+    }
+}
+
+/// Writes what is shown of a file, or of standard input for `-`.
+fn written(rt: &HostRuntime, view: View, options: Options, file: &str) -> Result<(), Verdict> {
+    if file == "-" {
+        return written_bytes(rt, rt.reader(), view, options);
+    }
+    match File::open(rt, file) {
+        Ok(file) => written_bytes(rt, file, view, options),
+        Err(error) => Err(Verdict::Failed(error)),
+    }
+}
+
+/// Writes what is shown of what a reader gives: bytes, or with `--hex` their digits.
+fn written_bytes<R: io::Read + Drop>(
+    rt: &HostRuntime,
+    reader: R,
+    view: View,
+    options: Options,
+) -> Result<(), Verdict> {
+    if options.hex {
+        written_view(rt, Digits::new(reader), view, options)
+    } else {
+        written_view(rt, reader, view, options)
+    }
+}
+
+/// Writes what is shown of bytes.
+fn written_view<R: io::Read + Drop>(
+    rt: &HostRuntime,
+    reader: R,
+    view: View,
+    options: Options,
+) -> Result<(), Verdict> {
+    match view {
+        View::Notation => diag_input(reader, io::writer(rt), options),
+        View::Titles => match BufWriter::new(rt.alloc(), io::writer(rt)) {
+            Ok(writer) => dump_input(rt.alloc(), reader, writer, options),
+            Err(error) => Err(Verdict::Output(error)),
+        },
+    }
+}
+
+/// Says what was found: on standard output, and what failed on standard error.
+fn said(rt: &(impl Print + Eprint), file: &str, several: bool, verdict: Verdict) -> Status {
+    let status = verdict.status();
+    let printed = match (verdict, several) {
+        (Verdict::Failed(error), _) => {
+            let _ = eprintln!(rt; "cbor: {file}: {error}");
+            return status;
+        }
+        (verdict, true) => println!(rt; "{file}: {verdict}"),
+        (verdict, false) => println!(rt; "{verdict}"),
+    };
+    match printed {
+        Ok(()) => status,
+        Err(error) => {
+            let _ = eprintln!(rt; "cbor: standard output: {error}");
+            Status::Failed
+        }
+    }
+}
