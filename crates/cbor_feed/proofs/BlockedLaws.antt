@@ -1,0 +1,279 @@
+-- The kind of a first byte tells whether a title that begins so may stand there.
+use Rattle.std.proofs.Common.{◌≡◌, ℕ, zero, suc, ◌/◌, ◌%◌, ◌<◌, ◌≤◌, Bool, true, false, List, [], ◌∷◌, ◌++◌, length}
+use Rattle.std.proofs.Common.{Option}
+use Rattle.std.proofs.Common.{Some, None, refl, sym, ap, subst, ◌∙◌, arith, cond, ◌==◌, slice_index, drop}
+use Rattle.ciborium_ll_grammar.specs.declared.hdr.Header.{Header}
+use Rattle.ciborium_ll_grammar.specs.declared.hdr.table.TitleKind.{TitleKind}
+use Rattle.ciborium_ll_grammar.specs.declared.hdr.table.TitleKind.TheVariants as k
+use Rattle.ciborium_ll_grammar.specs.Title.{Major, Unsigned, Negative, ByteString, TextString, Array, Map, Tag, Other}
+use Rattle.ciborium_ll_grammar.specs.Title.{major_code, first_byte, Size, Small, One, Two, Four, Eight}
+use Rattle.ciborium_ll_grammar.specs.Title.{minor_of, affix_len, numbered_header, IsTitle, numbered, alone}
+use Rattle.ciborium_ll_grammar.specs.Title.{IsCutTitle, NamesNoTitle, BeginsRefused}
+use Rattle.ciborium_ll_grammar.specs.TitleRows.{IsTitleKind, IsRow}
+use Rattle.ciborium_ll_grammar.specs.declared.hdr.table.Row.{Row}
+use Rattle.ciborium_ll_grammar.proofs.TitleLaws.{same_major, minor_below}
+use Rattle.ciborium_ll_grammar.proofs.AffixLaws.{refused_affix}
+use Rattle.cbor_feed.specs.declared.level.Level.{Level}
+use Rattle.cbor_feed.specs.declared.phase.Phase.TheVariants as p
+use Rattle.cbor_feed.specs.declared.phase.Within.{Within}
+use Rattle.cbor_feed.specs.declared.phase.Within.TheVariants as w
+use Rattle.cbor_feed.specs.declared.phase.Fault.{Fault}
+use Rattle.cbor_feed.specs.declared.phase.Fault.TheVariants as f
+use Rattle.cbor_feed.specs.Blocked.{blocked}
+use Rattle.cbor_feed.specs.Levels.{next}
+use Rattle.cbor_feed.specs.Spots.{Spot, at_phase, settled, string_done, bytes_due, text_due, nested, entered}
+use Rattle.cbor_feed.specs.Spots.{body_placed, refused}
+use Rattle.cbor_feed.specs.Steps.{titled, TitleStep, cut, early, whole, none}
+
+-- ---- the kind of a major type
+
+abbrev kind_of : Major → TitleKind
+kind_of Unsigned = k.Positive
+kind_of Negative = k.Negative
+kind_of ByteString = k.Bytes
+kind_of TextString = k.Text
+kind_of Array = k.Array
+kind_of Map = k.Map
+kind_of Tag = k.Tag
+kind_of Other = k.Other
+
+kind_is : (kind : TitleKind) (m : Major) (minor : ℕ) → IsTitleKind kind (major_code m) minor
+    → (NamesNoTitle (major_code m) minor → ⊥)
+    → kind ≡ kind_of m
+kind_is k.Positive m minor i some = sym (ap kind_of (same_major m Unsigned i.0))
+kind_is k.Negative m minor i some = sym (ap kind_of (same_major m Negative i.0))
+kind_is k.Bytes m minor i some = sym (ap kind_of (same_major m ByteString i.0))
+kind_is k.Text m minor i some = sym (ap kind_of (same_major m TextString i.0))
+kind_is k.Array m minor i some = sym (ap kind_of (same_major m Array i.0))
+kind_is k.Map m minor i some = sym (ap kind_of (same_major m Map i.0))
+kind_is k.Tag m minor i some = sym (ap kind_of (same_major m Tag i.0))
+kind_is k.Other m minor i some = sym (ap kind_of (same_major m Other i.0))
+kind_is k.Refused m minor i some = absurd (some i)
+
+-- ---- no fault behind a whole item
+
+settled_by : (o : Option Level) (g : Level) (gs : List Level) (d : ℕ) (spot : Spot) (fault : Fault) → next g ≡ o
+    → ((settled (suc d) gs spot).phase ≡ p.Faulted fault → ⊥)
+    → (settled d (g ∷ gs) spot).phase ≡ p.Faulted fault → ⊥
+settled_by None g gs d spot fault e sound is = sound (rw (e, settled) at is)
+settled_by (Some left) g gs d spot fault e sound is = let bad = rw (e, settled) at is in cc
+
+pub settled_sound : (levels : List Level) (d : ℕ) (spot : Spot) (fault : Fault)
+    → (settled d levels spot).phase ≡ p.Faulted fault → ⊥
+settled_sound [] d spot fault is = cc
+settled_sound (g ∷ gs) d spot fault is =
+    settled_by (next g) g gs d spot fault refl (settled_sound gs (suc d) spot fault) is
+
+pub string_sound : (i : Within) (spot : Spot) (fault : Fault) → (string_done i spot).phase ≡ p.Faulted fault → ⊥
+string_sound w.Nothing spot fault is = settled_sound spot.levels spot.depth spot fault is
+string_sound (w.Bytes n) spot fault is = cc
+string_sound (w.Text n) spot fault is = cc
+
+bytes_sound : (len : ℕ) (spot : Spot) (fault : Fault) → (bytes_due len spot).phase ≡ p.Faulted fault → ⊥
+bytes_sound zero spot fault is = string_sound spot.within spot fault is
+bytes_sound (suc len) spot fault is = cc
+
+text_sound : (len : ℕ) (spot : Spot) (fault : Fault) → (text_due len spot).phase ≡ p.Faulted fault → ⊥
+text_sound zero spot fault is = string_sound spot.within spot fault is
+text_sound (suc len) spot fault is = cc
+
+nest_sound : (depth d : ℕ) (level : Level) (spot : Spot) (fault : Fault) → depth ≡ suc d
+    → (nested depth level spot).phase ≡ p.Faulted fault → ⊥
+nest_sound zero d level spot fault e is = cc
+nest_sound (suc c) d level spot fault e is = settled_sound (level ∷ spot.levels) c spot fault is
+
+-- ---- a title that may stand there
+
+may_stand : (i : Within) (d : ℕ) (m : Major) (s : Size) (n : ℕ) (spot : Spot) (fault : Fault) → d ≡ spot.depth
+    → blocked i d spot.place (kind_of m) ≡ None
+    → (entered i (numbered_header m s n) spot).phase ≡ p.Faulted fault → ⊥
+may_stand w.Nothing d Unsigned s n spot fault e b is = settled_sound spot.levels spot.depth spot fault is
+may_stand w.Nothing d Negative s n spot fault e b is = settled_sound spot.levels spot.depth spot fault is
+may_stand w.Nothing d ByteString s n spot fault e b is = bytes_sound n spot fault is
+may_stand w.Nothing d TextString s n spot fault e b is = text_sound n (body_placed n spot) fault is
+may_stand w.Nothing zero Array s n spot fault e b is = cc
+may_stand w.Nothing zero Map s n spot fault e b is = cc
+may_stand w.Nothing zero Tag s n spot fault e b is = cc
+may_stand w.Nothing (suc d) Array s n spot fault e b is = nest_sound spot.depth d _ spot fault (sym e) is
+may_stand w.Nothing (suc d) Map s n spot fault e b is = nest_sound spot.depth d _ spot fault (sym e) is
+may_stand w.Nothing (suc d) Tag s n spot fault e b is = nest_sound spot.depth d _ spot fault (sym e) is
+may_stand w.Nothing d Other Small n spot fault e b is = settled_sound spot.levels spot.depth spot fault is
+may_stand w.Nothing d Other One n spot fault e b is = settled_sound spot.levels spot.depth spot fault is
+may_stand w.Nothing d Other Two n spot fault e b is = settled_sound spot.levels spot.depth spot fault is
+may_stand w.Nothing d Other Four n spot fault e b is = settled_sound spot.levels spot.depth spot fault is
+may_stand w.Nothing d Other Eight n spot fault e b is = settled_sound spot.levels spot.depth spot fault is
+may_stand (w.Bytes j) d ByteString s n spot fault e b is = bytes_sound n spot fault is
+may_stand (w.Bytes j) d Unsigned s n spot fault e b is = cc
+may_stand (w.Bytes j) d Negative s n spot fault e b is = cc
+may_stand (w.Bytes j) d TextString s n spot fault e b is = cc
+may_stand (w.Bytes j) d Array s n spot fault e b is = cc
+may_stand (w.Bytes j) d Map s n spot fault e b is = cc
+may_stand (w.Bytes j) d Tag s n spot fault e b is = cc
+may_stand (w.Bytes j) d Other s n spot fault e b is = cc
+may_stand (w.Text j) d TextString s n spot fault e b is = text_sound n spot fault is
+may_stand (w.Text j) d Unsigned s n spot fault e b is = cc
+may_stand (w.Text j) d Negative s n spot fault e b is = cc
+may_stand (w.Text j) d ByteString s n spot fault e b is = cc
+may_stand (w.Text j) d Array s n spot fault e b is = cc
+may_stand (w.Text j) d Map s n spot fault e b is = cc
+may_stand (w.Text j) d Tag s n spot fault e b is = cc
+may_stand (w.Text j) d Other s n spot fault e b is = cc
+
+-- ---- a title that may not
+
+none_left : (level : Level) (spot : Spot) (depth : ℕ) → depth ≡ 0
+    → (nested depth level spot).phase ≡ p.Faulted (f.Deep spot.place)
+none_left level spot zero e = refl
+none_left level spot (suc d) e = absurd cc
+
+fault_is : (a b : Fault) → Some a ≡ Some b → p.Faulted a ≡ p.Faulted b
+fault_is a b e = cc
+
+may_not : (i : Within) (d : ℕ) (m : Major) (s : Size) (n : ℕ) (spot : Spot) (fault : Fault) → d ≡ spot.depth
+    → blocked i d spot.place (kind_of m) ≡ Some fault
+    → (entered i (numbered_header m s n) spot).phase ≡ p.Faulted fault
+may_not w.Nothing zero Unsigned s n spot fault e b = absurd cc
+may_not w.Nothing zero Negative s n spot fault e b = absurd cc
+may_not w.Nothing zero ByteString s n spot fault e b = absurd cc
+may_not w.Nothing zero TextString s n spot fault e b = absurd cc
+may_not w.Nothing zero Other s n spot fault e b = absurd cc
+may_not w.Nothing zero Array s n spot fault e b = none_left _ spot spot.depth (sym e) ∙ fault_is _ fault b
+may_not w.Nothing zero Map s n spot fault e b = none_left _ spot spot.depth (sym e) ∙ fault_is _ fault b
+may_not w.Nothing zero Tag s n spot fault e b = none_left _ spot spot.depth (sym e) ∙ fault_is _ fault b
+may_not w.Nothing (suc d) Unsigned s n spot fault e b = absurd cc
+may_not w.Nothing (suc d) Negative s n spot fault e b = absurd cc
+may_not w.Nothing (suc d) ByteString s n spot fault e b = absurd cc
+may_not w.Nothing (suc d) TextString s n spot fault e b = absurd cc
+may_not w.Nothing (suc d) Array s n spot fault e b = absurd cc
+may_not w.Nothing (suc d) Map s n spot fault e b = absurd cc
+may_not w.Nothing (suc d) Tag s n spot fault e b = absurd cc
+may_not w.Nothing (suc d) Other s n spot fault e b = absurd cc
+may_not (w.Bytes j) d ByteString s n spot fault e b = absurd cc
+may_not (w.Bytes j) d Unsigned s n spot fault e b = fault_is _ fault b
+may_not (w.Bytes j) d Negative s n spot fault e b = fault_is _ fault b
+may_not (w.Bytes j) d TextString s n spot fault e b = fault_is _ fault b
+may_not (w.Bytes j) d Array s n spot fault e b = fault_is _ fault b
+may_not (w.Bytes j) d Map s n spot fault e b = fault_is _ fault b
+may_not (w.Bytes j) d Tag s n spot fault e b = fault_is _ fault b
+may_not (w.Bytes j) d Other Small n spot fault e b = fault_is _ fault b
+may_not (w.Bytes j) d Other One n spot fault e b = fault_is _ fault b
+may_not (w.Bytes j) d Other Two n spot fault e b = fault_is _ fault b
+may_not (w.Bytes j) d Other Four n spot fault e b = fault_is _ fault b
+may_not (w.Bytes j) d Other Eight n spot fault e b = fault_is _ fault b
+may_not (w.Text j) d TextString s n spot fault e b = absurd cc
+may_not (w.Text j) d Unsigned s n spot fault e b = fault_is _ fault b
+may_not (w.Text j) d Negative s n spot fault e b = fault_is _ fault b
+may_not (w.Text j) d ByteString s n spot fault e b = fault_is _ fault b
+may_not (w.Text j) d Array s n spot fault e b = fault_is _ fault b
+may_not (w.Text j) d Map s n spot fault e b = fault_is _ fault b
+may_not (w.Text j) d Tag s n spot fault e b = fault_is _ fault b
+may_not (w.Text j) d Other Small n spot fault e b = fault_is _ fault b
+may_not (w.Text j) d Other One n spot fault e b = fault_is _ fault b
+may_not (w.Text j) d Other Two n spot fault e b = fault_is _ fault b
+may_not (w.Text j) d Other Four n spot fault e b = fault_is _ fault b
+may_not (w.Text j) d Other Eight n spot fault e b = fault_is _ fault b
+
+-- ---- titles that begin with a byte that announces others
+
+-- such a title is one of a number
+record Numbered (byte : ℕ) (x : Header) : Type 0 where
+  major : Major
+  size : Size
+  number : ℕ
+  is : x ≡ numbered_header major size number
+  code : major_code major ≡ byte / 32
+
+numbered_title : (byte : ℕ) (v t : List ℕ) (x : Header) → IsTitle t x → t ≡ byte ∷ v → 0 < affix_len (byte % 32)
+    → Numbered byte x
+numbered_title byte v t x (numbered m s n q) e more =
+    let below = minor_below s n q in
+    let heads : first_byte m (minor_of s n) ≡ byte = cc in
+    record { major = m; size = s; number = n; is = refl; code = omega (arith, below, heads) }
+numbered_title byte v t x (alone m y o) e more =
+    let heads : first_byte m 31 ≡ byte = cc in
+    let minor : byte % 32 ≡ 31 = omega (arith, heads) in
+    let empty = ap affix_len minor in
+    absurd (omega (arith, empty, more))
+
+kind_at : (kind : TitleKind) (byte : ℕ) (m : Major) → major_code m ≡ byte / 32 → 0 < affix_len (byte % 32)
+    → IsTitleKind kind (byte / 32) (byte % 32) → kind ≡ kind_of m
+kind_at kind byte m e more i =
+    kind_is kind m (byte % 32) (subst (λ (z : ℕ). IsTitleKind kind z (byte % 32)) (sym e) i)
+    (λ refuses. let empty = refused_affix byte (subst (λ (z : ℕ). NamesNoTitle z (byte % 32)) e refuses) in
+    omega (arith, empty, more))
+
+module _ (spot : Spot) (kind : TitleKind) (byte : ℕ) (bytes : List ℕ) (front : spot.front ≡ byte ∷ bytes)
+    (is_cut : length bytes < affix_len (byte % 32)) (is_kind : IsTitleKind kind (byte / 32) (byte % 32)) where
+  whole_cut : IsCutTitle spot.front
+  whole_cut = rw front is_cut
+
+  title_of : (behind : List ℕ) (x : Header) → IsTitle (spot.front ++ behind) x → Numbered byte x
+  title_of behind x q =
+      numbered_title byte (bytes ++ behind) (spot.front ++ behind) x q (ap (λ (z : List ℕ). z ++ behind) front)
+      (omega (arith, is_cut))
+
+  pub blocked_early : (fault : Fault) → blocked spot.within spot.depth spot.place kind ≡ Some fault
+      → TitleStep spot (at_phase (p.Faulted fault) spot)
+  blocked_early fault b =
+      early fault whole_cut (λ behind x q.
+      let o = title_of behind x q in
+      let same = kind_at kind byte o.major o.code (omega (arith, is_cut)) is_kind in
+      let known = subst (λ (z : TitleKind). blocked spot.within spot.depth spot.place z ≡ Some fault) same b in
+      subst (λ (z : Header). (titled z spot).phase ≡ p.Faulted fault) (sym o.is)
+      (may_not spot.within spot.depth o.major o.size o.number (record spot { front = [] }) fault refl known))
+
+  pub blocked_none : blocked spot.within spot.depth spot.place kind ≡ None → TitleStep spot spot
+  blocked_none b =
+      cut whole_cut (λ behind x fault q is.
+      let o = title_of behind x q in
+      let same = kind_at kind byte o.major o.code (omega (arith, is_cut)) is_kind in
+      let known = subst (λ (z : TitleKind). blocked spot.within spot.depth spot.place z ≡ None) same b in
+      may_stand spot.within spot.depth o.major o.size o.number (record spot { front = [] }) fault refl known
+      (subst (λ (z : Header). (titled z spot).phase ≡ p.Faulted fault) o.is is))
+
+cond_most : (b : Bool) (m n most : ℕ) → m ≤ most → n ≤ most → cond b m n ≤ most
+cond_most true m n most l k = l
+cond_most false m n most l k = k
+
+-- no byte announces more than eight
+pub affix_most : (minor : ℕ) → affix_len minor ≤ 8
+affix_most minor =
+    let eight = cond_most (minor == 27) 8 0 8 (omega arith) (omega arith) in
+    let four = cond_most (minor == 26) 4 (cond (minor == 27) 8 0) 8 (omega arith) eight in
+    let two = cond_most (minor == 25) 2 (cond (minor == 26) 4 (cond (minor == 27) 8 0)) 8 (omega arith) four in
+    cond_most (minor == 24) 1 (cond (minor == 25) 2 (cond (minor == 26) 4 (cond (minor == 27) 8 0))) 8 (omega arith) two
+
+-- ---- where a byte of a title leads, as the code finds it
+
+-- a first byte, and the others
+parted : (xs : List ℕ) → 0 < length xs → xs ≡ slice_index xs 0 ∷ drop 1 xs
+parted [] l = absurd (omega arith)
+parted (x ∷ xs) l = refl
+
+module _ (spot new : Spot) (row : Row) (some : 0 < length spot.front)
+    (says : IsRow (slice_index spot.front 0) row) where
+  cut_length : length spot.front ≤ affix_len (slice_index spot.front 0 % 32)
+      → length (drop 1 spot.front) < affix_len (slice_index spot.front 0 % 32)
+  cut_length short = let whole = ap length (parted spot.front some) in omega (arith, whole, short)
+
+  pub step_early : (fault : Fault) → length spot.front ≤ affix_len (slice_index spot.front 0 % 32)
+      → blocked spot.within spot.depth spot.place row.kind ≡ Some fault → new ≡ at_phase (p.Faulted fault) spot
+      → TitleStep spot new
+  step_early fault short b e =
+      subst (TitleStep spot) (sym e) (blocked_early spot row.kind (slice_index spot.front 0) (drop 1 spot.front)
+      (parted spot.front some) (cut_length short) says.kind fault b)
+
+  pub step_cut : length spot.front ≤ affix_len (slice_index spot.front 0 % 32)
+      → blocked spot.within spot.depth spot.place row.kind ≡ None → new ≡ spot
+      → TitleStep spot new
+  step_cut short b e =
+      subst (TitleStep spot) (sym e) (blocked_none spot row.kind (slice_index spot.front 0) (drop 1 spot.front)
+      (parted spot.front some) (cut_length short) says.kind b)
+
+pub step_whole : (spot new : Spot) (header : Header) → IsTitle spot.front header → new ≡ titled header spot
+    → TitleStep spot new
+step_whole spot new header q e = subst (TitleStep spot) (sym e) (whole header q)
+
+pub step_none : (spot new : Spot) → BeginsRefused spot.front → new ≡ refused (record spot { front = [] })
+    → TitleStep spot new
+step_none spot new r e = subst (TitleStep spot) (sym e) (none r)

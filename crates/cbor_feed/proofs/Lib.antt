@@ -1,0 +1,14 @@
+pub mod ExactLaws
+pub mod KeptLaws
+pub mod LevelLaws
+pub mod BlockedLaws
+pub mod EnterLaws
+pub mod LiveLaws
+pub mod OneSpot
+pub mod SettledLaws
+pub mod StackLaws
+pub mod StepLaws
+pub mod StringLaws
+pub mod TellLaws
+pub mod TitleDueLaws
+pub mod Waiting

@@ -1,0 +1,318 @@
+-- What a byte leaves due.
+use Rattle.std.proofs.Common.{◌≡◌, ℕ, zero, suc, ◌≤◌, ◌⊎◌, Bool, true, false, List, [], ◌∷◌, ◌++◌, length, Some}
+use Rattle.std.proofs.Common.{None, refl, sym, ap, subst, ◌∙◌, inl, inr, arith, append_assoc, append-nil, le-leb}
+use Rattle.std.proofs.Common.{leb-true}
+use Rattle.ciborium_ll_grammar.specs.declared.hdr.Header.{Header}
+use Rattle.ciborium_ll_grammar.specs.declared.hdr.Header.TheVariants as h
+use Rattle.ciborium_ll_grammar.specs.Title.{IsTitle, BeginsRefused, IsCutTitle}
+use Rattle.ciborium_ll_grammar.specs.Items.{IsItem, more_items, no_items}
+use Rattle.ciborium_ll_grammar.specs.Strings.{Kind, Bytes, Text, kind_header, IsString, AreStrings}
+use Rattle.ciborium_ll_grammar.specs.Strings.{none as no_strings, more as more_strings}
+use Rattle.ciborium_ll_grammar.specs.Strings.IsString.{definite, indefinite}
+use Rattle.ciborium_ll_grammar.proofs.TitleLaws.{title_refused}
+use Rattle.ciborium_ll_grammar.proofs.AffixLaws.{title_not_cut}
+use Rattle.ciborium_ll_grammar.proofs.StringLaws.{break_title}
+use Rattle.ciborium_ll_text.specs.declared.state.State.{State}
+use Rattle.ciborium_ll_text.specs.declared.state.State.TheVariants as s
+use Rattle.ciborium_ll_text.specs.States.{after, after_byte}
+use Rattle.ciborium_ll_text.proofs.StateLaws.{Next, inside, outside, next_view}
+use Rattle.ciborium_ll_text.proofs.Lists.{front_of_front}
+use Rattle.std.proofs.lemmas.Bool.{cases_lt}
+use Rattle.cbor_feed.specs.declared.level.Level.{Level}
+use Rattle.cbor_feed.specs.declared.phase.Phase.{Phase}
+use Rattle.cbor_feed.specs.declared.phase.Phase.TheVariants as p
+use Rattle.cbor_feed.specs.declared.phase.Within.{Within}
+use Rattle.cbor_feed.specs.declared.phase.Within.TheVariants as w
+use Rattle.cbor_feed.specs.declared.phase.Fault.{Fault}
+use Rattle.cbor_feed.specs.Spots.{Spot, bytes_due}
+use Rattle.cbor_feed.specs.Steps.{start, titled, with_byte, TitleStep, cut, early, whole, none, may_end}
+use Rattle.cbor_feed.specs.Steps.{text_left, counted, StepIn, IsFed, fresh, more}
+use Rattle.cbor_feed.proofs.Waiting.{Ends, Breaks, EndsStrings, BodyThen, AnyBody, TextBody, TitleDue}
+use Rattle.cbor_feed.proofs.Waiting.{StringDone}
+use Rattle.cbor_feed.proofs.Waiting.{WaitsIn, Waits}
+use Rattle.cbor_feed.proofs.LevelLaws.{Same, string_ends}
+use Rattle.cbor_feed.proofs.StringLaws.{bytes_body, empty_body}
+use Rattle.cbor_feed.proofs.TitleDueLaws.{title_enters}
+
+-- ---- where a title is due, one comes
+
+pub record Titled (y : List ℕ) : Type 0 where
+  pub title : List ℕ
+  pub header : Header
+  pub rest : List ℕ
+  pub is_title : IsTitle title header
+  pub is : y ≡ title ++ rest
+
+item_titled : (d : ℕ) (item rest y : List ℕ) → IsItem d item → y ≡ item ++ rest → Titled y
+item_titled d item rest y (more_items {title = t} {rest = r} {header = x} q c no_items) e = record {
+  title = t;
+  header = x;
+  rest = (r ++ []) ++ rest;
+  is_title = q;
+  is = e ∙ append_assoc t (r ++ []) rest;
+}
+
+pub break_titled : (rest y : List ℕ) → y ≡ 0xff ∷ rest → Titled y
+break_titled rest y e =
+    record { title = 0xff ∷ []; header = h.Break; rest = rest; is_title = break_title; is = e }
+
+string_titled : (k : Kind) (u v rest y : List ℕ) (bs : List (List ℕ)) → IsString k u bs → y ≡ (u ++ v) ++ rest
+    → Titled y
+string_titled k u v rest y bs (definite {title = t} {body = b} q) e = record {
+  title = t;
+  header = kind_header k (Some (length b));
+  rest = b ++ (v ++ rest);
+  is_title = q;
+  is = e ∙ (append_assoc (t ++ b) v rest ∙ append_assoc t b (v ++ rest));
+}
+string_titled k u v rest y bs (indefinite {title = t} {strings = z} q i) e = record {
+  title = t;
+  header = kind_header k None;
+  rest = (z ++ 0xff ∷ []) ++ (v ++ rest);
+  is_title = q;
+  is = e ∙ (append_assoc (t ++ (z ++ 0xff ∷ [])) v rest ∙ append_assoc t (z ++ 0xff ∷ []) (v ++ rest));
+}
+
+strings_titled : (k : Kind) (u rest y : List ℕ) (bs : List (List ℕ)) → AreStrings k u bs → y ≡ u ++ 0xff ∷ rest
+    → Titled y
+strings_titled k u rest y bs no_strings e = break_titled rest y e
+strings_titled k u rest y bs (more_strings {first = f} {rest = v} {bodies = cs} i others) e =
+    string_titled k f v (0xff ∷ rest) y cs i e
+
+open_titled : (k : Kind) (n : ℕ) (Then : List ℕ → Type 0) (y : List ℕ) → EndsStrings k n Then y → Titled y
+open_titled k zero Then y o = strings_titled k o.strings o.rest y o.bodies o.are o.is
+open_titled k (suc n) Then y o = strings_titled k o.strings o.rest y o.bodies o.are o.is
+
+breaks_titled : (d : ℕ) (levels : List Level) (y : List ℕ) → Breaks d levels y → Titled y
+breaks_titled d [] y o = absurd o
+breaks_titled d (level ∷ levels) y o = break_titled o.rest y o.is
+
+pub due_titled : (i : Within) (d : ℕ) (levels : List Level) (y : List ℕ) → TitleDue i d levels y → Titled y
+due_titled w.Nothing d levels y (inl o) = item_titled d o.item o.rest y o.is_item o.is
+due_titled w.Nothing d levels y (inr o) = breaks_titled d levels y o
+due_titled (w.Bytes n) d levels y o = open_titled Bytes n (Ends d levels) y o
+due_titled (w.Text n) d levels y o = open_titled Text n (Ends d levels) y o
+
+-- ---- a byte of a title
+
+itself : (A : Type 0) → Same A A
+itself A = (λ a. a, λ a. a)
+
+-- where no title that begins so may stand, nothing goes on
+module _ (spot : Spot) (fault : Fault) (is_cut : IsCutTitle spot.front)
+    (all : (behind : List ℕ) (x : Header) → IsTitle (spot.front ++ behind) x
+    → (titled x spot).phase ≡ p.Faulted fault) where
+  early_longer : (t m rest : List ℕ) (x : Header) → IsTitle t x → t ≡ spot.front ++ m
+      → TitleDue spot.within spot.depth spot.levels (t ++ rest) → ⊥
+  early_longer t m rest x q e due =
+      let waits = (title_enters spot.within (record spot { front = [] }) t rest x refl refl q).0 due in
+      let faulted = all m x (subst (λ (z : List ℕ). IsTitle z x) e q) in
+      let no = subst (λ (z : Phase). WaitsIn z (titled x spot) rest) faulted waits in
+      no
+
+  early_none : (y : List ℕ) → TitleDue spot.within spot.depth spot.levels (spot.front ++ y) → ⊥
+  early_none y due =
+      let o = due_titled spot.within spot.depth spot.levels (spot.front ++ y) due in
+      elim (cases_lt (length o.title) (length spot.front)) [
+        | inl less ↦ (
+            let f = front_of_front o.title spot.front o.rest y (sym o.is) (omega (arith, less)) in
+            title_not_cut o.title f.0 o.header o.is_title (subst IsCutTitle f.1 is_cut)
+            )
+        | inr as_long ↦ (
+            let f = front_of_front spot.front o.title y o.rest o.is as_long in
+            early_longer o.title f.0 o.rest o.header o.is_title f.1
+            (subst (TitleDue spot.within spot.depth spot.levels) o.is due)
+            )
+      ]
+
+refused_on : (a y : List ℕ) → BeginsRefused a → BeginsRefused (a ++ y)
+refused_on [] y r = absurd r
+refused_on (b ∷ a) y r = r
+
+title_same : (spot new : Spot) → TitleStep spot new → spot.phase ≡ p.Title → (y : List ℕ)
+    → Same (TitleDue spot.within spot.depth spot.levels (spot.front ++ y)) (Waits new y)
+title_same spot new (cut c may) at y =
+    subst (λ (z : Phase). Same (TitleDue spot.within spot.depth spot.levels (spot.front ++ y)) (WaitsIn z spot y))
+    (sym at) (itself (TitleDue spot.within spot.depth spot.levels (spot.front ++ y)))
+title_same spot new (early fault c all) at y = (λ due. early_none spot fault c all y due, λ no. absurd no)
+title_same spot new (whole x q) at y = title_enters spot.within (record spot { front = [] }) spot.front y x refl refl q
+title_same spot new (none r) at y = (
+  λ due.
+      let o = due_titled spot.within spot.depth spot.levels (spot.front ++ y) due in
+      title_refused o.title o.rest o.header o.is_title (subst BeginsRefused o.is (refused_on spot.front y r)),
+  λ no. absurd no,
+)
+
+-- ---- a byte of a body
+
+body_next : (left : ℕ) (Sound Then : List ℕ → Type 0) (b : ℕ) (y body rest : List ℕ) → length body ≡ suc left
+    → Sound body
+    → Then rest → b ∷ y ≡ body ++ rest → BodyThen left (λ z. Sound (b ∷ z)) Then y
+body_next left Sound Then b y [] rest l sound behind e = absurd (omega arith)
+body_next left Sound Then b y (c ∷ body) rest l sound behind e =
+    let heads : c ≡ b = cc in
+    let tails : y ≡ body ++ rest = cc in
+    record {
+      body = body;
+      rest = rest;
+      long = omega arith;
+      sound = subst (λ (z : ℕ). Sound (z ∷ body)) heads sound;
+      behind = behind;
+      is = tails;
+    }
+
+body_same : (left : ℕ) (Sound Then : List ℕ → Type 0) (b : ℕ) (y : List ℕ)
+    → Same (BodyThen (suc left) Sound Then (b ∷ y)) (BodyThen left (λ z. Sound (b ∷ z)) Then y)
+body_same left Sound Then b y = (
+  λ o. body_next left Sound Then b y o.body o.rest o.long o.sound o.behind o.is,
+  λ o. record {
+    body = b ∷ o.body;
+    rest = o.rest;
+    long = ap suc o.long;
+    sound = o.sound;
+    behind = o.behind;
+    is = ap (λ (z : List ℕ). b ∷ z) o.is;
+  },
+)
+
+-- ---- a byte of a text
+
+-- a byte ends at most one that is due
+from_next : (lowest highest b : ℕ) (to x : State) → Next lowest highest to b x → (x ≡ to) ⊎ (x ≡ s.Damaged)
+from_next lowest highest b to x (inside i) = inl refl
+from_next lowest highest b to x outside = inr refl
+
+not_damaged : (state : State) (n : ℕ) → may_end state n ≡ true → state ≡ s.Damaged → ⊥
+not_damaged s.Damaged n may e = cc
+not_damaged s.Between n may e = cc
+not_damaged s.OneDue n may e = cc
+not_damaged s.TwoDue n may e = cc
+not_damaged s.ThreeDue n may e = cc
+not_damaged s.BehindE0 n may e = cc
+not_damaged s.BehindEd n may e = cc
+not_damaged s.BehindF0 n may e = cc
+not_damaged s.BehindF4 n may e = cc
+
+-- by the state behind one byte
+by_next : (lowest highest b n k : ℕ) (to x : State) → Next lowest highest to b x → may_end x n ≡ true
+    → (may_end to n ≡ true → k ≤ n) → k ≤ n
+by_next lowest highest b n k to x view may f =
+    elim (from_next lowest highest b to x view) [
+      | inl same ↦ f (subst (λ (z : State). may_end z n ≡ true) same may)
+      | inr damaged ↦ absurd (not_damaged x n may damaged)
+    ]
+
+one_more_due : (state : State) (b n : ℕ) → may_end (after_byte state b) n ≡ true → may_end state (suc n) ≡ true
+one_more_due s.Between b n may = le-leb 0 (suc n) (omega arith)
+one_more_due s.OneDue b n may = le-leb 1 (suc n) (omega arith)
+one_more_due s.TwoDue b n may =
+    let l = by_next 0x80 0xbf b n 1 s.OneDue _ (next_view 0x80 0xbf s.OneDue b) may (λ e. leb-true 1 n e) in
+    le-leb 2 (suc n) (omega (arith, l))
+one_more_due s.ThreeDue b n may =
+    let l = by_next 0x80 0xbf b n 2 s.TwoDue _ (next_view 0x80 0xbf s.TwoDue b) may (λ e. leb-true 2 n e) in
+    le-leb 3 (suc n) (omega (arith, l))
+one_more_due s.BehindE0 b n may =
+    let l = by_next 0xa0 0xbf b n 1 s.OneDue _ (next_view 0xa0 0xbf s.OneDue b) may (λ e. leb-true 1 n e) in
+    le-leb 2 (suc n) (omega (arith, l))
+one_more_due s.BehindEd b n may =
+    let l = by_next 0x80 0x9f b n 1 s.OneDue _ (next_view 0x80 0x9f s.OneDue b) may (λ e. leb-true 1 n e) in
+    le-leb 2 (suc n) (omega (arith, l))
+one_more_due s.BehindF0 b n may =
+    let l = by_next 0x90 0xbf b n 2 s.TwoDue _ (next_view 0x90 0xbf s.TwoDue b) may (λ e. leb-true 2 n e) in
+    le-leb 3 (suc n) (omega (arith, l))
+one_more_due s.BehindF4 b n may =
+    let l = by_next 0x80 0x8f b n 2 s.TwoDue _ (next_view 0x80 0x8f s.TwoDue b) may (λ e. leb-true 2 n e) in
+    le-leb 3 (suc n) (omega (arith, l))
+one_more_due s.Damaged b n may = may
+
+-- a text that ends may end
+text_may_end : (state : State) (body : List ℕ) → after state body ≡ s.Between → may_end state (length body) ≡ true
+text_may_end state [] e = rw e (le-leb 0 0 (omega arith))
+text_may_end state (b ∷ body) e = one_more_due state b (length body) (text_may_end (after_byte state b) body e)
+
+none_left : (state : State) → may_end state 0 ≡ true → state ≡ s.Between
+none_left s.Between may = refl
+none_left s.OneDue may = absurd cc
+none_left s.TwoDue may = absurd cc
+none_left s.ThreeDue may = absurd cc
+none_left s.BehindE0 may = absurd cc
+none_left s.BehindEd may = absurd cc
+none_left s.BehindF0 may = absurd cc
+none_left s.BehindF4 may = absurd cc
+none_left s.Damaged may = absurd cc
+
+text_left_same : (m : Bool) (left : ℕ) (state : State) (spot : Spot) (y : List ℕ) → spot.front ≡ []
+    → may_end state left ≡ m
+    → Same (BodyThen left (TextBody state) (StringDone spot.within spot.depth spot.levels) y)
+    (Waits (text_left m left state spot) y)
+text_left_same false left state spot y clear e = (
+  λ o. let may = text_may_end state o.body o.sound in let long = o.long in
+      absurd (let no = sym e ∙ (ap (may_end state) (sym long) ∙ may) in cc),
+  λ no. absurd no,
+)
+text_left_same true zero state spot y clear e =
+    let Then : List ℕ → Type 0 = StringDone spot.within spot.depth spot.levels in
+    let same = string_ends spot.within spot y clear refl in (
+      λ o. same.0 (empty_body (TextBody state) Then o.body o.rest y o.long o.behind o.is),
+      λ waits. record {
+        body = [];
+        rest = y;
+        long = refl;
+        sound = none_left state e;
+        behind = same.1 waits;
+        is = refl;
+      },
+    )
+text_left_same true (suc left) state spot y clear e =
+    itself (BodyThen (suc left) (TextBody state) (StringDone spot.within spot.depth spot.levels) y)
+
+-- ---- any byte
+
+both : (A B C : Type 0) → Same A B → Same B C → Same A C
+both A B C f g = (λ a. g.0 (f.0 a), λ c. f.1 (g.1 c))
+
+step_same : (phase : Phase) (spot new : Spot) (b : ℕ) → phase ≡ spot.phase → StepIn phase spot b new → (y : List ℕ)
+    → Same (WaitsIn phase spot (b ∷ y)) (Waits new y)
+step_same p.Title spot new b at step y =
+    let same = title_same (with_byte b spot) new step (sym at) y in
+    subst (λ (z : List ℕ). Same (TitleDue spot.within spot.depth spot.levels z) (Waits new y))
+    (append_assoc spot.front (b ∷ []) y) same
+step_same (p.Bytes zero) spot new b at step y = absurd step
+step_same (p.Bytes (suc left)) spot new b at step y =
+    let Then : List ℕ → Type 0 = StringDone spot.within spot.depth spot.levels in
+    subst (λ (z : Spot). Same (BodyThen (suc left) AnyBody Then (b ∷ y)) (Waits z y)) (sym step)
+    (both (BodyThen (suc left) AnyBody Then (b ∷ y)) (BodyThen left AnyBody Then y)
+    (Waits (bytes_due left (counted spot)) y)
+    (body_same left AnyBody Then b y) (bytes_body left (counted spot) y refl))
+step_same (p.Text zero state) spot new b at step y = absurd step
+step_same (p.Text (suc left) state) spot new b at step y =
+    let Then : List ℕ → Type 0 = StringDone spot.within spot.depth spot.levels in
+    let next = after_byte state b in
+    subst (λ (z : Spot). Same (BodyThen (suc left) (TextBody state) Then (b ∷ y)) (Waits z y)) (sym step)
+    (both (BodyThen (suc left) (TextBody state) Then (b ∷ y)) (BodyThen left (TextBody next) Then y)
+    (Waits (text_left (may_end next left) left next (counted spot)) y)
+    (body_same left (TextBody state) Then b y)
+    (text_left_same (may_end next left) left next (counted spot) y refl refl))
+step_same p.Ended spot new b at step y = absurd step
+step_same (p.Faulted fault) spot new b at step y = absurd step
+
+-- ---- all bytes so far
+
+fresh_same : (d : ℕ) (y : List ℕ) → Same (IsItem d y) (Waits (start d) y)
+fresh_same d y = (
+  λ i. inl (record { item = y; rest = []; is_item = i; behind = refl; is = sym (append-nil y) }),
+  λ due. elim due [
+    | inl o ↦ subst (IsItem d) (sym (o.is ∙ (ap (λ (z : List ℕ). o.item ++ z) o.behind ∙ append-nil o.item))) o.is_item
+    | inr o ↦ absurd o
+  ],
+)
+
+-- the bytes that make a whole item of those so far are those that the spot waits for
+pub fed_same : (d : ℕ) (fed : List ℕ) (spot : Spot) → IsFed d fed spot → (y : List ℕ)
+    → Same (IsItem d (fed ++ y)) (Waits spot y)
+fed_same d fed spot fresh y = fresh_same d y
+fed_same d fed spot (more {bytes = a} {spot = before} b byte is step) y =
+    let goes = step_same before.phase before spot b refl step y in
+    let so_far = fed_same d a before is (b ∷ y) in
+    subst (λ (z : List ℕ). Same (IsItem d z) (Waits spot y)) (sym (append_assoc a (b ∷ []) y))
+    (both (IsItem d (a ++ b ∷ y)) (Waits before (b ∷ y)) (Waits spot y) so_far goes)

@@ -1,0 +1,19 @@
+use Rattle.std.proofs.Common.{◌≡◌, length}
+use Rattle.cbor_feed.specs.declared.phase.Within.TheVariants as w
+use Rattle.cbor_feed.specs.Checking.{spot_of}
+use Rattle.cbor_feed.specs.Spots.{settled}
+use Rattle.cbor_feed.proofs.checker.Checker.item_done.Given as goal
+
+abbrev pub invariant-loop-level : goal.invariant-loop-level
+invariant-loop-level l =
+    let first = spot_of l.fn.self in
+    record {
+      same : settled l.self.depth l.self.levels first ≡ settled l.fn.self.depth l.fn.self.levels first;
+      within : l.self.within ≡ w.Nothing;
+      front : l.self.front ≡ l.fn.self.front;
+      place : l.self.place ≡ l.fn.self.place;
+      offset : l.self.offset ≡ l.fn.self.offset;
+    }
+
+abbrev pub decreases-loop-level : goal.decreases-loop-level
+decreases-loop-level l = length l.self.levels

@@ -1,0 +1,105 @@
+-- How one byte more leads from a spot to the next, and where a list of bytes leads.
+use Rattle.std.specs.Prelude.{◌≡◌, ℕ, zero, suc, ◌+◌, ◌<◌, Bool, List, [], ◌∷◌, ◌++◌, nat_le, true, false}
+use Rattle.ciborium_ll_grammar.specs.declared.hdr.Header.{Header}
+use Rattle.ciborium_ll_grammar.specs.Title.{IsTitle, IsCutTitle, BeginsRefused}
+use Rattle.ciborium_ll_text.specs.declared.state.State.{State}
+use Rattle.ciborium_ll_text.specs.declared.state.State.TheVariants as s
+use Rattle.ciborium_ll_text.specs.States.{after_byte}
+use Rattle.cbor_feed.specs.declared.phase.Phase.{Phase}
+use Rattle.cbor_feed.specs.declared.phase.Phase.TheVariants as p
+use Rattle.cbor_feed.specs.declared.phase.Within.TheVariants as w
+use Rattle.cbor_feed.specs.declared.phase.Fault.{Fault}
+use Rattle.cbor_feed.specs.Spots.{Spot, at_phase, bytes_due, entered, refused, string_done}
+
+-- nothing came, and one item is due
+abbrev pub start : ℕ → Spot
+start depth = record {
+  phase = p.Title;
+  front = [];
+  within = w.Nothing;
+  depth = depth;
+  levels = [];
+  place = 0;
+  offset = 0;
+}
+
+-- a fault in this title names where it began
+abbrev pub title_place : List ℕ → Spot → ℕ
+title_place [] spot = spot.offset
+title_place (byte ∷ bytes) spot = spot.place
+
+-- one byte more of a title
+abbrev pub with_byte : ℕ → Spot → Spot
+with_byte byte spot = record spot {
+  front = spot.front ++ byte ∷ [];
+  place = title_place spot.front spot;
+  offset = spot.offset + 1;
+}
+
+-- behind a whole title
+abbrev pub titled : Header → Spot → Spot
+titled header spot = entered spot.within header (record spot { front = [] })
+
+-- Where a byte of a title has led, which now stands at the end of the front
+pub data TitleStep (spot : Spot) : Spot → Type 0 where
+  -- the title isn't whole, and each that begins so may stand here
+  cut : IsCutTitle spot.front
+      → ((more : List ℕ) (header : Header) (fault : Fault) → IsTitle (spot.front ++ more) header
+      → (titled header spot).phase ≡ p.Faulted fault → ⊥)
+      → TitleStep spot spot
+  -- it isn't whole, and none that begins so may stand here
+  early : (fault : Fault) → IsCutTitle spot.front
+      → ((more : List ℕ) (header : Header) → IsTitle (spot.front ++ more) header
+      → (titled header spot).phase ≡ p.Faulted fault)
+      → TitleStep spot (at_phase (p.Faulted fault) spot)
+  -- it is whole
+  whole : (header : Header) → IsTitle spot.front header → TitleStep spot (titled header spot)
+  -- no title begins so
+  none : BeginsRefused spot.front → TitleStep spot (refused (record spot { front = [] }))
+
+-- how many bytes at least end the character (Unicode, Table 3-7)
+abbrev pub tail_due : State → ℕ
+tail_due s.Between = 0
+tail_due s.OneDue = 1
+tail_due s.TwoDue = 2
+tail_due s.ThreeDue = 3
+tail_due s.BehindE0 = 2
+tail_due s.BehindEd = 2
+tail_due s.BehindF0 = 3
+tail_due s.BehindF4 = 3
+tail_due s.Damaged = 0
+
+-- so many bytes may end a text that has come to this state
+abbrev pub may_end : State → ℕ → Bool
+may_end s.Damaged left = false
+may_end state left = nat_le (tail_due state) left
+
+-- behind a byte of a text, of which so many bytes are left
+abbrev pub text_left : Bool → ℕ → State → Spot → Spot
+text_left false left state spot = refused spot
+text_left true zero state spot = string_done spot.within spot
+text_left true (suc left) state spot = at_phase (p.Text (suc left) state) spot
+
+-- a byte of a body came
+abbrev pub counted : Spot → Spot
+counted spot = record spot { front = []; offset = spot.offset + 1 }
+
+-- where one byte more leads
+abbrev pub StepIn : Phase → Spot → ℕ → Spot → Type 0
+StepIn p.Title spot byte new = TitleStep (with_byte byte spot) new
+StepIn (p.Bytes zero) spot byte new = ⊥
+StepIn (p.Bytes (suc left)) spot byte new = new ≡ bytes_due left (counted spot)
+StepIn (p.Text zero state) spot byte new = ⊥
+StepIn (p.Text (suc left) state) spot byte new =
+    new ≡ text_left (may_end (after_byte state byte) left) left (after_byte state byte) (counted spot)
+StepIn p.Ended spot byte new = ⊥
+StepIn (p.Faulted fault) spot byte new = ⊥
+
+abbrev pub Step : Spot → ℕ → Spot → Type 0
+Step spot byte new = StepIn spot.phase spot byte new
+
+-- `IsFed depth bytes spot`: to one item to the depth, these bytes have led to the spot
+pub data IsFed (depth : ℕ) : List ℕ → Spot → Type 0 where
+  fresh : IsFed depth [] (start depth)
+  more : {bytes : List ℕ} {spot new : Spot} (byte : ℕ) → byte < 256 → IsFed depth bytes spot → Step spot byte new
+      → IsFed depth (bytes ++ byte ∷ []) new

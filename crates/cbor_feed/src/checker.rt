@@ -1,0 +1,447 @@
+//! The checker: one byte more, and where it leads.
+
+ghost use Rattle.std.specs.Prelude.{◌≡◌, ◌+◌, ◌≤◌, ◌%◌, length, slice_index, true};
+ghost use Rattle.cbor_feed.specs.Telling.{has_left};
+ghost use Rattle.cbor_feed.specs.Steps.{may_end};
+ghost use Rattle.ciborium_ll_grammar.specs.Title.{affix_len};
+ghost use Rattle.cbor_feed.specs.Opens.{open_count};
+ghost use Rattle.cbor_feed.specs.Blocked.{blocked};
+
+use crate::front::Front;
+use crate::level::Level;
+use crate::levels::Levels;
+use crate::phase::{Fault, Phase, Within};
+use crate::progress::{End, Feed, Progress};
+use crate::title::{affix_len, header_of};
+use ciborium_ll_grammar::hdr::Header;
+use ciborium_ll_grammar::hdr::table::{TitleKind, row_of};
+use ciborium_ll_text::state::State;
+
+/// Why a title of this kind may not stand there, where not all of its bytes came.
+fn blocked(within: Within, depth: usize, place: usize, kind: TitleKind) -> Option<Fault>
+    ensures { result ≡ blocked within depth place kind }
+{
+    match (within, kind) {
+        (Within::Nothing, TitleKind::Tag | TitleKind::Array | TitleKind::Map) => {
+            if depth == 0 {
+                Some(Fault::Deep(place))
+            } else {
+                None
+            }
+        }
+        (Within::Nothing, _)
+        | (Within::Bytes(_), TitleKind::Bytes)
+        | (Within::Text(_), TitleKind::Text) => None,
+        _ => Some(Fault::Syntax(place)),
+    }
+}
+
+/// Whether so many bytes may end a text that has come to this state.
+fn may_end(state: State, left: usize) -> bool
+    ensures { result ≡ may_end state left }
+{
+    match state {
+        State::Between => true,
+        State::OneDue => left >= 1,
+        State::TwoDue | State::BehindE0 | State::BehindEd => left >= 2,
+        State::ThreeDue | State::BehindF0 | State::BehindF4 => left >= 3,
+        State::Damaged => false,
+    }
+}
+
+/// Checks one item of CBOR (RFC 7049, 2.1 to 2.4) whose bytes come in pieces.
+///
+/// It takes no memory, and reads nothing by itself: what came is given to [`Checker::feed`]. It has a fixed size, most
+/// of it for the 256 levels of tags, arrays and maps around an item.
+#[derive(Drop)]
+pub struct Checker {
+    phase: Phase,
+    front: Front,
+    within: Within,
+    depth: usize,
+    levels: Levels,
+    place: usize,
+    offset: usize,
+    ghost room: { length levels + depth ≤ 256 },
+    ghost counted: { open_count within ≤ offset },
+    ghost left: { has_left phase ≡ true },
+    ghost begun: { length front ≤ affix_len (slice_index front 0 % 32) },
+}
+
+impl Checker {
+    ghost use Rattle.std.specs.Prelude.{◌<◌};
+    ghost use Rattle.cbor_feed.specs.Checking.{spot_of};
+    ghost use Rattle.std.specs.Prelude.{ℕ, ◌-◌, ◌++◌, List, [], take, false};
+    ghost use Rattle.ciborium_ll_text.specs.States.{after_byte};
+    ghost use Rattle.cbor_feed.specs.Steps.{IsFed, Step, TitleStep, counted, text_left, title_place, with_byte};
+    ghost use Rattle.cbor_feed.specs.Telling.{IsMore, Tells, TellsEnd, is_due, progress_of, title_due};
+    ghost use Rattle.cbor_feed.specs.Spots.{at_phase, body_placed, broken, bytes_due, bytes_entered, entered};
+    ghost use Rattle.cbor_feed.specs.Spots.{item_done, item_entered, nested, string_closed, string_done, string_open};
+    ghost use Rattle.cbor_feed.specs.Spots.{refused, text_due, text_entered};
+    ghost use Rattle.cbor_feed.specs.declared.phase.Within.TheVariants as w;
+    ghost use Rattle.cbor_feed.specs.declared.phase.Phase.TheVariants as p;
+
+    /// A checker of an item to which nothing came. Tags, arrays and maps may be nested at most `depth` levels deep:
+    /// each takes a level, an empty one too, and a string takes none.
+    pub fn new(depth: usize) -> Checker
+        requires { depth ≤ 256 }
+        ensures { IsFed depth [] (spot_of result) }
+    {
+        Checker {
+            phase: Phase::Title,
+            front: Front::new(),
+            within: Within::Nothing,
+            depth,
+            levels: Levels::new(),
+            place: 0,
+            offset: 0,
+        }
+    }
+
+    /// A whole item has come.
+    fn item_done(&mut self)
+        ensures { spot_of self.new ≡ item_done (spot_of self.old) }
+    {
+        self.within = Within::Nothing;
+        while let Some(level) = self.levels.innermost() {
+            self.levels.pop();
+            if let Some(left) = level.next() {
+                self.levels.push(left);
+                self.phase = Phase::Title;
+                return;
+            }
+            self.depth += 1; // The level is given back.
+        }
+        self.phase = Phase::Ended;
+    }
+
+    /// A whole string of a definite length has come: an item, or a piece of an open string.
+    fn string_done(&mut self)
+        ensures { spot_of self.new ≡ string_done self.old.within (spot_of self.old) }
+    {
+        match self.within {
+            Within::Nothing => self.item_done(),
+            Within::Bytes(_) | Within::Text(_) => self.phase = Phase::Title,
+        }
+    }
+
+    /// The title of a byte string of this length has come, or so many bytes of its body are left.
+    fn bytes_due(&mut self, len: usize)
+        ensures { spot_of self.new ≡ bytes_due len (spot_of self.old) }
+    {
+        if len == 0 {
+            self.string_done();
+        } else {
+            self.phase = Phase::Bytes(len);
+        }
+    }
+
+    /// The title of a text of this length has come.
+    fn text_due(&mut self, len: usize)
+        ensures { spot_of self.new ≡ text_due len (spot_of self.old) }
+    {
+        if len == 0 {
+            self.string_done();
+        } else {
+            self.phase = Phase::Text(len, State::Between);
+        }
+    }
+
+    /// The title of a tag, an array or a map has come.
+    fn nested(&mut self, inner: Level)
+        ensures { spot_of self.new ≡ nested self.old.depth inner (spot_of self.old) }
+    {
+        if self.depth == 0 {
+            self.phase = Phase::Faulted(Fault::Deep(self.place));
+            return;
+        }
+        self.depth -= 1;
+        self.levels.push(inner);
+        self.item_done();
+    }
+
+    /// A break has come where an item is due.
+    fn broken(&mut self)
+        ensures { spot_of self.new ≡ broken self.old.levels (spot_of self.old) }
+    {
+        match self.levels.innermost() {
+            Some(level) if level.closes() => {
+                self.levels.pop();
+                self.depth += 1;
+                self.item_done();
+            }
+            _ => self.phase = Phase::Faulted(Fault::Break(self.place)),
+        }
+    }
+
+    /// Strings are open, and a piece of them or a break is due.
+    fn string_open(&mut self, within: Within)
+        requires { open_count within ≤ self.old.offset }
+        ensures { spot_of self.new ≡ string_open within (spot_of self.old) }
+    {
+        self.within = within;
+        self.phase = Phase::Title;
+    }
+
+    /// The title of this header has come where an item is due.
+    fn enter_item(&mut self, header: Header)
+        requires { 1 ≤ self.old.offset }
+        ensures { spot_of self.new ≡ item_entered header (spot_of self.old) }
+    {
+        match header {
+            Header::Bytes(Some(len)) => self.bytes_due(len),
+            Header::Bytes(None) => self.string_open(Within::Bytes(0)),
+            Header::Text(Some(len)) => {
+                self.place = self.offset.saturating_sub(header.title_len());
+                self.text_due(len);
+            }
+            Header::Text(None) => self.string_open(Within::Text(0)),
+            Header::Tag(_) | Header::Array(_) | Header::Map(_) => {
+                self.nested(Level::behind(header));
+            }
+            Header::Break => self.broken(),
+            Header::Positive(_) | Header::Negative(_) | Header::Float(_) | Header::Simple(_) => {
+                self.item_done();
+            }
+        }
+    }
+
+    /// A break has come within a byte string, of which so many more are open around it.
+    fn bytes_closed(&mut self, more: usize)
+        requires { more ≤ self.old.offset }
+        ensures { spot_of self.new ≡ string_closed w.Bytes more (spot_of self.old) }
+    {
+        if more == 0 {
+            self.item_done();
+        } else {
+            self.string_open(Within::Bytes(more - 1));
+        }
+    }
+
+    /// A break has come within a text, of which so many more are open around it.
+    fn text_closed(&mut self, more: usize)
+        requires { more ≤ self.old.offset }
+        ensures { spot_of self.new ≡ string_closed w.Text more (spot_of self.old) }
+    {
+        if more == 0 {
+            self.item_done();
+        } else {
+            self.string_open(Within::Text(more - 1));
+        }
+    }
+
+    /// What has come may not stand there.
+    fn refuse(&mut self)
+        ensures { spot_of self.new ≡ refused (spot_of self.old) }
+    {
+        self.phase = Phase::Faulted(Fault::Syntax(self.place));
+    }
+
+    /// The title of this header has come within a byte string, of which so many more are open around it.
+    fn enter_bytes(&mut self, header: Header, more: usize)
+        requires { more + 2 ≤ self.old.offset }
+        ensures { spot_of self.new ≡ bytes_entered header more (spot_of self.old) }
+    {
+        match header {
+            Header::Bytes(Some(len)) => self.bytes_due(len),
+            Header::Bytes(None) => self.string_open(Within::Bytes(more + 1)),
+            Header::Break => self.bytes_closed(more),
+            _ => self.refuse(),
+        }
+    }
+
+    /// The title of this header has come within a text, of which so many more are open around it.
+    fn enter_text(&mut self, header: Header, more: usize)
+        requires { more + 2 ≤ self.old.offset }
+        ensures { spot_of self.new ≡ text_entered header more (spot_of self.old) }
+    {
+        match header {
+            Header::Text(Some(len)) => self.text_due(len),
+            Header::Text(None) => self.string_open(Within::Text(more + 1)),
+            Header::Break => self.text_closed(more),
+            _ => self.refuse(),
+        }
+    }
+
+    /// The title of this header has come.
+    fn enter(&mut self, header: Header)
+        requires { open_count self.old.within + 1 ≤ self.old.offset }
+        ensures { spot_of self.new ≡ entered self.old.within header (spot_of self.old) }
+    {
+        match self.within {
+            Within::Nothing => self.enter_item(header),
+            Within::Bytes(more) => self.enter_bytes(header, more),
+            Within::Text(more) => self.enter_text(header, more),
+        }
+    }
+
+    /// Where the title began of which the next byte is one.
+    fn title_place(&self) -> usize
+        ensures { result ≡ title_place self.now.front (spot_of self.now) }
+    {
+        if self.front.len() == 0 {
+            self.offset
+        } else {
+            self.place
+        }
+    }
+
+    /// A byte of a title.
+    #[tactic(auto, using(crate::proofs::BlockedLaws::affix_most))]
+    fn title_step(&mut self, byte: u8)
+        requires { self.old.offset < usize.MAX }
+        ensures { TitleStep (with_byte byte (spot_of self.old)) (spot_of self.new) }
+    {
+        self.place = self.title_place();
+        self.front.push(byte);
+        self.offset += 1;
+        let bytes = self.front.bytes();
+        let row = row_of(bytes[0]);
+        if bytes.len() <= affix_len(row.affix) {
+            if let Some(fault) = blocked(self.within, self.depth, self.place, row.kind) {
+                self.phase = Phase::Faulted(fault);
+            }
+            return;
+        }
+        let header = header_of(bytes);
+        self.front.clear();
+        match header {
+            Some(header) => self.enter(header),
+            None => self.refuse(),
+        }
+    }
+
+    /// A byte of the body of a byte string, of which so many were left.
+    fn bytes_step(&mut self, left: usize)
+        requires room { self.old.offset < usize.MAX }
+        requires some { 0 < left }
+        ensures { spot_of self.new ≡ bytes_due (left - 1) (counted (spot_of self.old)) }
+    {
+        self.front.clear();
+        self.offset += 1;
+        self.bytes_due(left - 1);
+    }
+
+    /// A byte of the body of a text, of which so many were left.
+    fn text_step(&mut self, left: usize, state: State, byte: u8)
+        requires room { self.old.offset < usize.MAX }
+        requires some { 0 < left }
+        ensures { let next = after_byte state byte in spot_of self.new
+            ≡ text_left (may_end next (left - 1)) (left - 1) next (counted (spot_of self.old)) }
+    {
+        self.front.clear();
+        self.offset += 1;
+        let state = state.step(byte);
+        let left = left - 1;
+        if !may_end(state, left) {
+            self.refuse();
+        } else if left == 0 {
+            self.string_done();
+        } else {
+            self.phase = Phase::Text(left, state);
+        }
+    }
+
+    /// Whether more bytes may come.
+    fn is_due(&self) -> bool
+        ensures { result ≡ is_due self.now.phase }
+    {
+        !matches!(self.phase, Phase::Ended | Phase::Faulted(_))
+    }
+
+    /// One byte more.
+    fn step(&mut self, byte: u8)
+        requires room { self.old.offset < usize.MAX }
+        requires due { is_due self.old.phase ≡ true }
+        ensures { Step (spot_of self.old) byte (spot_of self.new) }
+    {
+        match self.phase {
+            Phase::Title => self.title_step(byte),
+            Phase::Bytes(left) => self.bytes_step(left),
+            Phase::Text(left, state) => self.text_step(left, state, byte),
+            Phase::Ended | Phase::Faulted(_) => {}
+        }
+    }
+
+    /// How many bytes a title lacks at least.
+    fn title_due(&self) -> usize
+        ensures { result ≡ title_due self.now.front }
+    {
+        let bytes = self.front.bytes();
+        if bytes.is_empty() {
+            return 1;
+        }
+        affix_len(row_of(bytes[0]).affix) - (bytes.len() - 1)
+    }
+
+    /// How far the item has come, by what is due.
+    fn answer(&self) -> Progress
+        ensures { result ≡ progress_of (spot_of self.now) }
+    {
+        match self.phase {
+            Phase::Title => Progress::More(self.title_due()),
+            Phase::Bytes(left) | Phase::Text(left, _) => Progress::More(left),
+            Phase::Ended => Progress::Ended(self.offset),
+            Phase::Faulted(fault) => Progress::Fault(fault),
+        }
+    }
+
+    /// How far the item has come: what the last [`Checker::feed`] answered, and before the first that one byte is due.
+    pub fn progress(&self) -> Progress
+        ensures { (depth : ℕ) (fed : List ℕ) → IsFed depth fed (spot_of self.now) → Tells depth fed result }
+    {
+        self.answer()
+    }
+
+    /// What it means that no more bytes come.
+    pub fn end(&self) -> End
+        ensures { (depth : ℕ) (fed : List ℕ) → IsFed depth fed (spot_of self.now) → TellsEnd depth fed result }
+    {
+        if self.offset == 0 {
+            return End::Between;
+        }
+        match self.answer() {
+            Progress::Ended(_) => End::Between,
+            Progress::Fault(fault) => End::Fault(fault),
+            Progress::More(due) => End::Short(due),
+            Progress::TooLong => unreachable!(),
+        }
+    }
+
+    /// Takes a piece of the item's bytes, of any length: all of it, or up to the end of the item or up to the byte with
+    /// which a fault comes. What follows that is not taken, and a later call takes nothing and answers the same.
+    ///
+    /// How a list of bytes is cut into pieces changes nothing. `More` says that at least so many bytes are due: the
+    /// rest of a title or a body. `Ended` has the item's length. `Fault` says that no item begins as the bytes so far
+    /// do; it comes with the first byte of which that is so. `TooLong` says that `usize::MAX` bytes came, and the item
+    /// goes on; none of the others is taken.
+    pub fn feed(&mut self, bytes: &[u8]) -> Feed
+        ensures taken { result.taken ≤ length bytes.now }
+        ensures all { IsMore result.progress → result.taken ≡ length bytes.now }
+        ensures fed { (depth : ℕ) (fed : List ℕ) → IsFed depth fed (spot_of self.old)
+            → IsFed depth (fed ++ take result.taken bytes.now) (spot_of self.new) }
+        ensures tells { (depth : ℕ) (fed : List ℕ) → IsFed depth fed (spot_of self.old)
+            → Tells depth (fed ++ take result.taken bytes.now) result.progress }
+        ensures stays { is_due self.old.phase ≡ false → (result.taken ≡ 0) × (spot_of self.new ≡ spot_of self.old) }
+    {
+        for (at, byte) in bytes.iter().enumerate() {
+            if !self.is_due() {
+                return Feed {
+                    taken: at,
+                    progress: self.answer(),
+                };
+            }
+            if self.offset == usize::MAX {
+                return Feed {
+                    taken: at,
+                    progress: Progress::TooLong,
+                };
+            }
+            self.step(*byte);
+        }
+        Feed {
+            taken: bytes.len(),
+            progress: self.answer(),
+        }
+    }
+}

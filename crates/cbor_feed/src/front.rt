@@ -1,0 +1,67 @@
+//! The bytes of a title that isn't whole.
+
+ghost use Rattle.std.specs.Prelude.{◌≡◌, ◌<◌, ◌++◌, [], ◌∷◌, length};
+
+use std::marker::Model;
+
+/// The longest title: a first byte and eight behind it.
+const LONGEST: usize = 9;
+
+/// The bytes of a title so far.
+#[derive(Drop)]
+pub(crate) struct Front {
+    bytes: [u8; LONGEST],
+    len: usize,
+}
+
+impl Model for Front {
+    ghost use Rattle.std.specs.Prelude.{ℕ, ◌≤◌, List, take};
+
+    ghost Value = { List ℕ };
+
+    ghost view = { λ a. take a.len a.bytes };
+
+    ghost invariant = { λ a. a.len ≤ 9 };
+}
+
+impl Front {
+    /// No bytes.
+    pub(crate) fn new() -> Front
+        ensures { result ≡ [] }
+    {
+        Front {
+            bytes: [0; LONGEST],
+            len: 0,
+        }
+    }
+
+    /// How many bytes came.
+    pub(crate) fn len(&self) -> usize
+        ensures { result ≡ length self.now }
+    {
+        self.len
+    }
+
+    /// Gives the bytes up.
+    pub(crate) fn clear(&mut self)
+        ensures { self.new ≡ [] }
+    {
+        self.len = 0;
+    }
+
+    /// Takes one byte more.
+    pub(crate) fn push(&mut self, byte: u8)
+        requires { length self.old < 9 }
+        ensures { self.new ≡ self.old ++ byte ∷ [] }
+    {
+        self.bytes[self.len] = byte;
+        self.len += 1;
+    }
+
+    /// The bytes.
+    pub(crate) fn bytes(&self) -> &[u8]
+        ensures { result.now ≡ self.now }
+    {
+        &self.bytes[..self.len]
+    }
+}

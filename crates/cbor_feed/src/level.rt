@@ -1,0 +1,63 @@
+//! What is due behind an item within the tags, arrays and maps that it stands in.
+
+ghost use Rattle.std.specs.Prelude.{◌≡◌};
+ghost use Rattle.cbor_feed.specs.Levels.{closes, contents, next};
+
+use ciborium_ll_grammar::hdr::Header;
+
+/// What a tag, an array or a map contains behind the item that is due in it.
+///
+/// Pairs are counted as pairs, so that no count is greater than the one in the header.
+#[derive(Clone, Copy)]
+pub(crate) enum Level {
+    /// So many items.
+    Items(usize),
+    /// So many pairs.
+    Pairs(usize),
+    /// The value of a pair, and then so many pairs.
+    Value(usize),
+    /// Items up to a break.
+    OpenItems,
+    /// Pairs up to a break.
+    OpenPairs,
+    /// The value of a pair, and then pairs up to a break.
+    OpenValue,
+}
+
+impl Level {
+    /// What the header of a tag, an array or a map announces.
+    pub(crate) fn behind(header: Header) -> Level
+        ensures { result ≡ contents header }
+    {
+        match header {
+            Header::Tag(_) => Level::Items(1),
+            Header::Array(Some(count)) => Level::Items(count),
+            Header::Array(None) => Level::OpenItems,
+            Header::Map(Some(count)) => Level::Pairs(count),
+            Header::Map(None) => Level::OpenPairs,
+            _ => Level::Items(0),
+        }
+    }
+
+    /// What is left behind one item more, where one is due.
+    pub(crate) fn next(self) -> Option<Level>
+        ensures { result ≡ next self }
+    {
+        match self {
+            Level::Items(0) | Level::Pairs(0) => None,
+            Level::Items(count) => Some(Level::Items(count - 1)),
+            Level::Pairs(count) => Some(Level::Value(count - 1)),
+            Level::Value(count) => Some(Level::Pairs(count)),
+            Level::OpenItems => Some(Level::OpenItems),
+            Level::OpenPairs => Some(Level::OpenValue),
+            Level::OpenValue => Some(Level::OpenPairs),
+        }
+    }
+
+    /// Whether a break may stand in place of the item in front.
+    pub(crate) fn closes(self) -> bool
+        ensures { result ≡ closes self }
+    {
+        matches!(self, Level::OpenItems | Level::OpenValue)
+    }
+}

@@ -1,0 +1,16 @@
+//! Items of CBOR (RFC 7049, 2.1 to 2.4) checked as their bytes come, in pieces of any length. No call takes memory, and
+//! none waits for a reader.
+#![tactic(auto)]
+
+mod checker;
+mod front;
+pub mod laws;
+mod level;
+mod levels;
+mod phase;
+mod progress;
+mod title;
+
+pub use self::checker::Checker;
+pub use self::phase::Fault;
+pub use self::progress::{End, Feed, Progress};

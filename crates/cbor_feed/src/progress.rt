@@ -1,0 +1,36 @@
+//! What a checker answers.
+
+use crate::phase::Fault;
+
+/// How far an item has come.
+#[derive(Clone, Copy, Debug, PartialEq, Eq)]
+pub enum Progress {
+    /// The item isn't whole: at least so many bytes more are due.
+    More(usize),
+    /// The item has ended. It has so many bytes.
+    Ended(usize),
+    /// No item begins as the bytes so far do.
+    Fault(Fault),
+    /// The item is longer than a `usize` counts.
+    TooLong,
+}
+
+/// The answer to a piece.
+#[derive(Clone, Copy, Debug, PartialEq, Eq)]
+pub struct Feed {
+    /// How many bytes of the piece were taken: all of them, or those up to the end of the item or up to the fault.
+    pub taken: usize,
+    /// How far the item has come.
+    pub progress: Progress,
+}
+
+/// What it means that no more bytes come.
+#[derive(Clone, Copy, Debug, PartialEq, Eq)]
+pub enum End {
+    /// No byte came, or the item has ended.
+    Between,
+    /// The item is cut off: at least so many bytes more were due.
+    Short(usize),
+    /// No item begins as the bytes so far do.
+    Fault(Fault),
+}
