@@ -1,0 +1,345 @@
+/*
+ * CBOR (RFC 7049, 2.1 to 2.4) out of memory and into memory, for C++17, over the calls of ciborium_ll.h.
+ *
+ * A call that may fail gives a `result`, which has its value or a `fault` with a name and a place. `value()` throws the
+ * fault, as an `error`, where there is no value; nothing else throws. No call takes memory.
+ */
+#ifndef CIBORIUM_LL_HPP
+#define CIBORIUM_LL_HPP
+
+#include <cstddef>
+#include <cstdint>
+#include <cstdio>
+#include <exception>
+#include <iterator>
+#include <optional>
+#include <type_traits>
+#include <utility>
+
+#include "ciborium_ll.h"
+
+namespace ciborium_ll {
+
+/* What stands for a byte: `unsigned char`, `char` or `std::byte`. */
+template <typename T>
+inline constexpr bool is_byte = std::is_same_v<std::remove_cv_t<T>, unsigned char>
+    || std::is_same_v<std::remove_cv_t<T>, char> || std::is_same_v<std::remove_cv_t<T>, std::byte>;
+
+/* Bytes that somebody else owns: where they are, and how many. A `T` that is const only reads them. */
+template <typename T>
+class span {
+public:
+    constexpr span() noexcept = default;
+    constexpr span(T *data, std::size_t size) noexcept : data_(data), size_(size) {}
+
+    /*
+     * All bytes of an array, a vector, a string, a view or a span. One that is about to end is taken to be read alone.
+     * An array of `char` is none of these, since a literal has a zero at its end.
+     */
+    template <typename Bytes, typename Byte = std::remove_pointer_t<decltype(std::data(std::declval<Bytes &>()))>,
+        typename Plain = std::remove_cv_t<std::remove_reference_t<Bytes>>,
+        typename = std::enable_if_t<is_byte<Byte> && !std::is_same_v<Plain, span>
+            && (std::is_const_v<T> || (std::is_lvalue_reference_v<Bytes> && !std::is_const_v<Byte>))
+            && !(std::is_array_v<Plain> && std::is_same_v<std::remove_cv_t<Byte>, char>)>>
+    span(Bytes &&bytes) noexcept : data_(reinterpret_cast<T *>(std::data(bytes))), size_(std::size(bytes))
+    {
+    }
+
+    constexpr T *data() const noexcept { return data_; }
+    constexpr std::size_t size() const noexcept { return size_; }
+    constexpr bool empty() const noexcept { return size_ == 0; }
+    constexpr T *begin() const noexcept { return data_; }
+    constexpr T *end() const noexcept { return data_ + size_; }
+    constexpr T &operator[](std::size_t at) const noexcept { return data_[at]; }
+
+    /* What stands behind the first bytes, and so many of them. Neither asks whether so many are there. */
+    constexpr span behind(std::size_t count) const noexcept { return {data_ + count, size_ - count}; }
+    constexpr span first(std::size_t count) const noexcept { return {data_, count}; }
+
+private:
+    T *data_ = nullptr;
+    std::size_t size_ = 0;
+};
+
+using input = span<const std::uint8_t>;
+using output = span<std::uint8_t>;
+
+enum class kind : std::uint8_t {
+    positive = CLL_POSITIVE,
+    negative = CLL_NEGATIVE,
+    bytes = CLL_BYTES,
+    text = CLL_TEXT,
+    array = CLL_ARRAY,
+    map = CLL_MAP,
+    tag = CLL_TAG,
+    simple = CLL_SIMPLE,
+    half = CLL_HALF,
+    single = CLL_SINGLE,
+    double_ = CLL_DOUBLE,
+    break_ = CLL_BREAK
+};
+
+/*
+ * What a title means. `value` is the number, the length, the count or the raw bits, as in `cll_header`. An indefinite
+ * form has none, and that of a break is 0.
+ */
+struct header {
+    ciborium_ll::kind kind;
+    std::optional<std::uint64_t> value;
+
+    friend constexpr bool operator==(const header &a, const header &b) noexcept
+    {
+        return a.kind == b.kind && a.value == b.value;
+    }
+    friend constexpr bool operator!=(const header &a, const header &b) noexcept { return !(a == b); }
+};
+
+enum class answer : std::uint32_t {
+    ok = CLL_OK,
+    too_short = CLL_SHORT,
+    syntax = CLL_SYNTAX,
+    room = CLL_ROOM,
+    too_long = CLL_TOO_LONG,
+    break_due = CLL_BREAK_DUE,
+    too_deep = CLL_TOO_DEEP,
+    argument = CLL_ARGUMENT
+};
+
+/* The name of an answer. */
+constexpr const char *name_of(answer code) noexcept
+{
+    switch (code) {
+    case answer::ok: return "ok";
+    case answer::too_short: return "short";
+    case answer::syntax: return "syntax";
+    case answer::room: return "room";
+    case answer::too_long: return "too_long";
+    case answer::break_due: return "break_due";
+    case answer::too_deep: return "too_deep";
+    case answer::argument: return "argument";
+    }
+    return "unknown";
+}
+
+/*
+ * Why a call has no value, and how far it came. `place` is the offset that the fault names: where `too_short` stopped,
+ * and 0 for `room` and `argument`.
+ */
+struct fault {
+    answer code;
+    std::uint64_t place;
+    std::uint64_t consumed;
+    std::uint64_t written;
+
+    const char *name() const noexcept { return name_of(code); }
+};
+
+/* A fault that was thrown. */
+class error : public std::exception {
+public:
+    explicit error(const fault &why) noexcept : why_(why)
+    {
+        std::snprintf(text_, sizeof text_, "%s at %llu", why.name(), static_cast<unsigned long long>(why.place));
+    }
+    const ciborium_ll::fault &fault() const noexcept { return why_; }
+    const char *name() const noexcept { return why_.name(); }
+    std::uint64_t place() const noexcept { return why_.place; }
+    const char *what() const noexcept override { return text_; }
+
+private:
+    ciborium_ll::fault why_;
+    char text_[48];
+};
+
+/* A value, or a fault. */
+template <typename T>
+class [[nodiscard]] result {
+public:
+    constexpr result(T value) noexcept : value_(value) {}
+    constexpr result(const ciborium_ll::fault &why) noexcept : fault_(why) {}
+
+    constexpr explicit operator bool() const noexcept { return value_.has_value(); }
+    constexpr bool has_value() const noexcept { return value_.has_value(); }
+    /* These two ask nothing, as those of std::optional do. */
+    constexpr const T &operator*() const noexcept { return *value_; }
+    constexpr const T *operator->() const noexcept { return &*value_; }
+    /* The fault, where there is no value. */
+    constexpr const ciborium_ll::fault &fault() const noexcept { return fault_; }
+#if defined(__cpp_exceptions)
+    const T &value() const
+    {
+        if (!value_)
+            throw error(fault_);
+        return *value_;
+    }
+#endif
+
+private:
+    std::optional<T> value_;
+    ciborium_ll::fault fault_{answer::ok, 0, 0, 0};
+};
+
+/* A header, and the length of the title that it was read from. */
+struct title {
+    ciborium_ll::header header;
+    std::size_t length;
+};
+
+/* How many bytes were consumed, and how many written. */
+struct copied {
+    std::size_t consumed;
+    std::size_t written;
+};
+
+namespace detail {
+
+inline cll_header parts_of(const header &header) noexcept
+{
+    return {header.value.value_or(0), static_cast<std::uint8_t>(header.kind),
+        static_cast<std::uint8_t>(header.value ? 0 : 1)};
+}
+
+inline fault fault_of(std::uint32_t code, const cll_report &report) noexcept
+{
+    return {static_cast<answer>(code), code == CLL_SHORT ? report.consumed : report.place, report.consumed,
+        report.written};
+}
+
+} /* namespace detail */
+
+/* Reads the one title in front. The body of a string stands behind it, and is not read. */
+inline result<title> pull(input bytes) noexcept
+{
+    cll_header got = {0, 0, 0};
+    cll_report report;
+    const std::uint32_t code = cll_pull(bytes.data(), bytes.size(), &got, &report);
+    if (code != CLL_OK)
+        return detail::fault_of(code, report);
+    std::optional<std::uint64_t> value;
+    if (got.indefinite == 0)
+        value = got.value;
+    return title{{static_cast<kind>(got.kind), value}, static_cast<std::size_t>(report.consumed)};
+}
+
+/* Writes the shortest title of a header, whole or not at all. Its length is at most 9. */
+inline result<std::size_t> push(const header &header, output out) noexcept
+{
+    const cll_header given = detail::parts_of(header);
+    cll_report report;
+    const std::uint32_t code = cll_push(&given, out.data(), out.size(), &report);
+    if (code != CLL_OK)
+        return detail::fault_of(code, report);
+    return static_cast<std::size_t>(report.written);
+}
+
+/* Writes the title of a header that has so many bytes behind its first one: 0, 1, 2, 4 or 8, as its kind has them. */
+inline result<std::size_t> push_wide(const header &header, std::uint32_t width, output out) noexcept
+{
+    const cll_header given = detail::parts_of(header);
+    cll_report report;
+    const std::uint32_t code = cll_push_wide(&given, width, out.data(), out.size(), &report);
+    if (code != CLL_OK)
+        return detail::fault_of(code, report);
+    return static_cast<std::size_t>(report.written);
+}
+
+/*
+ * Copies so many elements, each in its shortest spelling. As many bytes as are read are always room enough. What was
+ * written before a fault stands in `out`, which must not overlap what is read.
+ */
+inline result<copied> recode(input bytes, std::uint64_t count, output out) noexcept
+{
+    cll_report report;
+    const std::uint32_t code = cll_recode(bytes.data(), bytes.size(), count, out.data(), out.size(), &report);
+    if (code != CLL_OK)
+        return detail::fault_of(code, report);
+    return copied{static_cast<std::size_t>(report.consumed), static_cast<std::size_t>(report.written)};
+}
+
+/* The length of so many elements in their one shortest spelling. */
+inline result<std::size_t> strict(input bytes, std::uint64_t count) noexcept
+{
+    cll_report report;
+    const std::uint32_t code = cll_strict(bytes.data(), bytes.size(), count, &report);
+    if (code != CLL_OK)
+        return detail::fault_of(code, report);
+    return static_cast<std::size_t>(report.consumed);
+}
+
+/* The length of the one item in front, which contains at most so many levels, and no more than 256. */
+inline result<std::size_t> skip(input bytes, std::uint32_t depth = 256) noexcept
+{
+    cll_report report;
+    const std::uint32_t code = cll_skip(bytes.data(), bytes.size(), depth, &report);
+    if (code != CLL_OK)
+        return detail::fault_of(code, report);
+    return static_cast<std::size_t>(report.consumed);
+}
+
+/*
+ * The length of the bytes, where all of them are UTF-8. Else the place of the fault is the length of their longest front
+ * that is: `too_short` where a character is cut off behind it, which more bytes may complete, and `syntax` where no
+ * UTF-8 goes on.
+ */
+inline result<std::size_t> utf8(input bytes) noexcept
+{
+    cll_report report;
+    const std::uint32_t code = cll_utf8(bytes.data(), bytes.size(), &report);
+    if (code != CLL_OK)
+        return detail::fault_of(code, report);
+    return static_cast<std::size_t>(report.consumed);
+}
+
+/* Goes through bytes. A call that fails leaves it where it was, and its places are offsets in all of the bytes. */
+class reader {
+public:
+    explicit reader(input bytes) noexcept : bytes_(bytes) {}
+
+    std::size_t offset() const noexcept { return offset_; }
+    input rest() const noexcept { return bytes_.behind(offset_); }
+    bool at_end() const noexcept { return offset_ == bytes_.size(); }
+
+    /* The header of the next title. */
+    result<header> pull() noexcept
+    {
+        const result<title> got = ciborium_ll::pull(rest());
+        if (!got)
+            return moved(got.fault());
+        offset_ += got->length;
+        return got->header;
+    }
+
+    /* The next bytes, as the body of a string behind its header, or nothing where there are not so many. */
+    std::optional<input> take(std::uint64_t count) noexcept
+    {
+        if (count > rest().size())
+            return std::nullopt;
+        const input taken = rest().first(static_cast<std::size_t>(count));
+        offset_ += taken.size();
+        return taken;
+    }
+
+    /* The bytes of the next item, whatever it contains. */
+    result<input> skip(std::uint32_t depth = 256) noexcept
+    {
+        const result<std::size_t> length = ciborium_ll::skip(rest(), depth);
+        if (!length)
+            return moved(length.fault());
+        return *take(*length);
+    }
+
+private:
+    fault moved(fault why) const noexcept
+    {
+        if (why.code != answer::room && why.code != answer::argument)
+            why.place += offset_;
+        return why;
+    }
+
+    input bytes_;
+    std::size_t offset_ = 0;
+};
+
+} /* namespace ciborium_ll */
+
+#endif

@@ -1,0 +1,263 @@
+"""CBOR (RFC 7049, 2.1 to 2.4) in memory, one header at a time, by a library whose every answer is proved.
+
+Bytes are read out of whatever lends its memory, as ``bytes``, ``bytearray``, ``memoryview``, ``mmap`` and ``array`` do,
+and never copied. No other thread may change them while a call reads them. A call that fails raises an ``Error`` with a
+name and a place.
+"""
+import ctypes
+import enum
+import os
+from collections import namedtuple
+
+__all__ = ["Kind", "Header", "Title", "Recoded", "Error", "Short", "Syntax", "Room", "BreakDue", "TooDeep", "Argument",
+           "pull", "push", "recode", "strict", "skip", "utf8", "headers"]
+
+Kind = enum.IntEnum("Kind", "POSITIVE NEGATIVE BYTES TEXT ARRAY MAP TAG SIMPLE HALF SINGLE DOUBLE BREAK", start=0)
+
+Header = namedtuple("Header", "kind value")
+Header.__doc__ = """What a title means.
+
+``value`` is the number; of NEGATIVE the number is -1 - value; the length in bytes, the count of items or of pairs, or a
+float's raw bits. It is ``None`` for an indefinite form, and 0 for a break."""
+
+Title = namedtuple("Title", "header start end body")
+Title.__doc__ = """A header, where its title starts and ends, and of a string of a definite length the body."""
+
+Recoded = namedtuple("Recoded", "data consumed")
+Recoded.__doc__ = """Elements in their shortest spelling, and how many bytes they were read from."""
+
+
+class Error(ValueError):
+    """Why a call failed.
+
+    ``name`` names the answer, and ``place`` is the offset that it names, in all of the bytes; of ``short`` it is where
+    the read stopped. ``consumed`` and ``written`` say how far the call came.
+    """
+
+    name = "error"
+
+    def __init__(self, place, consumed, written):
+        super().__init__(f"{self.name} at {place}")
+        self.place, self.consumed, self.written = place, consumed, written
+
+    def __reduce__(self):
+        return type(self), (self.place, self.consumed, self.written)
+
+
+class Short(Error):
+    """The bytes end too early."""
+
+    name = "short"
+
+
+class Syntax(Error):
+    """At the place stands no CBOR, or of ``utf8`` no UTF-8, that could stand there."""
+
+    name = "syntax"
+
+
+class Room(Error):
+    """There is no room for what is to be written."""
+
+    name = "room"
+
+
+class BreakDue(Error):
+    """At the place a break stands where an item is due."""
+
+    name = "break_due"
+
+
+class TooDeep(Error):
+    """At the place a tag, an array or a map stands deeper than was allowed."""
+
+    name = "too_deep"
+
+
+class Argument(Error):
+    """An argument is out of its range, and nothing was done."""
+
+    name = "argument"
+
+
+_STRINGS = (Kind.BYTES, Kind.TEXT)
+
+# By the answers' numbers. Number 4 is never answered of bytes in memory.
+_ERRORS = {1: Short, 2: Syntax, 3: Room, 5: BreakDue, 6: TooDeep, 7: Argument}
+
+
+class _Header(ctypes.Structure):
+    _fields_ = [("value", ctypes.c_uint64), ("kind", ctypes.c_uint8), ("indefinite", ctypes.c_uint8)]
+
+
+class _Report(ctypes.Structure):
+    _fields_ = [("consumed", ctypes.c_uint64), ("written", ctypes.c_uint64), ("place", ctypes.c_uint64)]
+
+
+class _Buffer(ctypes.Structure):
+    """The Py_buffer of Python's own interface for C."""
+
+    _fields_ = [("buf", ctypes.c_void_p), ("obj", ctypes.c_void_p), ("len", ctypes.c_ssize_t),
+                ("itemsize", ctypes.c_ssize_t), ("readonly", ctypes.c_int), ("ndim", ctypes.c_int),
+                ("format", ctypes.c_void_p), ("shape", ctypes.c_void_p), ("strides", ctypes.c_void_p),
+                ("suboffsets", ctypes.c_void_p), ("internal", ctypes.c_void_p)]
+
+
+def _library():
+    """The library's calls: of CIBORIUM_LL_LIBRARY, or of the wheel, or of the system."""
+    inside = os.path.join(os.path.dirname(os.path.abspath(__file__)), "libciborium_ll.so")
+    name = os.environ.get("CIBORIUM_LL_LIBRARY") or (inside if os.path.exists(inside) else "libciborium_ll.so.0")
+    calls = ctypes.CDLL(name)
+    data, size, number = ctypes.c_void_p, ctypes.c_size_t, ctypes.c_uint64
+    header, report = ctypes.POINTER(_Header), ctypes.POINTER(_Report)
+    calls.cll_pull.argtypes = [data, size, header, report]
+    calls.cll_push.argtypes = [header, data, size, report]
+    calls.cll_push_wide.argtypes = [header, ctypes.c_uint32, data, size, report]
+    calls.cll_recode.argtypes = [data, size, number, data, size, report]
+    calls.cll_strict.argtypes = [data, size, number, report]
+    calls.cll_skip.argtypes = [data, size, ctypes.c_uint32, report]
+    calls.cll_utf8.argtypes = [data, size, report]
+    calls.cll_version.argtypes = []
+    for call in "version pull push push_wide recode strict skip utf8".split():
+        getattr(calls, f"cll_{call}").restype = ctypes.c_uint32
+    return calls
+
+
+_CALLS = _library()
+__version__ = ".".join(map(str, divmod(_CALLS.cll_version() >> 8, 256) + (_CALLS.cll_version() & 255,)))
+_GET = ctypes.pythonapi.PyObject_GetBuffer
+_GET.argtypes = [ctypes.py_object, ctypes.POINTER(_Buffer), ctypes.c_int]
+_RELEASE = ctypes.pythonapi.PyBuffer_Release
+_RELEASE.argtypes = [ctypes.POINTER(_Buffer)]
+_RELEASE.restype = None
+
+
+class _Memory:
+    """Where the bytes of an object behind an offset are, and how many. They stay there within a ``with`` block."""
+
+    __slots__ = ("buffer", "at", "length")
+
+    def __init__(self, data, offset):
+        self.buffer = _Buffer()
+        # Raises a TypeError of its own where there is no such memory.
+        _GET(data, self.buffer, 0)
+        if not 0 <= offset <= self.buffer.len:
+            _RELEASE(self.buffer)
+            raise IndexError(f"the offset {offset} is not within {self.buffer.len} bytes")
+        # Null where there are no bytes, which the calls take.
+        self.at = (self.buffer.buf or 0) + offset
+        self.length = self.buffer.len - offset
+
+    def __enter__(self):
+        return self.at, self.length
+
+    def __exit__(self, *_):
+        _RELEASE(self.buffer)
+
+
+def _held(number, bits, what):
+    """The number, if it has so many bits: else ctypes would drop some of them."""
+    if not 0 <= number < 1 << bits:
+        raise OverflowError(f"{what} has to be from 0 to 2**{bits} - 1")
+    return number
+
+
+def _check(answer, report, offset=0):
+    """Raises the error of an answer."""
+    if answer != 0:
+        place = report.consumed if answer == 1 else report.place
+        raise _ERRORS[answer](place if answer in (3, 7) else place + offset, report.consumed, report.written)
+
+
+def _pulled(at, length, offset):
+    """The header of the title there, and the title's length."""
+    header, report = _Header(), _Report()
+    _check(_CALLS.cll_pull(at, length, header, report), report, offset)
+    return Header(Kind(header.kind), None if header.indefinite else header.value), report.consumed
+
+
+def _skipped(at, length, depth, offset):
+    """The length of the item there."""
+    report = _Report()
+    _check(_CALLS.cll_skip(at, length, depth, report), report, offset)
+    return report.consumed
+
+
+def pull(data, offset=0):
+    """The title at the offset, of which no body is read."""
+    with _Memory(data, offset) as (at, length):
+        header, consumed = _pulled(at, length, offset)
+    return Title(header, offset, offset + consumed, None)
+
+
+def push(header, width=None):
+    """The shortest title of a header, or the one that has so many bytes behind its first one: 0, 1, 2, 4 or 8."""
+    value = 0 if header.value is None else _held(header.value, 64, "the value")
+    parts, report = _Header(value, _held(header.kind, 8, "the kind"), header.value is None), _Report()
+    out = ctypes.create_string_buffer(9)
+    there = ctypes.addressof(out)
+    if width is None:
+        answer = _CALLS.cll_push(parts, there, len(out), report)
+    else:
+        answer = _CALLS.cll_push_wide(parts, _held(width, 32, "the width"), there, len(out), report)
+    _check(answer, report)
+    return out.raw[:report.written]
+
+
+def recode(data, count=1, offset=0):
+    """So many elements in their shortest spelling.
+
+    An element is a title that begins no string, or a whole string.
+    """
+    report = _Report()
+    with _Memory(data, offset) as (at, length):
+        # No spelling is longer than what it is read from.
+        out = bytearray(length + 1)
+        there = ctypes.addressof(ctypes.c_char.from_buffer(out))
+        _check(_CALLS.cll_recode(at, length, _held(count, 64, "the count"), there, length, report), report, offset)
+    return Recoded(bytes(memoryview(out)[:report.written]), report.consumed)
+
+
+def strict(data, count=1, offset=0):
+    """The length of so many elements in their one shortest spelling."""
+    report = _Report()
+    with _Memory(data, offset) as (at, length):
+        _check(_CALLS.cll_strict(at, length, _held(count, 64, "the count"), report), report, offset)
+    return report.consumed
+
+
+def skip(data, depth=256, offset=0):
+    """The length of the item at the offset, which contains at most so many levels, and no more than 256."""
+    with _Memory(data, offset) as (at, length):
+        return _skipped(at, length, _held(depth, 32, "the depth"), offset)
+
+
+def utf8(data, offset=0):
+    """The length of the bytes from the offset on, where all of them are UTF-8.
+
+    Else the place of the error is the end of their longest front that is: ``Short`` where a character is cut off there,
+    which more bytes may complete, and ``Syntax`` where no UTF-8 goes on.
+    """
+    report = _Report()
+    with _Memory(data, offset) as (at, length):
+        _check(_CALLS.cll_utf8(at, length, report), report, offset)
+    return report.consumed
+
+
+def headers(data, offset=0):
+    """Each title from the offset on, up to the end of the bytes.
+
+    A string of a definite length is read whole, and its body is a view of the bytes; that of a text is UTF-8. Nothing
+    is said of how the titles nest. Up to its end the iterator holds the bytes where they are.
+    """
+    view = memoryview(data).cast("B")
+    with _Memory(view, offset) as (at, length):
+        start, stop = offset, offset + length
+        while start < stop:
+            here, left = at + start - offset, stop - start
+            header, consumed = _pulled(here, left, start)
+            end, body = start + consumed, None
+            if header.kind in _STRINGS and header.value is not None:
+                body = view[end:start + _skipped(here, left, 0, start)]
+            yield Title(header, start, end, body)
+            start = end if body is None else end + len(body)

@@ -1,0 +1,151 @@
+"""What the table of rows can't say: which bytes are taken, where errors are, and what the iterator gives."""
+import array
+import ast
+import inspect
+import mmap
+import pickle
+import unittest
+from pathlib import Path
+
+import ciborium_ll
+from ciborium_ll import Error, Header, Kind
+
+MAP = bytes.fromhex("a16161820102")
+
+
+class Bytes(unittest.TestCase):
+    def test_all_that_lends_memory_is_taken(self):
+        with mmap.mmap(-1, len(MAP)) as mapped:
+            mapped[:] = MAP
+            views = memoryview(MAP), memoryview(b"-" + MAP)[1:]
+            for data in (MAP, bytearray(MAP), *views, array.array("B", MAP), mapped):
+                self.assertEqual(ciborium_ll.skip(data), 6)
+                self.assertEqual(ciborium_ll.recode(data, 1).data, b"\xa1")
+
+    def test_what_lends_none_is_refused(self):
+        self.assertRaises(TypeError, ciborium_ll.pull, "a1")
+        self.assertRaises(BufferError, ciborium_ll.pull, memoryview(MAP)[::2])
+
+    def test_memory_is_given_back(self):
+        data = bytearray(b"\x9c")
+        for call in (ciborium_ll.pull, ciborium_ll.recode, ciborium_ll.strict, ciborium_ll.skip, ciborium_ll.utf8):
+            self.assertRaises(Error, call, data)
+            self.assertRaises(IndexError, call, data, offset=2)
+        # A loan that is left would refuse this.
+        data += MAP
+
+    def test_no_bytes(self):
+        for data in (b"", bytearray(), memoryview(b"")):
+            self.assertRaises(ciborium_ll.Short, ciborium_ll.pull, data)
+            self.assertEqual(ciborium_ll.strict(data, 0), 0)
+            self.assertEqual(ciborium_ll.utf8(data), 0)
+            self.assertEqual(list(ciborium_ll.headers(data)), [])
+
+
+class Stub(unittest.TestCase):
+    def test_types_are_given_of_what_is_there(self):
+        stub = ast.parse(Path(ciborium_ll.__file__).with_suffix(".pyi").read_text())
+        calls = {it.name: [arg.arg for arg in it.args.args] for it in stub.body if isinstance(it, ast.FunctionDef)}
+        classes = [it.name for it in stub.body if isinstance(it, ast.ClassDef)]
+        self.assertEqual(sorted([*calls, *classes]), sorted(ciborium_ll.__all__))
+        for name, parameters in calls.items():
+            self.assertEqual(list(inspect.signature(getattr(ciborium_ll, name)).parameters), parameters)
+
+    def test_the_version_is_three_numbers(self):
+        self.assertRegex(ciborium_ll.__version__, r"^\d+\.\d+\.\d+$")
+
+
+class Numbers(unittest.TestCase):
+    def test_numbers_that_c_does_not_hold_are_refused(self):
+        for number in (-1, 1 << 64):
+            self.assertRaises(OverflowError, ciborium_ll.strict, MAP, number)
+            self.assertRaises(OverflowError, ciborium_ll.recode, MAP, number)
+            self.assertRaises(OverflowError, ciborium_ll.push, Header(Kind.TAG, number))
+        self.assertRaises(OverflowError, ciborium_ll.skip, MAP, 1 << 32)
+        self.assertRaises(OverflowError, ciborium_ll.push, Header(256, 0))
+        self.assertRaises(OverflowError, ciborium_ll.push, Header(Kind.MAP, 0), (1 << 32) + 1)
+        self.assertRaises(ciborium_ll.Argument, ciborium_ll.push, Header(12, 0))
+
+
+class Errors(unittest.TestCase):
+    def test_a_place_is_one_of_all_the_bytes(self):
+        data = b"\x00\x00\x18\x05"
+        with self.assertRaises(ciborium_ll.Syntax) as caught:
+            ciborium_ll.strict(data, 1, offset=2)
+        self.assertEqual((caught.exception.name, caught.exception.place), ("syntax", 2))
+        self.assertEqual(str(caught.exception), "syntax at 2")
+        with self.assertRaises(ciborium_ll.Short) as caught:
+            ciborium_ll.pull(b"\x00\x19", 1)
+        self.assertEqual(caught.exception.place, 2)
+
+    def test_an_error_can_be_sent(self):
+        with self.assertRaises(Error) as caught:
+            ciborium_ll.skip(MAP, 1)
+        sent = pickle.loads(pickle.dumps(caught.exception))
+        self.assertEqual((type(sent), sent.place, sent.consumed), (ciborium_ll.TooDeep, 3, 4))
+
+
+class Texts(unittest.TestCase):
+    def test_a_text_in_pieces(self):
+        text = "A\u2262\u0391.\U000233b4".encode()
+        for size in range(1, len(text) + 1):
+            fronts, rest = [], b""
+            for start in range(0, len(text), size):
+                data = rest + text[start:start + size]
+                try:
+                    end = ciborium_ll.utf8(data)
+                except ciborium_ll.Short as cut:
+                    end = cut.place
+                fronts.append(data[:end].decode())
+                rest = data[end:]
+            self.assertEqual(("".join(fronts).encode(), rest), (text, b""))
+
+    def test_what_python_says_of_all_lists_of_two_bytes(self):
+        for number in range(1 << 16):
+            data = number.to_bytes(2, "big")
+            try:
+                want = "ok", len(data.decode().encode())
+            except UnicodeDecodeError as error:
+                want = "short" if error.reason == "unexpected end of data" else "syntax", error.start
+            try:
+                got = "ok", ciborium_ll.utf8(data)
+            except Error as error:
+                got = error.name, error.place
+            self.assertEqual(got, want, data.hex())
+
+    def test_a_place_is_one_of_all_the_bytes(self):
+        with self.assertRaises(ciborium_ll.Syntax) as caught:
+            ciborium_ll.utf8(b"\xff\xffa\xff", 2)
+        self.assertEqual((caught.exception.place, caught.exception.consumed), (3, 1))
+
+
+class Headers(unittest.TestCase):
+    def test_titles_and_bodies(self):
+        got = [(title.start, title.end, title.header.kind.name, title.header.value, title.body)
+               for title in ciborium_ll.headers(b"-" + bytes.fromhex("9f0a63e2818c5f4101ffff"), 1)]
+        self.assertEqual(got, [
+            (1, 2, "ARRAY", None, None),
+            (2, 3, "POSITIVE", 10, None),
+            (3, 4, "TEXT", 3, "\u204c".encode()),
+            (7, 8, "BYTES", None, None),
+            (8, 9, "BYTES", 1, b"\x01"),
+            (10, 11, "BREAK", 0, None),
+            (11, 12, "BREAK", 0, None),
+        ])
+
+    def test_a_body_is_a_view(self):
+        data = bytearray(b"\x42ab")
+        title = next(ciborium_ll.headers(data))
+        data[1] = ord("c")
+        self.assertEqual(title.body, b"cb")
+
+    def test_faults_come_where_they_stand(self):
+        titles = ciborium_ll.headers(bytes.fromhex("0061ff"))
+        self.assertEqual(next(titles).header, (Kind.POSITIVE, 0))
+        with self.assertRaises(ciborium_ll.Syntax) as caught:
+            next(titles)
+        self.assertEqual(caught.exception.place, 1)
+
+
+if __name__ == "__main__":
+    unittest.main()

@@ -1,0 +1,58 @@
+"""Holds the package to the table of rows that every binding is held to."""
+import unittest
+from pathlib import Path
+
+import ciborium_ll
+from ciborium_ll import Header, Kind
+
+# The table stands beside the package in the repository.
+TABLE = Path(__file__).resolve().parents[2] / "tests" / "rows"
+
+
+def told(header):
+    """A header as it stands in the table."""
+    return f"{header.kind.name.lower()}/{'*' if header.value is None else header.value}"
+
+
+def header_of(text):
+    kind, value = text.split("/")
+    return Header(Kind[kind.upper()], None if value == "*" else int(value))
+
+
+def made(call, number, given):
+    """How many bytes a call consumes, and what it makes."""
+    data = b"" if given == "-" or call in ("push", "wide") else bytes.fromhex(given)
+    if call == "pull":
+        title = ciborium_ll.pull(data)
+        return title.end, f"{told(title.header)}/{ciborium_ll.push(title.header).hex()}"
+    if call == "push":
+        return 0, ciborium_ll.push(header_of(given)).hex()
+    if call == "wide":
+        return 0, ciborium_ll.push(header_of(given), number).hex()
+    if call == "recode":
+        out, consumed = ciborium_ll.recode(data, number)
+        return consumed, out.hex() or "-"
+    if call == "utf8":
+        return ciborium_ll.utf8(data), "-"
+    return {"strict": ciborium_ll.strict, "skip": ciborium_ll.skip}[call](data, number), "-"
+
+
+class Rows(unittest.TestCase):
+    def test_rows(self):
+        rows = [line.split() for line in TABLE.read_text().splitlines() if line and not line.startswith("#")]
+        self.assertGreater(len(rows), 50)
+        for call, number, given, answer, consumed, place, want in rows:
+            with self.subTest(call=call, number=number, given=given):
+                if answer == "room":
+                    # `push` of the package always has room.
+                    continue
+                try:
+                    got = ("ok", *made(call, number == "-" or int(number), given))
+                except ciborium_ll.Error as error:
+                    got = (error.name, error.consumed, error.place)
+                    self.assertEqual(error.written, 0 if want == "-" else len(want) // 2)
+                self.assertEqual(got, (answer, int(consumed), want if answer == "ok" else int(place)))
+
+
+if __name__ == "__main__":
+    unittest.main()

@@ -1,0 +1,1 @@
+//! Its tests hold the proved crate against `ciborium-ll`.

@@ -1,0 +1,114 @@
+//! The calls over slices. This file alone calls what is not safe by its types: each pointer is that of a slice or of a
+//! value, and none that is written overlaps another one.
+
+use crate::sys::{self, cll_header, cll_report};
+use crate::{Error, Header};
+use core::str;
+
+/// How many bytes were consumed and written.
+#[derive(Clone, Copy, Debug, PartialEq, Eq)]
+pub struct Copied {
+    /// How many bytes were read.
+    pub consumed: usize,
+    /// How many bytes stand in front of the output.
+    pub written: usize,
+}
+
+/// Why a copy stopped, and how far it came.
+#[derive(Clone, Copy, Debug, PartialEq, Eq)]
+pub struct Stopped {
+    /// Why.
+    pub error: Error,
+    /// How far.
+    pub copied: Copied,
+}
+
+/// The header of the title in front, and the title's length. Errors name offsets that begin at `offset`.
+pub(crate) fn pull(bytes: &[u8], offset: usize) -> Result<(Header, usize), Error> {
+    let (mut parts, mut report) = (cll_header::default(), cll_report::default());
+    // SAFETY: as this file says.
+    match unsafe { sys::cll_pull(bytes.as_ptr(), bytes.len(), &mut parts, &mut report) } {
+        0 => Ok((Header::of(&parts), report.consumed as usize)),
+        answer => Err(Error::of(answer, &report, offset)),
+    }
+}
+
+/// Writes the shortest title of a header in front of the output, whole or not at all, and gives its length.
+pub(crate) fn push(header: Header, out: &mut [u8]) -> Result<usize, Error> {
+    let (parts, mut report) = (header.parts(), cll_report::default());
+    // SAFETY: as this file says.
+    match unsafe { sys::cll_push(&parts, out.as_mut_ptr(), out.len(), &mut report) } {
+        0 => Ok(report.written as usize),
+        answer => Err(Error::of(answer, &report, 0)),
+    }
+}
+
+/// The same of the title that has so many bytes behind its first one.
+pub(crate) fn push_wide(header: Header, width: u32, out: &mut [u8]) -> Result<usize, Error> {
+    let (parts, mut report) = (header.parts(), cll_report::default());
+    // SAFETY: as this file says.
+    match unsafe { sys::cll_push_wide(&parts, width, out.as_mut_ptr(), out.len(), &mut report) } {
+        0 => Ok(report.written as usize),
+        answer => Err(Error::of(answer, &report, 0)),
+    }
+}
+
+/// Copies so many elements, each in its shortest spelling. An element is a title that begins no string, or a whole
+/// string. As many bytes as are read are always room enough. What was written before an error stands in `out`.
+pub fn recode(bytes: &[u8], count: u64, out: &mut [u8]) -> Result<Copied, Stopped> {
+    let mut report = cll_report::default();
+    let (from, to) = (bytes.as_ptr(), out.as_mut_ptr());
+    // SAFETY: as this file says.
+    let answer = unsafe { sys::cll_recode(from, bytes.len(), count, to, out.len(), &mut report) };
+    let copied = Copied {
+        consumed: report.consumed as usize,
+        written: report.written as usize,
+    };
+    match answer {
+        0 => Ok(copied),
+        answer => Err(Stopped {
+            error: Error::of(answer, &report, 0),
+            copied,
+        }),
+    }
+}
+
+/// The length of so many elements in their one shortest spelling, with no simple value from 24 to 31 and no string of
+/// indefinite length inside another one.
+pub fn strict_len(bytes: &[u8], count: u64) -> Result<usize, Error> {
+    let mut report = cll_report::default();
+    // SAFETY: as this file says.
+    match unsafe { sys::cll_strict(bytes.as_ptr(), bytes.len(), count, &mut report) } {
+        0 => Ok(report.consumed as usize),
+        answer => Err(Error::of(answer, &report, 0)),
+    }
+}
+
+/// The length of the one item in front, which contains at most so many levels of tags, arrays and maps, and no more
+/// than 256.
+pub fn skip_item(bytes: &[u8], depth: u32) -> Result<usize, Error> {
+    skip(bytes, depth, 0)
+}
+
+/// The same, with errors that name offsets from `offset` on.
+pub(crate) fn skip(bytes: &[u8], depth: u32, offset: usize) -> Result<usize, Error> {
+    let mut report = cll_report::default();
+    // SAFETY: as this file says.
+    match unsafe { sys::cll_skip(bytes.as_ptr(), bytes.len(), depth, &mut report) } {
+        0 => Ok(report.consumed as usize),
+        answer => Err(Error::of(answer, &report, offset)),
+    }
+}
+
+/// The bytes as text, where all of them are UTF-8. Else the place of the error is the length of their longest front that
+/// is: `Short` where a character is cut off behind it, which more bytes may complete, and `Syntax` where no UTF-8 goes
+/// on.
+pub fn utf8(bytes: &[u8]) -> Result<&str, Error> {
+    let mut report = cll_report::default();
+    // SAFETY: as this file says.
+    match unsafe { sys::cll_utf8(bytes.as_ptr(), bytes.len(), &mut report) } {
+        // SAFETY: this is answered of UTF-8 alone.
+        0 => Ok(unsafe { str::from_utf8_unchecked(bytes) }),
+        answer => Err(Error::of(answer, &report, 0)),
+    }
+}

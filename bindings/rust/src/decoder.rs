@@ -1,0 +1,133 @@
+use crate::calls::{pull, skip};
+use crate::{Error, Header};
+use core::marker::PhantomData;
+use core::str;
+
+/// Gives the headers of a slice, one after the other. A call that fails leaves it where it was.
+#[derive(Clone, Debug)]
+pub struct Decoder<'a> {
+    bytes: &'a [u8],
+    offset: usize,
+    /// The header that was pulled last, and the offset of its title.
+    last: Option<(Header, usize)>,
+}
+
+impl<'a> From<&'a [u8]> for Decoder<'a> {
+    fn from(bytes: &'a [u8]) -> Self {
+        Decoder {
+            bytes,
+            offset: 0,
+            last: None,
+        }
+    }
+}
+
+impl<'a> Decoder<'a> {
+    /// The next header.
+    pub fn pull(&mut self) -> Result<Header, Error> {
+        let (header, length) = pull(self.rest(), self.offset)?;
+        self.last = Some((header, self.offset));
+        self.offset += length;
+        Ok(header)
+    }
+
+    /// Gives back the header that was pulled last, which is then pulled again.
+    ///
+    /// # Panics
+    ///
+    /// It panics where that is another header, or is gone: given back, or with its string or an item behind it taken.
+    pub fn push(&mut self, header: Header) {
+        match self.last.take() {
+            Some((last, start)) if last == header => self.offset = start,
+            _ => panic!("this header was not pulled last"),
+        }
+    }
+
+    /// How many bytes were taken so far.
+    pub fn offset(&self) -> usize {
+        self.offset
+    }
+
+    /// The bytes that were not taken.
+    pub fn rest(&self) -> &'a [u8] {
+        &self.bytes[self.offset..]
+    }
+
+    /// Takes the byte string whose header, with that length, was pulled last, and gives its segments. They have been
+    /// read, so the error comes here. It is `Argument` where another header was pulled last.
+    pub fn bytes(&mut self, length: Option<usize>) -> Result<Segments<'a, [u8]>, Error> {
+        self.string(Header::Bytes(length))
+    }
+
+    /// The same of a text string. Each segment is UTF-8 by itself.
+    pub fn text(&mut self, length: Option<usize>) -> Result<Segments<'a, str>, Error> {
+        self.string(Header::Text(length))
+    }
+
+    /// Takes the next item, with all that it contains, and gives its bytes. Tags, arrays and maps may nest so many
+    /// levels deep, and at most 256.
+    pub fn skip_item(&mut self, depth: u32) -> Result<&'a [u8], Error> {
+        let item = &self.rest()[..skip(self.rest(), depth, self.offset)?];
+        self.last = None;
+        self.offset += item.len();
+        Ok(item)
+    }
+
+    /// Takes the string whose header was just pulled.
+    fn string<T: ?Sized>(&mut self, header: Header) -> Result<Segments<'a, T>, Error> {
+        match self.last {
+            Some((last, start)) if last == header => {
+                // A string has no levels.
+                let length = skip(&self.bytes[start..], 0, start)?;
+                self.last = None;
+                self.offset = start + length;
+                Ok(Segments {
+                    string: &self.bytes[start..self.offset],
+                    kind: PhantomData,
+                })
+            }
+            _ => Err(Error::Argument),
+        }
+    }
+}
+
+/// The segments of a string: the one body of a definite length, or those within an indefinite one.
+#[derive(Clone, Debug)]
+pub struct Segments<'a, T: ?Sized> {
+    /// What is left of the string, which has been read whole.
+    string: &'a [u8],
+    kind: PhantomData<&'a T>,
+}
+
+impl<'a, T: ?Sized> Segments<'a, T> {
+    /// The body of the next title that has one.
+    fn body(&mut self) -> Option<&'a [u8]> {
+        loop {
+            let (header, length) = pull(self.string, 0).ok()?;
+            let behind = &self.string[length..];
+            if let Header::Bytes(Some(length)) | Header::Text(Some(length)) = header {
+                let (body, rest) = behind.split_at(length);
+                self.string = rest;
+                return Some(body);
+            }
+            self.string = behind;
+        }
+    }
+}
+
+impl<'a> Iterator for Segments<'a, [u8]> {
+    type Item = &'a [u8];
+
+    fn next(&mut self) -> Option<&'a [u8]> {
+        self.body()
+    }
+}
+
+impl<'a> Iterator for Segments<'a, str> {
+    type Item = &'a str;
+
+    fn next(&mut self) -> Option<&'a str> {
+        self.body()
+            .map(|body| str::from_utf8(body).expect("a text that was read is UTF-8"))
+    }
+}

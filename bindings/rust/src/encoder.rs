@@ -1,0 +1,87 @@
+use crate::calls::{push, push_wide};
+use crate::{Error, Header};
+
+/// Writes headers and strings into a slice. The one error is `Room`, but for `push_wide`.
+#[derive(Debug)]
+pub struct Encoder<'a> {
+    out: &'a mut [u8],
+    length: usize,
+}
+
+impl<'a> From<&'a mut [u8]> for Encoder<'a> {
+    fn from(out: &'a mut [u8]) -> Self {
+        Encoder { out, length: 0 }
+    }
+}
+
+impl<'a> Encoder<'a> {
+    /// Writes a header by its shortest title, whole or not at all.
+    pub fn push(&mut self, header: Header) -> Result<(), Error> {
+        self.length += push(header, &mut self.out[self.length..])?;
+        Ok(())
+    }
+
+    /// Writes the title of a header that has so many bytes behind its first one: 0, 1, 2, 4 or 8, as its kind has them.
+    /// So a length may get its place before it is known. The error is `Argument` where no title of that width has the
+    /// header.
+    pub fn push_wide(&mut self, header: Header, width: u32) -> Result<(), Error> {
+        self.length += push_wide(header, width, &mut self.out[self.length..])?;
+        Ok(())
+    }
+
+    /// Writes bytes as they are, all or none.
+    pub fn write_all(&mut self, bytes: &[u8]) -> Result<(), Error> {
+        let there = self.out[self.length..]
+            .get_mut(..bytes.len())
+            .ok_or(Error::Room)?;
+        there.copy_from_slice(bytes);
+        self.length += bytes.len();
+        Ok(())
+    }
+
+    /// Writes a byte string: in one, or in pieces where it is longer than the limit `segment`, of which 0 counts as 1.
+    /// After an error a beginning stands there.
+    pub fn bytes(&mut self, value: &[u8], segment: Option<usize>) -> Result<(), Error> {
+        let limit = segment.unwrap_or(usize::MAX).max(1);
+        if value.len() <= limit {
+            return self.piece(Header::Bytes(Some(value.len())), value);
+        }
+        self.push(Header::Bytes(None))?;
+        for piece in value.chunks(limit) {
+            self.piece(Header::Bytes(Some(piece.len())), piece)?;
+        }
+        self.push(Header::Break)
+    }
+
+    /// The same of a text string, in pieces of whole characters. A limit below 4 counts as 4, so that each fits.
+    pub fn text(&mut self, value: &str, segment: Option<usize>) -> Result<(), Error> {
+        let limit = segment.unwrap_or(usize::MAX).max(4);
+        if value.len() <= limit {
+            return self.piece(Header::Text(Some(value.len())), value.as_bytes());
+        }
+        self.push(Header::Text(None))?;
+        let mut rest = value;
+        while !rest.is_empty() {
+            let most = limit.min(rest.len());
+            let end = (0..=most)
+                .rev()
+                .find(|&end| rest.is_char_boundary(end))
+                .unwrap_or(most);
+            let (piece, behind) = rest.split_at(end);
+            self.piece(Header::Text(Some(piece.len())), piece.as_bytes())?;
+            rest = behind;
+        }
+        self.push(Header::Break)
+    }
+
+    /// What was written so far.
+    pub fn written(&self) -> &[u8] {
+        &self.out[..self.length]
+    }
+
+    /// A header and the body behind it.
+    fn piece(&mut self, header: Header, body: &[u8]) -> Result<(), Error> {
+        self.push(header)?;
+        self.write_all(body)
+    }
+}

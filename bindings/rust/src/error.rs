@@ -1,0 +1,69 @@
+use crate::sys::cll_report;
+use core::fmt;
+
+/// Why a call failed. The numbers are offsets in the bytes.
+#[derive(Clone, Copy, Debug, PartialEq, Eq)]
+pub enum Error {
+    /// The bytes end too early: there the read stopped.
+    Short(usize),
+    /// There stands no CBOR, or of `utf8` no UTF-8, that could stand there.
+    Syntax(usize),
+    /// The output is full.
+    Room,
+    /// There a break stands where an item is due.
+    BreakDue(usize),
+    /// There a tag, an array or a map stands deeper than was allowed.
+    TooDeep(usize),
+    /// An argument is out of its range, and nothing was done.
+    Argument,
+}
+
+impl Error {
+    /// The error of an answer that is none of success, over bytes that begin at an offset.
+    pub(crate) fn of(answer: u32, report: &cll_report, offset: usize) -> Error {
+        let place = offset + report.place as usize;
+        match answer {
+            1 => Error::Short(offset + report.consumed as usize),
+            2 => Error::Syntax(place),
+            3 => Error::Room,
+            5 => Error::BreakDue(place),
+            6 => Error::TooDeep(place),
+            // Number 4 is never answered of bytes in memory.
+            _ => Error::Argument,
+        }
+    }
+
+    /// The name of the answer.
+    pub fn name(&self) -> &'static str {
+        match self {
+            Error::Short(_) => "short",
+            Error::Syntax(_) => "syntax",
+            Error::Room => "room",
+            Error::BreakDue(_) => "break_due",
+            Error::TooDeep(_) => "too_deep",
+            Error::Argument => "argument",
+        }
+    }
+
+    /// The offset that it names, if it names one.
+    pub fn place(&self) -> Option<usize> {
+        match *self {
+            Error::Short(place)
+            | Error::Syntax(place)
+            | Error::BreakDue(place)
+            | Error::TooDeep(place) => Some(place),
+            Error::Room | Error::Argument => None,
+        }
+    }
+}
+
+impl fmt::Display for Error {
+    fn fmt(&self, f: &mut fmt::Formatter<'_>) -> fmt::Result {
+        f.write_str(self.name())?;
+        self.place()
+            .map_or(Ok(()), |place| write!(f, " at {place}"))
+    }
+}
+
+#[cfg(feature = "std")]
+impl std::error::Error for Error {}

@@ -1,0 +1,34 @@
+//! CBOR (RFC 7049, 2.1 to 2.4) out of slices and into slices, one header at a time, by a library whose every answer is
+//! proved.
+//!
+//! The names are those of the crate `ciborium-ll` where they mean the same. Nothing here takes memory, and nothing
+//! needs `std`.
+//!
+//! ```
+//! use ciborium_ll_proved::{Decoder, Error, Header};
+//!
+//! let mut decoder = Decoder::from(&b"\x82\x19\x03\xe8\x61a\x1c"[..]);
+//! assert_eq!(decoder.pull(), Ok(Header::Array(Some(2))));
+//! assert_eq!(decoder.pull(), Ok(Header::Positive(1000)));
+//! assert_eq!(decoder.pull(), Ok(Header::Text(Some(1))));
+//! assert!(decoder.text(Some(1)).unwrap().eq(["a"]));
+//! assert_eq!(decoder.pull(), Err(Error::Syntax(6)));
+//! ```
+#![cfg_attr(not(feature = "std"), no_std)]
+#![deny(missing_docs, unsafe_op_in_unsafe_fn)]
+
+#[cfg(not(all(target_arch = "x86_64", target_os = "linux")))]
+compile_error!("the proved library is built for x86-64 Linux alone");
+
+mod calls;
+mod decoder;
+mod encoder;
+mod error;
+mod header;
+pub mod sys;
+
+pub use calls::{recode, skip_item, strict_len, utf8, Copied, Stopped};
+pub use decoder::{Decoder, Segments};
+pub use encoder::Encoder;
+pub use error::Error;
+pub use header::{Float, Header};

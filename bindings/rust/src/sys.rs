@@ -1,0 +1,62 @@
+//! The calls for C, as `ciborium_ll.h` has them. A pointer to bytes may be null where their length is 0, and no other
+//! one. What a call writes must not overlap anything else that it is given.
+#![allow(non_camel_case_types)]
+
+/// What a title means: its kind by number, its value, and whether it is of the indefinite form.
+#[repr(C)]
+#[derive(Clone, Copy, Debug, Default)]
+pub struct cll_header {
+    /// The number, the length, the count or the raw bits.
+    pub value: u64,
+    /// The kind, from 0 to 11.
+    pub kind: u8,
+    /// 1 for the indefinite form, else 0.
+    pub indefinite: u8,
+}
+
+/// How far a call came.
+#[repr(C)]
+#[derive(Clone, Copy, Debug, Default)]
+pub struct cll_report {
+    /// How many bytes were consumed.
+    pub consumed: u64,
+    /// How many bytes were written.
+    pub written: u64,
+    /// The offset that the answer names, if it names one, else 0.
+    pub place: u64,
+}
+
+#[allow(missing_docs)]
+extern "C" {
+    pub fn cll_version() -> u32;
+    pub fn cll_pull(
+        data: *const u8,
+        len: usize,
+        header: *mut cll_header,
+        report: *mut cll_report,
+    ) -> u32;
+    pub fn cll_push(
+        header: *const cll_header,
+        out: *mut u8,
+        room: usize,
+        report: *mut cll_report,
+    ) -> u32;
+    pub fn cll_push_wide(
+        header: *const cll_header,
+        width: u32,
+        out: *mut u8,
+        room: usize,
+        report: *mut cll_report,
+    ) -> u32;
+    pub fn cll_recode(
+        data: *const u8,
+        len: usize,
+        count: u64,
+        out: *mut u8,
+        room: usize,
+        report: *mut cll_report,
+    ) -> u32;
+    pub fn cll_strict(data: *const u8, len: usize, count: u64, report: *mut cll_report) -> u32;
+    pub fn cll_skip(data: *const u8, len: usize, depth: u32, report: *mut cll_report) -> u32;
+    pub fn cll_utf8(data: *const u8, len: usize, report: *mut cll_report) -> u32;
+}

@@ -1,0 +1,163 @@
+//! Holds the crate to the table of rows that every binding is held to.
+
+use ciborium_ll_proved::{
+    recode, skip_item, strict_len, utf8, Decoder, Encoder, Error, Float, Header,
+};
+
+const TABLE: &str = include_str!("../../tests/rows");
+
+fn bytes_of(hex: &str) -> Vec<u8> {
+    let digits = if hex == "-" { "" } else { hex };
+    (0..digits.len())
+        .step_by(2)
+        .map(|at| u8::from_str_radix(&digits[at..at + 2], 16).unwrap())
+        .collect()
+}
+
+fn hex_of(bytes: &[u8]) -> String {
+    let hex: String = bytes.iter().map(|byte| format!("{byte:02x}")).collect();
+    if hex.is_empty() {
+        "-".to_string()
+    } else {
+        hex
+    }
+}
+
+/// The title that is written of a header, into so much room.
+fn title_of(header: Header, room: usize) -> Result<String, Error> {
+    let mut out = vec![0; room];
+    let mut encoder = Encoder::from(&mut out[..]);
+    encoder.push(header)?;
+    Ok(hex_of(encoder.written()))
+}
+
+/// A header as it stands in the table.
+fn told(header: Header) -> String {
+    let long = |name, length: Option<usize>| match length {
+        Some(length) => format!("{name}/{length}"),
+        None => format!("{name}/*"),
+    };
+    match header {
+        Header::Positive(n) => format!("positive/{n}"),
+        Header::Negative(n) => format!("negative/{n}"),
+        Header::Bytes(length) => long("bytes", length),
+        Header::Text(length) => long("text", length),
+        Header::Array(length) => long("array", length),
+        Header::Map(length) => long("map", length),
+        Header::Tag(n) => format!("tag/{n}"),
+        Header::Simple(n) => format!("simple/{n}"),
+        Header::Float(Float::Half(bits)) => format!("half/{bits}"),
+        Header::Float(Float::Single(bits)) => format!("single/{bits}"),
+        Header::Float(Float::Double(bits)) => format!("double/{bits}"),
+        Header::Break => "break/0".to_string(),
+    }
+}
+
+/// A header of the table. This crate has no type for those that no title has.
+fn header_of(text: &str) -> Option<Header> {
+    let (kind, value) = text.split_once('/')?;
+    let length = value.parse().ok();
+    match kind {
+        "positive" => Some(Header::Positive(value.parse().ok()?)),
+        "text" => Some(Header::Text(length)),
+        "array" => Some(Header::Array(length)),
+        "map" => Some(Header::Map(length)),
+        "simple" => Some(Header::Simple(value.parse().ok()?)),
+        "half" => Some(Header::Float(Float::Half(value.parse().ok()?))),
+        "break" if value == "0" => Some(Header::Break),
+        _ => None,
+    }
+}
+
+/// The title of so many bytes behind its first one that is written of a header.
+fn wide_title_of(header: Header, width: u32) -> Result<String, Error> {
+    let mut out = [0; 9];
+    let mut encoder = Encoder::from(&mut out[..]);
+    encoder.push_wide(header, width)?;
+    Ok(hex_of(encoder.written()))
+}
+
+/// How many bytes a call consumes, and what it makes.
+fn made(call: &str, number: u64, given: &str) -> Result<(usize, String), Error> {
+    let data = if given.contains('/') {
+        Vec::new()
+    } else {
+        bytes_of(given)
+    };
+    match call {
+        "pull" => {
+            let mut decoder = Decoder::from(&data[..]);
+            let header = decoder.pull()?;
+            Ok((
+                decoder.offset(),
+                format!("{}/{}", told(header), title_of(header, 9)?),
+            ))
+        }
+        "push" => match header_of(given) {
+            Some(header) => Ok((0, title_of(header, number as usize)?)),
+            None => Err(Error::Argument),
+        },
+        "wide" => match header_of(given) {
+            Some(header) => Ok((0, wide_title_of(header, number as u32)?)),
+            None => Err(Error::Argument),
+        },
+        "recode" => {
+            let mut out = vec![0; data.len()];
+            let copied = recode(&data, number, &mut out).map_err(|stopped| stopped.error)?;
+            Ok((copied.consumed, hex_of(&out[..copied.written])))
+        }
+        "strict" => Ok((strict_len(&data, number)?, "-".to_string())),
+        "skip" => Ok((skip_item(&data, number as u32)?, "-".to_string())),
+        "utf8" => Ok((utf8(&data)?.len(), "-".to_string())),
+        _ => panic!("a row of no call: {call}"),
+    }
+}
+
+#[test]
+fn rows_hold() {
+    let rows = TABLE
+        .lines()
+        .filter(|line| !line.is_empty() && !line.starts_with('#'));
+    let mut count = 0;
+    for row in rows {
+        let words: Vec<&str> = row.split(' ').collect();
+        let (call, number, given, name, place) = (
+            words[0],
+            words[1].parse().unwrap_or(0),
+            words[2],
+            words[3],
+            words[5],
+        );
+        let got = match made(call, number, given) {
+            Ok((consumed, made)) => format!("ok {consumed} 0 {made}"),
+            Err(error) => format!("{} {}", error.name(), error.place().unwrap_or(0)),
+        };
+        let want = if name == "ok" {
+            words[3..].join(" ")
+        } else {
+            format!("{name} {place}")
+        };
+        assert_eq!(got, want, "{row}");
+        count += 1;
+    }
+    assert!(count > 50);
+}
+
+#[test]
+fn a_copy_that_stops_says_how_far_it_came() {
+    let mut out = [0; 8];
+    let stopped = recode(b"\x7f\x61a\x5f\xff", 1, &mut out).unwrap_err();
+    assert_eq!(
+        (
+            stopped.error,
+            stopped.copied.consumed,
+            stopped.copied.written
+        ),
+        (Error::Syntax(3), 4, 3)
+    );
+    assert_eq!(&out[..4], b"\x7f\x61a\0");
+    assert_eq!(
+        recode(b"\x01\x02", 2, &mut out[..1]).unwrap_err().error,
+        Error::Room
+    );
+}

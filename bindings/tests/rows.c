@@ -1,0 +1,80 @@
+/*
+ * Holds the calls for C against the table of rows. It is compiled as C++ too.
+ *
+ * usage: rows TABLE
+ */
+#include <ciborium_ll.h>
+
+#include <inttypes.h>
+#include <stdio.h>
+#include <stdlib.h>
+#include <string.h>
+
+#include "table.h"
+
+/* What a call made: as it stands in a row. */
+static const char *shown(char *text, const uint8_t *bytes, uint64_t len)
+{
+    char *end = text;
+    for (uint64_t i = 0; i < len; i++)
+        end += sprintf(end, "%02x", bytes[i]);
+    return len > 0 ? text : "-";
+}
+
+/* A header and the shortest title that cll_push writes of it. */
+static const char *told(char *text, const cll_header *header)
+{
+    uint8_t title[9];
+    char hex[2 * sizeof title + 1], value[24];
+    cll_report report;
+    if (cll_push(header, title, sizeof title, &report) != CLL_OK)
+        return "no title";
+    sprintf(value, "%" PRIu64, header->value);
+    sprintf(text, "%s/%s/%s", kind_names[header->kind], header->indefinite ? "*" : value,
+        shown(hex, title, report.written));
+    return text;
+}
+
+static int holds(const struct row *row)
+{
+    /* Of just as many bytes as there are, so that a sanitizer sees each one beyond. */
+    uint8_t *data = (uint8_t *)malloc(row->len + 1), *out = (uint8_t *)malloc(ROOM);
+    char text[3 * ROOM];
+    const char *made = "-";
+    cll_header header = row->header;
+    cll_report report = {9, 9, 9};
+    uint32_t answer = CLL_ARGUMENT;
+    if (data == NULL || out == NULL)
+        exit(2);
+    memcpy(data, row->bytes, row->len);
+    if (strcmp(row->call, "pull") == 0) {
+        answer = cll_pull(data, row->len, &header, &report);
+        if (answer == CLL_OK)
+            made = told(text, &header);
+    } else if (strcmp(row->call, "push") == 0) {
+        answer = cll_push(&header, out, (size_t)row->number, &report);
+        made = shown(text, out, report.written);
+    } else if (strcmp(row->call, "wide") == 0) {
+        answer = cll_push_wide(&header, (uint32_t)row->number, out, ROOM, &report);
+        made = shown(text, out, report.written);
+    } else if (strcmp(row->call, "recode") == 0) {
+        answer = cll_recode(data, row->len, row->number, out, row->len, &report);
+        made = shown(text, out, report.written);
+    } else if (strcmp(row->call, "strict") == 0) {
+        answer = cll_strict(data, row->len, row->number, &report);
+    } else if (strcmp(row->call, "skip") == 0) {
+        answer = cll_skip(data, row->len, (uint32_t)row->number, &report);
+    } else if (strcmp(row->call, "utf8") == 0) {
+        answer = cll_utf8(data, row->len, &report);
+    }
+    int same = answer == row->answer && report.consumed == row->consumed && strcmp(made, row->made) == 0
+        && (answer == CLL_SHORT ? report.consumed : report.place) == row->place;
+    free(data);
+    free(out);
+    return same;
+}
+
+int main(int argc, char **argv)
+{
+    return argc == 2 ? go_through(argv[1], holds) : 2;
+}

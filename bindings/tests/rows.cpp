@@ -1,0 +1,144 @@
+/*
+ * Holds the header for C++ against the table of rows, and tries what a table can't say.
+ *
+ * usage: rows TABLE
+ */
+#include <ciborium_ll.hpp>
+
+#include <array>
+#include <cstring>
+#include <string>
+#include <string_view>
+#include <vector>
+
+#include "table.h"
+
+namespace cll = ciborium_ll;
+using namespace std::string_view_literals;
+
+namespace {
+
+std::string shown(cll::input bytes)
+{
+    std::string text;
+    char digits[3];
+    for (const std::uint8_t byte : bytes) {
+        std::snprintf(digits, sizeof digits, "%02x", byte);
+        text += digits;
+    }
+    return text.empty() ? "-" : text;
+}
+
+/* A header and the shortest title that is written of it. */
+std::string told(const cll::header &header)
+{
+    std::array<std::uint8_t, 9> title;
+    const auto length = cll::push(header, title);
+    return std::string(kind_names[static_cast<int>(header.kind)]) + '/'
+        + (header.value ? std::to_string(*header.value) : "*") + '/' + shown({title.data(), length.value()});
+}
+
+/* Whether a call came out as a row says. */
+template <typename T>
+bool fits(const row &row, const cll::result<T> &got, std::uint64_t consumed, const std::string &made)
+{
+    const std::string name = got ? "ok" : got.fault().name();
+    return name == answer_names[row.answer] && (got ? consumed : got.fault().consumed) == row.consumed
+        && got.fault().place == row.place && made == row.made;
+}
+
+int holds(const row *row)
+{
+    const std::string_view call = row->call;
+    const std::vector<std::uint8_t> data(row->bytes, row->bytes + row->len);
+    if (call == "pull") {
+        const auto got = cll::pull(data);
+        return fits(*row, got, got ? got->length : 0, got ? told(got->header) : "-");
+    }
+    if (call == "push" || call == "wide") {
+        const cll_header &given = row->header;
+        const auto value = given.indefinite != 0 ? std::nullopt : std::optional<std::uint64_t>(given.value);
+        const cll::header header{static_cast<cll::kind>(given.kind), value};
+        std::vector<std::uint8_t> out(call == "wide" ? 9 : static_cast<std::size_t>(row->number));
+        const auto width = static_cast<std::uint32_t>(row->number);
+        const auto got = call == "wide" ? cll::push_wide(header, width, out) : cll::push(header, out);
+        return fits(*row, got, 0, got ? shown({out.data(), *got}) : "-");
+    }
+    if (call == "recode") {
+        std::vector<std::uint8_t> out(data.size());
+        const auto got = cll::recode(data, row->number, out);
+        const auto written = got ? got->written : static_cast<std::size_t>(got.fault().written);
+        return fits(*row, got, got ? got->consumed : 0, shown({out.data(), written}));
+    }
+    const auto depth = static_cast<std::uint32_t>(row->number);
+    const auto got = call == "strict" ? cll::strict(data, row->number)
+        : call == "skip" ? cll::skip(data, depth) : cll::utf8(data);
+    return fits(*row, got, got ? *got : 0, "-");
+}
+
+/* A fault that is thrown has its name and its place, also as text. */
+bool throws()
+{
+    try {
+        (void)cll::strict("\x05\x18\x05"sv, 2).value();
+    } catch (const cll::error &error) {
+        return error.name() == "syntax"sv && error.place() == 1 && error.what() == "syntax at 1"sv
+            && error.fault().consumed == 3;
+    }
+    return false;
+}
+
+/* A reader goes over a map with a string and an array, and stays where a call fails. */
+bool reads()
+{
+    const std::vector<std::uint8_t> data = {0xa1, 0x61, 'a', 0x82, 0x01, 0x02, 0x1c};
+    cll::reader reader(data);
+    const auto map = reader.pull();
+    const auto key = reader.pull();
+    const auto name = reader.take(1);
+    const auto list = reader.skip();
+    const auto fault = reader.pull().fault();
+    return *map == cll::header{cll::kind::map, 1} && *key == cll::header{cll::kind::text, 1} && (*name)[0] == 'a'
+        && list->size() == 3 && list->data() == data.data() + 3 && fault.code == cll::answer::syntax
+        && fault.place == 6 && reader.offset() == 6 && !reader.at_end() && !reader.take(2) && reader.take(1)
+        && reader.at_end();
+}
+
+/* A text in pieces of two bytes: what is behind a front stands in front of the next piece. */
+bool joins()
+{
+    const std::string_view text = "A\xe2\x89\xa2\xce\x91.\xf0\xa3\x8e\xb4";
+    std::string rest;
+    std::size_t fronts = 0;
+    for (std::size_t at = 0; at < text.size(); at += 2) {
+        rest += text.substr(at, 2);
+        const auto got = cll::utf8(rest);
+        if (!got && got.fault().code != cll::answer::too_short)
+            return false;
+        const std::size_t front = got ? *got : static_cast<std::size_t>(got.fault().place);
+        fronts += front;
+        rest.erase(0, front);
+    }
+    return fronts == text.size() && rest.empty() && cll::utf8({}).value() == 0;
+}
+
+/* Spans of what has no bytes, and of other bytes than numbers. */
+bool spans()
+{
+    const std::vector<std::uint8_t> none;
+    std::array<std::byte, 2> out;
+    const auto length = cll::push({cll::kind::simple, 32}, out);
+    return cll::pull(none).fault().code == cll::answer::too_short
+        && cll::pull({}).fault().code == cll::answer::too_short
+        && cll::push({cll::kind::break_, 0}, {}).fault().code == cll::answer::room && length.value() == 2
+        && out[0] == std::byte{0xf8} && out[1] == std::byte{32} && cll::pull("\xf4"sv)->header.value == 20u;
+}
+
+} /* namespace */
+
+int main(int argc, char **argv)
+{
+    if (argc != 2 || !throws() || !reads() || !joins() || !spans())
+        return 2;
+    return go_through(argv[1], holds);
+}
