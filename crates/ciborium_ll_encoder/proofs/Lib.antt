@@ -1,2 +1,3 @@
 pub mod EncodingLaws
 pub mod PieceLaws
+pub mod Writes

@@ -63,6 +63,7 @@ impl<W: Write> Encoder<W> {
     ///
     /// The error is the writer's. A beginning of the title was then written.
     #[inline(always)]
+    #[tactic(auto, using(crate::proofs::Writes::headers))]
     pub fn push(&mut self, header: Header) -> Result<(), W::Error>
         ensures title { WritesBytes W.Write (writer_of self.old) result (shortest_title header) (writer_of self.new) }
         ensures shortest { (other : List ℕ) → IsTitle other header
@@ -91,6 +92,7 @@ impl<W: Write> Encoder<W> {
 
 /// Writes a title, as its first byte and its affix.
 #[inline(always)]
+#[tactic(auto, using(crate::proofs::Writes::behind_byte, crate::proofs::Writes::byte_unwritten))]
 pub fn push_title<W: Write>(encoder: &mut Encoder<W>, title: Title) -> Result<(), W::Error>
     requires { IsParts title }
     ensures title { WritesBytes W.Write (writer_of encoder.old) result (title_bytes title) (writer_of encoder.new) }

@@ -28,6 +28,7 @@ impl<W: Write> Encoder<W> {
     /// the remainder.
     ///
     /// The only errors are the writer's. A beginning of the string was then written.
+    #[tactic(auto, using(crate::proofs::Writes::values))]
     pub fn bytes(&mut self, value: &[u8], segment: Option<usize>) -> Result<(), W::Error>
         ensures value { WritesValue W.Write Bytes segment value.now (writer_of self.old) result (writer_of self.new) }
         ensures target { W.target (writer_of self.new) ≡ W.target (writer_of self.old) }
@@ -54,6 +55,7 @@ impl<W: Write> Encoder<W> {
     /// encoder.text(entry.key, None)?;
     /// encoder.text(entry.value, None)
     /// ```
+    #[tactic(auto, using(crate::proofs::Writes::texts))]
     pub fn text(&mut self, value: &str, segment: Option<usize>) -> Result<(), W::Error>
         ensures value { WritesValue W.Write Text segment value.now (writer_of self.old) result (writer_of self.new) }
         ensures fewest { OnOk result (0 < length value.now
@@ -71,6 +73,7 @@ impl<W: Write> Encoder<W> {
     }
 
     /// Writes a body behind its title.
+    #[tactic(auto, using(crate::proofs::Writes::behind_bytes))]
     fn string(&mut self, title: Header, body: &[u8]) -> Result<(), W::Error>
         ensures bytes { WritesBytes W.Write (writer_of self.old) result (shortest_title title ++ body.now)
             (writer_of self.new) }

@@ -1,0 +1,116 @@
+-- Writes in two steps, in the words of the contracts of the steps. The check finds by them what a function of such
+-- calls ensures, in whichever form its body stands.
+use Rattle.std.proofs.Common.{◌≡◌, ℕ, ◌+◌, ◌<◌, ◌≤◌, max, List, [], ◌∷◌, ◌++◌, length, subst, arith}
+use Rattle.std.proofs.Common.{Option, None, Some, Result, Ok, Err, IsErr, IfSome, OnOk, OnErr}
+use Rattle.std.specs.Io.KnownBytes.{Appends}
+use Rattle.std.specs.Option.{unwrap_or}
+use Rattle.std.specs.Str.{IsUtf8}
+use Rattle.ciborium_ll_io.specs.declared.io.Write.{Ghosts}
+use Rattle.ciborium_ll_io.specs.Transfer.{Shrinks, AppendsFront}
+use Rattle.ciborium_ll_grammar.specs.Title.{shortest_title}
+use Rattle.ciborium_ll_grammar.specs.Strings.{Kind, Text, kind_header, IsWritable}
+use Rattle.ciborium_ll_grammar.specs.Values.{least_limit, value_limit}
+use Rattle.ciborium_ll_encoder.specs.Encoding.{WritesAll, WritesFront, WritesBytes, WritesPieces, WritesValue}
+use Rattle.ciborium_ll_encoder.specs.Encoding.{WritesFewest}
+use Rattle.ciborium_ll_grammar.proofs.TitleLaws.{shortest_or_longer}
+use Rattle.ciborium_ll_text.proofs.Utf8Laws.{from_std}
+use Rattle.ciborium_ll_encoder.proofs.PieceLaws.{limit_is, WritesValue-in_one, WritesValue-unopened}
+use Rattle.ciborium_ll_encoder.proofs.PieceLaws.{WritesValue-cut, WritesValue-closed, WritesFewest-of}
+use Rattle.ciborium_ll_encoder.proofs.EncodingLaws.{WritesBytes-of, WritesBytes-stopped, WritesBytes-then}
+
+module _ {W F : Type 0} (sink : Ghosts W F) where
+  -- a first byte, and the bytes behind it
+  pub behind_byte : {T : Type 0} (old mid new : W) (result : Result T F) (first byte : ℕ) (affix : List ℕ)
+      → first ≡ byte → Appends (sink.written old) (sink.written mid) (first ∷ [])
+      → Shrinks (sink.room old) (sink.room mid) 1 → sink.failures mid ≡ sink.failures old
+      → WritesBytes sink mid result affix new → WritesBytes sink old result (byte ∷ affix) new
+  behind_byte old mid new result first byte affix same appended room failures next =
+      subst (λ (z : ℕ). WritesBytes sink old result (z ∷ affix) new) same
+      (WritesBytes-then sink old mid new result (first ∷ []) affix
+      (record { appended = appended; room = room; failures = failures }) next)
+
+  -- a first byte that wasn't written, so that nothing behind it is
+  pub byte_unwritten : {T : Type 0} (old new : W) (result : Result T F) (first byte : ℕ) (affix : List ℕ)
+      → IsErr result → first ≡ byte
+      → AppendsFront (sink.written old) (sink.written new) (sink.room old) (sink.room new) (first ∷ [])
+      → IfSome (sink.room old) (λ n. n < 1) → sink.failures new ≡ sink.failures old + 1
+      → WritesBytes sink old result (byte ∷ affix) new
+  byte_unwritten old new result first byte affix fails same front full failures =
+      subst (λ (z : ℕ). WritesBytes sink old result (z ∷ affix) new) same
+      (WritesBytes-stopped sink old new result (first ∷ []) affix fails
+      (record { front = front; full = full; failures = failures }))
+
+  -- a write of the same bytes, under another name
+  pub same_written : {T : Type 0} (old new : W) (result : Result T F) (written bytes : List ℕ) → written ≡ bytes
+      → WritesBytes sink old result written new → WritesBytes sink old result bytes new
+  same_written old new result written bytes same writes =
+      subst (λ (z : List ℕ). WritesBytes sink old result z new) same writes
+
+  -- bytes that were written, and a write of the writer behind them
+  pub behind_bytes : {T : Type 0} (old mid new : W) (result : Result T F) (xs ys : List ℕ) → WritesAll sink old xs mid
+      → OnOk result (Appends (sink.written mid) (sink.written new) ys)
+      → OnOk result (Shrinks (sink.room mid) (sink.room new) (length ys))
+      → OnOk result (sink.failures new ≡ sink.failures mid)
+      → OnErr result (AppendsFront (sink.written mid) (sink.written new) (sink.room mid) (sink.room new) ys)
+      → OnErr result (IfSome (sink.room mid) (λ n. n < length ys))
+      → OnErr result (sink.failures new ≡ sink.failures mid + 1)
+      → WritesBytes sink old result (xs ++ ys) new
+  behind_bytes old mid new result xs ys all bytes fills ok front full err =
+      WritesBytes-then sink old mid new result xs ys all
+      (WritesBytes-of sink mid new result ys bytes fills ok front full err)
+
+  -- a value in one string of a definite length, whose body is the value
+  pub value_in_one : {T : Type 0} (old new : W) (result : Result T F) (kind : Kind) (segment : Option ℕ)
+      (value body : List ℕ) (limit : ℕ) → limit ≡ max (least_limit kind) (unwrap_or segment (length value))
+      → length value ≤ limit → body ≡ value
+      → WritesBytes sink old result (shortest_title (kind_header kind (Some (length value))) ++ body) new
+      → WritesValue sink kind segment value old result new
+  value_in_one old new result kind segment value body limit is fits same bytes =
+      WritesValue-in_one sink result kind segment value limit old new (limit_is kind segment value limit is) fits
+      (rw same at bytes)
+
+  -- a longer value, whose open wasn't written
+  pub value_unopened : {T : Type 0} (old new : W) (result : Result T F) (kind : Kind) (segment : Option ℕ)
+      (value : List ℕ) (limit : ℕ) → IsErr result
+      → limit ≡ max (least_limit kind) (unwrap_or segment (length value)) → limit < length value
+      → IsWritable kind value → WritesFront sink old (shortest_title (kind_header kind None)) new
+      → WritesValue sink kind segment value old result new
+  value_unopened old new result kind segment value limit fails is longer sound front =
+      WritesValue-unopened sink result fails kind segment value limit old new sound (omega (arith, is))
+      (limit_is kind segment value limit is) longer front
+
+  -- one of whose pieces one wasn't written
+  pub value_cut : {T : Type 0} (old opened new : W) (result : Result T F) (kind : Kind) (segment : Option ℕ)
+      (value : List ℕ) (limit : ℕ) (fault : F) → IsErr result
+      → limit ≡ max (least_limit kind) (unwrap_or segment (length value)) → limit < length value
+      → WritesAll sink old (shortest_title (kind_header kind None)) opened
+      → WritesPieces sink {T = T} kind limit value opened (Err fault) new
+      → WritesValue sink kind segment value old result new
+  value_cut old opened new result kind segment value limit fault fails is longer all pieces =
+      WritesValue-cut sink result fails kind segment value limit old opened new fault
+      (limit_is kind segment value limit is) longer all pieces
+
+  -- one whose pieces were written, and then its break or not
+  pub value_closed : {T : Type 0} (old opened last new : W) (result : Result T F) (kind : Kind) (segment : Option ℕ)
+      (value : List ℕ) (limit : ℕ) (done : T)
+      → limit ≡ max (least_limit kind) (unwrap_or segment (length value)) → limit < length value
+      → WritesAll sink old (shortest_title (kind_header kind None)) opened
+      → WritesPieces sink {T = T} kind limit value opened (Ok done) last → WritesBytes sink last result (0xff ∷ []) new
+      → WritesValue sink kind segment value old result new
+  value_closed old opened last new result kind segment value limit done is longer all pieces close =
+      WritesValue-closed sink result kind segment value limit old opened last new done
+      (limit_is kind segment value limit is) longer all pieces close
+
+  -- a text that is written in pieces is written in the fewest
+  pub in_fewest : {T : Type 0} (old new : W) (result : Result T F) (segment : Option ℕ) (text : List ℕ) → IsUtf8 text
+      → WritesValue sink Text segment text old result new
+      → OnOk result (0 < length text → WritesFewest sink (value_limit Text segment text) text old new)
+  in_fewest old new result segment text is_text writes =
+      WritesFewest-of sink result segment text old new is_text writes
+
+-- what is said of a header, of a byte string and of a text
+pub ruleset headers = (same_written, shortest_or_longer)
+
+pub ruleset values = (value_in_one, value_unopened, value_cut, value_closed)
+
+pub ruleset texts = (value_in_one, value_unopened, value_cut, value_closed, in_fewest, from_std)

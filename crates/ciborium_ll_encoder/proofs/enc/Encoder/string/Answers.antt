@@ -1,9 +1,0 @@
-use Rattle.ciborium_ll_grammar.specs.Title.{shortest_title}
-use Rattle.ciborium_ll_encoder.proofs.EncodingLaws.{WritesBytes-of, WritesBytes-then}
-use Rattle.ciborium_ll_encoder.proofs.enc.Encoder.string.Goals as goal
-
-pub returns-clause-bytes : goal.returns-clause-bytes
-returns-clause-bytes g c =
-    let wrote = c.write_all.ensures in
-    WritesBytes-then g.W.Write _ _ _ _ (shortest_title c.args.title) c.args.body.now c.in_ok-push.ensures.title
-    (WritesBytes-of g.W.Write _ _ _ c.args.body.now wrote.bytes wrote.fills wrote.ok wrote.front wrote.full wrote.err)
