@@ -11,8 +11,8 @@ digits : IsNumeralModel (AllDigits 10) (digits_value 10)
 digits = numerals_by_value (AllDigits 10) tells_digits
 
 -- a number is printed as the word that it was read from
-pub decimal-number : (word : List ℕ) (n : ℕ) → IsNumber word n → decimal n ≡ word
-decimal-number word n is =
+pub decimal_number : (word : List ℕ) (n : ℕ) → IsNumber word n → decimal n ≡ word
+decimal_number word n is =
     let value = is.value in
     let most = is.most in
     rw is.value (decimal-digits_value digits word is.numeral.1 is.numeral.0 is.shortest (omega (arith, value, most)))

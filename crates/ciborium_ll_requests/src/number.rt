@@ -16,6 +16,7 @@ pub const MOST_DEPTH: u32 = 256;
 /// The number that a word spells: `0`, or a digit from 1 to 9 and digits behind it, at most 4,294,967,295.
 ///
 /// A number has just one such word, the one that is printed of it.
+#[tactic(auto, using(crate::proofs::NumberLaws::decimal_number))]
 pub fn number_of(word: &str) -> Option<u32>
     ensures some { IfSome result (IsNumber word.now) }
     ensures none { IfNone result ((n : ℕ) → IsNumber word.now n → ⊥) }
