@@ -39,6 +39,7 @@ pub fn copied_float(float: &Float) -> Float
 /// after the first time.
 ///
 /// The errors are those of the first `pull`, and the second one never fails.
+#[tactic(auto, using(ciborium_ll_decoder::proofs::DecodingLaws::pulls_again))]
 pub fn pull_again<R: Read>(decoder: &mut Decoder<R>) -> Result<Header, Error<R::Error>>
     ensures again { PullsAgain R.Read decoder.old result decoder.new }
     ensures moves_on { MovesOn R.Read decoder.old decoder.new }
