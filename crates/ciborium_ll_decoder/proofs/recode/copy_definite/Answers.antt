@@ -1,4 +1,4 @@
-use Rattle.std.proofs.Common.{sym, ap, subst, ◌∙◌, ◌≡◌, ◌+◌, ℕ, Err, Some, length, arith}
+use Rattle.std.proofs.Common.{rules, sym, ap, subst, ◌∙◌, ◌≡◌, ◌+◌, ℕ, Err, Some, length, arith}
 use Rattle.std.proofs.lemmas.Result.{err_from_is_err_and}
 use Rattle.ciborium_ll_decoder.specs.declared.dec.Decoder.{Decoder}
 use Rattle.ciborium_ll_decoder.specs.Recoding.{CopiesBody, GoesOn}
@@ -32,8 +32,6 @@ returns-clause-copied g c = λ count before old title t taken behind.
     ∙ ap title_len c.header-2.ensures in
     let at : c.offset.result ≡ lent.offset = c.offset.ensures.value in
     let covered = c.requires.covered in
-    let ended = c.decoder-1.given.1 (sym c.new-segment.ensures.same_reference
-    ∙ sym c.copy_body.ensures.same_reference) in
     -- whichever place the body was given, the title's shortest form has to reach from there to the body
     let goes_on = λ (place : ℕ) (copied : CopiesBody g.R.Read g.W.Write k c.args.len (length c.args.buffer.now) place
     (sides_of c.new-segment.result.decoder.now c.write_header.new.encoder) c.copy_body.result
@@ -45,7 +43,7 @@ returns-clause-copied g c = λ count before old title t taken behind.
     (length c.args.buffer.now) place (sides_of d c.write_header.new.encoder) c.copy_body.result
     (sides_of c.copy_body.new.segment.decoder.now c.copy_body.new.writer)) start copied) taken behind.strict in
     subst (λ (d : Decoder g.row.R.Denot). GoesOn g.R.Read g.W.Write count before (length c.args.buffer.now) old
-    c.copy_body.result (sides_of d c.copy_body.new.writer)) (sym ended)
+    c.copy_body.result (sides_of d c.copy_body.new.writer)) (search rules)
     (goes_on _ (through_encoder g.R.Read g.W.Write k c.args.len (length c.args.buffer.now) _
     c.new-segment.result.decoder.now c.copy_body.new.segment.decoder.now c.write_header.new.encoder
     c.copy_body.new.writer c.copy_body.result c.copy_body.ensures.copied) (omega (arith, size, at, covered)))

@@ -34,10 +34,8 @@ returns-in-Ok-None-clause-copied g c = λ count before old within.
     c.segments.segments.progress c.advance.new.self.progress c.advance.new.self.decoder.now
     c.segments.invariant.mode c.segments.invariant.so_far advances c.advance.ensures.moves_on.steady in
     let fin = segments_end g.R.Read g.W.Write k count before old opened within now _ _ all in
-    let ended = c.decoder-1.given.1 (sym c.opened-segments.ensures.same_reference ∙ sym c.segments.invariant.same
-    ∙ sym c.advance.ensures.same_reference) in
     subst (λ (d : Decoder g.row.R.Denot). ReadsString g.R.Read g.W.Write before k old
-    (sides_of d c.segments.encoder)) (sym ended) fin
+    (sides_of d c.segments.encoder)) (search rules) fin
 
 pub returns-in-Err-clause-copied : goal.returns-in-Err-clause-copied
 returns-in-Err-clause-copied g c = λ count before old within.
@@ -47,10 +45,8 @@ returns-in-Err-clause-copied g c = λ count before old within.
     let all = advances_among g.R.Read g.W.Write k opened now c.segments.segments.strict (Err c.in-Err.error)
     c.segments.segments.progress c.advance.new.self.progress c.advance.new.self.decoder.now
     c.segments.invariant.mode c.segments.invariant.so_far c.in-Err.ensures.advances c.advance.ensures.moves_on.steady in
-    let ended = c.in-Err.decoder-in-Err-1-own.given.1 (sym c.opened-segments.ensures.same_reference
-    ∙ sym c.segments.invariant.same ∙ sym c.advance.ensures.same_reference) in
     subst (λ (d : Decoder g.row.R.Denot). StopsCopy g.R.Read g.W.Write count (length c.args.buffer.now) old
-    (r.Read c.in-Err.error) (sides_of d c.segments.encoder)) (sym ended)
+    (r.Read c.in-Err.error) (sides_of d c.segments.encoder)) (search rules)
     (segments_stop g.R.Read g.W.Write k count before old opened within now _ _ (length c.args.buffer.now) c.in-Err.error
     all)
 
@@ -68,11 +64,9 @@ returns-in_err-write_header-clause-copied g c = λ count before old within.
     c.segments.segments.progress c.advance.new.self.progress c.advance.new.self.decoder.now
     c.segments.invariant.mode c.segments.invariant.so_far advances c.advance.ensures.moves_on.steady in
     let wrote = rw c.header.ensures at c.in_err-write_header.ensures.header in
-    let ended = c.in_err-write_header.decoder-in-Break-1-own.given.1
-    (sym c.opened-segments.ensures.same_reference ∙ sym c.segments.invariant.same
-    ∙ sym c.advance.ensures.same_reference) in
     subst (λ (d : Decoder g.row.R.Denot). GoesOnWithin g.R.Read g.W.Write count before k (length c.args.buffer.now)
-    old c.from_residual.result (sides_of d c.write_header.new.encoder)) (sym ended)
+    old c.from_residual.result (sides_of d c.write_header.new.encoder))
+    {x = c.advance.new.self.decoder.now} (search rules)
     (rw same (header_error g.R.Read g.W.Write count (length c.args.buffer.now) old
     (sides_of c.advance.new.self.decoder.now c.segments.encoder) c.write_header.new.encoder.writer _
     c.in_err-write_header.field-0.0 wrote (λ fault stopped.
@@ -144,11 +138,9 @@ returns-in_err-copy-clause-copied g c = λ count before old within.
     (through_encoder g.R.Read g.W.Write k body.length (length c.segments.buffer) body.place
     c.advance.new.self.decoder.now c.copy.new.self.decoder.now c.write_header.new.encoder c.copy.new.writer
     (Err error) (rw c.in_err-copy.was at c.copy.ensures.copied)) in
-    let ended = c.in_err-copy.decoder-in-Break-branch-2-1-own.given.1
-    (sym c.opened-segments.ensures.same_reference ∙ sym c.segments.invariant.same
-    ∙ sym c.advance.ensures.same_reference ∙ sym c.copy.ensures.same_reference) in
     subst (λ (d : Decoder g.row.R.Denot). GoesOnWithin g.R.Read g.W.Write count before k (length c.args.buffer.now)
-    old c.from_residual-in_err-copy.result (sides_of d c.copy.new.writer)) (sym ended)
+    old c.from_residual-in_err-copy.result (sides_of d c.copy.new.writer)) {x = c.copy.new.self.decoder.now}
+    (search rules)
     (rw same (segment_stops g.R.Read g.W.Write k count before old opened within now c.advance.new.self.decoder.now
     c.advance.new.self.progress c.in-Ok-Some.body all (length c.args.buffer.now) c.write_header.new.encoder.writer
     (sides_of c.copy.new.self.decoder.now c.copy.new.writer) error titled stops))
