@@ -1,6 +1,7 @@
 mod CoseLaws
 mod MapLaws
 mod ShortestLaws
+mod Steps
 mod StreamLaws
 mod SumLaws
 mod TextLaws

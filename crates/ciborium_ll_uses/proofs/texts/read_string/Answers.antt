@@ -1,6 +1,9 @@
-use Rattle.std.proofs.Common.{◌≡◌, Err, sym, ap, ◌∙◌, string_bytes}
+use Rattle.std.proofs.Common.{rules, subst, ◌≡◌, Err, ap, ◌∙◌, string_bytes}
 use Rattle.std.proofs.lemmas.Result.{err_from_is_err_and}
 use Rattle.std.specs.Str.{IsUtf8}
+use Rattle.ciborium_ll.specs.Decoding.{MovesOn}
+use Rattle.ciborium_ll.specs.Types.Decoder.{Decoder}
+use Rattle.ciborium_ll_uses.specs.Texts.{GathersText, ReadsText, StopsText}
 use Rattle.ciborium_ll_uses.proofs.TextLaws.{reads_text, stops_text, text_is_utf8, text_moves_on}
 use Rattle.ciborium_ll_uses.proofs.texts.read_string.Goals as goal
 
@@ -13,24 +16,22 @@ returns-in_err-read_segments-clause-stops g c =
     let same : c.from_residual-in_err-read_segments.result ≡ Err c.in_err-read_segments.field-0.0 = cc in
     let pulled = rw (c.offset-place.ensures.same, c.in-Text.is) at c.in_ok-len.ensures.header in
     let stops = rw c.text-segments.ensures.fresh at c.in_err-read_segments.ensures.stops in
-    let ended = c.decoder-1.given.1 (sym c.text-segments.ensures.same_reference
-    ∙ sym c.read_segments.ensures.same_reference) in
-    rw (same, ended) (stops_text g.R.Read c.in-Text.len c.args.decoder.now c.pull.new.self
+    rw same (subst (λ (d : Decoder g.row.R.Denot). StopsText g.R.Read c.args.limit c.args.decoder.now
+    c.in_err-read_segments.field-0.0 d) (search rules) (stops_text g.R.Read c.in-Text.len c.args.decoder.now c.pull.new.self
     c.text-segments.result.decoder.now pulled c.text-segments.ensures.back c.args.limit c.in_err-read_segments.field-0.0
-    c.read_segments.new.segments.decoder.now stops)
+    c.read_segments.new.segments.decoder.now stops))
 
 pub returns-clause-whole : goal.returns-clause-whole
 returns-clause-whole g c =
     let pulled = rw (c.offset-place.ensures.same, c.in-Text.is) at c.in_ok-len.ensures.header in
     let gathers = rw c.text-segments.ensures.fresh at c.in_ok-read_segments.ensures.gathers in
     let steady = rw c.offset-place.ensures.same at c.in_ok-len.ensures.moves_on.steady in
-    let ended = c.decoder-1.given.1 (sym c.text-segments.ensures.same_reference
-    ∙ sym c.read_segments.ensures.same_reference) in
     let bytes : string_bytes c.in-Ok.text ≡ c.read_segments.new.text.bytes.items =
     ap (λ v. v.items) (c.in-Ok.ensures.ok ∙ c.into_vec.ensures) in
-    rw (bytes, ended) (reads_text g.R.Read c.in-Text.len c.args.decoder.now c.pull.new.self
+    rw bytes (subst (λ (d : Decoder g.row.R.Denot). ReadsText g.R.Read c.args.limit c.args.decoder.now
+    c.read_segments.new.text.bytes.items d) (search rules) (reads_text g.R.Read c.in-Text.len c.args.decoder.now c.pull.new.self
     c.text-segments.result.decoder.now pulled c.text-segments.ensures.back c.args.limit
-    c.read_segments.new.text.bytes.items c.read_segments.new.segments.decoder.now steady gathers)
+    c.read_segments.new.text.bytes.items c.read_segments.new.segments.decoder.now steady gathers))
 
 pub unreachable-requires : goal.unreachable-requires
 unreachable-requires g c =
@@ -49,26 +50,24 @@ pub returns-clause-steps : goal.returns-clause-steps
 returns-clause-steps g c =
     let pulled = rw (c.offset-place.ensures.same, c.in-Text.is) at c.in_ok-len.ensures.header in
     let gathers = rw c.text-segments.ensures.fresh at c.in_ok-read_segments.ensures.gathers in
-    let ended = c.decoder-1.given.1 (sym c.text-segments.ensures.same_reference
-    ∙ sym c.read_segments.ensures.same_reference) in
     let bytes : string_bytes c.in-Ok.text ≡ c.read_segments.new.text.bytes.items =
     ap (λ v. v.items) (c.in-Ok.ensures.ok ∙ c.into_vec.ensures) in
-    rw (bytes, ended) (record {
+    rw bytes (subst (λ (d : Decoder g.row.R.Denot). GathersText g.R.Read c.args.limit c.args.decoder.now
+    c.read_segments.new.text.bytes.items d) (search rules) (record {
       len = c.in-Text.len;
       titled = c.pull.new.self;
       pulled = pulled;
       pushed = c.text-segments.result.decoder.now;
       back = c.text-segments.ensures.back;
       done = gathers;
-    })
+    }))
 
 pub returns-in_err-read_segments-clause-moves_on : goal.returns-in_err-read_segments-clause-moves_on
 returns-in_err-read_segments-clause-moves_on g c =
     let pulled = rw (c.offset-place.ensures.same, c.in-Text.is) at c.in_ok-len.ensures.header in
     let first = rw c.offset-place.ensures.same at c.in_ok-len.ensures.moves_on in
-    let ended = c.decoder-1.given.1 (sym c.text-segments.ensures.same_reference
-    ∙ sym c.read_segments.ensures.same_reference) in
-    rw ended (text_moves_on g.R.Read c.in-Text.len c.args.decoder.now c.pull.new.self
+    subst (λ (d : Decoder g.row.R.Denot). MovesOn g.R.Read c.args.decoder.now d) (search rules)
+    (text_moves_on g.R.Read c.in-Text.len c.args.decoder.now c.pull.new.self
     c.text-segments.result.decoder.now pulled c.text-segments.ensures.back c.read_segments.new.segments.decoder.now
     first
     c.text-segments.ensures.refusals c.read_segments.ensures.moves_on)
@@ -77,9 +76,8 @@ pub returns-clause-moves_on : goal.returns-clause-moves_on
 returns-clause-moves_on g c =
     let pulled = rw (c.offset-place.ensures.same, c.in-Text.is) at c.in_ok-len.ensures.header in
     let first = rw c.offset-place.ensures.same at c.in_ok-len.ensures.moves_on in
-    let ended = c.decoder-1.given.1 (sym c.text-segments.ensures.same_reference
-    ∙ sym c.read_segments.ensures.same_reference) in
-    rw ended (text_moves_on g.R.Read c.in-Text.len c.args.decoder.now c.pull.new.self
+    subst (λ (d : Decoder g.row.R.Denot). MovesOn g.R.Read c.args.decoder.now d) (search rules)
+    (text_moves_on g.R.Read c.in-Text.len c.args.decoder.now c.pull.new.self
     c.text-segments.result.decoder.now pulled c.text-segments.ensures.back c.read_segments.new.segments.decoder.now
     first
     c.text-segments.ensures.refusals c.read_segments.ensures.moves_on)
