@@ -1,4 +1,4 @@
-use Rattle.std.proofs.Common.{refl, ◌≡◌, ◌∙◌, ℕ, Ok, Err, length, arith, subst}
+use Rattle.std.proofs.Common.{rules, refl, ◌≡◌, ◌∙◌, ℕ, Ok, Err, length, arith, subst}
 use Rattle.std.proofs.lemmas.Result.{err_from_is_err_and}
 use Rattle.ciborium_ll_decoder.specs.Recoding.{CopiesElements, CopiesRun}
 use Rattle.ciborium_ll_decoder.specs.Sides.{sides_of}
@@ -23,7 +23,8 @@ elements-preserved g c =
     let now = sides_of c.elements.decoder c.elements.encoder in
     let behind = run_behind g.R.Read g.W.Write c.args.count c.elements._copied old now c.elements-test.true
     c.elements.invariant.so_far in
-    let copied = rw c.in_ok-copy_element.was at c.copy_element.ensures.copied in
+    let is_ok : c.copy_element.result ≡ Ok (tt {0}) = search rules in
+    let copied = rw is_ok at c.copy_element.ensures.copied in
     record {
       so_far = added_run g.R.Read g.W.Write c.elements._copied old
           (sides_of c.copy_element.new.decoder c.copy_element.new.encoder)

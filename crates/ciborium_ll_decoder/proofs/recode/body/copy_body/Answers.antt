@@ -18,14 +18,13 @@ chunks-preserved g c =
     let kept = c.chunks.invariant in
     let pulled = c.in-Ok-Some.ensures in
     let gives = rw c.in-Ok-Some.field-0-is at pulled.chunk in
-    let wrote = c.in_default.ensures in
     record {
       same = search rules;
       so_far = so_far_chunk g.R.Read g.W.Write _ _ _ _ kept.so_far _ _ c.chunk.new.segment _ gives
           pulled.moves_on.steady
-          (record { appended = wrote.bytes; room = wrote.fills; failures = wrote.ok });
+          (record { appended = search rules; room = search rules; failures = search rules });
       moves_on = MovesOn-then g.R.Read _ _ _ kept.moves_on pulled.moves_on;
-      target = wrote.target ∙ kept.target;
+      target = search rules;
     }
 
 pub returns-in-Ok-None-clause-copied : goal.returns-in-Ok-None-clause-copied
