@@ -6,6 +6,7 @@ pub mod EnterLaws
 pub mod LiveLaws
 pub mod OneSpot
 pub mod SettledLaws
+pub mod SnapshotLaws
 pub mod StackLaws
 pub mod StepLaws
 pub mod StringLaws

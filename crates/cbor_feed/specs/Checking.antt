@@ -1,4 +1,5 @@
 -- A checker as the spot that it has come to.
+use Rattle.std.specs.Prelude.{◌≡◌, Option, Some, None}
 use Rattle.cbor_feed.specs.declared.checker.Checker.{Checker}
 use Rattle.cbor_feed.specs.Spots.{Spot}
 
@@ -12,3 +13,8 @@ spot_of c = record {
   place = c.place;
   offset = c.offset;
 }
+
+-- what was restored has come to this spot
+abbrev pub IsAt : Option Checker → Spot → Type 0
+IsAt (Some checker) spot = spot_of checker ≡ spot
+IsAt None spot = ⊥

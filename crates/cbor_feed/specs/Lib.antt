@@ -2,6 +2,7 @@ pub mod Blocked
 pub mod Checking
 pub mod Levels
 pub mod Opens
+pub mod Snapshots
 pub mod Spots
 pub mod Stack
 pub mod Steps

@@ -1,17 +1,19 @@
 //! The checker: one byte more, and where it leads.
 
-ghost use Rattle.std.specs.Prelude.{◌≡◌, ◌+◌, ◌≤◌, ◌%◌, length, slice_index, true};
+ghost use Rattle.std.specs.Prelude.{◌≡◌, ◌+◌, ◌<◌, ◌≤◌, ◌%◌, length, slice_index, true, false};
+ghost use Rattle.cbor_feed.specs.Snapshots.{IsState};
 ghost use Rattle.cbor_feed.specs.Telling.{has_left};
 ghost use Rattle.cbor_feed.specs.Steps.{may_end};
 ghost use Rattle.ciborium_ll_grammar.specs.Title.{affix_len};
 ghost use Rattle.cbor_feed.specs.Opens.{open_count};
 ghost use Rattle.cbor_feed.specs.Blocked.{blocked};
 
-use crate::front::Front;
+use crate::front::{Front, LONGEST};
 use crate::level::Level;
-use crate::levels::Levels;
+use crate::levels::{Levels, MOST_LEVELS};
 use crate::phase::{Fault, Phase, Within};
 use crate::progress::{End, Feed, Progress};
+use crate::snapshot::Snapshot;
 use crate::title::{affix_len, header_of};
 use ciborium_ll_grammar::hdr::Header;
 use ciborium_ll_grammar::hdr::table::{TitleKind, row_of};
@@ -49,6 +51,54 @@ fn may_end(state: State, left: usize) -> bool
     }
 }
 
+/// Whether a body has bytes left.
+fn has_left(phase: Phase) -> bool
+    ensures { result ≡ has_left phase }
+{
+    !matches!(phase, Phase::Bytes(0) | Phase::Text(0, _))
+}
+
+/// Whether there are no more open strings than bytes came.
+fn are_counted(within: Within, offset: usize) -> bool
+    ensures yes { result ≡ true → open_count within ≤ offset }
+    ensures no { result ≡ false → offset < open_count within }
+{
+    match within {
+        Within::Nothing => true,
+        Within::Bytes(more) | Within::Text(more) => more < offset,
+    }
+}
+
+/// Whether the bytes are too few for a whole title.
+fn are_begun(bytes: &[u8]) -> bool
+    ensures yes { result ≡ true → length bytes.now ≤ affix_len (slice_index bytes.now 0 % 32) }
+    ensures no { result ≡ false → affix_len (slice_index bytes.now 0 % 32) < length bytes.now }
+{
+    bytes.is_empty() || bytes.len() <= affix_len(row_of(bytes[0]).affix)
+}
+
+/// Whether the numbers that come with what is due and with the open strings are those of a state.
+fn is_state(snapshot: &Snapshot, phase: Phase, within: Within) -> bool
+    ensures yes { result ≡ true → IsState snapshot.now phase within }
+    ensures no { IsState snapshot.now phase within → result ≡ true }
+{
+    let title_len = usize::from(snapshot.title_len);
+    let nests = usize::from(snapshot.nests);
+    if title_len > LONGEST {
+        return false;
+    }
+    if nests > MOST_LEVELS {
+        return false;
+    }
+    if snapshot.depth as usize > MOST_LEVELS - nests {
+        return false;
+    }
+    if !are_counted(within, snapshot.offset as usize) {
+        return false;
+    }
+    has_left(phase) && are_begun(&snapshot.title[..title_len])
+}
+
 /// Checks one item of CBOR (RFC 7049, 2.1 to 2.4) whose bytes come in pieces.
 ///
 /// It takes no memory, and reads nothing by itself: what came is given to [`Checker::feed`]. It has a fixed size, most
@@ -70,12 +120,13 @@ pub struct Checker {
 
 impl Checker {
     ghost use Rattle.std.specs.Prelude.{◌<◌};
-    ghost use Rattle.cbor_feed.specs.Checking.{spot_of};
-    ghost use Rattle.std.specs.Prelude.{ℕ, ◌-◌, ◌++◌, List, [], take, false};
+    ghost use Rattle.cbor_feed.specs.Checking.{IsAt, spot_of};
+    ghost use Rattle.cbor_feed.specs.Snapshots.{Holds};
+    ghost use Rattle.std.specs.Prelude.{ℕ, ◌-◌, ◌++◌, List, [], IfSome, take, false};
     ghost use Rattle.ciborium_ll_text.specs.States.{after_byte};
     ghost use Rattle.cbor_feed.specs.Steps.{IsFed, Step, TitleStep, counted, text_left, title_place, with_byte};
     ghost use Rattle.cbor_feed.specs.Telling.{IsMore, Tells, TellsEnd, is_due, progress_of, title_due};
-    ghost use Rattle.cbor_feed.specs.Spots.{at_phase, body_placed, broken, bytes_due, bytes_entered, entered};
+    ghost use Rattle.cbor_feed.specs.Spots.{Spot, at_phase, body_placed, broken, bytes_due, bytes_entered, entered};
     ghost use Rattle.cbor_feed.specs.Spots.{item_done, item_entered, nested, string_closed, string_done, string_open};
     ghost use Rattle.cbor_feed.specs.Spots.{refused, text_due, text_entered};
     ghost use Rattle.cbor_feed.specs.declared.phase.Within.TheVariants as w;
@@ -443,5 +494,48 @@ impl Checker {
             taken: bytes.len(),
             progress: self.answer(),
         }
+    }
+
+    /// Writes what has come so far into `snapshot`, as plain numbers, of which [`Checker::restore`] makes this checker
+    /// again. Of the numbers of levels it writes those that are in use.
+    pub fn save(&self, snapshot: &mut Snapshot)
+        ensures { Holds snapshot.new (spot_of self.now) }
+    {
+        let (phase, number, text) = self.phase.numbers();
+        let (strings, more) = self.within.numbers();
+        snapshot.phase = phase;
+        snapshot.number = number as u64;
+        snapshot.text = text;
+        snapshot.strings = strings;
+        snapshot.more = more as u64;
+        snapshot.title_len = self.front.save(&mut snapshot.title) as u16;
+        snapshot.nests = self.levels.save(&mut snapshot.kinds, &mut snapshot.counts) as u16;
+        snapshot.depth = self.depth as u64;
+        snapshot.place = self.place as u64;
+        snapshot.offset = self.offset as u64;
+    }
+
+    /// The checker that [`Checker::save`] wrote, or none where the numbers are those of no checker: where memory was
+    /// overwritten, or never written.
+    pub fn restore(snapshot: &Snapshot) -> Option<Checker>
+        ensures some { IfSome result (λ checker. Holds snapshot.now (spot_of checker)) }
+        ensures same { (spot : Spot) → Holds snapshot.now spot → IsAt result spot }
+    {
+        let phase = Phase::of(snapshot.phase, snapshot.number as usize, snapshot.text)?;
+        let within = Within::of(snapshot.strings, snapshot.more as usize)?;
+        if !is_state(snapshot, phase, within) {
+            return None;
+        }
+        let nests = usize::from(snapshot.nests);
+        let levels = Levels::restore(nests, &snapshot.kinds, &snapshot.counts)?;
+        Some(Checker {
+            phase,
+            front: Front::restore(&snapshot.title, usize::from(snapshot.title_len)),
+            within,
+            depth: snapshot.depth as usize,
+            levels,
+            place: snapshot.place as usize,
+            offset: snapshot.offset as usize,
+        })
     }
 }

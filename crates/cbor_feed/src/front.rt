@@ -1,11 +1,11 @@
 //! The bytes of a title that isn't whole.
 
-ghost use Rattle.std.specs.Prelude.{◌≡◌, ◌<◌, ◌++◌, [], ◌∷◌, length};
+ghost use Rattle.std.specs.Prelude.{◌≡◌, ◌<◌, ◌≤◌, ◌++◌, [], ◌∷◌, length, take};
 
 use std::marker::Model;
 
 /// The longest title: a first byte and eight behind it.
-const LONGEST: usize = 9;
+pub(crate) const LONGEST: usize = 9;
 
 /// The bytes of a title so far.
 #[derive(Drop)]
@@ -63,5 +63,22 @@ impl Front {
         ensures { result.now ≡ self.now }
     {
         &self.bytes[..self.len]
+    }
+
+    /// Writes the bytes in front of these, and says how many they are.
+    pub(crate) fn save(&self, bytes: &mut [u8; LONGEST]) -> usize
+        ensures saved { take result bytes.new ≡ self.now }
+        ensures len { result ≡ length self.now }
+    {
+        bytes[..self.len].copy_from_slice(&self.bytes[..self.len]);
+        self.len
+    }
+
+    /// The first so many of these bytes.
+    pub(crate) fn restore(bytes: &[u8; LONGEST], len: usize) -> Front
+        requires { len ≤ 9 }
+        ensures { result ≡ take len bytes.now }
+    {
+        Front { bytes: *bytes, len }
     }
 }

@@ -1,7 +1,8 @@
 //! What is due behind an item within the tags, arrays and maps that it stands in.
 
-ghost use Rattle.std.specs.Prelude.{◌≡◌};
+ghost use Rattle.std.specs.Prelude.{◌≡◌, Some};
 ghost use Rattle.cbor_feed.specs.Levels.{closes, contents, next};
+ghost use Rattle.cbor_feed.specs.Snapshots.{level_in};
 
 use ciborium_ll_grammar::hdr::Header;
 
@@ -59,5 +60,34 @@ impl Level {
         ensures { result ≡ closes self }
     {
         matches!(self, Level::OpenItems | Level::OpenValue)
+    }
+
+    /// The number of the kind, and a count.
+    pub(crate) fn numbers(self) -> (u8, usize)
+        ensures { level_in result.0 result.1 ≡ Some self }
+    {
+        match self {
+            Level::Items(count) => (0, count),
+            Level::Pairs(count) => (1, count),
+            Level::Value(count) => (2, count),
+            Level::OpenItems => (3, 0),
+            Level::OpenPairs => (4, 0),
+            Level::OpenValue => (5, 0),
+        }
+    }
+
+    /// What has these numbers.
+    pub(crate) fn of(kind: u8, count: usize) -> Option<Level>
+        ensures { result ≡ level_in kind count }
+    {
+        match kind {
+            0 => Some(Level::Items(count)),
+            1 => Some(Level::Pairs(count)),
+            2 => Some(Level::Value(count)),
+            3 => Some(Level::OpenItems),
+            4 => Some(Level::OpenPairs),
+            5 => Some(Level::OpenValue),
+            _ => None,
+        }
     }
 }

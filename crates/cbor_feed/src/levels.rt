@@ -1,13 +1,31 @@
 //! The tags, arrays and maps around an item.
 
-ghost use Rattle.std.specs.Prelude.{◌≡◌, ◌<◌, [], ◌∷◌, length};
-ghost use Rattle.cbor_feed.specs.Stack.{innermost, others};
+ghost use Rattle.std.specs.Prelude.{◌≡◌, ◌<◌, ◌≤◌, [], ◌∷◌, Some, length};
+ghost use Rattle.cbor_feed.specs.Snapshots.{levels_in};
+ghost use Rattle.cbor_feed.specs.Stack.{innermost, others, topmost};
 
 use crate::level::Level;
 use std::marker::Model;
 
 /// How many levels there may be.
 pub(crate) const MOST_LEVELS: usize = 256;
+
+/// Writes the numbers of so many levels in front of both.
+fn save_stack(
+    stack: &[Level; MOST_LEVELS],
+    len: usize,
+    kinds: &mut [u8; MOST_LEVELS],
+    counts: &mut [u64; MOST_LEVELS],
+)
+    requires { len ≤ 256 }
+    ensures { levels_in len kinds.new counts.new ≡ Some (topmost len stack.now) }
+{
+    for at in 0..len {
+        let (kind, count) = stack[at].numbers();
+        kinds[at] = kind;
+        counts[at] = count as u64;
+    }
+}
 
 /// What the nests around an item contain behind it. Seen as a list, the innermost is the first.
 #[derive(Drop)]
@@ -66,5 +84,37 @@ impl Levels {
     {
         self.stack[self.len] = level;
         self.len += 1;
+    }
+
+    /// Writes the numbers of each level in front of both, and says how many levels there are.
+    pub(crate) fn save(
+        &self,
+        kinds: &mut [u8; MOST_LEVELS],
+        counts: &mut [u64; MOST_LEVELS],
+    ) -> usize
+        ensures saved { levels_in result kinds.new counts.new ≡ Some self.now }
+        ensures len { result ≡ length self.now }
+    {
+        save_stack(&self.stack, self.len, kinds, counts);
+        self.len
+    }
+
+    /// So many levels, of which these are the numbers.
+    pub(crate) fn restore(
+        len: usize,
+        kinds: &[u8; MOST_LEVELS],
+        counts: &[u64; MOST_LEVELS],
+    ) -> Option<Levels>
+        requires { len ≤ 256 }
+        ensures { result ≡ levels_in len kinds.now counts.now }
+    {
+        let mut levels = Levels::new();
+        for at in 0..len {
+            match Level::of(kinds[at], counts[at] as usize) {
+                Some(level) => levels.push(level),
+                None => return None,
+            }
+        }
+        Some(levels)
     }
 }

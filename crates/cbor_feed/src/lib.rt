@@ -9,8 +9,10 @@ mod level;
 mod levels;
 mod phase;
 mod progress;
+mod snapshot;
 mod title;
 
 pub use self::checker::Checker;
 pub use self::phase::Fault;
 pub use self::progress::{End, Feed, Progress};
+pub use self::snapshot::Snapshot;

@@ -1,5 +1,8 @@
 //! What a checker waits for.
 
+ghost use Rattle.std.specs.Prelude.{◌≡◌, Some};
+ghost use Rattle.cbor_feed.specs.Snapshots.{phase_in, state_in, within_in};
+
 use ciborium_ll_text::state::State;
 
 /// Why the bytes so far begin no item, whatever follows them. The number is an offset.
@@ -40,4 +43,100 @@ pub(crate) enum Within {
     Bytes(usize),
     /// A text, and so many within it.
     Text(usize),
+}
+
+/// The number of a text's state.
+fn state_number(state: State) -> u8
+    ensures { state_in result ≡ Some state }
+{
+    match state {
+        State::Between => 0,
+        State::OneDue => 1,
+        State::TwoDue => 2,
+        State::ThreeDue => 3,
+        State::BehindE0 => 4,
+        State::BehindEd => 5,
+        State::BehindF0 => 6,
+        State::BehindF4 => 7,
+        State::Damaged => 8,
+    }
+}
+
+/// The state of a text that has this number.
+fn state_of(number: u8) -> Option<State>
+    ensures { result ≡ state_in number }
+{
+    match number {
+        0 => Some(State::Between),
+        1 => Some(State::OneDue),
+        2 => Some(State::TwoDue),
+        3 => Some(State::ThreeDue),
+        4 => Some(State::BehindE0),
+        5 => Some(State::BehindEd),
+        6 => Some(State::BehindF0),
+        7 => Some(State::BehindF4),
+        8 => Some(State::Damaged),
+        _ => None,
+    }
+}
+
+impl Phase {
+    /// The number of the kind, how many bytes are due or the place of a fault, and the number of a text's state.
+    pub(crate) fn numbers(self) -> (u8, usize, u8)
+        ensures { phase_in result.0 result.1 result.2 ≡ Some self }
+    {
+        match self {
+            Phase::Title => (1, 0, 0),
+            Phase::Bytes(left) => (2, left, 0),
+            Phase::Text(left, state) => (3, left, state_number(state)),
+            Phase::Ended => (4, 0, 0),
+            Phase::Faulted(Fault::Syntax(place)) => (5, place, 0),
+            Phase::Faulted(Fault::Break(place)) => (6, place, 0),
+            Phase::Faulted(Fault::Deep(place)) => (7, place, 0),
+        }
+    }
+
+    /// What a checker with these numbers waits for.
+    pub(crate) fn of(kind: u8, number: usize, text: u8) -> Option<Phase>
+        ensures { result ≡ phase_in kind number text }
+    {
+        match kind {
+            1 => Some(Phase::Title),
+            2 => Some(Phase::Bytes(number)),
+            3 => match state_of(text) {
+                Some(state) => Some(Phase::Text(number, state)),
+                None => None,
+            },
+            4 => Some(Phase::Ended),
+            5 => Some(Phase::Faulted(Fault::Syntax(number))),
+            6 => Some(Phase::Faulted(Fault::Break(number))),
+            7 => Some(Phase::Faulted(Fault::Deep(number))),
+            _ => None,
+        }
+    }
+}
+
+impl Within {
+    /// The number of the kind, and how many strings are open within the first.
+    pub(crate) fn numbers(self) -> (u8, usize)
+        ensures { within_in result.0 result.1 ≡ Some self }
+    {
+        match self {
+            Within::Nothing => (0, 0),
+            Within::Bytes(more) => (1, more),
+            Within::Text(more) => (2, more),
+        }
+    }
+
+    /// The open strings that have these numbers.
+    pub(crate) fn of(kind: u8, more: usize) -> Option<Within>
+        ensures { result ≡ within_in kind more }
+    {
+        match kind {
+            0 => Some(Within::Nothing),
+            1 => Some(Within::Bytes(more)),
+            2 => Some(Within::Text(more)),
+            _ => None,
+        }
+    }
 }

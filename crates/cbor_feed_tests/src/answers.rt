@@ -1,6 +1,6 @@
 ghost use Rattle.std.specs.Prelude.{◌≤◌, length};
 
-use cbor_feed::{Checker, Fault, Progress};
+use cbor_feed::{Checker, Fault, Progress, Snapshot};
 use cbor_skip::{SkipError, skip_item};
 use ciborium_ll::io::SliceReader;
 use ciborium_ll::{Decoder, Error};
@@ -34,6 +34,18 @@ pub fn one_by_one(bytes: &[u8]) -> Progress {
     checker.progress()
 }
 
+// Feeds each byte by itself to a checker that is made of plain numbers, and kept as such behind it.
+pub fn kept_between(bytes: &[u8]) -> Option<Progress> {
+    let mut memory = Snapshot::new();
+    Checker::new(DEPTH).save(&mut memory);
+    for byte in bytes {
+        let mut checker = Checker::restore(&memory)?;
+        let _ = checker.feed(&[*byte]);
+        checker.save(&mut memory);
+    }
+    Some(Checker::restore(&memory)?.progress())
+}
+
 // Whether a skip of the bytes says the same. A skip of bytes that end within a title or a body answers that they do,
 // also where no item begins so.
 pub fn agrees(progress: Progress, bytes: &[u8]) -> bool {
@@ -55,6 +67,7 @@ pub fn all_ways(rt: &impl Abort, bytes: &[u8]) {
     let whole = at_once(bytes);
     assert!(rt; agrees(whole, bytes), "at {bytes:?}");
     assert!(rt; one_by_one(bytes) == whole, "at {bytes:?}");
+    assert!(rt; kept_between(bytes) == Some(whole), "at {bytes:?}");
     for cut in 0..bytes.len() {
         assert!(rt; in_two(bytes, cut) == whole, "at {bytes:?}, cut at {cut}");
     }

@@ -1,0 +1,96 @@
+-- A spot as plain numbers, which a caller keeps in memory of its own.
+use Rattle.std.specs.Prelude.{◌≡◌, ◌==◌, ◌+◌, ◌≤◌, ◌%◌, ℕ, zero, suc, true, List, [], ◌∷◌, Option, Some, None}
+use Rattle.std.specs.Prelude.{if◌then◌else◌, slice_index, take}
+use Rattle.ciborium_ll_grammar.specs.Title.{affix_len}
+use Rattle.ciborium_ll_text.specs.declared.state.State.{State}
+use Rattle.ciborium_ll_text.specs.declared.state.State.TheVariants as s
+use Rattle.cbor_feed.specs.declared.level.Level.{Level}
+use Rattle.cbor_feed.specs.declared.level.Level.TheVariants as l
+use Rattle.cbor_feed.specs.declared.phase.Phase.{Phase}
+use Rattle.cbor_feed.specs.declared.phase.Phase.TheVariants as p
+use Rattle.cbor_feed.specs.declared.phase.Fault.TheVariants as f
+use Rattle.cbor_feed.specs.declared.phase.Within.{Within}
+use Rattle.cbor_feed.specs.declared.phase.Within.TheVariants as w
+use Rattle.cbor_feed.specs.declared.snapshot.Snapshot.{Snapshot}
+use Rattle.cbor_feed.specs.Opens.{open_count}
+use Rattle.cbor_feed.specs.Spots.{Spot}
+use Rattle.cbor_feed.specs.Telling.{has_left}
+
+-- how far the characters of a text have come, by its number
+abbrev pub state_in : ℕ → Option State
+state_in text =
+    if text == 0 then Some s.Between else
+    (if text == 1 then Some s.OneDue else
+    (if text == 2 then Some s.TwoDue else
+    (if text == 3 then Some s.ThreeDue else
+    (if text == 4 then Some s.BehindE0 else
+    (if text == 5 then Some s.BehindEd else
+    (if text == 6 then Some s.BehindF0 else
+    (if text == 7 then Some s.BehindF4 else
+    (if text == 8 then Some s.Damaged else None))))))))
+
+-- so many bytes of a text are due, where there is such a state
+abbrev pub text_in : ℕ → Option State → Option Phase
+text_in left (Some state) = Some (p.Text left state)
+text_in left None = None
+
+-- what is due, by the number of its kind; of a body also how many bytes, and of a fault its place. 0 is no kind
+abbrev pub phase_in : ℕ → ℕ → ℕ → Option Phase
+phase_in kind number text =
+    if kind == 1 then Some p.Title else
+    (if kind == 2 then Some (p.Bytes number) else
+    (if kind == 3 then text_in number (state_in text) else
+    (if kind == 4 then Some p.Ended else
+    (if kind == 5 then Some (p.Faulted (f.Syntax number)) else
+    (if kind == 6 then Some (p.Faulted (f.Break number)) else
+    (if kind == 7 then Some (p.Faulted (f.Deep number)) else None))))))
+
+-- the strings that are open, by the number of their kind and how many there are within the first
+abbrev pub within_in : ℕ → ℕ → Option Within
+within_in kind more =
+    if kind == 0 then Some w.Nothing else
+    (if kind == 1 then Some (w.Bytes more) else
+    (if kind == 2 then Some (w.Text more) else None))
+
+-- what one nest contains behind the item that is due in it, by the number of its kind and a count
+abbrev pub level_in : ℕ → ℕ → Option Level
+level_in kind count =
+    if kind == 0 then Some (l.Items count) else
+    (if kind == 1 then Some (l.Pairs count) else
+    (if kind == 2 then Some (l.Value count) else
+    (if kind == 3 then Some l.OpenItems else
+    (if kind == 4 then Some l.OpenPairs else
+    (if kind == 5 then Some l.OpenValue else None)))))
+
+-- a nest within others, where there are such
+abbrev pub within_others : Option Level → Option (List Level) → Option (List Level)
+within_others (Some level) (Some levels) = Some (level ∷ levels)
+within_others (Some level) None = None
+within_others None levels = None
+
+-- so many nests, each by its kind and its count. The innermost is the last of them
+abbrev pub levels_in : ℕ → List ℕ → List ℕ → Option (List Level)
+levels_in zero kinds counts = Some []
+levels_in (suc len) kinds counts =
+    within_others (level_in (slice_index kinds len) (slice_index counts len)) (levels_in len kinds counts)
+
+-- What is due and the open strings are such as a checker has with the other numbers: its nests and the levels that are
+-- left are no more than there may be, each open string has come with a byte, a body has bytes left, and a title isn't
+-- whole
+pub record IsState (snapshot : Snapshot) (phase : Phase) (within : Within) : Type 0 where
+  pub room : snapshot.nests + snapshot.depth ≤ 256
+  pub counted : open_count within ≤ snapshot.offset
+  pub left : has_left phase ≡ true
+  pub long : snapshot.title_len ≤ 9
+  pub begun : snapshot.title_len ≤ affix_len (slice_index (take snapshot.title_len snapshot.title) 0 % 32)
+
+-- the numbers are those of this spot
+pub record Holds (snapshot : Snapshot) (spot : Spot) : Type 0 where
+  pub phase : phase_in snapshot.phase snapshot.number snapshot.text ≡ Some spot.phase
+  pub title : take snapshot.title_len snapshot.title ≡ spot.front
+  pub within : within_in snapshot.strings snapshot.more ≡ Some spot.within
+  pub depth : snapshot.depth ≡ spot.depth
+  pub levels : levels_in snapshot.nests snapshot.kinds snapshot.counts ≡ Some spot.levels
+  pub place : snapshot.place ≡ spot.place
+  pub offset : snapshot.offset ≡ spot.offset
+  pub is_state : IsState snapshot spot.phase spot.within
