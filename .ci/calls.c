@@ -37,6 +37,127 @@ static int takes_null(void)
         && told(cll_utf8(NULL, 0, &report), CLL_OK, 0, 0, 0);
 }
 
+/* A checker takes null where there are no bytes. Nothing was due but an item, and an end is none within one. */
+static int checks_null(void)
+{
+    cll_checker checker;
+    return cll_checker_init(&checker, 0) == CLL_OK
+        && told(cll_checker_feed(&checker, NULL, 0, &report), CLL_SHORT, 0, 0, 1)
+        && told(cll_checker_end(&checker, &report), CLL_OK, 0, 0, 0);
+}
+
+/* What a checker has to find of bytes: the answer, how many it takes of them, and the place. */
+struct finding { const uint8_t *data; size_t len; uint32_t depth, answer; uint64_t taken, place; };
+
+/* Whether a checker finds so of bytes that are cut into three pieces, and still behind them. */
+static int finds_so(const struct finding *want, size_t first, size_t second)
+{
+    const size_t ends[] = {first, second, want->len, want->len};
+    cll_checker checker;
+    uint64_t taken = 0;
+    size_t begin = 0;
+    uint32_t answer = CLL_ARGUMENT;
+    if (cll_checker_init(&checker, want->depth) != CLL_OK)
+        return 0;
+    for (size_t i = 0; i < sizeof ends / sizeof *ends; i++) {
+        const cll_checker copy = checker;
+        checker = copy;
+        answer = cll_checker_feed(&checker, want->data + begin, ends[i] - begin, &report);
+        taken += report.consumed;
+        if (report.written != 0 || (answer == CLL_SHORT && report.consumed != ends[i] - begin))
+            return 0;
+        begin = ends[i];
+    }
+    if (answer != want->answer || taken != want->taken || report.place != want->place)
+        return 0;
+    return told(cll_checker_end(&checker, &report), answer, 0, 0, answer == CLL_OK ? 0 : want->place);
+}
+
+/* Each cut of bytes into three pieces changes no answer. */
+static int checks_pieces(void)
+{
+    static const uint8_t whole[] = {0xbf, 0x61, 0x61, 0x82, 0x19, 0x03, 0xe8, 0x5f, 0x42, 0x01, 0x02, 0xff,
+        0x62, 0xc3, 0xa9, 0xc1, 0xfb, 0, 0, 0, 0, 0, 0, 0, 0, 0xff, 0x05};
+    static const uint8_t damage[] = {0x82, 0x01, 0x78, 0x03, 0xe6, 0xb0, 0x28, 0x05};
+    static const uint8_t early[] = {0xbf, 0x01, 0xff, 0x05}, deep[] = {0x81, 0x82, 0x01, 0x80, 0x05};
+    static const uint8_t none[] = {0x9f, 0x01, 0x1f, 0x05}, cut[] = {0x83, 0x01, 0x5a, 0x00, 0x01, 0x00, 0x00, 0x05};
+    static const struct finding rows[] = {
+        {whole, sizeof whole, 2, CLL_OK, 26, 26},      {damage, sizeof damage, 1, CLL_SYNTAX, 7, 3},
+        {early, sizeof early, 1, CLL_BREAK_DUE, 3, 2}, {deep, sizeof deep, 2, CLL_TOO_DEEP, 4, 3},
+        {none, sizeof none, 1, CLL_SYNTAX, 3, 2},      {cut, sizeof cut, 1, CLL_SHORT, 8, 65535},
+    };
+    for (size_t i = 0; i < sizeof rows / sizeof *rows; i++) {
+        for (size_t second = 0; second <= rows[i].len; second++) {
+            for (size_t first = 0; first <= second; first++) {
+                if (!finds_so(&rows[i], first, second))
+                    return 0;
+            }
+        }
+    }
+    return 1;
+}
+
+/* A checker has its own memory and nothing around it, also where all levels are in use. */
+static int keeps_inside(void)
+{
+    static struct { uint8_t before[64]; cll_checker checker; uint8_t behind[64]; } at;
+    static const uint8_t nest[] = {0x9f}, leaf[] = {0x1b, 1, 2, 3, 4, 5, 6, 7};
+    memset(&at, 0xee, sizeof at);
+    if (sizeof at.checker != 2368 || cll_checker_init(&at.checker, 256) != CLL_OK)
+        return 0;
+    for (size_t i = 0; i < 256; i++) {
+        if (!told(cll_checker_feed(&at.checker, nest, 1, &report), CLL_SHORT, 1, 0, 1))
+            return 0;
+    }
+    if (!told(cll_checker_feed(&at.checker, leaf, sizeof leaf, &report), CLL_SHORT, sizeof leaf, 0, 1))
+        return 0;
+    for (size_t i = 0; i < sizeof at.before; i++) {
+        if (at.before[i] != 0xee || at.behind[i] != 0xee)
+            return 0;
+    }
+    return 1;
+}
+
+/* Memory with no checker in it, and a depth that none has. What stands there stays. */
+static int refuses_memory(void)
+{
+    static cll_checker checker, old;
+    static const uint8_t one[] = {0x05};
+    for (unsigned fill = 0; fill < 256; fill++) {
+        memset(&checker, (int)fill, sizeof checker);
+        memset(&old, (int)fill, sizeof old);
+        if (cll_checker_init(&checker, 257) != CLL_ARGUMENT || cll_checker_init(&checker, UINT32_MAX) != CLL_ARGUMENT
+            || !told(cll_checker_feed(&checker, one, 1, &report), CLL_ARGUMENT, 0, 0, 0)
+            || !told(cll_checker_end(&checker, &report), CLL_ARGUMENT, 0, 0, 0)
+            || memcmp(&checker, &old, sizeof old) != 0)
+            return 0;
+    }
+    return 1;
+}
+
+/* One byte of a checker is another one, each in turn: it is answered by a number that a call has, and nothing else. */
+static int survives_damage(void)
+{
+    static const uint8_t begun[] = {0xbf, 0x61, 0x61, 0x9f, 0x7f, 0x63, 0xe6};
+    static const uint8_t more[] = {0xb0, 0xb4, 0xff, 0xff, 0x9f, 0x19};
+    static const uint8_t others[] = {0x00, 0x01, 0x02, 0x07, 0x08, 0x09, 0x7f, 0x80, 0xff};
+    static cll_checker good; /* Where more nests are counted than there are, memory is read that no call wrote. */
+    if (cll_checker_init(&good, 16) != CLL_OK
+        || !told(cll_checker_feed(&good, begun, sizeof begun, &report), CLL_SHORT, sizeof begun, 0, 2))
+        return 0;
+    for (size_t at = 0; at < sizeof good; at++) {
+        for (size_t i = 0; i < sizeof others; i++) {
+            cll_checker bad = good;
+            ((uint8_t *)&bad)[at] = others[i];
+            const uint32_t answer = cll_checker_feed(&bad, more, sizeof more, &report);
+            if (answer > CLL_ARGUMENT || answer == CLL_ROOM || report.consumed > sizeof more || report.written != 0
+                || cll_checker_end(&bad, &report) > CLL_ARGUMENT)
+                return 0;
+        }
+    }
+    return 1;
+}
+
 /* In less room than a copy takes it is answered that there is too little, and what is written begins the copy. */
 static int lacks_room(void)
 {
@@ -183,6 +304,8 @@ int main(void)
         {"null", takes_null},           {"room", lacks_room},         {"places", names_places},
         {"damage", cuts_damaged_text},  {"widths", writes_widths},    {"pieces", joins_pieces},
         {"answers", tells_answers},     {"overlaps", finds_overlaps}, {"version", is_this_version},
+        {"no bytes", checks_null},      {"cuts", checks_pieces},      {"inside", keeps_inside},
+        {"memory", refuses_memory},     {"overwritten", survives_damage},
     };
     for (size_t i = 0; i < sizeof rows / sizeof *rows; i++) {
         if (!rows[i].holds()) {

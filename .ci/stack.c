@@ -21,6 +21,7 @@ static uint32_t depth;
 static uint32_t answer;
 static cll_header header;
 static cll_report report;
+static cll_checker checker;
 
 static void nothing(void) { answer = CLL_OK; }
 static void pull(void) { answer = cll_pull(data, len, &header, &report); }
@@ -30,6 +31,10 @@ static void recode(void) { answer = cll_recode(data, len, 1, out, sizeof out, &r
 static void strict(void) { answer = cll_strict(data, len, 1, &report); }
 static void skip(void) { answer = cll_skip(data, len, depth, &report); }
 static void utf8(void) { answer = cll_utf8(data + TITLE, len - TITLE, &report); }
+
+static void checker_init(void) { answer = cll_checker_init(&checker, DEEPEST); }
+static void checker_feed(void) { answer = cll_checker_feed(&checker, data, len, &report); }
+static void checker_end(void) { answer = cll_checker_end(&checker, &report); }
 
 /* Of a text with its title in front, which is no UTF-8. */
 static void no_utf8(void) { answer = cll_utf8(data, len, &report) == CLL_SYNTAX ? CLL_OK : CLL_ARGUMENT; }
@@ -81,6 +86,7 @@ int main(void)
         {"cll_pull", pull},     {"cll_push", push},     {"cll_push_wide", push_wide},
         {"cll_recode", recode}, {"cll_strict", strict}, {"cll_utf8/text", utf8},
         {"cll_utf8/damage", no_utf8},
+        {"cll_checker_init", checker_init}, {"cll_checker_feed", checker_feed}, {"cll_checker_end", checker_end},
     };
     static const unsigned depths[] = {1, 16, 64, 128, DEEPEST};
     const size_t plain = used(nothing);

@@ -8,11 +8,13 @@
  * not overlap anything else that it is given: so no call works in place. cll_overlap tells whether two pieces of memory
  * overlap.
  *
- * Nothing is kept between calls. So calls may run in several threads at once, where none writes what another one uses.
+ * Nothing is kept between calls, but for what a cll_checker keeps in the caller's own memory. So calls may run in
+ * several threads at once, where none writes what another one uses.
  *
  * Of the stack, as measured on x86-64, cll_pull, cll_push, cll_push_wide and cll_utf8 take less than 128 bytes,
  * cll_recode and cll_strict less than 2 KiB. cll_skip takes less than 2 KiB and 288 bytes for each level that it goes
- * down: 7 KiB at 16 levels, 20 KiB at 64, and 74 KiB at 256.
+ * down: 7 KiB at 16 levels, 20 KiB at 64, and 74 KiB at 256. cll_checker_init takes less than 12 KiB, cll_checker_feed
+ * less than 16 KiB and cll_checker_end less than 4 KiB.
  */
 #ifndef CIBORIUM_LL_H
 #define CIBORIUM_LL_H
@@ -44,8 +46,18 @@ typedef struct { uint64_t value; uint8_t kind; uint8_t indefinite; } cll_header;
  * It is that of a title, and for cll_utf8 that of the byte behind the front. But for the body of a text that is no
  * UTF-8, in a string that no open begins, it is the end of the string's title less the length of the shortest one, so
  * it lies inside a title that is longer than that.
+ *
+ * Of the calls of a checker the offset is counted from the item's first byte, through all pieces; and with CLL_OK and
+ * CLL_SHORT `place` says more, as stands at these calls.
  */
 typedef struct { uint64_t consumed; uint64_t written; uint64_t place; } cll_report;
+
+/*
+ * A checker of one item whose bytes come in pieces, as out of a socket or a pipe. It stands in memory of the caller's
+ * own, wherever that is, and has to be released by nobody. What stands in it is the library's. It points nowhere, so it
+ * may be copied as it is, and then both go on by themselves.
+ */
+typedef struct { uint64_t words[296]; } cll_checker;
 
 typedef enum cll_kind {
     CLL_POSITIVE,
@@ -64,7 +76,7 @@ typedef enum cll_kind {
 
 typedef enum cll_answer {
     CLL_OK,        /* all that was asked for was done */
-    CLL_SHORT,     /* the bytes end too early; `consumed` says where the read stopped */
+    CLL_SHORT,     /* the bytes end too early; `consumed` says where the read stopped; of a checker: more is due */
     CLL_SYNTAX,    /* at `place` stands no CBOR, or for cll_utf8 no UTF-8, that could stand there */
     CLL_ROOM,      /* what is to be written next does not fit into `out` */
     CLL_TOO_LONG,  /* an offset would pass the greatest number, which no bytes in memory make it do: never answered */
@@ -152,6 +164,43 @@ uint32_t cll_skip(const uint8_t *data, size_t len, uint32_t depth, cll_report *r
  * UTF-8 just where that is. Where none follows, CLL_SHORT says that the text ends too early.
  */
 uint32_t cll_utf8(const uint8_t *data, size_t len, cll_report *report);
+
+/*
+ * Sets a checker up for one item to which nothing came, whatever stood in `checker` before. A tag, an array and a map
+ * take one level, an empty one too; a string takes none. The item may contain at most `depth` levels, which is at most
+ * 256.
+ *
+ * CLL_OK; and CLL_ARGUMENT for a depth above 256, after which `checker` is as it was.
+ */
+uint32_t cll_checker_init(cll_checker *checker, uint32_t depth);
+
+/*
+ * Gives a checker the next bytes of its item, as many as there are. `consumed` says how many of them it took: all, but
+ * behind the end of the item none, and behind the byte with which a fault comes none. So what follows an item in `data`
+ * may begin another one, for which the checker is set up again. How the bytes are cut into pieces changes no answer.
+ *
+ * CLL_OK where the item has ended: `place` is its length, in all pieces together. CLL_SHORT where it has not: `place`
+ * says how many bytes more are due at least, which is never 0. CLL_SYNTAX, CLL_BREAK_DUE and CLL_TOO_DEEP as in
+ * cll_skip, where no item begins as the bytes so far do. They come with the first byte of which that is so: in a text
+ * that is no UTF-8, with the byte that goes wrong. CLL_TOO_LONG where the item goes on behind 2^64 - 1 bytes.
+ * CLL_ARGUMENT where no checker was set up there, or what stands there now is that of none: nothing was taken, and
+ * nothing has changed. After CLL_OK and after a fault a further call takes nothing, and answers the same.
+ *
+ * As many bytes as CLL_SHORT says may be read for the next call, and none of them is one behind the item. They need not
+ * come at once.
+ *
+ * Not all memory that was overwritten is found out by CLL_ARGUMENT. But whatever stands there, no call reads or writes
+ * beyond what it is given.
+ */
+uint32_t cll_checker_feed(cll_checker *checker, const uint8_t *data, size_t len, cll_report *report);
+
+/*
+ * Says what it means that no more bytes come, and leaves the checker as it is. `consumed` is 0.
+ *
+ * CLL_OK where no byte came at all, or the item has ended; CLL_SHORT where it is cut off: `place` says how many bytes
+ * more were due at least. A fault and CLL_ARGUMENT are answered as by cll_checker_feed.
+ */
+uint32_t cll_checker_end(const cll_checker *checker, cll_report *report);
 
 #ifdef __cplusplus
 }

@@ -134,6 +134,7 @@ impl Checker {
 
     /// A checker of an item to which nothing came. Tags, arrays and maps may be nested at most `depth` levels deep:
     /// each takes a level, an empty one too, and a string takes none.
+    #[inline(always)]
     pub fn new(depth: usize) -> Checker
         requires { depth ≤ 256 }
         ensures { IsFed depth [] (spot_of result) }
@@ -517,6 +518,7 @@ impl Checker {
 
     /// The checker that [`Checker::save`] wrote, or none where the numbers are those of no checker: where memory was
     /// overwritten, or never written.
+    #[inline(always)]
     pub fn restore(snapshot: &Snapshot) -> Option<Checker>
         ensures some { IfSome result (λ checker. Holds snapshot.now (spot_of checker)) }
         ensures same { (spot : Spot) → Holds snapshot.now spot → IsAt result spot }

@@ -49,6 +49,7 @@ impl Model for Levels {
 
 impl Levels {
     /// No levels.
+    #[inline(always)]
     pub(crate) fn new() -> Levels
         ensures { result ≡ [] }
     {
@@ -100,6 +101,7 @@ impl Levels {
     }
 
     /// So many levels, of which these are the numbers.
+    #[inline(always)]
     pub(crate) fn restore(
         len: usize,
         kinds: &[u8; MOST_LEVELS],

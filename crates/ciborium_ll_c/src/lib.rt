@@ -1,11 +1,13 @@
 //! The library for C and C++: a static library, whose header is `include/ciborium_ll.h`. No call takes memory, and
-//! none calls out of this library.
+//! none calls out of this library. What a checker keeps between calls stands in memory of the caller's own.
 //!
 //! C passes a slice as a pointer and then a length. Each call answers by a number, which is the code of a
 //! [`CllAnswer`], and says in a [`CllReport`] how far it came.
 #![tactic(auto)]
 
 ghost use Rattle.std.specs.Prelude.{◌≡◌, ◌↔◌, ◌≤◌, ◌<◌, List, ◌++◌, drop, length, ℕ};
+ghost use Rattle.cbor_feed.specs.Spots.{Spot};
+ghost use Rattle.cbor_feed.specs.Steps.{IsFed};
 ghost use Rattle.ciborium_ll.specs.Faults.{RunInFront};
 ghost use Rattle.ciborium_ll.specs.Recoding.{CopiesElements};
 ghost use Rattle.ciborium_ll.specs.Sides.{sides};
@@ -19,6 +21,7 @@ ghost use Rattle.ciborium_ll_c.specs.declared.answer.CllAnswer.TheVariants as a;
 ghost use Rattle.ciborium_ll_c.specs.Answers.{Reports, code, version_code};
 ghost use Rattle.ciborium_ll_c.specs.Checking.{Checks};
 ghost use Rattle.ciborium_ll_c.specs.Copying.{CopiesInto, CopiesAnyhow, HasRoom, copy_answer, copy_place};
+ghost use Rattle.ciborium_ll_c.specs.Feeding.{EndsFed, Feeds, IsKept, IsNoChecker, IsSetUp};
 ghost use Rattle.ciborium_ll_c.specs.Pulling.{Pulls, TitleInFront};
 ghost use Rattle.ciborium_ll_c.specs.Pushing.{Pushes, Puts};
 ghost use Rattle.ciborium_ll_c.specs.Skipping.{Skips, skip_answer, skip_place};
@@ -26,12 +29,14 @@ ghost use Rattle.ciborium_ll_c.specs.Texts.{FindsText};
 ghost use Rattle.ciborium_ll_c.specs.Widths.{PushesWide};
 
 mod answer;
+mod checker;
 mod header;
 #[cfg(test)]
 mod tests;
 mod wide;
 
 pub use self::answer::{CllAnswer, CllReport};
+pub use self::checker::CllChecker;
 pub use self::header::CllHeader;
 use self::wide::title_in;
 use cbor_skip::{SkipError, skip_item};
@@ -367,4 +372,57 @@ pub extern "C" fn cll_utf8(bytes: &[u8], report: &mut CllReport) -> u32
         → (IsCharacters (bytes.now ++ more) ↔ IsCharacters (drop report.new.consumed bytes.now ++ more)) }
 {
     find_text(bytes, report).code()
+}
+
+/// Sets a checker up in memory of the caller's own, for one item to which nothing came, with tags, arrays and maps
+/// nested at most `depth` levels deep (RFC 7049, 2.1 to 2.4). A tag, an array and a map take a level, an empty one too;
+/// a string takes none. What stood in that memory does not count.
+///
+/// The answers are `Ok`; and `Argument` for a depth above 256, after which that memory is as it was.
+#[unsafe(no_mangle)]
+pub extern "C" fn cll_checker_init(checker: &mut CllChecker, depth: u32) -> u32
+    ensures set_up { depth ≤ 256 → (result ≡ code a.Ok) × IsSetUp depth checker.new }
+    ensures argument { 256 < depth → (result ≡ code a.Argument) × (checker.new ≡ checker.old) }
+{
+    if depth > 256 {
+        return CllAnswer::Argument.code();
+    }
+    checker::init(checker, depth as usize);
+    CllAnswer::Ok.code()
+}
+
+/// Gives a checker the next bytes of its item, as many as have come. It takes all of them, or those up to the end of
+/// the item or up to the byte with which a fault comes; a later call then takes none, and answers the same. How the
+/// bytes are cut into pieces changes nothing.
+///
+/// The answers are `Ok` where the item has ended, with its length as the place; `Short` where more is due, with at least
+/// how many bytes as the place; `Syntax`, `BreakDue` and `TooDeep` where no item begins as the bytes so far do, with the
+/// fault's offset in the item; `TooLong` where the item goes on behind `u64::MAX` bytes; and `Argument` where no checker
+/// was set up, or what stands there is none, after which that memory is as it was.
+#[unsafe(no_mangle)]
+pub extern "C" fn cll_checker_feed(
+    checker: &mut CllChecker,
+    bytes: &[u8],
+    report: &mut CllReport,
+) -> u32
+    ensures fed { (depth : ℕ) (fed : List ℕ) (spot : Spot) → IsFed depth fed spot → IsKept checker.old spot
+        → (answer : CllAnswer) × (result ≡ code answer)
+        × Feeds depth fed spot bytes.now answer report.new checker.new }
+    ensures argument { IsNoChecker checker.old
+        → (result ≡ code a.Argument) × (checker.new ≡ checker.old) × Reports report.new 0 0 0 }
+{
+    checker::feed(checker, bytes, report).code()
+}
+
+/// Says what it means that no more bytes come to a checker, and leaves it as it is.
+///
+/// The answers are `Ok` where no byte came or the item has ended; `Short` where it is cut off, with at least how many
+/// bytes were due as the place; and `Syntax`, `BreakDue`, `TooDeep` and `Argument` as of `cll_checker_feed`.
+#[unsafe(no_mangle)]
+pub extern "C" fn cll_checker_end(checker: &CllChecker, report: &mut CllReport) -> u32
+    ensures ended { (depth : ℕ) (fed : List ℕ) (spot : Spot) → IsFed depth fed spot → IsKept checker.now spot
+        → (answer : CllAnswer) × (result ≡ code answer) × EndsFed depth fed answer report.new }
+    ensures argument { IsNoChecker checker.now → (result ≡ code a.Argument) × Reports report.new 0 0 0 }
+{
+    checker::end(checker, report).code()
 }

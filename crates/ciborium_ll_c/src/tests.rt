@@ -1,9 +1,11 @@
 // Each call once for each answer that it has, by bytes and numbers from outside.
 
 use super::{
-    CllAnswer, CllHeader, CllReport, cll_pull, cll_push, cll_push_wide, cll_recode, cll_skip,
-    cll_strict, cll_utf8, cll_version,
+    CllAnswer, CllChecker, CllHeader, CllReport, cll_checker_end, cll_checker_feed,
+    cll_checker_init, cll_pull, cll_push, cll_push_wide, cll_recode, cll_skip, cll_strict,
+    cll_utf8, cll_version,
 };
+use cbor_feed::Snapshot;
 use std::process::Abort;
 
 // What a report says before a call.
@@ -537,4 +539,107 @@ fn texts_in_pieces(rt: HostRuntime) {
         }
         text_row(&rt, &text[front..]);
     }
+}
+
+// Memory in which no checker stands.
+fn no_checker() -> CllChecker {
+    CllChecker {
+        mark: 7,
+        state: Snapshot::new(),
+    }
+}
+
+// What the last of two pieces is answered, and what the end behind them: each the number and the report.
+fn fed(depth: u32, first: &[u8], second: &[u8]) -> ([(u32, [u64; 3]); 2], u32) {
+    let mut checker = no_checker();
+    let begun = cll_checker_init(&mut checker, depth);
+    let mut report = nothing();
+    let _ = cll_checker_feed(&mut checker, first, &mut report);
+    let code = cll_checker_feed(&mut checker, second, &mut report);
+    let piece = (code, told(&report));
+    let end = cll_checker_end(&checker, &mut report);
+    ([piece, (end, told(&report))], begun)
+}
+
+// Two pieces, the answer with what was taken of the second and the place, and the end with its place.
+fn fed_row(
+    rt: &impl Abort,
+    first: &[u8],
+    second: &[u8],
+    answer: CllAnswer,
+    consumed: u64,
+    place: u64,
+    end_place: u64,
+) {
+    let piece = (answer.code(), [consumed, 0, place]);
+    let end = (answer.code(), [0, 0, end_place]);
+    assert!(rt; fed(2, first, second) == ([piece, end], 0), "at {second:?}");
+}
+
+#[test]
+fn checkers(rt: HostRuntime) {
+    fed_row(
+        &rt,
+        &[0xa1, 0x61],
+        &[0x61, 0x01, 0x05],
+        CllAnswer::Ok,
+        2,
+        4,
+        0,
+    );
+    fed_row(&rt, &[0x05], &[0x05], CllAnswer::Ok, 0, 1, 0);
+    fed_row(&rt, &[0x9f, 0x01], &[0xff], CllAnswer::Ok, 1, 3, 0);
+    fed_row(&rt, &[0x1b, 0x01], &[0x02], CllAnswer::Short, 1, 6, 6);
+    fed_row(&rt, &[0x58, 0x20, 0x01], &[], CllAnswer::Short, 0, 31, 31);
+    fed_row(&rt, &[0x82], &[0x01], CllAnswer::Short, 1, 1, 1);
+    fed_row(
+        &rt,
+        &[0x62, 0xc3],
+        &[0x28, 0x28],
+        CllAnswer::Syntax,
+        1,
+        0,
+        0,
+    );
+    fed_row(
+        &rt,
+        &[0x7f, 0x61, 0x61],
+        &[0x41],
+        CllAnswer::Syntax,
+        1,
+        3,
+        3,
+    );
+    fed_row(&rt, &[0x81, 0x1f], &[0x00], CllAnswer::Syntax, 0, 1, 1);
+    fed_row(&rt, &[0xbf, 0x01], &[0xff], CllAnswer::BreakDue, 1, 2, 2);
+    fed_row(&rt, &[0x81, 0x81], &[0x81], CllAnswer::TooDeep, 1, 2, 2);
+}
+
+// Before a byte came, more of them is due, and an end is none within an item.
+#[test]
+fn fresh_checkers(rt: HostRuntime) {
+    let piece = (CllAnswer::Short.code(), [0, 0, 1]);
+    let end = (CllAnswer::Ok.code(), [0, 0, 0]);
+    assert!(&rt; fed(0, &[], &[]) == ([piece, end], 0));
+    assert!(&rt; fed(256, &[], &[]) == ([piece, end], 0));
+}
+
+// Memory in which no checker was set up, for one level more than there may be, or with other numbers.
+#[test]
+fn no_checkers(rt: HostRuntime) {
+    let none = (CllAnswer::Argument.code(), [0, 0, 0]);
+    assert!(&rt; fed(257, &[0x05], &[0x05]) == ([none, none], CllAnswer::Argument.code()));
+    assert!(&rt; fed(u32::MAX, &[], &[]) == ([none, none], CllAnswer::Argument.code()));
+    let mut checker = no_checker();
+    assert!(&rt; cll_checker_init(&mut checker, 2) == 0);
+    let mut report = nothing();
+    checker.state.depth = 257;
+    assert!(&rt;
+        cll_checker_feed(&mut checker, &[0x05], &mut report) == CllAnswer::Argument.code()
+    );
+    assert!(&rt; told(&report) == [0, 0, 0]);
+    checker.state.depth = 2;
+    assert!(&rt; cll_checker_feed(&mut checker, &[0x05], &mut report) == 0);
+    checker.mark = 0;
+    assert!(&rt; cll_checker_end(&checker, &mut report) == CllAnswer::Argument.code());
 }

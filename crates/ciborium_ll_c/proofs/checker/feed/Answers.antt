@@ -1,0 +1,4 @@
+use Rattle.ciborium_ll_c.proofs.checker.feed.Goals as goal
+
+pub returns-clause-argument : goal.returns-clause-argument
+returns-clause-argument c = λ none. absurd (none _ c.in-Some.ensures.some)

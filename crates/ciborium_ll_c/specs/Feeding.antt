@@ -1,0 +1,102 @@
+-- What the calls of a checker do, which C keeps in memory of its own.
+use Rattle.std.specs.Prelude.{◌≡◌, ◌≤◌, ℕ, false, List, [], ◌++◌, length, take}
+use Rattle.cbor_feed.specs.declared.phase.Fault.{Fault}
+use Rattle.cbor_feed.specs.declared.phase.Fault.TheVariants as f
+use Rattle.cbor_feed.specs.declared.progress.Progress.{Progress}
+use Rattle.cbor_feed.specs.declared.progress.Progress.TheVariants as r
+use Rattle.cbor_feed.specs.declared.progress.End.{End}
+use Rattle.cbor_feed.specs.declared.progress.End.TheVariants as e
+use Rattle.cbor_feed.specs.Snapshots.{Holds}
+use Rattle.cbor_feed.specs.Spots.{Spot}
+use Rattle.cbor_feed.specs.Steps.{IsFed}
+use Rattle.cbor_feed.specs.Telling.{Tells, TellsEnd, is_due}
+use Rattle.ciborium_ll_c.specs.declared.answer.CllAnswer.{CllAnswer}
+use Rattle.ciborium_ll_c.specs.declared.answer.CllAnswer.TheVariants as a
+use Rattle.ciborium_ll_c.specs.declared.answer.CllReport.{CllReport}
+use Rattle.ciborium_ll_c.specs.declared.checker.CllChecker.{CllChecker}
+use Rattle.ciborium_ll_c.specs.Answers.{Reports}
+
+-- in this memory stands a checker that has come to the spot. The mark is "ciborium" in ASCII
+pub record IsKept (checker : CllChecker) (spot : Spot) : Type 0 where
+  pub mark : checker.mark ≡ 7163364913109890413
+  pub state : Holds checker.state spot
+
+-- in this memory stands none
+abbrev pub IsNoChecker : CllChecker → Type 0
+IsNoChecker checker = (spot : Spot) → IsKept checker spot → ⊥
+
+-- a checker of an item to the depth stands there, to which nothing came
+abbrev pub IsSetUp : ℕ → CllChecker → Type 0
+IsSetUp depth checker = (spot : Spot) × IsKept checker spot × IsFed depth [] spot
+
+-- the answer that stands for a fault, and its place
+abbrev pub fault_answer : Fault → CllAnswer
+fault_answer (f.Syntax place) = a.Syntax
+fault_answer (f.Break place) = a.BreakDue
+fault_answer (f.Deep place) = a.TooDeep
+
+abbrev pub fault_place : Fault → ℕ
+fault_place (f.Syntax place) = place
+fault_place (f.Break place) = place
+fault_place (f.Deep place) = place
+
+-- the answer that stands for what `feed` gave, and the number that comes with it
+abbrev pub progress_answer : Progress → CllAnswer
+progress_answer (r.Ended len) = a.Ok
+progress_answer (r.More due) = a.Short
+progress_answer (r.Fault fault) = fault_answer fault
+progress_answer r.TooLong = a.TooLong
+
+abbrev pub progress_number : Progress → ℕ
+progress_number (r.Ended len) = len
+progress_number (r.More due) = due
+progress_number (r.Fault fault) = fault_place fault
+progress_number r.TooLong = 0
+
+-- the same of what `end` gave
+abbrev pub end_answer : End → CllAnswer
+end_answer e.Between = a.Ok
+end_answer (e.Short due) = a.Short
+end_answer (e.Fault fault) = fault_answer fault
+
+abbrev pub end_number : End → ℕ
+end_number e.Between = 0
+end_number (e.Short due) = due
+end_number (e.Fault fault) = fault_place fault
+
+-- What an answer with its number says of all bytes so far: they are one item, of this length; at least so many bytes
+-- more are due; or no item begins so, with a fault at this place (RFC 7049, 2.1 to 2.4)
+abbrev pub SaysOf : ℕ → List ℕ → CllAnswer → ℕ → Type 0
+SaysOf depth whole a.Ok number = Tells depth whole (r.Ended number)
+SaysOf depth whole a.Short number = Tells depth whole (r.More number)
+SaysOf depth whole a.Syntax number = Tells depth whole (r.Fault (f.Syntax number))
+SaysOf depth whole a.BreakDue number = Tells depth whole (r.Fault (f.Break number))
+SaysOf depth whole a.TooDeep number = Tells depth whole (r.Fault (f.Deep number))
+SaysOf depth whole a.TooLong number = Tells depth whole r.TooLong
+SaysOf depth whole answer number = ⊥
+
+-- A piece for a checker that has come to the old spot: so many of its bytes were taken, all of them where more are due
+-- and none where none was due. The answer says what it does of all bytes so far, which have led to where the checker is
+pub record Feeds (depth : ℕ) (fed : List ℕ) (old : Spot) (bytes : List ℕ) (answer : CllAnswer) (report : CllReport)
+    (new : CllChecker) : Type 0 where
+  pub taken : report.consumed ≤ length bytes
+  pub all : answer ≡ a.Short → report.consumed ≡ length bytes
+  pub reports : Reports report report.consumed 0 report.place
+  pub says : SaysOf depth (fed ++ take report.consumed bytes) answer report.place
+  pub spot : Spot
+  pub is_kept : IsKept new spot
+  pub is_fed : IsFed depth (fed ++ take report.consumed bytes) spot
+  pub stays : is_due old.phase ≡ false → (report.consumed ≡ 0) × (spot ≡ old)
+
+-- what an answer with its number says where no more bytes come: none came or they are one item, they are cut off, or no
+-- item begins so
+abbrev pub SaysOfEnd : ℕ → List ℕ → CllAnswer → ℕ → Type 0
+SaysOfEnd depth whole a.Ok number = TellsEnd depth whole e.Between × (number ≡ 0)
+SaysOfEnd depth whole a.Short number = TellsEnd depth whole (e.Short number)
+SaysOfEnd depth whole a.Syntax number = TellsEnd depth whole (e.Fault (f.Syntax number))
+SaysOfEnd depth whole a.BreakDue number = TellsEnd depth whole (e.Fault (f.Break number))
+SaysOfEnd depth whole a.TooDeep number = TellsEnd depth whole (e.Fault (f.Deep number))
+SaysOfEnd depth whole answer number = ⊥
+
+abbrev pub EndsFed : ℕ → List ℕ → CllAnswer → CllReport → Type 0
+EndsFed depth fed answer report = SaysOfEnd depth fed answer report.place × Reports report 0 0 report.place

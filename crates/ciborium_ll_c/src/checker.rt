@@ -1,0 +1,123 @@
+//! Checkers that a program in C keeps in memory of its own.
+
+ghost use Rattle.std.specs.Prelude.{◌≡◌, ◌≤◌, ℕ, List, IfSome};
+ghost use Rattle.cbor_feed.specs.Checking.{IsAt, spot_of};
+ghost use Rattle.cbor_feed.specs.Spots.{Spot};
+ghost use Rattle.cbor_feed.specs.Steps.{IsFed};
+ghost use Rattle.ciborium_ll_c.specs.declared.answer.CllAnswer.TheVariants as a;
+ghost use Rattle.ciborium_ll_c.specs.Answers.{Reports};
+ghost use Rattle.ciborium_ll_c.specs.Feeding.{EndsFed, Feeds, IsKept, IsNoChecker, IsSetUp};
+ghost use Rattle.ciborium_ll_c.specs.Feeding.{end_answer, end_number, fault_answer, fault_place};
+ghost use Rattle.ciborium_ll_c.specs.Feeding.{progress_answer, progress_number};
+
+use crate::answer::{CllAnswer, CllReport};
+use cbor_feed::{Checker, End, Fault, Progress, Snapshot};
+
+/// What stands in front of a checker that was set up: "ciborium" in ASCII.
+const MARK: u64 = 0x6369_626f_7269_756d;
+
+/// A checker of one item whose bytes come in pieces, in memory of the caller's own.
+#[derive(Drop)]
+#[repr(C)]
+pub struct CllChecker {
+    /// A number that memory which was never set up hardly has.
+    pub mark: u64,
+    /// How far the item has come, as plain numbers.
+    pub state: Snapshot,
+}
+
+const _: () = prove!(size_of::<CllChecker>() == 2368);
+
+impl CllChecker {
+    /// The checker, where there is one.
+    #[inline(always)]
+    fn restored(&self) -> Option<Checker>
+        ensures some { IfSome result (λ checker. IsKept self.now (spot_of checker)) }
+        ensures same { (spot : Spot) → IsKept self.now spot → IsAt result spot }
+    {
+        if self.mark == MARK {
+            Checker::restore(&self.state)
+        } else {
+            None
+        }
+    }
+}
+
+/// The answer to a piece, and the number that comes with it.
+fn told_progress(progress: Progress) -> (CllAnswer, usize)
+    ensures answer { result.0 ≡ progress_answer progress }
+    ensures number { result.1 ≡ progress_number progress }
+{
+    match progress {
+        Progress::Ended(len) => (CllAnswer::Ok, len),
+        Progress::More(due) => (CllAnswer::Short, due),
+        Progress::Fault(fault) => told_fault(fault),
+        Progress::TooLong => (CllAnswer::TooLong, 0),
+    }
+}
+
+/// The answer to a fault, and its place.
+fn told_fault(fault: Fault) -> (CllAnswer, usize)
+    ensures answer { result.0 ≡ fault_answer fault }
+    ensures place { result.1 ≡ fault_place fault }
+{
+    match fault {
+        Fault::Syntax(place) => (CllAnswer::Syntax, place),
+        Fault::Break(place) => (CllAnswer::BreakDue, place),
+        Fault::Deep(place) => (CllAnswer::TooDeep, place),
+    }
+}
+
+/// The answer to the end of the bytes, and the number that comes with it.
+fn told_end(end: End) -> (CllAnswer, usize)
+    ensures answer { result.0 ≡ end_answer end }
+    ensures number { result.1 ≡ end_number end }
+{
+    match end {
+        End::Between => (CllAnswer::Ok, 0),
+        End::Short(due) => (CllAnswer::Short, due),
+        End::Fault(fault) => told_fault(fault),
+    }
+}
+
+/// Sets a checker up.
+pub(crate) fn init(checker: &mut CllChecker, depth: usize)
+    requires { depth ≤ 256 }
+    ensures { IsSetUp depth checker.new }
+{
+    Checker::new(depth).save(&mut checker.state);
+    checker.mark = MARK;
+}
+
+/// Feeds a checker.
+pub(crate) fn feed(checker: &mut CllChecker, bytes: &[u8], report: &mut CllReport) -> CllAnswer
+    ensures fed { (depth : ℕ) (fed : List ℕ) (spot : Spot) → IsFed depth fed spot → IsKept checker.old spot
+        → Feeds depth fed spot bytes.now result report.new checker.new }
+    ensures argument { IsNoChecker checker.old
+        → (result ≡ a.Argument) × (checker.new ≡ checker.old) × Reports report.new 0 0 0 }
+{
+    let Some(mut restored) = checker.restored() else {
+        report.say(0, 0, 0);
+        return CllAnswer::Argument;
+    };
+    let answer = restored.feed(bytes);
+    restored.save(&mut checker.state);
+    let (told, number) = told_progress(answer.progress);
+    report.say(answer.taken, 0, number);
+    told
+}
+
+/// Says what it means that no more bytes come to a checker.
+pub(crate) fn end(checker: &CllChecker, report: &mut CllReport) -> CllAnswer
+    ensures ended { (depth : ℕ) (fed : List ℕ) (spot : Spot) → IsFed depth fed spot → IsKept checker.now spot
+        → EndsFed depth fed result report.new }
+    ensures argument { IsNoChecker checker.now → (result ≡ a.Argument) × Reports report.new 0 0 0 }
+{
+    let Some(restored) = checker.restored() else {
+        report.say(0, 0, 0);
+        return CllAnswer::Argument;
+    };
+    let (told, number) = told_end(restored.end());
+    report.say(0, 0, number);
+    told
+}
