@@ -290,6 +290,62 @@ inline result<std::size_t> utf8(input bytes) noexcept
     return static_cast<std::size_t>(report.consumed);
 }
 
+/*
+ * How far an item has come of which a checker got a piece: how many bytes it took of that, whether the item has ended,
+ * and how many bytes it has, or at least how many more are due.
+ */
+struct progress {
+    std::size_t consumed;
+    bool ended;
+    std::uint64_t length;
+    std::uint64_t due;
+};
+
+/*
+ * Checks one item whose bytes come in pieces, as out of a socket, however they are cut. It takes no memory but its own,
+ * and may be copied. The item contains at most so many levels, and no more than 256: with more each call is a fault.
+ */
+class checker {
+public:
+    explicit checker(std::uint32_t depth = 256) noexcept { (void)cll_checker_init(&kept_, depth); }
+
+    /*
+     * Takes the next bytes: all, but none behind the end of the item. A fault comes with the first byte behind which no
+     * item goes on, and names an offset in the item. Behind both a further call takes nothing, and gives the same.
+     */
+    result<progress> feed(input bytes) noexcept
+    {
+        cll_report report;
+        const std::uint32_t code = cll_checker_feed(&kept_, bytes.data(), bytes.size(), &report);
+        taken_ += report.consumed;
+        if (code != CLL_OK && code != CLL_SHORT)
+            return detail::fault_of(code, report);
+        const bool ended = code == CLL_OK;
+        return progress{static_cast<std::size_t>(report.consumed), ended, ended ? report.place : 0,
+            ended ? 0 : report.place};
+    }
+
+    /*
+     * Why no end may stand here, or nothing where no byte came or the item has ended. `too_short` names how many bytes
+     * came.
+     */
+    std::optional<fault> end() const noexcept
+    {
+        cll_report report;
+        const std::uint32_t code = cll_checker_end(&kept_, &report);
+        if (code == CLL_OK)
+            return std::nullopt;
+        return fault{static_cast<answer>(code), code == CLL_SHORT ? taken_ : report.place, 0, 0};
+    }
+
+    /* How many bytes were taken of all pieces. */
+    std::uint64_t taken() const noexcept { return taken_; }
+
+private:
+    cll_checker kept_ = {};
+    std::uint64_t taken_ = 0;
+};
+
 /* Goes through bytes. A call that fails leaves it where it was, and its places are offsets in all of the bytes. */
 class reader {
 public:

@@ -35,6 +35,31 @@ static const char *told(char *text, const cll_header *header)
     return text;
 }
 
+/* Gives a checker the bytes one by one, and makes how long the item is, or how many bytes more are due. */
+static uint32_t fed(char *text, const uint8_t *data, size_t len, uint32_t depth, cll_report *report)
+{
+    cll_checker checker;
+    uint64_t taken = 0;
+    uint32_t answer;
+    memset(&checker, 0, sizeof checker);
+    cll_checker_init(&checker, depth);
+    answer = cll_checker_feed(&checker, data, 0, report);
+    for (size_t i = 0; i < len; i++) {
+        answer = cll_checker_feed(&checker, data + i, 1, report);
+        taken += report->consumed;
+    }
+    if (answer == CLL_OK || answer == CLL_SHORT)
+        sprintf(text, "%s/%" PRIu64, answer == CLL_OK ? "length" : "due", report->place);
+    else
+        strcpy(text, "-");
+    if (taken > 0 && cll_checker_end(&checker, report) != answer)
+        strcpy(text, "another end");
+    if (answer == CLL_OK)
+        report->place = 0;
+    report->consumed = taken;
+    return answer;
+}
+
 static int holds(const struct row *row)
 {
     /* Of just as many bytes as there are, so that a sanitizer sees each one beyond. */
@@ -66,6 +91,9 @@ static int holds(const struct row *row)
         answer = cll_skip(data, row->len, (uint32_t)row->number, &report);
     } else if (strcmp(row->call, "utf8") == 0) {
         answer = cll_utf8(data, row->len, &report);
+    } else if (strcmp(row->call, "feed") == 0) {
+        answer = fed(text, data, row->len, (uint32_t)row->number, &report);
+        made = text;
     }
     int same = answer == row->answer && report.consumed == row->consumed && strcmp(made, row->made) == 0
         && (answer == CLL_SHORT ? report.consumed : report.place) == row->place;

@@ -47,6 +47,27 @@ bool fits(const row &row, const cll::result<T> &got, std::uint64_t consumed, con
         && got.fault().place == row.place && made == row.made;
 }
 
+/* Gives a checker the bytes one by one. */
+bool feeds(const row &row, const std::vector<std::uint8_t> &data)
+{
+    cll::checker checker(static_cast<std::uint32_t>(row.number));
+    auto got = checker.feed({});
+    for (const std::uint8_t byte : data)
+        got = checker.feed({&byte, 1});
+    std::string name = got ? "ok" : got.fault().name(), made = "-";
+    std::uint64_t place = got.fault().place;
+    if (got)
+        made = got->ended ? "length/" + std::to_string(got->length) : "due/" + std::to_string(got->due);
+    if (got && !got->ended) {
+        name = "short";
+        place = checker.taken();
+    }
+    const auto end = checker.end();
+    const bool may_end = checker.taken() == 0 ? !end || !got : !end == (name == "ok");
+    return name == answer_names[row.answer] && checker.taken() == row.consumed && place == row.place && made == row.made
+        && may_end && (!end || (end->name() == name && end->place == row.place));
+}
+
 int holds(const row *row)
 {
     const std::string_view call = row->call;
@@ -70,6 +91,8 @@ int holds(const row *row)
         const auto written = got ? got->written : static_cast<std::size_t>(got.fault().written);
         return fits(*row, got, got ? got->consumed : 0, shown({out.data(), written}));
     }
+    if (call == "feed")
+        return feeds(*row, data);
     const auto depth = static_cast<std::uint32_t>(row->number);
     const auto got = call == "strict" ? cll::strict(data, row->number)
         : call == "skip" ? cll::skip(data, depth) : cll::utf8(data);
@@ -122,6 +145,21 @@ bool joins()
     return fronts == text.size() && rest.empty() && cll::utf8({}).value() == 0;
 }
 
+/* An item in two pieces, with another one behind it: a copy of a checker goes on by itself, and a fault stays. */
+bool checks()
+{
+    cll::checker checker(1);
+    const auto first = checker.feed("\x82\x62\xc3"sv);
+    cll::checker copy = checker;
+    const auto last = checker.feed("\xa9\x05\x06\x07"sv);
+    const auto fault = copy.feed("\x28\x05"sv).fault();
+    return first->consumed == 3 && !first->ended && first->due == 1 && last->consumed == 2 && last->ended
+        && last->length == 5 && checker.feed("\x06"sv)->consumed == 0 && !checker.end() && checker.taken() == 5
+        && fault.code == cll::answer::syntax && fault.place == 1 && fault.consumed == 1
+        && copy.feed("\xa9"sv).fault().consumed == 0 && copy.end()->code == cll::answer::syntax
+        && cll::checker(257).feed({}).fault().code == cll::answer::argument && !cll::checker().end();
+}
+
 /* Spans of what has no bytes, and of other bytes than numbers. */
 bool spans()
 {
@@ -138,7 +176,7 @@ bool spans()
 
 int main(int argc, char **argv)
 {
-    if (argc != 2 || !throws() || !reads() || !joins() || !spans())
+    if (argc != 2 || !throws() || !reads() || !joins() || !checks() || !spans())
         return 2;
     return go_through(argv[1], holds);
 }

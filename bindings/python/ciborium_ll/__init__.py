@@ -10,7 +10,7 @@ import os
 from collections import namedtuple
 
 __all__ = ["Kind", "Header", "Title", "Recoded", "Error", "Short", "Syntax", "Room", "BreakDue", "TooDeep", "Argument",
-           "pull", "push", "recode", "strict", "skip", "utf8", "headers"]
+           "Progress", "Checker", "pull", "push", "recode", "strict", "skip", "utf8", "headers"]
 
 Kind = enum.IntEnum("Kind", "POSITIVE NEGATIVE BYTES TEXT ARRAY MAP TAG SIMPLE HALF SINGLE DOUBLE BREAK", start=0)
 
@@ -25,6 +25,11 @@ Title.__doc__ = """A header, where its title starts and ends, and of a string of
 
 Recoded = namedtuple("Recoded", "data consumed")
 Recoded.__doc__ = """Elements in their shortest spelling, and how many bytes they were read from."""
+
+
+Progress = namedtuple("Progress", "consumed length due")
+Progress.__doc__ = """How far an item has come: how many bytes were taken of a piece, how long the item is, or ``None``
+where it has not ended, and how many bytes more are due at least, which is 0 where it has."""
 
 
 class Error(ValueError):
@@ -94,6 +99,10 @@ class _Report(ctypes.Structure):
     _fields_ = [("consumed", ctypes.c_uint64), ("written", ctypes.c_uint64), ("place", ctypes.c_uint64)]
 
 
+class _Checker(ctypes.Structure):
+    _fields_ = [("words", ctypes.c_uint64 * 296)]
+
+
 class _Buffer(ctypes.Structure):
     """The Py_buffer of Python's own interface for C."""
 
@@ -110,6 +119,7 @@ def _library():
     calls = ctypes.CDLL(name)
     data, size, number = ctypes.c_void_p, ctypes.c_size_t, ctypes.c_uint64
     header, report = ctypes.POINTER(_Header), ctypes.POINTER(_Report)
+    checker = ctypes.POINTER(_Checker)
     calls.cll_pull.argtypes = [data, size, header, report]
     calls.cll_push.argtypes = [header, data, size, report]
     calls.cll_push_wide.argtypes = [header, ctypes.c_uint32, data, size, report]
@@ -117,8 +127,11 @@ def _library():
     calls.cll_strict.argtypes = [data, size, number, report]
     calls.cll_skip.argtypes = [data, size, ctypes.c_uint32, report]
     calls.cll_utf8.argtypes = [data, size, report]
+    calls.cll_checker_init.argtypes = [checker, ctypes.c_uint32]
+    calls.cll_checker_feed.argtypes = [checker, data, size, report]
+    calls.cll_checker_end.argtypes = [checker, report]
     calls.cll_version.argtypes = []
-    for call in "version pull push push_wide recode strict skip utf8".split():
+    for call in "version pull push push_wide recode strict skip utf8 checker_init checker_feed checker_end".split():
         getattr(calls, f"cll_{call}").restype = ctypes.c_uint32
     return calls
 
@@ -261,3 +274,44 @@ def headers(data, offset=0):
                 body = view[end:start + _skipped(here, left, 0, start)]
             yield Title(header, start, end, body)
             start = end if body is None else end + len(body)
+
+
+class Checker:
+    """Checks one item whose bytes come in pieces, as out of a socket, however they are cut.
+
+    The item contains at most ``depth`` levels, and no more than 256. ``consumed`` is how many bytes were taken of all
+    pieces.
+    """
+
+    __slots__ = ("consumed", "_kept")
+
+    def __init__(self, depth=256):
+        self.consumed, self._kept = 0, _Checker()
+        _check(_CALLS.cll_checker_init(self._kept, _held(depth, 32, "the depth")), _Report())
+
+    def feed(self, data, offset=0):
+        """Takes the bytes from the offset on: all of them, but none behind the end of the item.
+
+        An error comes with the first byte behind which no item goes on, and names an offset in the item. Behind the end
+        and behind an error nothing more is taken, and the answer stays.
+        """
+        report = _Report()
+        with _Memory(data, offset) as (at, length):
+            answer = _CALLS.cll_checker_feed(self._kept, at, length, report)
+        self.consumed += report.consumed
+        if answer == 1:
+            return Progress(report.consumed, None, report.place)
+        _check(answer, report)
+        return Progress(report.consumed, report.place, 0)
+
+    def end(self):
+        """Says that no more bytes come.
+
+        It raises ``Short`` where the item is cut off, with how many bytes came as the place, and the error that
+        ``feed`` raised, if it did. Where no byte came or the item has ended all is well.
+        """
+        report = _Report()
+        answer = _CALLS.cll_checker_end(self._kept, report)
+        if answer == 1:
+            raise Short(self.consumed, 0, 0)
+        _check(answer, report)

@@ -119,6 +119,43 @@ class Texts(unittest.TestCase):
         self.assertEqual((caught.exception.place, caught.exception.consumed), (3, 1))
 
 
+class Checkers(unittest.TestCase):
+    def test_each_cut_gives_the_same(self):
+        data = bytes.fromhex("bf61618219 03e8 5f420102ff 62c3a9 c1f6 ff 05".replace(" ", ""))
+        for cut in range(len(data) - 1):
+            checker = ciborium_ll.Checker(2)
+            first = checker.feed(data[:cut])
+            self.assertEqual((first.consumed, first.length), (cut, None))
+            self.assertLessEqual(first.due, len(data) - 1 - cut)
+            last = checker.feed(data, cut)
+            self.assertEqual(last, (len(data) - 1 - cut, len(data) - 1, 0))
+            self.assertEqual(checker.feed(b"\x05"), (0, len(data) - 1, 0))
+            self.assertEqual(checker.consumed, len(data) - 1)
+            checker.end()
+
+    def test_an_end_within_an_item(self):
+        checker = ciborium_ll.Checker()
+        checker.end()
+        checker.feed(b"\x9f\x19\x03")
+        with self.assertRaises(ciborium_ll.Short) as caught:
+            checker.end()
+        self.assertEqual(caught.exception.place, 3)
+
+    def test_a_fault_stays(self):
+        checker = ciborium_ll.Checker(1)
+        checker.feed(b"\x81")
+        for data, consumed in (b"\x81\x01", 1), (b"\x01", 0), (b"", 0):
+            with self.assertRaises(ciborium_ll.TooDeep) as caught:
+                checker.feed(data)
+            self.assertEqual((caught.exception.place, caught.exception.consumed), (1, consumed))
+        self.assertRaises(ciborium_ll.TooDeep, checker.end)
+
+    def test_what_is_refused(self):
+        self.assertRaises(ciborium_ll.Argument, ciborium_ll.Checker, 257)
+        self.assertRaises(OverflowError, ciborium_ll.Checker, 1 << 32)
+        self.assertRaises(TypeError, ciborium_ll.Checker().feed, "a1")
+
+
 class Headers(unittest.TestCase):
     def test_titles_and_bodies(self):
         got = [(title.start, title.end, title.header.kind.name, title.header.value, title.body)

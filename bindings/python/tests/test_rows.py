@@ -37,6 +37,22 @@ def made(call, number, given):
     return {"strict": ciborium_ll.strict, "skip": ciborium_ll.skip}[call](data, number), "-"
 
 
+def fed(depth, data):
+    """What a checker says that gets the bytes one by one, as it stands in the table."""
+    taken = 0
+    try:
+        checker = ciborium_ll.Checker(depth)
+        progress = checker.feed(b"")
+        for at in range(len(data)):
+            progress = checker.feed(data[:at + 1], at)
+            taken = checker.consumed
+    except ciborium_ll.Error as error:
+        return error.name, taken + error.consumed, error.place, "-"
+    if progress.length is None:
+        return "short", taken, taken, f"due/{progress.due}"
+    return "ok", taken, 0, f"length/{progress.length}"
+
+
 class Rows(unittest.TestCase):
     def test_rows(self):
         rows = [line.split() for line in TABLE.read_text().splitlines() if line and not line.startswith("#")]
@@ -45,6 +61,10 @@ class Rows(unittest.TestCase):
             with self.subTest(call=call, number=number, given=given):
                 if answer == "room":
                     # `push` of the package always has room.
+                    continue
+                if call == "feed":
+                    got = fed(int(number), b"" if given == "-" else bytes.fromhex(given))
+                    self.assertEqual(got, (answer, int(consumed), int(place), want))
                     continue
                 try:
                     got = ("ok", *made(call, number == "-" or int(number), given))

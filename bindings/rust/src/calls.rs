@@ -1,7 +1,7 @@
 //! The calls over slices. This file alone calls what is not safe by its types: each pointer is that of a slice or of a
 //! value, and none that is written overlaps another one.
 
-use crate::sys::{self, cll_header, cll_report};
+use crate::sys::{self, cll_checker, cll_header, cll_report};
 use crate::{Error, Header};
 use core::str;
 
@@ -111,4 +111,31 @@ pub fn utf8(bytes: &[u8]) -> Result<&str, Error> {
         0 => Ok(unsafe { str::from_utf8_unchecked(bytes) }),
         answer => Err(Error::of(answer, &report, 0)),
     }
+}
+
+/// A checker of an item that contains at most so many levels, to which nothing came.
+pub(crate) fn new_checker(depth: u32) -> Result<cll_checker, Error> {
+    let mut checker = cll_checker { words: [0; 296] };
+    // SAFETY: as this file says.
+    match unsafe { sys::cll_checker_init(&mut checker, depth) } {
+        0 => Ok(checker),
+        answer => Err(Error::of(answer, &cll_report::default(), 0)),
+    }
+}
+
+/// Gives a checker the next bytes: the answer, and the report.
+pub(crate) fn feed(checker: &mut cll_checker, bytes: &[u8]) -> (u32, cll_report) {
+    let mut report = cll_report::default();
+    // SAFETY: as this file says.
+    let answer =
+        unsafe { sys::cll_checker_feed(checker, bytes.as_ptr(), bytes.len(), &mut report) };
+    (answer, report)
+}
+
+/// What it means that no more bytes come to a checker: the answer, and the report.
+pub(crate) fn end(checker: &cll_checker) -> (u32, cll_report) {
+    let mut report = cll_report::default();
+    // SAFETY: as this file says.
+    let answer = unsafe { sys::cll_checker_end(checker, &mut report) };
+    (answer, report)
 }

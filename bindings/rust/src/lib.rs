@@ -21,6 +21,7 @@
 compile_error!("the proved library is built for x86-64 Linux alone");
 
 mod calls;
+mod checker;
 mod decoder;
 mod encoder;
 mod error;
@@ -28,6 +29,7 @@ mod header;
 pub mod sys;
 
 pub use calls::{recode, skip_item, strict_len, utf8, Copied, Stopped};
+pub use checker::{Checker, Feed, Progress};
 pub use decoder::{Decoder, Segments};
 pub use encoder::Encoder;
 pub use error::Error;

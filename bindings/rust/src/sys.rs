@@ -26,6 +26,14 @@ pub struct cll_report {
     pub place: u64,
 }
 
+/// A checker of one item whose bytes come in pieces. What stands in it is the library's, and zeros are none.
+#[repr(C)]
+#[derive(Clone, Copy, Debug)]
+pub struct cll_checker {
+    /// Its memory.
+    pub words: [u64; 296],
+}
+
 #[allow(missing_docs)]
 extern "C" {
     pub fn cll_version() -> u32;
@@ -59,4 +67,12 @@ extern "C" {
     pub fn cll_strict(data: *const u8, len: usize, count: u64, report: *mut cll_report) -> u32;
     pub fn cll_skip(data: *const u8, len: usize, depth: u32, report: *mut cll_report) -> u32;
     pub fn cll_utf8(data: *const u8, len: usize, report: *mut cll_report) -> u32;
+    pub fn cll_checker_init(checker: *mut cll_checker, depth: u32) -> u32;
+    pub fn cll_checker_feed(
+        checker: *mut cll_checker,
+        data: *const u8,
+        len: usize,
+        report: *mut cll_report,
+    ) -> u32;
+    pub fn cll_checker_end(checker: *const cll_checker, report: *mut cll_report) -> u32;
 }

@@ -1,7 +1,7 @@
 //! Holds the crate to the table of rows that every binding is held to.
 
 use ciborium_ll_proved::{
-    recode, skip_item, strict_len, utf8, Decoder, Encoder, Error, Float, Header,
+    recode, skip_item, strict_len, utf8, Checker, Decoder, Encoder, Error, Float, Header, Progress,
 };
 
 const TABLE: &str = include_str!("../../tests/rows");
@@ -113,6 +113,38 @@ fn made(call: &str, number: u64, given: &str) -> Result<(usize, String), Error> 
     }
 }
 
+/// What a checker says that gets the bytes one by one, as it stands in the table.
+fn fed(depth: u32, data: &[u8]) -> String {
+    let mut checker = match Checker::new(depth) {
+        Ok(checker) => checker,
+        Err(error) => return format!("{} 0 0 -", error.name()),
+    };
+    let mut got = checker.feed(&[]);
+    for byte in data {
+        got = checker.feed(&[*byte]);
+    }
+    let taken = checker.taken();
+    match got.map(|feed| feed.progress) {
+        Ok(Progress::Ended(length)) => {
+            assert_eq!(checker.end(), Ok(()));
+            format!("ok {taken} 0 length/{length}")
+        }
+        Ok(Progress::More(due)) => {
+            let want = if taken == 0 {
+                Ok(())
+            } else {
+                Err(Error::Short(taken))
+            };
+            assert_eq!(checker.end(), want);
+            format!("short {taken} {taken} due/{due}")
+        }
+        Err(error) => {
+            assert_eq!(checker.end(), Err(error));
+            format!("{} {taken} {} -", error.name(), error.place().unwrap_or(0))
+        }
+    }
+}
+
 #[test]
 fn rows_hold() {
     let rows = TABLE
@@ -128,6 +160,12 @@ fn rows_hold() {
             words[3],
             words[5],
         );
+        if call == "feed" {
+            let got = fed(number as u32, &bytes_of(given));
+            assert_eq!(got, words[3..].join(" "), "{row}");
+            count += 1;
+            continue;
+        }
         let got = match made(call, number, given) {
             Ok((consumed, made)) => format!("ok {consumed} 0 {made}"),
             Err(error) => format!("{} {}", error.name(), error.place().unwrap_or(0)),

@@ -1,0 +1,77 @@
+use crate::calls;
+use crate::sys::cll_checker;
+use crate::Error;
+
+/// How far an item has come.
+#[derive(Clone, Copy, Debug, PartialEq, Eq)]
+pub enum Progress {
+    /// At least so many bytes more are due.
+    More(usize),
+    /// The item has ended. It has so many bytes.
+    Ended(usize),
+}
+
+/// The answer to a piece.
+#[derive(Clone, Copy, Debug, PartialEq, Eq)]
+pub struct Feed {
+    /// How many bytes of the piece were taken: all of them, or those up to the end of the item.
+    pub taken: usize,
+    /// How far the item has come.
+    pub progress: Progress,
+}
+
+/// Checks one item whose bytes come in pieces, as out of a socket, however they are cut. It takes no memory but its
+/// own.
+///
+/// ```
+/// use ciborium_ll_proved::{Checker, Progress};
+///
+/// let mut checker = Checker::new(64).unwrap();
+/// assert_eq!(checker.feed(b"\x82\x19").unwrap().progress, Progress::More(2));
+/// let feed = checker.feed(b"\x03\xe8\x05\x06").unwrap();
+/// assert_eq!((feed.taken, feed.progress), (3, Progress::Ended(5)));
+/// ```
+#[derive(Clone, Debug)]
+pub struct Checker {
+    kept: cll_checker,
+    taken: usize,
+}
+
+impl Checker {
+    /// A checker of an item that contains at most so many levels of tags, arrays and maps. `Argument` where that is
+    /// more than 256.
+    pub fn new(depth: u32) -> Result<Checker, Error> {
+        let kept = calls::new_checker(depth)?;
+        Ok(Checker { kept, taken: 0 })
+    }
+
+    /// Takes the next bytes: all, but none behind the end of the item. An error comes with the first byte behind which
+    /// no item goes on, and names an offset in the item. Behind both a further call takes nothing, and answers the
+    /// same.
+    pub fn feed(&mut self, bytes: &[u8]) -> Result<Feed, Error> {
+        let (answer, report) = calls::feed(&mut self.kept, bytes);
+        let (taken, place) = (report.consumed as usize, report.place as usize);
+        self.taken += taken;
+        let progress = match answer {
+            0 => Progress::Ended(place),
+            1 => Progress::More(place),
+            answer => return Err(Error::of(answer, &report, 0)),
+        };
+        Ok(Feed { taken, progress })
+    }
+
+    /// How many bytes were taken of all pieces.
+    pub fn taken(&self) -> usize {
+        self.taken
+    }
+
+    /// Says that no more bytes come. All is well where no byte came or the item has ended. `Short` says how many bytes
+    /// came where it is cut off, and the other errors are those of `feed`.
+    pub fn end(&self) -> Result<(), Error> {
+        match calls::end(&self.kept) {
+            (0, _) => Ok(()),
+            (1, _) => Err(Error::Short(self.taken)),
+            (answer, report) => Err(Error::of(answer, &report, 0)),
+        }
+    }
+}
