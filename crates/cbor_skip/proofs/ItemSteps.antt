@@ -25,7 +25,8 @@ use Rattle.cbor_skip.specs.declared.remaining.Remaining.{Remaining}
 use Rattle.cbor_skip.specs.declared.remaining.Remaining.TheVariants as r
 use Rattle.cbor_skip.specs.Due.{here, within}
 use Rattle.cbor_skip.specs.Remaining.{IsRemaining, is_done, closes}
-use Rattle.cbor_skip.specs.Skipping.{StopsDue, StopsItem, ReadsItem, SkipsItem, ReadsWithin, StopsWithin, SkipsWithin}
+use Rattle.cbor_skip.specs.Skipping.{StopsDue, StopsTitle, StopsItem, ReadsItem, SkipsItem, ReadsWithin, StopsWithin}
+use Rattle.cbor_skip.specs.Skipping.{SkipsWithin}
 use Rattle.cbor_skip.proofs.RemainingLaws.{takes_more}
 
 -- ---- lists of items
@@ -46,7 +47,8 @@ items_item d n u v (more_items {count = m} {title = t} {rest = w} {others = a} {
 one_of : (n d : ℕ) (rest : List ℕ) → Completes (suc d) (h.Tag n) rest → IsItem d rest
 one_of n d rest (tag i) = i
 
-no_items_read : (d count : ℕ) (items : List ℕ) → count < 1 → AreItems d count items → items ≡ []
+-- of less than one item nothing was read
+pub no_items_read : (d count : ℕ) (items : List ℕ) → count < 1 → AreItems d count items → items ≡ []
 no_items_read d count items less no_items = refl
 no_items_read d count items less (more_items p c i) = absurd (omega (arith, less))
 
@@ -127,6 +129,14 @@ module _ {R E : Type 0} (source : Ghosts R E) where
   stops_here {outer = outer} {d = d} {old = old} stops =
       let passed = Passes-none source old in
       record { bytes = []; levels = d; closable = outer; due = here; between = old; passed = passed; stops = stops }
+
+  -- the same, where its title or a string behind that failed
+  pub title_stops : {outer : Bool} {d room room' : ℕ} {old before : Decoder R} {error : Error E} {new : Decoder R}
+      → before ≡ old → room' ≡ room
+      → StopsTitle source room' before error new → StopsItem source outer d room old (s.Read error) new
+  title_stops {room = room} {before = before} {error = error} {new = new} same same_room stops =
+      let stopped = subst (λ (n : ℕ). StopsTitle source n before error new) same_room stops in
+      stops_here (subst (λ (first : Decoder R). StopsTitle source room first error new) same stopped)
 
   pub pull_stops : {outer : Bool} {d room : ℕ} {old before : Decoder R} {error : Error E} {new : Decoder R}
       → before ≡ old

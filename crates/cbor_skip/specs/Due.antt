@@ -1,5 +1,6 @@
 -- How far a read of one item comes in bytes, and what is due there.
-use Rattle.std.specs.Prelude.{ℕ, suc, ◌-◌, ◌*◌, ◌<◌, ◌%◌, ◌==◌, Bool, true, false, List, [], ◌++◌, length, Some, None}
+use Rattle.std.specs.Prelude.{ℕ, suc, ◌-◌, ◌*◌, ◌<◌, ◌%◌, ◌==◌, Bool, true, false, List, [], ◌++◌, length, Option}
+use Rattle.std.specs.Prelude.{Some, None}
 use Rattle.ciborium_ll.specs.Types.Header.{Header}
 use Rattle.ciborium_ll.specs.Types.Header.TheVariants as h
 use Rattle.ciborium_ll.specs.Title.{IsTitle, title_len}
@@ -25,6 +26,12 @@ TakesMore (h.Map (Some len)) count = count < 2 * len
 TakesMore (h.Array None) count = Unit {0}
 TakesMore (h.Map None) count = Unit {0}
 TakesMore header count = ⊥
+
+-- how many items the nest contains, where its header counts them one by one (RFC 7049, 2.1 and 2.4)
+abbrev pub counted : Header → Option ℕ
+counted (h.Tag number) = Some 1
+counted (h.Array len) = len
+counted header = None
 
 -- Whether a break may stand in place of that item: in an array of indefinite length, and in such a map behind whole
 -- pairs, which is an even number of items (RFC 7049, 2.2.1)

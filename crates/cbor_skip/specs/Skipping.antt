@@ -1,5 +1,5 @@
 -- What `skip_item` and its parts do, over any reader. Bytes are spoken of where the reader tells them.
-use Rattle.std.specs.Prelude.{◌≡◌, ℕ, suc, ◌⊎◌, Bool, false, List, Option, Result, Ok, Err}
+use Rattle.std.specs.Prelude.{◌≡◌, ℕ, suc, ◌<◌, ◌⊎◌, Bool, false, List, Option, Some, Result, Ok, Err}
 use Rattle.ciborium_ll.specs.Types.Read.{Ghosts}
 use Rattle.ciborium_ll.specs.Types.Header.{Header}
 use Rattle.ciborium_ll.specs.Types.Header.TheVariants as h
@@ -9,9 +9,11 @@ use Rattle.ciborium_ll.specs.Strings.{Kind, kind_header}
 use Rattle.ciborium_ll.specs.Items.{Completes, AreItems, IsItem}
 use Rattle.ciborium_ll.specs.Decoding.{IsSteady, Passes, PullsHeader, PullsTitle}
 use Rattle.ciborium_ll.specs.Skipping.{SkipsString}
+use Rattle.cbor_skip.specs.declared.Begun.{Begun}
+use Rattle.cbor_skip.specs.declared.Begun.TheVariants as b
 use Rattle.cbor_skip.specs.declared.SkipError.{SkipError}
 use Rattle.cbor_skip.specs.declared.SkipError.TheVariants as s
-use Rattle.cbor_skip.specs.Due.{IsNest, TakesMore, may_close, ItemDue}
+use Rattle.cbor_skip.specs.Due.{IsNest, TakesMore, may_close, counted, ItemDue}
 
 module _ {R E : Type 0} (source : Ghosts R E) where
   -- the title of a string came, and the read of the string failed behind it
@@ -22,6 +24,10 @@ module _ {R E : Type 0} (source : Ghosts R E) where
     pub pulled : PullsTitle source between (kind_header kind len) titled
     pub steady : IsSteady source between → IsSteady source titled
     pub fails : SkipsString source kind len room titled (Err error) new
+
+  -- no title came, or that of a string and then no whole string
+  abbrev pub StopsTitle : ℕ → Decoder R → Error E → Decoder R → Type 0
+  StopsTitle room between error new = PullsHeader source between (Err error) new ⊎ MeetsString room between error new
 
   -- a break came at this offset, where none may stand
   pub record MeetsBreak (closable : Bool) (between : Decoder R) (at : ℕ) (new : Decoder R) : Type 0 where
@@ -39,8 +45,7 @@ module _ {R E : Type 0} (source : Ghosts R E) where
 
   -- how the read fails where an item to so many levels is due: no title came, or one of the three above
   abbrev pub StopsDue : ℕ → Bool → ℕ → Decoder R → SkipError E → Decoder R → Type 0
-  StopsDue levels closable room between (s.Read error) new =
-      PullsHeader source between (Err error) new ⊎ MeetsString room between error new
+  StopsDue levels closable room between (s.Read error) new = StopsTitle room between error new
   StopsDue levels closable room between (s.Break at) new = MeetsBreak closable between at new
   StopsDue levels closable room between (s.Deep at) new = MeetsNest levels between at new
 
@@ -60,6 +65,36 @@ module _ {R E : Type 0} (source : Ghosts R E) where
     pub item : List ℕ
     pub is_item : IsItem depth item
     pub passed : Passes source old item new
+
+  -- what a title began: an item, which was read whole and is one to any depth, a break, or a nest, which may be one of
+  -- so many items
+  abbrev pub Begins : Begun → Decoder R → Decoder R → Type 0
+  Begins b.Item old new = (depth : ℕ) → ReadsItem depth old new
+  Begins b.Break old new = PullsTitle source old h.Break new
+  Begins (b.Items count) old new = (header : Header) × (counted header ≡ Some count) × PullsTitle source old header new
+  Begins (b.Nest header) old new = IsNest header × PullsTitle source old header new
+
+  -- so many items were read
+  pub record ReadsItems (count depth : ℕ) (old new : Decoder R) : Type 0 where
+    pub items : List ℕ
+    pub are_items : AreItems depth count items
+    pub passed : Passes source old items new
+
+  -- of so many items some were read, and of one more a beginning
+  pub record StopsItems (count depth room : ℕ) (old : Decoder R) (error : SkipError E) (new : Decoder R)
+      : Type 0 where
+    pub before : ℕ
+    pub items : List ℕ
+    pub more : before < count
+    pub are_items : AreItems depth before items
+    pub between : Decoder R
+    pub passed : Passes source old items between
+    pub stops : StopsItem false depth room between error new
+
+  -- the read of so many items, by its answer
+  abbrev pub SkipsItems : ℕ → ℕ → ℕ → Decoder R → Result (Unit {0}) (SkipError E) → Decoder R → Type 0
+  SkipsItems count depth room old (Ok done) new = ReadsItems count depth old new
+  SkipsItems count depth room old (Err error) new = StopsItems count depth room old error new
 
   -- `skip_item` through a buffer of so much room, by its answer
   abbrev pub SkipsItem : ℕ → ℕ → Decoder R → Result (Unit {0}) (SkipError E) → Decoder R → Type 0

@@ -1,11 +1,11 @@
 //! One item of CBOR (RFC 7049, 2.1 to 2.4) skipped, whatever it contains. No call takes memory.
 #![tactic(auto)]
 
-ghost use Rattle.std.specs.Prelude.{◌≡◌, ◌≤◌, ◌↔◌, ℕ, List, length, IsOk, Some};
-ghost use Rattle.ciborium_ll.specs.Decoding.{MovesOn, view};
+ghost use Rattle.std.specs.Prelude.{◌≡◌, ◌<◌, ◌≤◌, ◌↔◌, ℕ, List, length, IsOk, MatchResult, Some};
+ghost use Rattle.ciborium_ll.specs.Decoding.{MovesOn, offset_of, view};
 ghost use Rattle.cbor_skip.specs.Due.{IsNest};
 ghost use Rattle.cbor_skip.specs.ItemFaults.{ItemInFront};
-ghost use Rattle.cbor_skip.specs.Skipping.{SkipsItem, SkipsWithin};
+ghost use Rattle.cbor_skip.specs.Skipping.{Begins, SkipsItem, SkipsItems, SkipsWithin, StopsTitle};
 ghost use Rattle.cbor_skip.specs.SkippingTold.{IsReadyToSkip, SkipsFront, SkipsTold};
 
 pub mod laws;
@@ -31,7 +31,95 @@ pub enum SkipError<E> {
     Deep(usize),
 }
 
-/// Skips what a tag, an array or a map contains, behind its header.
+/// What a title began, which was read.
+enum Begun {
+    /// An item without others in it, which was read to its end.
+    Item,
+    /// The end of an indefinite form.
+    Break,
+    /// A tag or an array of so many items.
+    Items(usize),
+    /// A map, or an array of indefinite length, with this header.
+    Nest(Header),
+}
+
+/// Reads the next title, and of a string the rest.
+#[inline(always)]
+fn skip_title<R: Read>(
+    decoder: &mut Decoder<R>,
+    buffer: &mut [u8],
+) -> Result<Begun, Error<R::Error>>
+    requires room { 4 ≤ length buffer.old }
+    ensures begun { MatchResult result (λ begun. Begins R.Read begun decoder.old decoder.new)
+        (λ error. StopsTitle R.Read (length buffer.old) decoder.old error decoder.new) }
+    ensures moves_on { MovesOn R.Read decoder.old decoder.new }
+    ensures rises { IsOk result → offset_of decoder.old < offset_of decoder.new }
+{
+    let (header, title) = pull_title(decoder)?;
+    // Of the title's parts, so that no header is made but that of a map.
+    match title.start(header) {
+        Start::Value => Ok(Begun::Item),
+        Start::Break => Ok(Begun::Break),
+        Start::Nest(Header::Tag(_)) => Ok(Begun::Items(1)),
+        Start::Nest(Header::Array(Some(count))) => Ok(Begun::Items(count)),
+        Start::Nest(nest) => Ok(Begun::Nest(nest)),
+        Start::Bytes(len) => {
+            skip_bytes(decoder, len, buffer)?;
+            Ok(Begun::Item)
+        }
+        Start::Text(len) => {
+            skip_text(decoder, len, buffer)?;
+            Ok(Begun::Item)
+        }
+    }
+}
+
+/// Skips so many items.
+#[cycle(nests)]
+fn skip_items<R: Read>(
+    decoder: &mut Decoder<R>,
+    count: usize,
+    depth: usize,
+    buffer: &mut [u8],
+) -> Result<(), SkipError<R::Error>>
+    requires room { 4 ≤ length buffer.old }
+    ensures skipped { SkipsItems R.Read count depth (length buffer.old) decoder.old result decoder.new }
+    ensures moves_on { MovesOn R.Read decoder.old decoder.new }
+{
+    let mut left = count;
+    let mut levels = depth;
+    'items: while left > 0 {
+        let place = decoder.offset();
+        left -= 1;
+        match skip_title(decoder, buffer) {
+            Ok(Begun::Item) => {}
+            Ok(Begun::Break) => return Err(SkipError::Break(place)),
+            Ok(Begun::Items(within)) => {
+                if levels == 0 {
+                    return Err(SkipError::Deep(place));
+                }
+                if left == 0 {
+                    // Behind the last item nothing is due but what it contains, so no call waits for that.
+                    left = within;
+                    levels -= 1;
+                } else {
+                    skip_items(decoder, within, levels - 1, buffer)?;
+                }
+            }
+            Ok(Begun::Nest(nest)) => {
+                if levels == 0 {
+                    return Err(SkipError::Deep(place));
+                }
+                skip_within(decoder, nest, levels - 1, buffer)?;
+            }
+            Err(error) => return Err(SkipError::Read(error)),
+        }
+    }
+    Ok(())
+}
+
+/// Skips what a map or an array of indefinite length contains, behind its header.
+#[cycle(nests)]
 fn skip_within<R: Read>(
     decoder: &mut Decoder<R>,
     header: Header,
@@ -46,37 +134,30 @@ fn skip_within<R: Read>(
     let mut remaining = Remaining::behind(header);
     'items: while !remaining.is_done() {
         let place = decoder.offset();
-        let (next, title) = match pull_title(decoder) {
-            Ok(pulled) => pulled,
-            Err(error) => return Err(SkipError::Read(error)),
-        };
-        // Of the title's parts, so that no header is made but a nest's.
-        match title.start(next) {
-            Start::Value => {}
-            Start::Bytes(len) => {
-                if let Err(error) = skip_bytes(decoder, len, buffer) {
-                    return Err(SkipError::Read(error));
-                }
-            }
-            Start::Text(len) => {
-                if let Err(error) = skip_text(decoder, len, buffer) {
-                    return Err(SkipError::Read(error));
-                }
-            }
-            Start::Break => {
+        match skip_title(decoder, buffer) {
+            Ok(Begun::Item) => remaining = remaining.after_item(),
+            Ok(Begun::Break) => {
                 if remaining.closes() {
                     return Ok(());
                 }
                 return Err(SkipError::Break(place));
             }
-            Start::Nest(nest) => {
+            Ok(Begun::Items(count)) => {
+                if depth == 0 {
+                    return Err(SkipError::Deep(place));
+                }
+                skip_items(decoder, count, depth - 1, buffer)?;
+                remaining = remaining.after_item();
+            }
+            Ok(Begun::Nest(nest)) => {
                 if depth == 0 {
                     return Err(SkipError::Deep(place));
                 }
                 skip_within(decoder, nest, depth - 1, buffer)?;
+                remaining = remaining.after_item();
             }
+            Err(error) => return Err(SkipError::Read(error)),
         }
-        remaining = remaining.after_item();
     }
     Ok(())
 }
@@ -117,6 +198,5 @@ pub fn skip_item<R: Read>(
         → SkipsFront R.Read depth due decoder.old decoder.new }
     ensures moves_on { MovesOn R.Read decoder.old decoder.new }
 {
-    // What a tag contains is one item.
-    skip_within(decoder, Header::Tag(0), depth, buffer)
+    skip_items(decoder, 1, depth, buffer)
 }

@@ -1,0 +1,174 @@
+-- Items that follow one another, over any reader, where only their number is known.
+use Rattle.std.proofs.Common.{◌≡◌, ℕ, suc, List, [], ◌++◌, Some, None, Result, Ok, Err}
+use Rattle.std.proofs.Common.{refl, sym, ap, subst, ◌∙◌, arith, append_assoc, append-nil, false}
+use Rattle.ciborium_ll.specs.Types.Read.{Ghosts}
+use Rattle.ciborium_ll.specs.Types.Header.{Header}
+use Rattle.ciborium_ll.specs.Types.Header.TheVariants as h
+use Rattle.ciborium_ll.specs.Types.Decoder.{Decoder}
+use Rattle.ciborium_ll.specs.Items.{AreItems, IsItem, array, more_items, no_items, tag}
+use Rattle.ciborium_ll.specs.Decoding.{IsSteady, Passes, PullsTitle}
+use Rattle.ciborium_ll.proofs.DecodingLaws.{Passes-none, Passes-then}
+use Rattle.cbor_skip.specs.declared.SkipError.{SkipError}
+use Rattle.cbor_skip.specs.Due.{IsNest, counted}
+use Rattle.cbor_skip.specs.Skipping.{ReadsItem, ReadsItems, SkipsItems, SkipsWithin, StopsItem, StopsItems}
+use Rattle.cbor_skip.specs.Skipping.{SkipsItem}
+use Rattle.cbor_skip.proofs.ItemSteps.{reads_nest, stops_nest, no_items_read}
+
+-- an item and then others
+item_first : (d n : ℕ) (u v : List ℕ) → IsItem d u → AreItems d n v → AreItems d (suc n) (u ++ v)
+item_first d n u v (more_items {title = t} {rest = w} p c no_items) i =
+    let joined : t ++ (w ++ v) ≡ (t ++ (w ++ [])) ++ v =
+    ap (λ (z : List ℕ). t ++ (z ++ v)) (sym (append-nil w)) ∙ sym (append_assoc t (w ++ []) v) in
+    subst (λ (z : List ℕ). AreItems d (suc n) z) joined (more_items p c i)
+
+-- a header that counts items is a nest's
+pub counted_nest : (x : Header) (n : ℕ) → counted x ≡ Some n → IsNest x
+counted_nest (h.Tag m) n is = tt
+counted_nest (h.Array len) n is = tt
+counted_nest (h.Map len) n is = absurd cc
+counted_nest (h.Positive m) n is = absurd cc
+counted_nest (h.Negative m) n is = absurd cc
+counted_nest (h.Float x) n is = absurd cc
+counted_nest (h.Simple m) n is = absurd cc
+counted_nest (h.Bytes len) n is = absurd cc
+counted_nest (h.Text len) n is = absurd cc
+counted_nest h.Break n is = absurd cc
+
+module _ {R E : Type 0} (source : Ghosts R E) where
+  -- what a read of the items that are due now does is what the whole read does
+  abbrev pub Decides : (room left levels : ℕ) (now : Decoder R) (count depth : ℕ) (old : Decoder R) → Type 0
+  Decides room left levels now count depth old =
+      (result : Result (Unit {0}) (SkipError E)) (new : Decoder R)
+      → SkipsItems source left levels room now result new → SkipsItems source count depth room old result new
+
+  -- ---- the ends
+
+  pub none_due : (d : ℕ) (now : Decoder R) → ReadsItems source 0 d now now
+  none_due d now = record { items = []; are_items = no_items; passed = Passes-none source now }
+
+  -- an error in the first of those that are due
+  pub stops_first : {left after d room : ℕ} {now : Decoder R} {error : SkipError E} {new : Decoder R}
+      → suc after ≡ left → StopsItem source false d room now error new
+      → StopsItems source left d room now error new
+  stops_first {now = now} some stops = record {
+    before = 0;
+    items = [];
+    more = omega (arith, some);
+    are_items = no_items;
+    between = now;
+    passed = Passes-none source now;
+    stops = stops;
+  }
+
+  -- ---- one item more
+
+  item_then : (n d room : ℕ) (old now : Decoder R) → ReadsItem source d old now
+      → (result : Result (Unit {0}) (SkipError E)) (new : Decoder R)
+      → SkipsItems source n d room now result new → SkipsItems source (suc n) d room old result new
+  item_then n d room old now first (Ok done) new others = record {
+    items = first.item ++ others.items;
+    are_items = item_first d n first.item others.items first.is_item others.are_items;
+    passed = Passes-then source old now new first.item others.items first.passed others.passed;
+  }
+  item_then n d room old now first (Err error) new others = record {
+    before = suc others.before;
+    items = first.item ++ others.items;
+    more = (let less = others.more in omega (arith, less));
+    are_items = item_first d others.before first.item others.items first.is_item others.are_items;
+    between = others.between;
+    passed = Passes-then source old now others.between first.item others.items first.passed others.passed;
+    stops = others.stops;
+  }
+
+  pub item_decides : {room left after levels count depth : ℕ} {now next old : Decoder R} → suc after ≡ left
+      → Decides room left levels now count depth old → ReadsItem source levels now next
+      → Decides room after levels next count depth old
+  item_decides {room = room} {left = left} {after = after} {levels = levels} {now = now} {next = next} some whole item
+      result new others =
+      whole result new (subst (λ (n : ℕ). SkipsItems source n levels room now result new) some
+      (item_then after levels room now next item result new others))
+
+  -- ---- what a nest contains, where its items are counted
+
+  pub counted_within : (x : Header) (n d room : ℕ) (old : Decoder R) → counted x ≡ Some n
+      → (result : Result (Unit {0}) (SkipError E)) (new : Decoder R)
+      → SkipsItems source n d room old result new → SkipsWithin source x d room old result new
+  counted_within (h.Tag m) n d room old is (Ok done) new reads =
+      let one : n ≡ 1 = cc in
+      let items = subst (λ (k : ℕ). AreItems d k reads.items) one reads.are_items in
+      record { rest = reads.items; completes = tag items; passed = reads.passed }
+  counted_within (h.Tag m) n d room old is (Err error) new stops = record {
+    count = stops.before;
+    items = stops.items;
+    takes_more = (let one : n ≡ 1 = cc in let less = stops.more in omega (arith, one, less));
+    are_items = stops.are_items;
+    between = stops.between;
+    passed = stops.passed;
+    stops = stops.stops;
+  }
+  counted_within (h.Array (Some m)) n d room old is (Ok done) new reads =
+      let same : n ≡ m = cc in
+      let items = subst (λ (k : ℕ). AreItems d k reads.items) same reads.are_items in
+      record { rest = reads.items; completes = array items; passed = reads.passed }
+  counted_within (h.Array (Some m)) n d room old is (Err error) new stops = record {
+    count = stops.before;
+    items = stops.items;
+    takes_more = (let same : n ≡ m = cc in let less = stops.more in omega (arith, same, less));
+    are_items = stops.are_items;
+    between = stops.between;
+    passed = stops.passed;
+    stops = stops.stops;
+  }
+  counted_within (h.Array None) n d room old is result new skips = absurd cc
+  counted_within (h.Map len) n d room old is result new skips = absurd cc
+  counted_within (h.Positive m) n d room old is result new skips = absurd cc
+  counted_within (h.Negative m) n d room old is result new skips = absurd cc
+  counted_within (h.Float x) n d room old is result new skips = absurd cc
+  counted_within (h.Simple m) n d room old is result new skips = absurd cc
+  counted_within (h.Bytes len) n d room old is result new skips = absurd cc
+  counted_within (h.Text len) n d room old is result new skips = absurd cc
+  counted_within h.Break n d room old is result new skips = absurd cc
+
+  -- a nest is one item
+  nest_alone : (x : Header) (levels d room : ℕ) (old titled : Decoder R) → suc levels ≡ d
+      → PullsTitle source old x titled → (IsSteady source old → IsSteady source titled)
+      → (result : Result (Unit {0}) (SkipError E)) (new : Decoder R)
+      → SkipsWithin source x levels room titled result new → SkipsItems source 1 d room old result new
+  nest_alone x levels d room old titled level title steady (Ok done) new reads =
+      let item = reads_nest source level title steady reads in
+      record { items = item.item; are_items = item.is_item; passed = item.passed }
+  nest_alone x levels d room old titled level title steady (Err error) new stops =
+      stops_first refl (stops_nest source level title steady stops)
+
+  -- where it is the last of those that are due, what it contains is all that is due
+  pub nest_decides : {room left levels inner within count depth : ℕ} {now titled old : Decoder R} {x : Header}
+      → 1 ≡ left → suc inner ≡ levels → counted x ≡ Some within
+      → Decides room left levels now count depth old
+      → PullsTitle source now x titled → (IsSteady source now → IsSteady source titled)
+      → Decides room within inner titled count depth old
+  nest_decides {room = room} {levels = levels} {inner = inner} {within = within} {now = now} {titled = titled} {x = x}
+      last level is whole title steady result new skips =
+      whole result new (subst (λ (n : ℕ). SkipsItems source n levels room now result new) last
+      (nest_alone x inner levels room now titled level title steady result new
+      (counted_within x within inner room titled is result new skips)))
+
+  -- ---- the whole
+
+  pub one_item : (d room : ℕ) (old : Decoder R) (result : Result (Unit {0}) (SkipError E)) (new : Decoder R)
+      → SkipsItems source 1 d room old result new → SkipsItem source d room old result new
+  one_item d room old (Ok done) new reads =
+      record { item = reads.items; is_item = reads.are_items; passed = reads.passed }
+  one_item d room old (Err error) new stops =
+      let inner = stops.stops in
+      let none : stops.items ≡ [] = no_items_read d stops.before stops.items stops.more stops.are_items in
+      let passed =
+      Passes-then source old stops.between inner.between stops.items inner.bytes stops.passed inner.passed in
+      record {
+        bytes = inner.bytes;
+        levels = inner.levels;
+        closable = inner.closable;
+        due = inner.due;
+        between = inner.between;
+        passed = subst (λ (z : List ℕ). Passes source old (z ++ inner.bytes) inner.between) none passed;
+        stops = inner.stops;
+      }

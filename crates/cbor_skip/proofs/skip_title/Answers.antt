@@ -1,0 +1,92 @@
+use Rattle.std.proofs.Common.{◌≡◌, ◌∙◌, Err, sym, inr, arith}
+use Rattle.std.proofs.lemmas.Result.{err_from_is_err_and}
+use Rattle.ciborium_ll.specs.Types.Header.TheVariants as h
+use Rattle.ciborium_ll.specs.Strings.{Bytes, Text}
+use Rattle.ciborium_ll.proofs.NestLaws.{title_some}
+use Rattle.ciborium_ll.proofs.TitleLaws.{shortest_no_longer}
+use Rattle.cbor_skip.proofs.ItemSteps.{reads_plain, reads_string}
+use Rattle.cbor_skip.proofs.StartSteps.{bytes_start, text_start, value_start}
+use Rattle.cbor_skip.proofs.skip_title.Goals as goal
+
+pub skip_bytes-requires-clause-covered : goal.skip_bytes-requires-clause-covered
+skip_bytes-requires-clause-covered g c =
+    let pulled = c.in_ok-header.ensures.header in
+    let known : c.in_ok-header.header ≡ h.Bytes c.in-Bytes.len = bytes_start c.in_ok-header.header c.in-Bytes.len
+    (sym c.start.ensures ∙ c.in-Bytes.is) in
+    grind (arith, shortest_no_longer pulled.title _ pulled.is_title, pulled.offset, known)
+
+pub skip_text-requires-clause-covered : goal.skip_text-requires-clause-covered
+skip_text-requires-clause-covered g c =
+    let pulled = c.in_ok-header.ensures.header in
+    let known : c.in_ok-header.header ≡ h.Text c.in-Text.len = text_start c.in_ok-header.header c.in-Text.len
+    (sym c.start.ensures ∙ c.in-Text.is) in
+    grind (arith, shortest_no_longer pulled.title _ pulled.is_title, pulled.offset, known)
+
+pub returns-in-Value-clause-begun : goal.returns-in-Value-clause-begun
+returns-in-Value-clause-begun g c = λ depth.
+    let plain = value_start depth c.in_ok-header.header (sym c.start.ensures ∙ c.in-Value.is) in
+    reads_plain g.R.Read c.in_ok-header.ensures.header c.pull_title.ensures.moves_on.steady plain
+
+-- ---- strings
+
+pub returns-in_ok-skip_bytes-in-Bytes-clause-begun : goal.returns-in_ok-skip_bytes-in-Bytes-clause-begun
+returns-in_ok-skip_bytes-in-Bytes-clause-begun g c = λ depth.
+    let is : c.in_ok-header.header ≡ h.Bytes c.in-Bytes.len = bytes_start c.in_ok-header.header c.in-Bytes.len
+    (sym c.start.ensures ∙ c.in-Bytes.is) in
+    reads_string g.R.Read Bytes c.in-Bytes.len (rw is at c.in_ok-header.ensures.header)
+    c.pull_title.ensures.moves_on.steady c.in_ok-skip_bytes-in-Bytes.ensures.skipped
+
+pub returns-in_ok-skip_text-in-Text-clause-begun : goal.returns-in_ok-skip_text-in-Text-clause-begun
+returns-in_ok-skip_text-in-Text-clause-begun g c = λ depth.
+    let is : c.in_ok-header.header ≡ h.Text c.in-Text.len = text_start c.in_ok-header.header c.in-Text.len
+    (sym c.start.ensures ∙ c.in-Text.is) in
+    reads_string g.R.Read Text c.in-Text.len (rw is at c.in_ok-header.ensures.header)
+    c.pull_title.ensures.moves_on.steady c.in_ok-skip_text-in-Text.ensures.skipped
+
+pub returns-in_ok-skip_bytes-in-Bytes-clause-rises : goal.returns-in_ok-skip_bytes-in-Bytes-clause-rises
+returns-in_ok-skip_bytes-in-Bytes-clause-rises g c = λ ok.
+    let pulled = c.in_ok-header.ensures.header in
+    let risen = c.skip_bytes.ensures.moves_on.rises in
+    omega (arith, title_some pulled.title _ pulled.is_title, pulled.offset, risen)
+
+pub returns-in_ok-skip_text-in-Text-clause-rises : goal.returns-in_ok-skip_text-in-Text-clause-rises
+returns-in_ok-skip_text-in-Text-clause-rises g c = λ ok.
+    let pulled = c.in_ok-header.ensures.header in
+    let risen = c.skip_text.ensures.moves_on.rises in
+    omega (arith, title_some pulled.title _ pulled.is_title, pulled.offset, risen)
+
+pub returns-in_err-skip_bytes-in-Bytes-clause-begun : goal.returns-in_err-skip_bytes-in-Bytes-clause-begun
+returns-in_err-skip_bytes-in-Bytes-clause-begun g c =
+    let is : c.in_ok-header.header ≡ h.Bytes c.in-Bytes.len = bytes_start c.in_ok-header.header c.in-Bytes.len
+    (sym c.start.ensures ∙ c.in-Bytes.is) in
+    let residual = c.from_residual-in_err-skip_bytes-in-Bytes in
+    let from = err_from_is_err_and residual.result residual.ensures.1 in
+    let is_error = from.1 in
+    let is_same = from.2 in
+    let same : residual.result ≡ Err c.in_err-skip_bytes-in-Bytes.field-0.0 = cc in
+    rw same (inr (record {
+      kind = Bytes;
+      len = c.in-Bytes.len;
+      titled = c.pull_title.new.decoder;
+      pulled = rw is at c.in_ok-header.ensures.header;
+      steady = c.pull_title.ensures.moves_on.steady;
+      fails = c.in_err-skip_bytes-in-Bytes.ensures.skipped;
+    }))
+
+pub returns-in_err-skip_text-in-Text-clause-begun : goal.returns-in_err-skip_text-in-Text-clause-begun
+returns-in_err-skip_text-in-Text-clause-begun g c =
+    let is : c.in_ok-header.header ≡ h.Text c.in-Text.len = text_start c.in_ok-header.header c.in-Text.len
+    (sym c.start.ensures ∙ c.in-Text.is) in
+    let residual = c.from_residual-in_err-skip_text-in-Text in
+    let from = err_from_is_err_and residual.result residual.ensures.1 in
+    let is_error = from.1 in
+    let is_same = from.2 in
+    let same : residual.result ≡ Err c.in_err-skip_text-in-Text.field-0.0 = cc in
+    rw same (inr (record {
+      kind = Text;
+      len = c.in-Text.len;
+      titled = c.pull_title.new.decoder;
+      pulled = rw is at c.in_ok-header.ensures.header;
+      steady = c.pull_title.ensures.moves_on.steady;
+      fails = c.in_err-skip_text-in-Text.ensures.skipped;
+    }))
