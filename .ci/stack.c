@@ -1,6 +1,6 @@
 /*
  * Prints how many bytes of the stack each call uses, one line NAME BYTES for each: of cll_skip for some depths, each
- * filled with arrays down to a text and to a byte string of indefinite length.
+ * filled with nests of two kinds down to a text and to a byte string of indefinite length.
  *
  * A call runs on a stack of its own, which was filled before with one value. What it changed is what it used. What a
  * call of nothing uses is taken off.
@@ -70,13 +70,18 @@ static void make_text(void)
         memcpy(data + len, character, sizeof character);
 }
 
-/* So many arrays within one another, with a text and a byte string in the innermost one. */
-static void make_nest(unsigned levels)
+/*
+ * So many nests within one another, with a text and a byte string in the innermost one. Each is an array of indefinite
+ * length, or an array of two, in which another item follows the nest: behind the last one a call has not to come back.
+ */
+static void make_nests(int is_open, unsigned levels)
 {
     static const uint8_t inner[] = {0x82, 0x63, 0xe6, 0xb0, 0xb4, 0x5f, 0x42, 1, 2, 0x41, 3, 0xff};
-    memset(data, 0x81, levels - 1);
-    memcpy(data + levels - 1, inner, sizeof inner);
-    len = levels - 1 + sizeof inner;
+    const size_t around = levels - 1;
+    memset(data, is_open ? 0x9f : 0x82, around);
+    memcpy(data + around, inner, sizeof inner);
+    memset(data + around + sizeof inner, is_open ? 0xff : 0x00, around);
+    len = 2 * around + sizeof inner;
     depth = levels;
 }
 
@@ -95,8 +100,10 @@ int main(void)
     for (size_t i = 0; i < sizeof calls / sizeof *calls; i++)
         printf("%s %zu\n", calls[i].name, used(calls[i].call) - plain);
     for (size_t i = 0; i < sizeof depths / sizeof *depths; i++) {
-        make_nest(depths[i]);
-        printf("cll_skip/%u %zu\n", depths[i], used(skip) - plain);
+        for (int is_open = 0; is_open < 2; is_open++) {
+            make_nests(is_open, depths[i]);
+            printf("cll_skip/%u %zu\n", depths[i], used(skip) - plain);
+        }
     }
     return 0;
 }
