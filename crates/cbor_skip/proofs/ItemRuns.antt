@@ -9,8 +9,8 @@ use Rattle.ciborium_ll.specs.Items.{AreItems, IsItem, array, more_items, no_item
 use Rattle.ciborium_ll.specs.Decoding.{IsSteady, Passes, PullsTitle}
 use Rattle.ciborium_ll.proofs.DecodingLaws.{Passes-none, Passes-then}
 use Rattle.cbor_skip.specs.declared.SkipError.{SkipError}
-use Rattle.cbor_skip.specs.Due.{IsNest, counted}
-use Rattle.cbor_skip.specs.Skipping.{ReadsItem, ReadsItems, SkipsItems, SkipsWithin, StopsItem, StopsItems}
+use Rattle.cbor_skip.specs.Due.{IsNest, item_count}
+use Rattle.cbor_skip.specs.Skipping.{ReadsItem, ReadsCounted, SkipsCounted, SkipsWithin, StopsItem, StopsCounted}
 use Rattle.cbor_skip.specs.Skipping.{SkipsItem}
 use Rattle.cbor_skip.proofs.ItemSteps.{reads_nest, stops_nest, no_items_read}
 
@@ -22,7 +22,7 @@ item_first d n u v (more_items {title = t} {rest = w} p c no_items) i =
     subst (λ (z : List ℕ). AreItems d (suc n) z) joined (more_items p c i)
 
 -- a header that counts items is a nest's
-pub counted_nest : (x : Header) (n : ℕ) → counted x ≡ Some n → IsNest x
+pub counted_nest : (x : Header) (n : ℕ) → item_count x ≡ Some n → IsNest x
 counted_nest (h.Tag m) n is = tt
 counted_nest (h.Array len) n is = tt
 counted_nest (h.Map len) n is = absurd cc
@@ -39,17 +39,17 @@ module _ {R E : Type 0} (source : Ghosts R E) where
   abbrev pub Decides : (room left levels : ℕ) (now : Decoder R) (count depth : ℕ) (old : Decoder R) → Type 0
   Decides room left levels now count depth old =
       (result : Result (Unit {0}) (SkipError E)) (new : Decoder R)
-      → SkipsItems source left levels room now result new → SkipsItems source count depth room old result new
+      → SkipsCounted source left levels room now result new → SkipsCounted source count depth room old result new
 
   -- ---- the ends
 
-  pub none_due : (d : ℕ) (now : Decoder R) → ReadsItems source 0 d now now
+  pub none_due : (d : ℕ) (now : Decoder R) → ReadsCounted source 0 d now now
   none_due d now = record { items = []; are_items = no_items; passed = Passes-none source now }
 
   -- an error in the first of those that are due
   pub stops_first : {left after d room : ℕ} {now : Decoder R} {error : SkipError E} {new : Decoder R}
       → suc after ≡ left → StopsItem source false d room now error new
-      → StopsItems source left d room now error new
+      → StopsCounted source left d room now error new
   stops_first {now = now} some stops = record {
     before = 0;
     items = [];
@@ -64,7 +64,7 @@ module _ {R E : Type 0} (source : Ghosts R E) where
 
   item_then : (n d room : ℕ) (old now : Decoder R) → ReadsItem source d old now
       → (result : Result (Unit {0}) (SkipError E)) (new : Decoder R)
-      → SkipsItems source n d room now result new → SkipsItems source (suc n) d room old result new
+      → SkipsCounted source n d room now result new → SkipsCounted source (suc n) d room old result new
   item_then n d room old now first (Ok done) new others = record {
     items = first.item ++ others.items;
     are_items = item_first d n first.item others.items first.is_item others.are_items;
@@ -85,14 +85,14 @@ module _ {R E : Type 0} (source : Ghosts R E) where
       → Decides room after levels next count depth old
   item_decides {room = room} {left = left} {after = after} {levels = levels} {now = now} {next = next} some whole item
       result new others =
-      whole result new (subst (λ (n : ℕ). SkipsItems source n levels room now result new) some
+      whole result new (subst (λ (n : ℕ). SkipsCounted source n levels room now result new) some
       (item_then after levels room now next item result new others))
 
   -- ---- what a nest contains, where its items are counted
 
-  pub counted_within : (x : Header) (n d room : ℕ) (old : Decoder R) → counted x ≡ Some n
+  pub counted_within : (x : Header) (n d room : ℕ) (old : Decoder R) → item_count x ≡ Some n
       → (result : Result (Unit {0}) (SkipError E)) (new : Decoder R)
-      → SkipsItems source n d room old result new → SkipsWithin source x d room old result new
+      → SkipsCounted source n d room old result new → SkipsWithin source x d room old result new
   counted_within (h.Tag m) n d room old is (Ok done) new reads =
       let one : n ≡ 1 = cc in
       let items = subst (λ (k : ℕ). AreItems d k reads.items) one reads.are_items in
@@ -133,7 +133,7 @@ module _ {R E : Type 0} (source : Ghosts R E) where
   nest_alone : (x : Header) (levels d room : ℕ) (old titled : Decoder R) → suc levels ≡ d
       → PullsTitle source old x titled → (IsSteady source old → IsSteady source titled)
       → (result : Result (Unit {0}) (SkipError E)) (new : Decoder R)
-      → SkipsWithin source x levels room titled result new → SkipsItems source 1 d room old result new
+      → SkipsWithin source x levels room titled result new → SkipsCounted source 1 d room old result new
   nest_alone x levels d room old titled level title steady (Ok done) new reads =
       let item = reads_nest source level title steady reads in
       record { items = item.item; are_items = item.is_item; passed = item.passed }
@@ -142,20 +142,20 @@ module _ {R E : Type 0} (source : Ghosts R E) where
 
   -- where it is the last of those that are due, what it contains is all that is due
   pub nest_decides : {room left levels inner within count depth : ℕ} {now titled old : Decoder R} {x : Header}
-      → 1 ≡ left → suc inner ≡ levels → counted x ≡ Some within
+      → 1 ≡ left → suc inner ≡ levels → item_count x ≡ Some within
       → Decides room left levels now count depth old
       → PullsTitle source now x titled → (IsSteady source now → IsSteady source titled)
       → Decides room within inner titled count depth old
   nest_decides {room = room} {levels = levels} {inner = inner} {within = within} {now = now} {titled = titled} {x = x}
       last level is whole title steady result new skips =
-      whole result new (subst (λ (n : ℕ). SkipsItems source n levels room now result new) last
+      whole result new (subst (λ (n : ℕ). SkipsCounted source n levels room now result new) last
       (nest_alone x inner levels room now titled level title steady result new
       (counted_within x within inner room titled is result new skips)))
 
   -- ---- the whole
 
   pub one_item : (d room : ℕ) (old : Decoder R) (result : Result (Unit {0}) (SkipError E)) (new : Decoder R)
-      → SkipsItems source 1 d room old result new → SkipsItem source d room old result new
+      → SkipsCounted source 1 d room old result new → SkipsItem source d room old result new
   one_item d room old (Ok done) new reads =
       record { item = reads.items; is_item = reads.are_items; passed = reads.passed }
   one_item d room old (Err error) new stops =

@@ -28,10 +28,10 @@ TakesMore (h.Map None) count = Unit {0}
 TakesMore header count = ⊥
 
 -- how many items the nest contains, where its header counts them one by one (RFC 7049, 2.1 and 2.4)
-abbrev pub counted : Header → Option ℕ
-counted (h.Tag number) = Some 1
-counted (h.Array len) = len
-counted header = None
+abbrev pub item_count : Header → Option ℕ
+item_count (h.Tag number) = Some 1
+item_count (h.Array len) = len
+item_count header = None
 
 -- Whether a break may stand in place of that item: in an array of indefinite length, and in such a map behind whole
 -- pairs, which is an even number of items (RFC 7049, 2.2.1)

@@ -13,7 +13,7 @@ use Rattle.cbor_skip.specs.declared.Begun.{Begun}
 use Rattle.cbor_skip.specs.declared.Begun.TheVariants as b
 use Rattle.cbor_skip.specs.declared.SkipError.{SkipError}
 use Rattle.cbor_skip.specs.declared.SkipError.TheVariants as s
-use Rattle.cbor_skip.specs.Due.{IsNest, TakesMore, may_close, counted, ItemDue}
+use Rattle.cbor_skip.specs.Due.{IsNest, TakesMore, may_close, item_count, ItemDue}
 
 module _ {R E : Type 0} (source : Ghosts R E) where
   -- the title of a string came, and the read of the string failed behind it
@@ -68,20 +68,21 @@ module _ {R E : Type 0} (source : Ghosts R E) where
 
   -- what a title began: an item, which was read whole and is one to any depth, a break, or a nest, which may be one of
   -- so many items
-  abbrev pub Begins : Begun → Decoder R → Decoder R → Type 0
-  Begins b.Item old new = (depth : ℕ) → ReadsItem depth old new
-  Begins b.Break old new = PullsTitle source old h.Break new
-  Begins (b.Items count) old new = (header : Header) × (counted header ≡ Some count) × PullsTitle source old header new
-  Begins (b.Nest header) old new = IsNest header × PullsTitle source old header new
+  abbrev pub IsBegun : Begun → Decoder R → Decoder R → Type 0
+  IsBegun b.Item old new = (depth : ℕ) → ReadsItem depth old new
+  IsBegun b.Break old new = PullsTitle source old h.Break new
+  IsBegun (b.Items count) old new =
+      (header : Header) × (item_count header ≡ Some count) × PullsTitle source old header new
+  IsBegun (b.Nest header) old new = IsNest header × PullsTitle source old header new
 
   -- so many items were read
-  pub record ReadsItems (count depth : ℕ) (old new : Decoder R) : Type 0 where
+  pub record ReadsCounted (count depth : ℕ) (old new : Decoder R) : Type 0 where
     pub items : List ℕ
     pub are_items : AreItems depth count items
     pub passed : Passes source old items new
 
   -- of so many items some were read, and of one more a beginning
-  pub record StopsItems (count depth room : ℕ) (old : Decoder R) (error : SkipError E) (new : Decoder R)
+  pub record StopsCounted (count depth room : ℕ) (old : Decoder R) (error : SkipError E) (new : Decoder R)
       : Type 0 where
     pub before : ℕ
     pub items : List ℕ
@@ -92,9 +93,9 @@ module _ {R E : Type 0} (source : Ghosts R E) where
     pub stops : StopsItem false depth room between error new
 
   -- the read of so many items, by its answer
-  abbrev pub SkipsItems : ℕ → ℕ → ℕ → Decoder R → Result (Unit {0}) (SkipError E) → Decoder R → Type 0
-  SkipsItems count depth room old (Ok done) new = ReadsItems count depth old new
-  SkipsItems count depth room old (Err error) new = StopsItems count depth room old error new
+  abbrev pub SkipsCounted : ℕ → ℕ → ℕ → Decoder R → Result (Unit {0}) (SkipError E) → Decoder R → Type 0
+  SkipsCounted count depth room old (Ok done) new = ReadsCounted count depth old new
+  SkipsCounted count depth room old (Err error) new = StopsCounted count depth room old error new
 
   -- `skip_item` through a buffer of so much room, by its answer
   abbrev pub SkipsItem : ℕ → ℕ → Decoder R → Result (Unit {0}) (SkipError E) → Decoder R → Type 0

@@ -5,7 +5,7 @@ ghost use Rattle.std.specs.Prelude.{◌≡◌, ◌<◌, ◌≤◌, ◌↔◌, �
 ghost use Rattle.ciborium_ll.specs.Decoding.{MovesOn, offset_of, view};
 ghost use Rattle.cbor_skip.specs.Due.{IsNest};
 ghost use Rattle.cbor_skip.specs.ItemFaults.{ItemInFront};
-ghost use Rattle.cbor_skip.specs.Skipping.{Begins, SkipsItem, SkipsItems, SkipsWithin, StopsTitle};
+ghost use Rattle.cbor_skip.specs.Skipping.{IsBegun, SkipsItem, SkipsCounted, SkipsWithin, StopsTitle};
 ghost use Rattle.cbor_skip.specs.SkippingTold.{IsReadyToSkip, SkipsFront, SkipsTold};
 
 pub mod laws;
@@ -50,7 +50,7 @@ fn skip_title<R: Read>(
     buffer: &mut [u8],
 ) -> Result<Begun, Error<R::Error>>
     requires room { 4 ≤ length buffer.old }
-    ensures begun { MatchResult result (λ begun. Begins R.Read begun decoder.old decoder.new)
+    ensures begun { MatchResult result (λ begun. IsBegun R.Read begun decoder.old decoder.new)
         (λ error. StopsTitle R.Read (length buffer.old) decoder.old error decoder.new) }
     ensures moves_on { MovesOn R.Read decoder.old decoder.new }
     ensures rises { IsOk result → offset_of decoder.old < offset_of decoder.new }
@@ -83,7 +83,7 @@ fn skip_items<R: Read>(
     buffer: &mut [u8],
 ) -> Result<(), SkipError<R::Error>>
     requires room { 4 ≤ length buffer.old }
-    ensures skipped { SkipsItems R.Read count depth (length buffer.old) decoder.old result decoder.new }
+    ensures skipped { SkipsCounted R.Read count depth (length buffer.old) decoder.old result decoder.new }
     ensures moves_on { MovesOn R.Read decoder.old decoder.new }
 {
     let mut left = count;

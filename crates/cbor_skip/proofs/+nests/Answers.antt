@@ -5,7 +5,8 @@ use Rattle.cbor_skip.specs.declared.SkipError.TheVariants as s
 use Rattle.cbor_skip.specs.Remaining.{is_done, closes}
 use Rattle.cbor_skip.proofs.ItemRuns.{counted_nest, counted_within, item_decides, nest_decides, none_due}
 use Rattle.cbor_skip.proofs.ItemRuns.{stops_first}
-use Rattle.cbor_skip.proofs.ItemSteps.{reads_nest, stops_here, title_stops, stops_nest, none_read, one_more, stops_within, ended, closed}
+use Rattle.cbor_skip.proofs.ItemSteps.{reads_nest, stops_here, title_stops, stops_nest, none_read}
+use Rattle.cbor_skip.proofs.ItemSteps.{one_more, stops_within, ended, closed}
 use Rattle.cbor_skip.proofs.+nests.Goals as goal
 
 -- ---- so many items: the ends
@@ -67,7 +68,8 @@ skip_items-returns-then-levels-eq0-2-clause-skipped g t c =
       pulled = nest.1;
     })))
 
-pub skip_items-returns-in_err-skip_items-in-Ok-Items-clause-skipped : goal.skip_items-returns-in_err-skip_items-in-Ok-Items-clause-skipped
+pub skip_items-returns-in_err-skip_items-in-Ok-Items-clause-skipped :
+    goal.skip_items-returns-in_err-skip_items-in-Ok-Items-clause-skipped
 skip_items-returns-in_err-skip_items-in-Ok-Items-clause-skipped g t c =
     let some : suc (c.items.left - 1) ≡ c.items.left = omega (arith, c.items-test.true) in
     let level : suc (c.items.levels - 1) ≡ c.items.levels = omega (arith, c.if-levels-eq0.false) in
@@ -84,7 +86,8 @@ skip_items-returns-in_err-skip_items-in-Ok-Items-clause-skipped g t c =
     rw same (c.items.invariant.whole (Err error.field-0.0) c.skip_items.new.decoder
     (stops_first g.R.Read some (stops_nest g.R.Read level nest.2 first.steady within)))
 
-pub skip_items-returns-in_err-skip_within-in-Ok-Nest-clause-skipped : goal.skip_items-returns-in_err-skip_within-in-Ok-Nest-clause-skipped
+pub skip_items-returns-in_err-skip_within-in-Ok-Nest-clause-skipped :
+    goal.skip_items-returns-in_err-skip_within-in-Ok-Nest-clause-skipped
 skip_items-returns-in_err-skip_within-in-Ok-Nest-clause-skipped g t c =
     let some : suc (c.items.left - 1) ≡ c.items.left = omega (arith, c.items-test.true) in
     let level : suc (c.items.levels - 1) ≡ c.items.levels = omega (arith, c.if-levels-eq0-2.false) in
@@ -218,7 +221,8 @@ skip_within-returns-then-depth-eq0-2-clause-skipped g t c =
       pulled = nest.1;
     }))
 
-pub skip_within-returns-in_err-skip_items-in-Ok-Items-clause-skipped : goal.skip_within-returns-in_err-skip_items-in-Ok-Items-clause-skipped
+pub skip_within-returns-in_err-skip_items-in-Ok-Items-clause-skipped :
+    goal.skip_within-returns-in_err-skip_items-in-Ok-Items-clause-skipped
 skip_within-returns-in_err-skip_items-in-Ok-Items-clause-skipped g t c =
     let some : is_done c.items.remaining ≡ false = search rules in
     let level : suc (c.args.depth - 1) ≡ c.args.depth = omega (arith, c.if-depth-eq0.false) in
@@ -235,7 +239,8 @@ skip_within-returns-in_err-skip_items-in-Ok-Items-clause-skipped g t c =
     rw same (stops_within g.R.Read c.items.invariant.so_far some c.items.auto.buffer
     (stops_nest g.R.Read level nest.2 first.steady within))
 
-pub skip_within-returns-in_err-skip_within-in-Ok-Nest-clause-skipped : goal.skip_within-returns-in_err-skip_within-in-Ok-Nest-clause-skipped
+pub skip_within-returns-in_err-skip_within-in-Ok-Nest-clause-skipped :
+    goal.skip_within-returns-in_err-skip_within-in-Ok-Nest-clause-skipped
 skip_within-returns-in_err-skip_within-in-Ok-Nest-clause-skipped g t c =
     let some : is_done c.items.remaining ≡ false = search rules in
     let level : suc (c.args.depth - 1) ≡ c.args.depth = omega (arith, c.if-depth-eq0-2.false) in
