@@ -1,4 +1,4 @@
-use Rattle.std.proofs.Common.{rules, sym, ap, subst, ◌∙◌, ◌≡◌, ◌+◌, ℕ, Err, Some, length, arith}
+use Rattle.std.proofs.Common.{rules, ap, subst, ◌∙◌, ◌≡◌, ◌+◌, ℕ, Err, Some, length, arith}
 use Rattle.std.proofs.lemmas.Result.{err_from_is_err_and}
 use Rattle.ciborium_ll_decoder.specs.declared.dec.Decoder.{Decoder}
 use Rattle.ciborium_ll_decoder.specs.Recoding.{CopiesBody, GoesOn}

@@ -1,4 +1,4 @@
-use Rattle.std.proofs.Common.{rules, refl, subst, ◌∙◌, ℕ, Err, length}
+use Rattle.std.proofs.Common.{rules, refl, subst, ℕ, Err, length}
 use Rattle.ciborium_ll_decoder.specs.Chunks.{GivesChunk, PullsChunk}
 use Rattle.ciborium_ll_decoder.proofs.DecodingLaws.{MovesOn-none, MovesOn-then}
 use Rattle.ciborium_ll_decoder.proofs.BodyCopyLaws.{so_far_start, so_far_chunk, so_far_unwritten, so_far_whole}
