@@ -1,5 +1,5 @@
 -- The show of an item behind its header, which was pulled, as a read of the item.
-use Rattle.std.proofs.Common.{◌≡◌, ℕ, suc, Bool, [], Option, Result, Err, IfErr, inr}
+use Rattle.std.proofs.Common.{◌≡◌, ℕ, suc, Bool, [], Option, Result, Err, IfErr, inr, false}
 use Rattle.ciborium_ll.specs.Types.Read.{Ghosts}
 use Rattle.ciborium_ll.specs.Types.Header.{Header}
 use Rattle.ciborium_ll.specs.Types.Decoder.{Decoder}
@@ -36,7 +36,7 @@ module _ {R E : Type 0} (source : Ghosts R E) (outer : Bool) (depth : ℕ) (befo
 module _ {R E F : Type 0} (source : Ghosts R E) (outer : Bool) (depth : ℕ) (before titled : Decoder R)
     (steady : IsSteady source before → IsSteady source titled) where
   -- an item that is a header alone
-  pub scalar_read : (header : Header) (result : Result (Unit {0}) (DiagError E F)) → Completes depth header []
+  pub scalar_read : (header : Header) (result : Result (Unit {0}) (DiagError E F)) → Completes false depth header []
       → PullsTitle source before header titled → IfErr result IsWriting
       → OnReading (ItemRead source outer depth before titled) result
   scalar_read header result completes pulled writing =

@@ -65,7 +65,7 @@ module _ (spot : Spot) (clear : spot.front ≡ []) (plain : spot.within ≡ w.No
   nest_on d level y same o =
       subst (λ (n : ℕ). Waits (nested n level spot) y) same ((settles (level ∷ spot.levels) d spot y clear).0 o)
 
-  level_of : (level : Level) (d n : ℕ) (items end rest y : List ℕ) → AreItems d n items → Takes level n end
+  level_of : (level : Level) (d n : ℕ) (items end rest y : List ℕ) → AreItems false d n items → Takes level n end
       → Ends (suc d) spot.levels rest
       → y ≡ (items ++ end) ++ rest → EndsLevel level d (Ends (suc d) spot.levels) y
   level_of level d n items end rest y i t k e = record {
@@ -80,13 +80,13 @@ module _ (spot : Spot) (clear : spot.front ≡ []) (plain : spot.within ≡ w.No
   }
 
   -- the same, with no bytes at the end
-  level_all : (level : Level) (d n : ℕ) (items rest y : List ℕ) → AreItems d n items → Takes level n []
+  level_all : (level : Level) (d n : ℕ) (items rest y : List ℕ) → AreItems false d n items → Takes level n []
       → Ends (suc d) spot.levels rest
       → y ≡ items ++ rest → EndsLevel level d (Ends (suc d) spot.levels) y
   level_all level d n items rest y i t k e =
       level_of level d n items [] rest y i t k (e ∙ ap (λ (z : List ℕ). z ++ rest) (sym (append-nil items)))
 
-  completes_on : (d : ℕ) (x : Header) (r rest y : List ℕ) → Completes d x r → d ≡ spot.depth
+  completes_on : (d : ℕ) (x : Header) (r rest y : List ℕ) → Completes false d x r → d ≡ spot.depth
       → Ends d spot.levels rest → y ≡ r ++ rest
       → Waits (item_entered x spot) y
   completes_on d x r rest y positive same k e = subst (Waits (item_done spot)) (sym e) (plain_on d rest same k)
@@ -111,7 +111,7 @@ module _ (spot : Spot) (clear : spot.front ≡ []) (plain : spot.within ≡ w.No
         behind = subst (λ (n : ℕ). Ends n spot.levels rest) same k;
         is = e;
       }))
-  completes_on d x r rest y (open_bytes {strings = u} {bodies = bs} i) same k e =
+  completes_on d x r rest y (open_bytes {strings = u} {bodies = bs} i g) same k e =
       rw clear (record {
         strings = u;
         bodies = bs;
@@ -121,7 +121,7 @@ module _ (spot : Spot) (clear : spot.front ≡ []) (plain : spot.within ≡ w.No
         behind = subst (λ (n : ℕ). Ends n spot.levels rest) same k;
         is = e ∙ append_assoc u (0xff ∷ []) rest;
       })
-  completes_on d x r rest y (open_text {strings = u} {bodies = bs} i sound) same k e =
+  completes_on d x r rest y (open_text {strings = u} {bodies = bs} i g sound) same k e =
       rw clear (record {
         strings = u;
         bodies = bs;
@@ -143,10 +143,10 @@ module _ (spot : Spot) (clear : spot.front ≡ []) (plain : spot.within ≡ w.No
       nest_on c l.OpenPairs y same (level_of l.OpenPairs c (2 * n) u (0xff ∷ []) rest y i ((n, refl), refl) k e)
 
   -- an item in front of a title's bytes
-  item_on : (t y item rest : List ℕ) (x : Header) → IsTitle t x → IsItem spot.depth item
+  item_on : (t y item rest : List ℕ) (x : Header) → IsTitle t x → IsItem false spot.depth item
       → Ends spot.depth spot.levels rest → t ++ y ≡ item ++ rest
       → Waits (item_entered x spot) y
-  item_on t y item rest x p (more_items {title = t'} {rest = r} {header = x'} p' c no_items) k e =
+  item_on t y item rest x p (more_items {title = t'} {rest = r} {header = x'} p' g c no_items) k e =
       let parts = e ∙ (append_assoc t' (r ++ []) rest
       ∙ ap (λ (z : List ℕ). t' ++ (z ++ rest)) (append-nil r)) in
       let o = one_title t t' y (r ++ rest) x x' p p' parts in
@@ -175,7 +175,7 @@ module _ (spot : Spot) (clear : spot.front ≡ []) (plain : spot.within ≡ w.No
 
   -- ---- and back
 
-  item_back : (d : ℕ) (t y r rest : List ℕ) (x : Header) → IsTitle t x → d ≡ spot.depth → Completes d x r
+  item_back : (d : ℕ) (t y r rest : List ℕ) (x : Header) → IsTitle t x → d ≡ spot.depth → Completes false d x r
       → Ends d spot.levels rest
       → y ≡ r ++ rest → ItemDue spot.depth spot.levels (t ++ y)
   item_back d t y r rest x p same c k e =
@@ -187,15 +187,15 @@ module _ (spot : Spot) (clear : spot.front ≡ []) (plain : spot.within ≡ w.No
         is = ap (λ (z : List ℕ). t ++ z) e ∙ sym (append_assoc t r rest);
       }))
 
-  plain_back : (t y : List ℕ) (x : Header) → IsTitle t x → Completes spot.depth x [] → Waits (item_done spot) y
+  plain_back : (t y : List ℕ) (x : Header) → IsTitle t x → Completes false spot.depth x [] → Waits (item_done spot) y
       → ItemDue spot.depth spot.levels (t ++ y)
   plain_back t y x p c waits =
       item_back spot.depth t y [] y x p refl c ((settles spot.levels spot.depth spot y clear).1 waits) refl
 
   -- what a nest takes completes it
   record InNest (x : Header) : Type 0 where
-    completes : (d n : ℕ) (items end : List ℕ) → Takes (contents x) n end → AreItems d n items
-        → Completes (suc d) x (items ++ end)
+    completes : (d n : ℕ) (items end : List ℕ) → Takes (contents x) n end → AreItems false d n items
+        → Completes false (suc d) x (items ++ end)
 
   nest_back : (depth : ℕ) (t y : List ℕ) (x : Header) → depth ≡ spot.depth → IsTitle t x → InNest x
       → Waits (nested depth (contents x) spot) y
@@ -208,11 +208,11 @@ module _ (spot : Spot) (clear : spot.front ≡ []) (plain : spot.within ≡ w.No
       o.behind (o.is ∙ sym (append_assoc o.items o.end o.rest))
 
   counted_nest : (d m : ℕ) (x : Header) (items end : List ℕ) (n : ℕ) → n ≡ m → end ≡ []
-      → ((z : List ℕ) → AreItems d m z → Completes (suc d) x z)
-      → AreItems d n items → Completes (suc d) x (items ++ end)
+      → ((z : List ℕ) → AreItems false d m z → Completes false (suc d) x z)
+      → AreItems false d n items → Completes false (suc d) x (items ++ end)
   counted_nest d m x items end n e e' f i =
-      subst (Completes (suc d) x) (sym (ap (λ (z : List ℕ). items ++ z) e' ∙ append-nil items))
-      (f items (subst (λ (z : ℕ). AreItems d z items) e i))
+      subst (Completes false (suc d) x) (sym (ap (λ (z : List ℕ). items ++ z) e' ∙ append-nil items))
+      (f items (subst (λ (z : ℕ). AreItems false d z items) e i))
 
   tag_nest : (n : ℕ) → InNest (h.Tag n)
   tag_nest n = record {
@@ -221,7 +221,8 @@ module _ (spot : Spot) (clear : spot.front ≡ []) (plain : spot.within ≡ w.No
 
   array_nest : (count : Option ℕ) → InNest (h.Array count)
   array_nest None = record {
-    completes = λ d m items end t i. subst (λ (z : List ℕ). Completes (suc d) (h.Array None) (items ++ z)) (sym t.1)
+    completes =
+        λ d m items end t i. subst (λ (z : List ℕ). Completes false (suc d) (h.Array None) (items ++ z)) (sym t.1)
         (open_array i);
   }
   array_nest (Some n) = record {
@@ -230,8 +231,8 @@ module _ (spot : Spot) (clear : spot.front ≡ []) (plain : spot.within ≡ w.No
 
   map_nest : (count : Option ℕ) → InNest (h.Map count)
   map_nest None = record {
-    completes = λ d m items end t i. subst (λ (z : List ℕ). Completes (suc d) (h.Map None) (items ++ z)) (sym t.1)
-        (open_pairs t.0.0 (subst (λ (z : ℕ). AreItems d z items) t.0.1 i));
+    completes = λ d m items end t i. subst (λ (z : List ℕ). Completes false (suc d) (h.Map None) (items ++ z)) (sym t.1)
+        (open_pairs t.0.0 (subst (λ (z : ℕ). AreItems false d z items) t.0.1 i));
   }
   map_nest (Some n) = record {
     completes = λ d m items end t i. counted_nest d (2 * n) (h.Map (Some n)) items end m t.0 t.1 (λ z j. pairs j) i;
@@ -267,11 +268,11 @@ module _ (spot : Spot) (clear : spot.front ≡ []) (plain : spot.within ≡ w.No
       b.behind b.is
   entered_back t y (h.Bytes None) p waits =
       let o = rw clear at waits in
-      item_back spot.depth t y (o.strings ++ 0xff ∷ []) o.rest (h.Bytes None) p refl (open_bytes o.are) o.behind
+      item_back spot.depth t y (o.strings ++ 0xff ∷ []) o.rest (h.Bytes None) p refl (open_bytes o.are tt) o.behind
       (o.is ∙ sym (append_assoc o.strings (0xff ∷ []) o.rest))
   entered_back t y (h.Text None) p waits =
       let o = rw clear at waits in
-      item_back spot.depth t y (o.strings ++ 0xff ∷ []) o.rest (h.Text None) p refl (open_text o.are o.sound) o.behind
+      item_back spot.depth t y (o.strings ++ 0xff ∷ []) o.rest (h.Text None) p refl (open_text o.are tt o.sound) o.behind
       (o.is ∙ sym (append_assoc o.strings (0xff ∷ []) o.rest))
   entered_back t y (h.Tag n) p waits = nest_back spot.depth t y (h.Tag n) refl p (tag_nest n) waits
   entered_back t y (h.Array n) p waits = nest_back spot.depth t y (h.Array n) refl p (array_nest n) waits

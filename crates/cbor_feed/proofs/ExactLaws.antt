@@ -1,5 +1,5 @@
 -- Where an item has ended and where there is a fault, in terms of the bytes alone.
-use Rattle.std.proofs.Common.{◌≡◌, ℕ, zero, suc, ◌↔◌, List, [], ◌++◌, length, refl, sym, ap, subst, ◌∙◌, arith}
+use Rattle.std.proofs.Common.{◌≡◌, ℕ, zero, suc, ◌↔◌, List, [], ◌++◌, length, refl, sym, ap, subst, ◌∙◌, arith, false}
 use Rattle.std.proofs.Common.{append-nil}
 use Rattle.std.proofs.Common.{length-append, inl, inr}
 use Rattle.ciborium_ll_grammar.specs.Items.{IsItem}
@@ -34,7 +34,7 @@ fault_or p.Ended spot e has = absurd (has (λ fault same. let both = e ∙ same 
 
 -- there is a fault just where no item begins so
 pub fault_exact : (d : ℕ) (fed : List ℕ) (spot : Spot) → IsFed d fed spot
-    → HasFault spot ↔ ((more : List ℕ) → IsItem d (fed ++ more) → ⊥)
+    → HasFault spot ↔ ((more : List ℕ) → IsItem false d (fed ++ more) → ⊥)
 fault_exact d fed spot is = (
   λ has y i. fault_none spot.phase spot y refl has ((fed_same d fed spot is y).0 i),
   λ never. fault_or spot.phase spot refl (λ sound. let o = fed_goes d fed spot is sound in never o.0 o.1),
@@ -77,10 +77,10 @@ whole_in (p.Text n state) spot e has = absurd has
 whole_in (p.Faulted fault) spot e has = absurd has
 
 -- the item has ended just where the bytes so far are one
-pub ended_exact : (d : ℕ) (fed : List ℕ) (spot : Spot) → IsFed d fed spot → HasEnded spot ↔ IsItem d fed
+pub ended_exact : (d : ℕ) (fed : List ℕ) (spot : Spot) → IsFed d fed spot → HasEnded spot ↔ IsItem false d fed
 ended_exact d fed spot is =
     let same = fed_same d fed spot is [] in (
-      λ has. subst (IsItem d) (append-nil fed) (same.1 (whole_in spot.phase spot refl has)),
+      λ has. subst (IsItem false d) (append-nil fed) (same.1 (whole_in spot.phase spot refl has)),
       λ item. ended_in spot.phase spot (fed_sound d fed spot is)
-          (same.0 (subst (IsItem d) (sym (append-nil fed)) item)),
+          (same.0 (subst (IsItem false d) (sym (append-nil fed)) item)),
     )

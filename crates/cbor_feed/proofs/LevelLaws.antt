@@ -1,5 +1,5 @@
 -- What levels and strings that end leave due.
-use Rattle.std.proofs.Common.{◌≡◌, ℕ, zero, suc, ◌⊎◌, true, List, [], ◌∷◌, ◌++◌, Option}
+use Rattle.std.proofs.Common.{◌≡◌, ℕ, zero, suc, ◌⊎◌, true, List, [], ◌∷◌, ◌++◌, Option, false}
 use Rattle.std.proofs.Common.{Some, None, refl, sym, ap, subst, ◌∙◌, inl, inr, arith, append_assoc, append-nil}
 use Rattle.ciborium_ll_grammar.specs.declared.hdr.Header.{Header}
 use Rattle.ciborium_ll_grammar.specs.Title.{IsTitle}
@@ -99,8 +99,8 @@ end_back l.OpenValue g d c =
 -- ---- a level where one item more is due
 
 -- an item of a title and what completes it
-pub item_of : (d : ℕ) (t r : List ℕ) (x : Header) → IsTitle t x → Completes d x r → IsItem d (t ++ r)
-item_of d t r x p c = subst (λ (z : List ℕ). IsItem d (t ++ z)) (append-nil r) (more_items p c no_items)
+pub item_of : (d : ℕ) (t r : List ℕ) (x : Header) → IsTitle t x → Completes false d x r → IsItem false d (t ++ r)
+item_of d t r x p c = subst (λ (z : List ℕ). IsItem false d (t ++ z)) (append-nil r) (more_items p tt c no_items)
 
 -- a title, what completes it and other items, with more behind: the first item in front
 first_apart : (t r a s : List ℕ) → (t ++ (r ++ a)) ++ s ≡ (t ++ r) ++ (a ++ s)
@@ -108,7 +108,7 @@ first_apart t r a s =
     append_assoc t (r ++ a) s ∙ (ap (λ (z : List ℕ). t ++ z) (append_assoc r a s) ∙ sym (append_assoc t r (a ++ s)))
 
 module _ (f g : Level) (d : ℕ) (Then : List ℕ → Type 0) (goes : next f ≡ Some g) where
-  level_opens : (n : ℕ) (items e rest y : List ℕ) → AreItems d n items → Takes f n e → Then rest
+  level_opens : (n : ℕ) (items e rest y : List ℕ) → AreItems false d n items → Takes f n e → Then rest
       → y ≡ items ++ (e ++ rest)
       → ItemThen d (EndsLevel g d Then) y ⊎ BreakThen g Then y
   level_opens n items e rest y no_items t k is =
@@ -119,7 +119,8 @@ module _ (f g : Level) (d : ℕ) (Then : List ℕ → Type 0) (goes : next f ≡
         behind = k;
         is = is ∙ ap (λ (z : List ℕ). z ++ rest) o.1;
       })
-  level_opens n items e rest y (more_items {count = m} {title = t} {rest = r} {others = a} {header = x} q c i) u k is =
+  level_opens n items e rest y (more_items {count = m} {title = t} {rest = r} {others = a} {header = x} q s c i) u
+      k is =
       inl (record {
         item = t ++ r;
         rest = a ++ (e ++ rest);
@@ -138,16 +139,17 @@ module _ (f g : Level) (d : ℕ) (Then : List ℕ → Type 0) (goes : next f ≡
       })
 
   -- an item in front of items
-  item_then_items : (n : ℕ) (item a e rest y : List ℕ) → IsItem d item → AreItems d n a → Takes g n e → Then rest
+  item_then_items : (n : ℕ) (item a e rest y : List ℕ) → IsItem false d item → AreItems false d n a → Takes g n e
+      → Then rest
       → y ≡ item ++ (a ++ (e ++ rest))
       → EndsLevel f d Then y
-  item_then_items n item a e rest y (more_items {title = t} {rest = r} {header = x} q c no_items) i u k is = record {
+  item_then_items n item a e rest y (more_items {title = t} {rest = r} {header = x} q s c no_items) i u k is = record {
     count = suc n;
     items = t ++ (r ++ a);
     end = e;
     rest = rest;
     takes = next_back f g n e goes u;
-    are_items = more_items q c i;
+    are_items = more_items q s c i;
     behind = k;
     is =
         is ∙ (ap (λ (z : List ℕ). (t ++ z) ++ (a ++ (e ++ rest))) (append-nil r)
@@ -178,12 +180,12 @@ Same A B = (A → B) × (B → A)
 
 -- a level that is done is nothing
 done_level : (f : Level) (d : ℕ) (Then : List ℕ → Type 0) → next f ≡ None → (n : ℕ) (items e rest y : List ℕ)
-    → AreItems d n items
+    → AreItems false d n items
     → Takes f n e → Then rest → y ≡ items ++ (e ++ rest) → Then y
 done_level f d Then done n items e rest y no_items t k is =
     let o = done_takes f n e done t in
     subst Then (sym (is ∙ ap (λ (z : List ℕ). z ++ rest) o.1)) k
-done_level f d Then done n items e rest y (more_items q c i) t k is =
+done_level f d Then done n items e rest y (more_items q s c i) t k is =
     absurd (let o = done_takes f n e done t in omega (arith, o.0))
 
 settled_next : (o : Option Level) (f : Level) (fs : List Level) (d : ℕ) (spot : Spot) (y : List ℕ) → next f ≡ o

@@ -36,11 +36,11 @@ use Rattle.cbor_feed.proofs.KeptLaws.{entered_kept}
 -- ---- what ends levels and strings
 
 -- zeros are items
-zeros : (d n : ℕ) → (items : List ℕ) × AreItems d n items
+zeros : (d n : ℕ) → (items : List ℕ) × AreItems false d n items
 zeros d zero = ([], no_items)
 zeros d (suc n) =
     let others = zeros d n in
-    ((0 ∷ []) ++ ([] ++ others.0), more_items (numbered Unsigned Small 0 (omega arith)) positive others.1)
+    ((0 ∷ []) ++ ([] ++ others.0), more_items (numbered Unsigned Small 0 (omega arith)) tt positive others.1)
 
 -- so many items end the level
 record Ending (level : Level) : Type 0 where
@@ -377,7 +377,7 @@ live_in (p.Faulted fault) spot e sound goes = absurd (goes fault (sym e))
 
 -- where there is no fault, some bytes make an item
 pub fed_goes : (d : ℕ) (fed : List ℕ) (spot : Spot) → IsFed d fed spot → NoFault spot
-    → (y : List ℕ) × IsItem d (fed ++ y)
+    → (y : List ℕ) × IsItem false d (fed ++ y)
 fed_goes d fed spot is goes =
     let o = live_in spot.phase spot refl (fed_sound d fed spot is) goes in
     (o.0, (fed_same d fed spot is o.0).1 o.1)

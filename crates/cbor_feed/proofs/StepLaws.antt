@@ -43,8 +43,8 @@ pub record Titled (y : List ℕ) : Type 0 where
   pub is_title : IsTitle title header
   pub is : y ≡ title ++ rest
 
-item_titled : (d : ℕ) (item rest y : List ℕ) → IsItem d item → y ≡ item ++ rest → Titled y
-item_titled d item rest y (more_items {title = t} {rest = r} {header = x} q c no_items) e = record {
+item_titled : (d : ℕ) (item rest y : List ℕ) → IsItem false d item → y ≡ item ++ rest → Titled y
+item_titled d item rest y (more_items {title = t} {rest = r} {header = x} q s c no_items) e = record {
   title = t;
   header = x;
   rest = (r ++ []) ++ rest;
@@ -298,21 +298,23 @@ step_same (p.Faulted fault) spot new b at step y = absurd step
 
 -- ---- all bytes so far
 
-fresh_same : (d : ℕ) (y : List ℕ) → Same (IsItem d y) (Waits (start d) y)
+fresh_same : (d : ℕ) (y : List ℕ) → Same (IsItem false d y) (Waits (start d) y)
 fresh_same d y = (
   λ i. inl (record { item = y; rest = []; is_item = i; behind = refl; is = sym (append-nil y) }),
   λ due. elim due [
-    | inl o ↦ subst (IsItem d) (sym (o.is ∙ (ap (λ (z : List ℕ). o.item ++ z) o.behind ∙ append-nil o.item))) o.is_item
+    | inl o ↦ (
+        subst (IsItem false d) (sym (o.is ∙ (ap (λ (z : List ℕ). o.item ++ z) o.behind ∙ append-nil o.item))) o.is_item
+        )
     | inr o ↦ absurd o
   ],
 )
 
 -- the bytes that make a whole item of those so far are those that the spot waits for
 pub fed_same : (d : ℕ) (fed : List ℕ) (spot : Spot) → IsFed d fed spot → (y : List ℕ)
-    → Same (IsItem d (fed ++ y)) (Waits spot y)
+    → Same (IsItem false d (fed ++ y)) (Waits spot y)
 fed_same d fed spot fresh y = fresh_same d y
 fed_same d fed spot (more {bytes = a} {spot = before} b byte is step) y =
     let goes = step_same before.phase before spot b refl step y in
     let so_far = fed_same d a before is (b ∷ y) in
-    subst (λ (z : List ℕ). Same (IsItem d z) (Waits spot y)) (sym (append_assoc a (b ∷ []) y))
-    (both (IsItem d (a ++ b ∷ y)) (Waits before (b ∷ y)) (Waits spot y) so_far goes)
+    subst (λ (z : List ℕ). Same (IsItem false d z) (Waits spot y)) (sym (append_assoc a (b ∷ []) y))
+    (both (IsItem false d (a ++ b ∷ y)) (Waits before (b ∷ y)) (Waits spot y) so_far goes)

@@ -1,5 +1,5 @@
 -- What the answer of a checker says of the bytes so far.
-use Rattle.std.proofs.Common.{◌≡◌, ℕ, zero, suc, ◌+◌, ◌%◌, ◌<◌, ◌≤◌, true, List, [], ◌∷◌, ◌++◌}
+use Rattle.std.proofs.Common.{◌≡◌, ℕ, zero, suc, ◌+◌, ◌%◌, ◌<◌, ◌≤◌, true, List, [], ◌∷◌, ◌++◌, false}
 use Rattle.std.proofs.Common.{length, take, get_or, slice_index, refl, sym, ap, subst, ◌∙◌, arith}
 use Rattle.std.proofs.Common.{append_assoc, append-nil, length-append}
 use Rattle.std.proofs.lemmas.List.{take_more}
@@ -87,28 +87,28 @@ tells_in : (phase : Phase) (d : ℕ) (fed : List ℕ) (spot : Spot) → phase �
     → has_left phase ≡ true
     → length spot.front ≤ affix_len (slice_index spot.front 0 % 32) → Tells d fed (progress_in phase spot)
 tells_in p.Title d fed spot e is left short =
-    let go : (y : List ℕ) → IsItem d (fed ++ y) → title_due spot.front ≤ length y = λ y i.
+    let go : (y : List ℕ) → IsItem false d (fed ++ y) → title_due spot.front ≤ length y = λ y i.
     let waits = (fed_same d fed spot is y).0 i in
     due_by spot y (due_titled spot.within spot.depth spot.levels (spot.front ++ y)
     (subst (λ (z : Phase). WaitsIn z spot y) (sym e) waits)) in
     (title_lacks spot.front short, fed_goes d fed spot is (λ fault same. let both = e ∙ same in cc), go)
 tells_in (p.Bytes zero) d fed spot e is left short = absurd cc
 tells_in (p.Bytes (suc n)) d fed spot e is left short =
-    let go : (y : List ℕ) → IsItem d (fed ++ y) → suc n ≤ length y = λ y i.
+    let go : (y : List ℕ) → IsItem false d (fed ++ y) → suc n ≤ length y = λ y i.
     let waits = subst (λ (z : Phase). WaitsIn z spot y) (sym e) ((fed_same d fed spot is y).0 i) in
     let whole = ap length waits.is in
     omega (arith, waits.long, whole, length-append waits.body waits.rest) in
     (omega arith, fed_goes d fed spot is (λ fault same. let both = e ∙ same in cc), go)
 tells_in (p.Text zero state) d fed spot e is left short = absurd cc
 tells_in (p.Text (suc n) state) d fed spot e is left short =
-    let go : (y : List ℕ) → IsItem d (fed ++ y) → suc n ≤ length y = λ y i.
+    let go : (y : List ℕ) → IsItem false d (fed ++ y) → suc n ≤ length y = λ y i.
     let waits = subst (λ (z : Phase). WaitsIn z spot y) (sym e) ((fed_same d fed spot is y).0 i) in
     let whole = ap length waits.is in
     omega (arith, waits.long, whole, length-append waits.body waits.rest) in
     (omega arith, fed_goes d fed spot is (λ fault same. let both = e ∙ same in cc), go)
 tells_in p.Ended d fed spot e is left short =
     let item = (fed_same d fed spot is []).1 (subst (λ (z : Phase). WaitsIn z spot []) e refl) in
-    (subst (IsItem d) (append-nil fed) item, fed_counts d fed spot is)
+    (subst (IsItem false d) (append-nil fed) item, fed_counts d fed spot is)
 tells_in (p.Faulted fault) d fed spot e is left short =
     λ y i. subst (λ (z : Phase). WaitsIn z spot y) (sym e) ((fed_same d fed spot is y).0 i)
 

@@ -1,5 +1,5 @@
 -- Which bytes behind a spot make a whole item of all.
-use Rattle.std.proofs.Common.{◌≡◌, ℕ, zero, suc, ◌*◌, ◌⊎◌, true, List, [], ◌∷◌, ◌++◌, length}
+use Rattle.std.proofs.Common.{◌≡◌, ℕ, zero, suc, ◌*◌, ◌⊎◌, true, List, [], ◌∷◌, ◌++◌, length, false}
 use Rattle.ciborium_ll_grammar.specs.Items.{AreItems, IsItem}
 use Rattle.ciborium_ll_grammar.specs.Strings.{Kind, Bytes, Text, AreStrings}
 use Rattle.ciborium_ll_grammar.specs.Elements.{AreWritable}
@@ -31,7 +31,7 @@ pub record EndsLevel (level : Level) (depth : ℕ) (Then : List ℕ → Type 0) 
   pub end : List ℕ
   pub rest : List ℕ
   pub takes : Takes level count end
-  pub are_items : AreItems depth count items
+  pub are_items : AreItems false depth count items
   pub behind : Then rest
   pub is : bytes ≡ items ++ (end ++ rest)
 
@@ -44,7 +44,7 @@ Ends depth (level ∷ levels) bytes = EndsLevel level depth (Ends (suc depth) le
 pub record ItemThen (depth : ℕ) (Then : List ℕ → Type 0) (bytes : List ℕ) : Type 0 where
   pub item : List ℕ
   pub rest : List ℕ
-  pub is_item : IsItem depth item
+  pub is_item : IsItem false depth item
   pub behind : Then rest
   pub is : bytes ≡ item ++ rest
 

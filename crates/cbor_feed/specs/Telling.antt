@@ -42,10 +42,10 @@ progress_of spot = progress_in spot.phase spot
 -- so many. Ended: they are one item, of this length. Fault: no item begins so (RFC 7049, 2.1 to 2.4)
 abbrev pub Tells : ℕ → List ℕ → Progress → Type 0
 Tells depth bytes (r.More due) =
-    (1 ≤ due) × ((more : List ℕ) × IsItem depth (bytes ++ more))
-    × ((more : List ℕ) → IsItem depth (bytes ++ more) → due ≤ length more)
-Tells depth bytes (r.Ended len) = IsItem depth bytes × (len ≡ length bytes)
-Tells depth bytes (r.Fault fault) = (more : List ℕ) → IsItem depth (bytes ++ more) → ⊥
+    (1 ≤ due) × ((more : List ℕ) × IsItem false depth (bytes ++ more))
+    × ((more : List ℕ) → IsItem false depth (bytes ++ more) → due ≤ length more)
+Tells depth bytes (r.Ended len) = IsItem false depth bytes × (len ≡ length bytes)
+Tells depth bytes (r.Fault fault) = (more : List ℕ) → IsItem false depth (bytes ++ more) → ⊥
 Tells depth bytes r.TooLong = 2 ^ 64 ≤ length bytes + 1
 
 -- more bytes are due
@@ -55,7 +55,7 @@ IsMore progress = ⊥
 
 -- What it says that no more bytes come: they end between items, within one, or none begins so
 abbrev pub TellsEnd : ℕ → List ℕ → End → Type 0
-TellsEnd depth bytes e.Between = (bytes ≡ []) ⊎ IsItem depth bytes
+TellsEnd depth bytes e.Between = (bytes ≡ []) ⊎ IsItem false depth bytes
 TellsEnd depth bytes (e.Short due) = (0 < length bytes) × Tells depth bytes (r.More due)
 TellsEnd depth bytes (e.Fault fault) = Tells depth bytes (r.Fault fault)
 

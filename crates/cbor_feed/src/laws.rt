@@ -1,6 +1,6 @@
 //! Laws of the checker's states, each the contract of an empty function.
 
-ghost use Rattle.std.specs.Prelude.{ℕ, ◌≡◌, ◌++◌, ◌↔◌, List};
+ghost use Rattle.std.specs.Prelude.{ℕ, ◌≡◌, ◌++◌, ◌↔◌, List, false};
 ghost use Rattle.ciborium_ll_grammar.specs.Items.{IsItem};
 ghost use Rattle.cbor_feed.specs.Spots.{Spot};
 ghost use Rattle.cbor_feed.specs.Steps.{IsFed};
@@ -15,7 +15,7 @@ pub fn one_state()
 /// The item has ended exactly where the bytes so far are one, and there is a fault exactly where no item begins so.
 pub fn exact_states()
     ensures ended { (depth : ℕ) (bytes : List ℕ) (spot : Spot) → IsFed depth bytes spot
-        → (HasEnded spot ↔ IsItem depth bytes) }
+        → (HasEnded spot ↔ IsItem false depth bytes) }
     ensures fault { (depth : ℕ) (bytes : List ℕ) (spot : Spot) → IsFed depth bytes spot
-        → (HasFault spot ↔ ((more : List ℕ) → IsItem depth (bytes ++ more) → ⊥)) }
+        → (HasFault spot ↔ ((more : List ℕ) → IsItem false depth (bytes ++ more) → ⊥)) }
 {}

@@ -1,5 +1,5 @@
 -- Rows of items in lists of bytes: how many they are, and what may follow some of them.
-use Rattle.std.proofs.Common.{◌≡◌, ℕ, suc, ◌<◌, ◌≤◌, ◌⊎◌, List, [], ◌∷◌, ◌++◌, length, Some, refl}
+use Rattle.std.proofs.Common.{◌≡◌, ℕ, suc, ◌<◌, ◌≤◌, ◌⊎◌, List, [], ◌∷◌, ◌++◌, length, Some, refl, false}
 use Rattle.std.proofs.Common.{sym, ap, subst, ◌∙◌, inl, inr, arith, append_assoc, length-append}
 use Rattle.ciborium_ll.specs.Title.{BeginsRefused}
 use Rattle.ciborium_ll.specs.Strings.{Kind, kind_header}
@@ -20,9 +20,9 @@ nothing [] e = refl
 nothing (byte ∷ u) e = absurd (omega (arith, e))
 
 -- an item takes a byte at least
-pub items_counted : (d n : ℕ) (u : List ℕ) → AreItems d n u → n ≤ length u
+pub items_counted : (d n : ℕ) (u : List ℕ) → AreItems false d n u → n ≤ length u
 items_counted d n u no_items = omega arith
-items_counted d n u (more_items {count = m} {title = t} {rest = r} {others = a} {header = x} p c i) =
+items_counted d n u (more_items {count = m} {title = t} {rest = r} {others = a} {header = x} p g c i) =
     omega (arith, items_counted d m a i, title_some t x p, length-append t (r ++ a), length-append r a)
 
 -- ---- two rows
@@ -33,18 +33,20 @@ item_apart t r a s =
     append_assoc t (r ++ a) s ∙ (ap (λ (z : List ℕ). t ++ z) (append_assoc r a s) ∙ sym (append_assoc t r (a ++ s)))
 
 -- behind some items of a whole row one more comes, or those were all
-pub rows_meet : (d m : ℕ) (u : List ℕ) → AreItems d m u → (n : ℕ) (w : List ℕ) → AreItems d n w → (s : List ℕ)
+pub rows_meet : (d m : ℕ) (u : List ℕ) → AreItems false d m u → (n : ℕ) (w : List ℕ) → AreItems false d n w
+    → (s : List ℕ)
     → w ≡ u ++ s → ItemInFront d s ⊎ ((n ≡ m) × (s ≡ []))
 rows_meet d m u no_items n w no_items s e = inr (refl, sym e)
-rows_meet d m u no_items n w (more_items {title = t} {rest = r} {others = a} {header = x} p c i) s e =
+rows_meet d m u no_items n w (more_items {title = t} {rest = r} {others = a} {header = x} p g c i) s e =
     inl (record { item = t ++ r; rest = a; is_item = item_of d t r x p c; is = sym e ∙ sym (append_assoc t r a) })
-rows_meet d m u (more_items {title = t} {rest = r} {others = a} {header = x} p c i) n w no_items s e =
+rows_meet d m u (more_items {title = t} {rest = r} {others = a} {header = x} p g c i) n w no_items s e =
     let counted = ap length e in
     absurd (omega (arith, counted, title_some t x p, length-append t (r ++ a), length-append (t ++ (r ++ a)) s))
-rows_meet d m u (more_items {count = j} {title = t} {rest = r} {others = a} {header = x} p c i) n w
-    (more_items {count = k} {title = t'} {rest = r'} {others = a'} {header = x'} p' c' i') s e =
+rows_meet d m u (more_items {count = j} {title = t} {rest = r} {others = a} {header = x} p g c i) n w
+    (more_items {count = k} {title = t'} {rest = r'} {others = a'} {header = x'} p' k' c' i') s e =
     let both : (t' ++ r') ++ a' ≡ (t ++ r) ++ (a ++ s) = append_assoc t' r' a' ∙ (e ∙ item_apart t r a s) in
-    let o = one_item d d (t' ++ r') (t ++ r) a' (a ++ s) (item_of d t' r' x' p' c') (item_of d t r x p c) both in
+    let o = one_item false false d d (t' ++ r') (t ++ r) a' (a ++ s) (item_of d t' r' x' p' c')
+    (item_of d t r x p c) both in
     elim (rows_meet d j a i k a' i' s o.1) [
       | inl comes ↦ inl comes
       | inr ends ↦ inr (ap suc ends.0, ends.1)

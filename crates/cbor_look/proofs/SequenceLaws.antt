@@ -1,5 +1,5 @@
 -- What `check` read: items one behind the other, and what stands behind them.
-use Rattle.std.proofs.Common.{◌≡◌, ℕ, suc, List, [], ◌∷◌, ◌++◌, length, Some, Result, Ok, Err}
+use Rattle.std.proofs.Common.{◌≡◌, ℕ, suc, List, [], ◌∷◌, ◌++◌, length, Some, Result, Ok, Err, false}
 use Rattle.std.proofs.Common.{IsOk, IfOk, ◌↔◌, refl, sym, ap, subst, ◌∙◌, inl, inr, arith, append-nil}
 use Rattle.std.proofs.Common.{length-append, drop}
 use Rattle.std.proofs.Math.Seq.{drop-nil}
@@ -50,7 +50,7 @@ module _ {R E : Type 0} (source : Ghosts R E) where
     between = between;
     reads = record {
       bytes = reads.bytes;
-      are_items = subst (λ (n : ℕ). AreItems depth n reads.bytes) (sym is.2) reads.are_items;
+      are_items = subst (λ (n : ℕ). AreItems false depth n reads.bytes) (sym is.2) reads.are_items;
       passed = reads.passed;
     };
     counted = omega (arith, is.3, from, here, reads.passed.offset);
@@ -166,7 +166,7 @@ module _ {R E : Type 0} (source : Ghosts R E) where
         let all = c.parts ∙ (ap (λ (z : List ℕ). finds.reads.bytes ++ z) none.0 ∙ append-nil finds.reads.bytes) in
         let counted = ap length all in
         record {
-          are_items = subst (λ (z : List ℕ). AreItems depth sequence.items z) (sym all) finds.reads.are_items;
+          are_items = subst (λ (z : List ℕ). AreItems false depth sequence.items z) (sym all) finds.reads.are_items;
           counted = finds.counted ∙ sym counted;
           left = none.1;
           offset = omega (arith, finds.still, finds.reads.passed.offset, counted);
@@ -207,7 +207,8 @@ module _ {R E : Type 0} (source : Ghosts R E) where
         → IsOk result ↔ IsSequence depth due
     check_exactly new result checks = exactly_told new result (check_told new result checks)
 
-    number_told : (count : ℕ) → AreItems depth count due → (new : Decoder R) (result : Result (Sequence E) (Stopped E))
+    number_told : (count : ℕ) → AreItems false depth count due → (new : Decoder R)
+        (result : Result (Sequence E) (Stopped E))
         → ChecksTold source depth due old result new
         → IfOk result (λ sequence. sequence.items ≡ count)
     number_told count items new (Ok sequence) told =
@@ -221,7 +222,7 @@ module _ {R E : Type 0} (source : Ghosts R E) where
         ]
     number_told count items new (Err stopped) told = tt
 
-    pub check_number : (count : ℕ) → AreItems depth count due → (new : Decoder R)
+    pub check_number : (count : ℕ) → AreItems false depth count due → (new : Decoder R)
         (result : Result (Sequence E) (Stopped E))
         → ChecksItems source depth room old result new
         → IfOk result (λ sequence. sequence.items ≡ count)

@@ -1,5 +1,5 @@
 -- What `check_one` read: an item, and what stands behind it.
-use Rattle.std.proofs.Common.{◌≡◌, ℕ, ◌+◌, List, [], ◌∷◌, ◌++◌, length, Some, Result, Ok, Err}
+use Rattle.std.proofs.Common.{◌≡◌, ℕ, ◌+◌, List, [], ◌∷◌, ◌++◌, length, Some, Result, Ok, Err, false}
 use Rattle.std.proofs.Common.{IsOk, ◌↔◌, refl, sym, ap, subst, ◌∙◌, arith, append-nil, length-append}
 use Rattle.std.proofs.lemmas.List.{length-take}
 use Rattle.ciborium_ll.specs.Types.Read.{Ghosts}
@@ -103,8 +103,8 @@ module _ {R E : Type 0} (source : Ghosts R E) where
         gone.2 ∙ (ap (λ (z : List ℕ). finds.reads.item ++ z) rest ∙ append-nil finds.reads.item) in (
           finds.one,
           record {
-            are_items = subst (λ (n : ℕ). AreItems depth n due) (sym finds.one)
-                (subst (λ (z : List ℕ). IsItem depth z) (sym all) finds.reads.is_item);
+            are_items = subst (λ (n : ℕ). AreItems false depth n due) (sym finds.one)
+                (subst (λ (z : List ℕ). IsItem false depth z) (sym all) finds.reads.is_item);
             counted = finds.counted ∙ sym (ap length all);
             left = left.1 ∙ ap Some last;
             offset = finds.still ∙ (passed.offset ∙ ap (λ (z : List ℕ). old.offset + length z) (sym all));
@@ -128,9 +128,9 @@ module _ {R E : Type 0} (source : Ghosts R E) where
 
     one_exactly_told : (new : Decoder R) (result : Result (Sequence E) (NotOne E))
         → ChecksOne source depth room old result new
-        → ChecksOneTold source depth due old result new → IsOk result ↔ IsItem depth due
+        → ChecksOneTold source depth due old result new → IsOk result ↔ IsItem false depth due
     one_exactly_told new (Ok sequence) checks told =
-        (λ ok. subst (λ (n : ℕ). AreItems depth n due) told.0 told.1.are_items, λ item. refl)
+        (λ ok. subst (λ (n : ℕ). AreItems false depth n due) told.0 told.1.are_items, λ item. refl)
     one_exactly_told new (Err (n.Item error)) checks told = (
       λ ok. absurd cc,
       λ item. (let ok = (skip_exactly source depth room old due ready new (Err error) checks).1
@@ -140,10 +140,11 @@ module _ {R E : Type 0} (source : Ghosts R E) where
     one_exactly_told new (Err (n.More at next)) checks told = (
       λ ok. absurd cc,
       λ item. (let front = told.front in
-          let o = one_item depth depth due front.item [] front.rest item front.is_item (append-nil due ∙ front.is) in
+          let o = one_item false false depth depth due front.item [] front.rest item front.is_item
+          (append-nil due ∙ front.is) in
           absurd (told.some (sym o.1))),
     )
 
     pub one_exactly : (new : Decoder R) (result : Result (Sequence E) (NotOne E))
-        → ChecksOne source depth room old result new → IsOk result ↔ IsItem depth due
+        → ChecksOne source depth room old result new → IsOk result ↔ IsItem false depth due
     one_exactly new result checks = one_exactly_told new result checks (one_told new result checks)

@@ -1,5 +1,5 @@
 -- Sequences of items (RFC 8742), and what `check` does with them.
-use Rattle.std.specs.Prelude.{◌≡◌, ℕ, ◌+◌, ◌-◌, List, [], ◌++◌, length, Some, Result, Ok, Err}
+use Rattle.std.specs.Prelude.{◌≡◌, ℕ, ◌+◌, ◌-◌, List, [], ◌++◌, length, Some, Result, Ok, Err, false}
 use Rattle.ciborium_ll.specs.Types.Read.{Ghosts}
 use Rattle.ciborium_ll.specs.Types.Decoder.{Decoder}
 use Rattle.ciborium_ll.specs.Types.Error.TheVariants as e
@@ -15,7 +15,7 @@ use Rattle.cbor_look.specs.declared.sequence.Stopped.{Stopped}
 
 -- the bytes are items of that depth, one behind the other, and nothing else (RFC 8742, 2)
 abbrev pub IsSequence : ℕ → List ℕ → Type 0
-IsSequence depth bytes = (count : ℕ) × AreItems depth count bytes
+IsSequence depth bytes = (count : ℕ) × AreItems false depth count bytes
 
 -- Whether an error says that no byte of an item came: the reader failed, and the offset is that of the item's place
 abbrev pub IsEnd : {E : Type 0} → SkipError E → ℕ → ℕ → Type 0
@@ -33,7 +33,7 @@ module _ {R E : Type 0} (source : Ghosts R E) where
   -- so many items were read
   pub record ReadsItems (depth count : ℕ) (old new : Decoder R) : Type 0 where
     pub bytes : List ℕ
-    pub are_items : AreItems depth count bytes
+    pub are_items : AreItems false depth count bytes
     pub passed : Passes source old bytes new
 
   -- so many items were read, and where a further one is due the reader failed with nothing consumed
@@ -60,7 +60,7 @@ module _ {R E : Type 0} (source : Ghosts R E) where
   -- the bytes are a sequence of so many items, and none is left
   pub record FindsSequence (depth : ℕ) (due : List ℕ) (old : Decoder R) (sequence : Sequence E) (new : Decoder R)
       : Type 0 where
-    pub are_items : AreItems depth sequence.items due
+    pub are_items : AreItems false depth sequence.items due
     pub counted : sequence.bytes ≡ length due
     pub left : view source new ≡ Some []
     pub offset : new.offset ≡ old.offset + length due
@@ -70,7 +70,7 @@ module _ {R E : Type 0} (source : Ghosts R E) where
       : Type 0 where
     pub before : List ℕ
     pub ahead : List ℕ
-    pub are_items : AreItems depth stopped.items before
+    pub are_items : AreItems false depth stopped.items before
     pub is : due ≡ before ++ ahead
     pub place : stopped.place ≡ old.offset + length before
     pub no_item : ItemInFront depth ahead → ⊥

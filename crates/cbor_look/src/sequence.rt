@@ -1,6 +1,6 @@
 //! A sequence of items (RFC 8742), read to its end.
 
-ghost use Rattle.std.specs.Prelude.{◌≡◌, ◌≤◌, ◌↔◌, ℕ, List, length, IsOk, IfOk};
+ghost use Rattle.std.specs.Prelude.{◌≡◌, ◌≤◌, ◌↔◌, ℕ, List, length, IsOk, IfOk, false};
 ghost use Rattle.ciborium_ll.specs.Items.{AreItems};
 ghost use Rattle.cbor_skip.specs.SkippingTold.{IsReadyToSkip};
 ghost use Rattle.cbor_look.specs.Sequences.{ChecksItems, ChecksTold, EndsSequence, IsSequence};
@@ -52,7 +52,7 @@ pub fn check<R: Read>(
     ensures exactly { (due : List ℕ) → IsReadyToSkip R.Read (length buffer.old) decoder.old due
         → (IsOk result ↔ IsSequence depth due) }
     ensures number { (due : List ℕ) (count : ℕ) → IsReadyToSkip R.Read (length buffer.old) decoder.old due
-        → AreItems depth count due → IfOk result (λ sequence. sequence.items ≡ count) }
+        → AreItems false depth count due → IfOk result (λ sequence. sequence.items ≡ count) }
 {
     let start = decoder.offset();
     let mut items = 0;

@@ -1,6 +1,6 @@
 //! One item, and nothing behind it.
 
-ghost use Rattle.std.specs.Prelude.{◌≡◌, ◌≤◌, ◌↔◌, ℕ, List, length, IsOk};
+ghost use Rattle.std.specs.Prelude.{◌≡◌, ◌≤◌, ◌↔◌, ℕ, List, length, IsOk, false};
 ghost use Rattle.ciborium_ll.specs.Items.{IsItem};
 ghost use Rattle.cbor_skip.specs.SkippingTold.{IsReadyToSkip};
 ghost use Rattle.cbor_look.specs.Singles.{ChecksOne, ChecksOneTold, EndsOne};
@@ -37,7 +37,7 @@ pub fn check_one<R: Read>(
     ensures told { (due : List ℕ) → IsReadyToSkip R.Read (length buffer.old) decoder.old due
         → ChecksOneTold R.Read depth due decoder.old result decoder.new }
     ensures exactly { (due : List ℕ) → IsReadyToSkip R.Read (length buffer.old) decoder.old due
-        → (IsOk result ↔ IsItem depth due) }
+        → (IsOk result ↔ IsItem false depth due) }
 {
     let start = decoder.offset();
     if let Err(error) = skip_item(decoder, depth, buffer) {

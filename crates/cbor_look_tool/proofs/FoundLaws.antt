@@ -1,5 +1,5 @@
 -- What the answers of the libraries, as the program says them, mean of bytes that are told.
-use Rattle.std.proofs.Common.{◌≡◌, ℕ, ◌+◌, List, [], length, Result, Ok, Err, refl, subst, ◌∙◌, arith}
+use Rattle.std.proofs.Common.{◌≡◌, ℕ, ◌+◌, List, [], length, Result, Ok, Err, refl, subst, ◌∙◌, arith, false}
 use Rattle.ciborium_ll.specs.Types.Read.{Ghosts}
 use Rattle.ciborium_ll.specs.Types.Decoder.{Decoder}
 use Rattle.ciborium_ll.specs.Types.Error.TheVariants as e
@@ -68,7 +68,7 @@ module _ {R E : Type 0} (source : Ghosts R E) where
       → ChecksOneTold source depth due old answer new
       → FindsOne depth due old.offset (single_said answer new.offset)
   single_found depth due old new (Ok sequence) told =
-      (told.0, subst (λ (n : ℕ). AreItems depth n due) told.0 told.1.are_items, told.1.counted)
+      (told.0, subst (λ (n : ℕ). AreItems false depth n due) told.0 told.1.are_items, told.1.counted)
   single_found depth due old new (Err (n.Item error)) told =
       fault_found_one depth due old.offset new.offset error (record {
         before = [];

@@ -100,7 +100,7 @@ IsWell verdict = ⊥
 
 -- the bytes are what is wanted: with `--one` one item, else a sequence of items (RFC 8742, 2)
 abbrev pub IsWanted : Bool → ℕ → List ℕ → Type 0
-IsWanted true depth due = IsItem depth due
+IsWanted true depth due = IsItem false depth due
 IsWanted false depth due = IsSequence depth due
 
 -- `Stops depth due start verdict`: what stops the read of an item in front of these bytes, which begin at the offset,
@@ -118,7 +118,7 @@ Stops depth due start verdict = ⊥
 pub record StopsBehind (depth count : ℕ) (due : List ℕ) (start : ℕ) (verdict : Verdict) : Type 0 where
   pub before : List ℕ
   pub ahead : List ℕ
-  pub are_items : AreItems depth count before
+  pub are_items : AreItems false depth count before
   pub is : due ≡ before ++ ahead
   pub stops : Stops depth ahead (start + length before) verdict
 
@@ -130,12 +130,12 @@ pub record HasMore (depth : ℕ) (due : List ℕ) (start place : ℕ) : Type 0 w
 
 -- what is found of a sequence from this offset on: all its items and bytes, or the first fault
 abbrev pub FindsAll : ℕ → List ℕ → ℕ → Verdict → Type 0
-FindsAll depth due start (v.Well items bytes) = AreItems depth items due × (bytes ≡ length due)
+FindsAll depth due start (v.Well items bytes) = AreItems false depth items due × (bytes ≡ length due)
 FindsAll depth due start verdict = (count : ℕ) × StopsBehind depth count due start verdict
 
 -- what is found where one item is wanted
 abbrev pub FindsOne : ℕ → List ℕ → ℕ → Verdict → Type 0
-FindsOne depth due start (v.Well items bytes) = (items ≡ 1) × IsItem depth due × (bytes ≡ length due)
+FindsOne depth due start (v.Well items bytes) = (items ≡ 1) × IsItem false depth due × (bytes ≡ length due)
 FindsOne depth due start (v.More place) = HasMore depth due start place
 FindsOne depth due start verdict = StopsBehind depth 0 due start verdict
 

@@ -1,6 +1,6 @@
 //! The word `check`.
 
-ghost use Rattle.std.specs.Prelude.{◌≡◌, ◌≤◌, ◌↔◌, ℕ, List};
+ghost use Rattle.std.specs.Prelude.{◌≡◌, ◌≤◌, ◌↔◌, ℕ, List, false};
 ghost use Rattle.ciborium_ll.specs.Decoding.{offset_of};
 ghost use Rattle.ciborium_ll.specs.Items.{IsItem};
 ghost use Rattle.cbor_skip.specs.SkippingTold.{IsReadyToSkip};
@@ -112,7 +112,7 @@ where
     requires { depth ≤ 256 }
     ensures says { SaysOne R.Read depth 512 decoder.old result decoder.new }
     ensures exactly { (due : List ℕ) → IsReadyToSkip R.Read 512 decoder.old due
-        → (IsWell result ↔ IsItem depth due) }
+        → (IsWell result ↔ IsItem false depth due) }
     ensures told { (due : List ℕ) → IsReadyToSkip R.Read 512 decoder.old due
         → FindsOne depth due (offset_of decoder.old) result }
 {

@@ -26,15 +26,15 @@ use Rattle.cbor_skip.proofs.ItemSteps.{item_of}
 -- ---- an item that comes
 
 -- nothing completes an item behind a break
-no_completion : (d : ℕ) (x : Header) (rest : List ℕ) → x ≡ h.Break → Completes d x rest → ⊥
+no_completion : (d : ℕ) (x : Header) (rest : List ℕ) → x ≡ h.Break → Completes false d x rest → ⊥
 no_completion d x rest e positive = absurd cc
 no_completion d x rest e negative = absurd cc
 no_completion d x rest e float = absurd cc
 no_completion d x rest e simple = absurd cc
 no_completion d x rest e (byte_string l) = absurd cc
 no_completion d x rest e (text_string l s) = absurd cc
-no_completion d x rest e (open_bytes s) = absurd cc
-no_completion d x rest e (open_text s k) = absurd cc
+no_completion d x rest e (open_bytes s g) = absurd cc
+no_completion d x rest e (open_text s g k) = absurd cc
 no_completion d x rest e (tag i) = absurd cc
 no_completion d x rest e (array i) = absurd cc
 no_completion d x rest e (pairs i) = absurd cc
@@ -42,8 +42,8 @@ no_completion d x rest e (open_array i) = absurd cc
 no_completion d x rest e (open_pairs n i) = absurd cc
 
 -- no item begins as a break
-item_break : (d : ℕ) (w u v : List ℕ) → IsItem d w → w ++ u ≡ 0xff ∷ v → ⊥
-item_break d w u v (more_items {title = t} {rest = r} {others = a} {header = x} p c i) e =
+item_break : (d : ℕ) (w u v : List ℕ) → IsItem false d w → w ++ u ≡ 0xff ∷ v → ⊥
+item_break d w u v (more_items {title = t} {rest = r} {others = a} {header = x} p g c i) e =
     let o = one_title t (0xff ∷ []) ((r ++ a) ++ u) v x h.Break p break_title (sym (append_assoc t (r ++ a) u) ∙ e) in
     no_completion d x r o.1 c
 
@@ -53,36 +53,38 @@ first_apart t r a s =
     append_assoc t (r ++ a) s ∙ (ap (λ (z : List ℕ). t ++ z) (append_assoc r a s) ∙ sym (append_assoc t r (a ++ s)))
 
 -- two rows of items in one list begin with the same item
-rest_of_both : (d : ℕ) (t r a s t' r' a' v : List ℕ) (x x' : Header) → IsTitle t x → Completes d x r → IsTitle t' x'
-    → Completes d x' r'
+rest_of_both : (d : ℕ) (t r a s t' r' a' v : List ℕ) (x x' : Header) → IsTitle t x → Completes false d x r
+    → IsTitle t' x'
+    → Completes false d x' r'
     → (t ++ (r ++ a)) ++ s ≡ (t' ++ (r' ++ a')) ++ v → a ++ s ≡ a' ++ v
 rest_of_both d t r a s t' r' a' v x x' p c p' c' e =
     let both = sym (first_apart t r a s) ∙ (e ∙ first_apart t' r' a' v) in
-    let o = one_item d d (t ++ r) (t' ++ r') (a ++ s) (a' ++ v) (item_of d t r x p c) (item_of d t' r' x' p' c') both in
+    let o = one_item false false d d (t ++ r) (t' ++ r') (a ++ s) (a' ++ v) (item_of d t r x p c)
+    (item_of d t' r' x' p' c') both in
     o.1
 
 -- behind some items, of which more come, one comes
-items_follow : (d m : ℕ) (u : List ℕ) → AreItems d m u → (n : ℕ) (w : List ℕ) → AreItems d n w → m < n
+items_follow : (d m : ℕ) (u : List ℕ) → AreItems false d m u → (n : ℕ) (w : List ℕ) → AreItems false d n w → m < n
     → (s v : List ℕ) → u ++ s ≡ w ++ v → ItemInFront d s
 items_follow d m u no_items n w no_items l s v e = absurd (omega arith)
-items_follow d m u no_items n w (more_items {title = t} {rest = r} {others = a} {header = x} p c i) l s v e =
+items_follow d m u no_items n w (more_items {title = t} {rest = r} {others = a} {header = x} p g c i) l s v e =
     record { item = t ++ r; rest = a ++ v; is_item = item_of d t r x p c; is = e ∙ first_apart t r a v }
-items_follow d m u (more_items p c i) n w no_items l s v e = absurd (omega arith)
-items_follow d m u (more_items {count = j} {title = t} {rest = r} {others = a} {header = x} p c i) n w
-    (more_items {count = k} {title = t'} {rest = r'} {others = a'} {header = x'} p' c' i') l s v e =
+items_follow d m u (more_items p g c i) n w no_items l s v e = absurd (omega arith)
+items_follow d m u (more_items {count = j} {title = t} {rest = r} {others = a} {header = x} p g c i) n w
+    (more_items {count = k} {title = t'} {rest = r'} {others = a'} {header = x'} p' k' c' i') l s v e =
     items_follow d j a i k a' i' (omega arith) s v (rest_of_both d t r a s t' r' a' v x x' p c p' c' e)
 
 -- in front of a break one comes, or the break
-items_end : (d m : ℕ) (u : List ℕ) → AreItems d m u → (n : ℕ) (w : List ℕ) → AreItems d n w
+items_end : (d m : ℕ) (u : List ℕ) → AreItems false d m u → (n : ℕ) (w : List ℕ) → AreItems false d n w
     → (s v : List ℕ) → u ++ s ≡ w ++ 0xff ∷ v → ItemInFront d s ⊎ ((m ≡ n) × (s ≡ 0xff ∷ v))
 items_end d m u no_items n w no_items s v e = inr (refl, e)
-items_end d m u no_items n w (more_items {title = t} {rest = r} {others = a} {header = x} p c i) s v e =
+items_end d m u no_items n w (more_items {title = t} {rest = r} {others = a} {header = x} p g c i) s v e =
     let apart = e ∙ first_apart t r a (0xff ∷ v) in
     inl (record { item = t ++ r; rest = a ++ 0xff ∷ v; is_item = item_of d t r x p c; is = apart })
-items_end d m u (more_items {title = t} {rest = r} {others = a} {header = x} p c i) n w no_items s v e =
+items_end d m u (more_items {title = t} {rest = r} {others = a} {header = x} p g c i) n w no_items s v e =
     absurd (item_break d (t ++ r) (a ++ s) v (item_of d t r x p c) (sym (first_apart t r a s) ∙ e))
-items_end d m u (more_items {count = j} {title = t} {rest = r} {others = a} {header = x} p c i) n w
-    (more_items {count = k} {title = t'} {rest = r'} {others = a'} {header = x'} p' c' i') s v e =
+items_end d m u (more_items {count = j} {title = t} {rest = r} {others = a} {header = x} p g c i) n w
+    (more_items {count = k} {title = t'} {rest = r'} {others = a'} {header = x'} p' k' c' i') s v e =
     elim (items_end d j a i k a' i' s v (rest_of_both d t r a s t' r' a' (0xff ∷ v) x x' p c p' c' e)) [
       | inl comes ↦ inl comes
       | inr ends ↦ inr (ap suc ends.0, ends.1)
@@ -93,7 +95,8 @@ abbrev GoesOn : ℕ → Bool → List ℕ → Type 0
 GoesOn d closable s = ItemInFront d s ⊎ ((closable ≡ true) × (v : List ℕ) × (s ≡ 0xff ∷ v))
 
 -- behind a nest's title and some of its items
-nest_goes : (d m : ℕ) (u : List ℕ) (x : Header) → AreItems d m u → TakesMore x m → (r : List ℕ) → Completes (suc d) x r
+nest_goes : (d m : ℕ) (u : List ℕ) (x : Header) → AreItems false d m u → TakesMore x m → (r : List ℕ)
+    → Completes false (suc d) x r
     → (s v : List ℕ) → u ++ s ≡ r ++ v → GoesOn d (may_close x m) s
 nest_goes d m u x i more r (tag {item = w} j) s v e = inl (items_follow d m u i 1 w j more s v e)
 nest_goes d m u x i more r (array {count = n} {items = w} j) s v e = inl (items_follow d m u i n w j more s v e)
@@ -128,16 +131,16 @@ break_due outer d u levels closable (within {count = m} {title = t} {items = a} 
 
 -- where an item is due in a whole one, it comes
 item_goes_on : (outer : Bool) (d : ℕ) (u : List ℕ) (levels : ℕ) (closable : Bool) → ItemDue outer d u levels closable
-    → (w : List ℕ) → IsItem d w → (s v : List ℕ) → u ++ s ≡ w ++ v → GoesOn levels closable s
+    → (w : List ℕ) → IsItem false d w → (s v : List ℕ) → u ++ s ≡ w ++ v → GoesOn levels closable s
 item_goes_on outer d u levels closable here w i s v e = inl (record { item = w; rest = v; is_item = i; is = e })
 item_goes_on outer d u levels closable
     (within {closable = z} {depth = d'} {count = m} {title = t} {items = a} {more = b} {header = x} p more i due) w
-    (more_items {title = t'} {rest = r'} {header = x'} p' c' no_items) s v e =
+    (more_items {title = t'} {rest = r'} {header = x'} p' k' c' no_items) s v e =
     let both = sym (append_assoc t (a ++ b) s) ∙ (e ∙ append_assoc t' (r' ++ []) v) in
     let o = one_title t t' ((a ++ b) ++ s) ((r' ++ []) ++ v) x x' p p' both in
     let same : a ++ (b ++ s) ≡ r' ++ v =
     sym (append_assoc a b s) ∙ (o.2 ∙ ap (λ (y : List ℕ). y ++ v) (append-nil r')) in
-    let completes = subst (λ (y : Header). Completes (suc d') y r') (sym o.1) c' in
+    let completes = subst (λ (y : Header). Completes false (suc d') y r') (sym o.1) c' in
     elim (nest_goes d' m a x i more r' completes (b ++ s) v same) [
       | inl comes ↦ item_goes_on (may_close x m) d' b levels closable due comes.item comes.is_item s comes.rest comes.is
       | inr ends ↦ break_due (may_close x m) d' b levels closable due ends.0 s ends.1 ends.2
@@ -161,16 +164,16 @@ whole_string : (t r v : List ℕ) (marks : List Mark) → IsElement (t ++ r) mar
 whole_string t r v marks ok = record { word = t ++ r; marks = marks; rest = v; ok = ok; is = sym (append_assoc t r v) }
 
 -- an item begins with one
-element_in_front : (d : ℕ) (t r v : List ℕ) (x : Header) → IsTitle t x → Completes d x r → Begins (t ++ (r ++ v))
+element_in_front : (d : ℕ) (t r v : List ℕ) (x : Header) → IsTitle t x → Completes false d x r → Begins (t ++ (r ++ v))
 element_in_front d t r v x p (byte_string l) =
     let title = subst (λ (n : ℕ). IsTitle t (h.Bytes (Some n))) (sym l) p in
     whole_string t r v (Whole Bytes r ∷ []) (string Bytes (definite title) (tt, tt))
 element_in_front d t r v x p (text_string l k) =
     let title = subst (λ (n : ℕ). IsTitle t (h.Text (Some n))) (sym l) p in
     whole_string t r v (Whole Text r ∷ []) (string Text (definite title) (k, tt))
-element_in_front d t r v x p (open_bytes {bodies = bs} s) =
+element_in_front d t r v x p (open_bytes {bodies = bs} s g) =
     whole_string t r v (open_marks Bytes bs) (string Bytes (indefinite p s) (bytes_writable bs))
-element_in_front d t r v x p (open_text {bodies = bs} s k) =
+element_in_front d t r v x p (open_text {bodies = bs} s g k) =
     whole_string t r v (open_marks Text bs) (string Text (indefinite p s) k)
 element_in_front d t r v x p positive = lone_title t r v x (plain x p tt)
 element_in_front d t r v x p negative = lone_title t r v x (plain x p tt)
@@ -182,8 +185,8 @@ element_in_front d t r v x p (pairs i) = lone_title t r v x (plain x p tt)
 element_in_front d t r v x p (open_array i) = lone_title t r v x (plain x p tt)
 element_in_front d t r v x p (open_pairs n i) = lone_title t r v x (plain x p tt)
 
-item_begins : (d : ℕ) (w v s : List ℕ) → IsItem d w → s ≡ w ++ v → Begins s
-item_begins d w v s (more_items {title = t} {rest = r} {others = a} {header = x} p c i) e =
+item_begins : (d : ℕ) (w v s : List ℕ) → IsItem false d w → s ≡ w ++ v → Begins s
+item_begins d w v s (more_items {title = t} {rest = r} {others = a} {header = x} p g c i) e =
     let apart = append_assoc t (r ++ a) v ∙ ap (λ (z : List ℕ). t ++ z) (append_assoc r a v) in
     subst Begins (sym (e ∙ apart)) (element_in_front d t r (a ++ v) x p c)
 
@@ -199,7 +202,7 @@ goes_begins d closable s (inr ends) = record {
 
 -- no item stands in front where what is due can't come
 item_stuck : (d : ℕ) (u : List ℕ) (at : Place) → ReachesItem d u at → (s : List ℕ) → Stuck at s
-    → (w v : List ℕ) → IsItem d w → u ++ s ≡ w ++ v → ⊥
+    → (w v : List ℕ) → IsItem false d w → u ++ s ≡ w ++ v → ⊥
 item_stuck d u at (at_item {levels = l} {closable = c} p) s (stop f) w v i e =
     let b = goes_begins l c s (item_goes_on false d u l c p w i s v e) in
     element_stops b.word b.marks b.ok b.rest s f b.is
@@ -231,7 +234,7 @@ no_early_break d x front f =
     ]
 
 -- a nest takes a level
-not_flat : (d : ℕ) (x : Header) (r : List ℕ) → d ≡ 0 → Completes d x r → IsNest x → ⊥
+not_flat : (d : ℕ) (x : Header) (r : List ℕ) → d ≡ 0 → Completes false d x r → IsNest x → ⊥
 not_flat d x r e (tag i) nest = absurd cc
 not_flat d x r e (array i) nest = absurd cc
 not_flat d x r e (pairs i) nest = absurd cc
@@ -240,8 +243,8 @@ not_flat d x r e (open_pairs n i) nest = absurd cc
 not_flat d x r e c nest = absurd nest
 
 -- no item of no levels begins with a nest
-flat : (w v t y : List ℕ) (x : Header) (d : ℕ) → d ≡ 0 → IsItem d w → IsTitle t x → IsNest x → t ++ y ≡ w ++ v → ⊥
-flat w v t y x d none (more_items {title = t'} {rest = r} {others = a} {header = x'} p c i) q nest e =
+flat : (w v t y : List ℕ) (x : Header) (d : ℕ) → d ≡ 0 → IsItem false d w → IsTitle t x → IsNest x → t ++ y ≡ w ++ v → ⊥
+flat w v t y x d none (more_items {title = t'} {rest = r} {others = a} {header = x'} p g c i) q nest e =
     let o = one_title t t' y ((r ++ a) ++ v) x x' q p (e ∙ append_assoc t' (r ++ a) v) in
     not_flat d x' r none c (subst IsNest o.1 nest)
 

@@ -15,11 +15,11 @@ use Rattle.cbor_skip.specs.Skipping.{SkipsItem}
 use Rattle.cbor_skip.proofs.ItemSteps.{reads_nest, stops_nest, no_items_read}
 
 -- an item and then others
-item_first : (d n : ℕ) (u v : List ℕ) → IsItem d u → AreItems d n v → AreItems d (suc n) (u ++ v)
-item_first d n u v (more_items {title = t} {rest = w} p c no_items) i =
+item_first : (d n : ℕ) (u v : List ℕ) → IsItem false d u → AreItems false d n v → AreItems false d (suc n) (u ++ v)
+item_first d n u v (more_items {title = t} {rest = w} p g c no_items) i =
     let joined : t ++ (w ++ v) ≡ (t ++ (w ++ [])) ++ v =
     ap (λ (z : List ℕ). t ++ (z ++ v)) (sym (append-nil w)) ∙ sym (append_assoc t (w ++ []) v) in
-    subst (λ (z : List ℕ). AreItems d (suc n) z) joined (more_items p c i)
+    subst (λ (z : List ℕ). AreItems false d (suc n) z) joined (more_items p tt c i)
 
 -- a header that counts items is a nest's
 pub counted_nest : (x : Header) (n : ℕ) → item_count x ≡ Some n → IsNest x
@@ -95,7 +95,7 @@ module _ {R E : Type 0} (source : Ghosts R E) where
       → SkipsCounted source n d room old result new → SkipsWithin source x d room old result new
   counted_within (h.Tag m) n d room old is (Ok done) new reads =
       let one : n ≡ 1 = cc in
-      let items = subst (λ (k : ℕ). AreItems d k reads.items) one reads.are_items in
+      let items = subst (λ (k : ℕ). AreItems false d k reads.items) one reads.are_items in
       record { rest = reads.items; completes = tag items; passed = reads.passed }
   counted_within (h.Tag m) n d room old is (Err error) new stops = record {
     count = stops.before;
@@ -108,7 +108,7 @@ module _ {R E : Type 0} (source : Ghosts R E) where
   }
   counted_within (h.Array (Some m)) n d room old is (Ok done) new reads =
       let same : n ≡ m = cc in
-      let items = subst (λ (k : ℕ). AreItems d k reads.items) same reads.are_items in
+      let items = subst (λ (k : ℕ). AreItems false d k reads.items) same reads.are_items in
       record { rest = reads.items; completes = array items; passed = reads.passed }
   counted_within (h.Array (Some m)) n d room old is (Err error) new stops = record {
     count = stops.before;

@@ -32,53 +32,55 @@ use Rattle.cbor_skip.proofs.RemainingLaws.{takes_more}
 -- ---- lists of items
 
 -- a title and what completes it are an item
-pub item_of : (d : ℕ) (t rest : List ℕ) (x : Header) → IsTitle t x → Completes d x rest → IsItem d (t ++ rest)
-item_of d t rest x p c = subst (λ (z : List ℕ). IsItem d (t ++ z)) (append-nil rest) (more_items p c no_items)
+pub item_of : (d : ℕ) (t rest : List ℕ) (x : Header) → IsTitle t x → Completes false d x rest
+    → IsItem false d (t ++ rest)
+item_of d t rest x p c = subst (λ (z : List ℕ). IsItem false d (t ++ z)) (append-nil rest) (more_items p tt c no_items)
 
 -- one item more
-pub items_item : (d n : ℕ) (u v : List ℕ) → AreItems d n u → IsItem d v → AreItems d (suc n) (u ++ v)
+pub items_item : (d n : ℕ) (u v : List ℕ) → AreItems false d n u → IsItem false d v → AreItems false d (suc n) (u ++ v)
 items_item d n u v no_items i = i
-items_item d n u v (more_items {count = m} {title = t} {rest = w} {others = a} {header = x} p c others) i =
+items_item d n u v (more_items {count = m} {title = t} {rest = w} {others = a} {header = x} p g c others) i =
     let whole : t ++ (w ++ (a ++ v)) ≡ (t ++ (w ++ a)) ++ v =
     sym (append_assoc t (w ++ a) v ∙ ap (λ (z : List ℕ). t ++ z) (append_assoc w a v)) in
-    subst (λ (z : List ℕ). AreItems d (suc (suc m)) z) whole (more_items p c (items_item d m a v others i))
+    subst (λ (z : List ℕ). AreItems false d (suc (suc m)) z) whole (more_items p tt c (items_item d m a v others i))
 
 -- what completes a tag is one item
-one_of : (n d : ℕ) (rest : List ℕ) → Completes (suc d) (h.Tag n) rest → IsItem d rest
+one_of : (n d : ℕ) (rest : List ℕ) → Completes false (suc d) (h.Tag n) rest → IsItem false d rest
 one_of n d rest (tag i) = i
 
 -- of less than one item nothing was read
-pub no_items_read : (d count : ℕ) (items : List ℕ) → count < 1 → AreItems d count items → items ≡ []
+pub no_items_read : (d count : ℕ) (items : List ℕ) → count < 1 → AreItems false d count items → items ≡ []
 no_items_read d count items less no_items = refl
-no_items_read d count items less (more_items p c i) = absurd (omega (arith, less))
+no_items_read d count items less (more_items p g c i) = absurd (omega (arith, less))
 
 -- ---- a string behind its header
 
-completes_body : (d : ℕ) (k : Kind) (b : List ℕ) → IsWritable k b → Completes d (kind_header k (Some (length b))) b
+completes_body : (d : ℕ) (k : Kind) (b : List ℕ) → IsWritable k b
+    → Completes false d (kind_header k (Some (length b))) b
 completes_body d Bytes b sound = byte_string refl
 completes_body d Text b sound = text_string refl sound
 
 completes_open : (d : ℕ) (k : Kind) (x : List ℕ) (bs : List (List ℕ)) → AreStrings k x bs → AreWritable k bs
-    → Completes d (kind_header k None) (x ++ 0xff ∷ [])
-completes_open d Bytes x bs strings sound = open_bytes strings
-completes_open d Text x bs strings sound = open_text strings sound
+    → Completes false d (kind_header k None) (x ++ 0xff ∷ [])
+completes_open d Bytes x bs strings sound = open_bytes strings tt
+completes_open d Text x bs strings sound = open_text strings tt sound
 
 -- what follows a string's title is the rest of an item
 string_completes : (d : ℕ) (k : Kind) (len : Option ℕ) (t rest w : List ℕ) (bs : List (List ℕ))
     → IsTitle t (kind_header k len)
-    → IsString k w bs → t ++ rest ≡ w → AreWritable k bs → Completes d (kind_header k len) rest
+    → IsString k w bs → t ++ rest ≡ w → AreWritable k bs → Completes false d (kind_header k len) rest
 string_completes d k len t rest w bs p (definite {title = t'} {body = b} p') e sound =
     let f = fronts k t t' rest b len (Some (length b)) p p' e in
     let same : Some (length b) ≡ len = sym f.1 in
     let behind : b ≡ rest = sym f.2 in
-    subst (λ (z : List ℕ). Completes d (kind_header k len) z) behind
-    (subst (λ (o : Option ℕ). Completes d (kind_header k o) b) same (completes_body d k b sound.0))
+    subst (λ (z : List ℕ). Completes false d (kind_header k len) z) behind
+    (subst (λ (o : Option ℕ). Completes false d (kind_header k o) b) same (completes_body d k b sound.0))
 string_completes d k len t rest w bs p (indefinite {title = t'} {strings = x} p' strings) e sound =
     let f = fronts k t t' rest (x ++ 0xff ∷ []) len None p p' e in
     let same : None ≡ len = sym f.1 in
     let behind : x ++ 0xff ∷ [] ≡ rest = sym f.2 in
-    subst (λ (z : List ℕ). Completes d (kind_header k len) z) behind
-    (subst (λ (o : Option ℕ). Completes d (kind_header k o) (x ++ 0xff ∷ [])) same
+    subst (λ (z : List ℕ). Completes false d (kind_header k len) z) behind
+    (subst (λ (o : Option ℕ). Completes false d (kind_header k o) (x ++ 0xff ∷ [])) same
     (completes_open d k x bs strings sound))
 
 module _ {R E : Type 0} (source : Ghosts R E) where
@@ -92,7 +94,7 @@ module _ {R E : Type 0} (source : Ghosts R E) where
 
   -- an item is a title, and what completes it
   reads_item : {d : ℕ} {old titled new : Decoder R} {x : Header} {rest : List ℕ} → PullsTitle source old x titled
-      → (IsSteady source old → IsSteady source titled) → Completes d x rest → Passes source titled rest new
+      → (IsSteady source old → IsSteady source titled) → Completes false d x rest → Passes source titled rest new
       → ReadsItem source d old new
   reads_item {d = d} {old = old} {titled = titled} {new = new} {x = x} {rest = rest} title steady completes passed =
       record {
@@ -102,7 +104,7 @@ module _ {R E : Type 0} (source : Ghosts R E) where
       }
 
   pub reads_plain : {d : ℕ} {old titled : Decoder R} {x : Header} → PullsTitle source old x titled
-      → (IsSteady source old → IsSteady source titled) → Completes d x [] → ReadsItem source d old titled
+      → (IsSteady source old → IsSteady source titled) → Completes false d x [] → ReadsItem source d old titled
   reads_plain {titled = titled} title steady completes = reads_item title steady completes (Passes-none source titled)
 
   pub reads_string : {d : ℕ} {old titled new : Decoder R} (k : Kind) (len : Option ℕ)
@@ -172,7 +174,7 @@ module _ {R E : Type 0} (source : Ghosts R E) where
     pub count : ℕ
     pub is_remaining : IsRemaining x count remaining
     pub items : List ℕ
-    pub are_items : AreItems d count items
+    pub are_items : AreItems false d count items
     pub passed : Passes source old items now
 
   pub none_read : {x : Header} {d : ℕ} {old : Decoder R} {remaining : Remaining} → IsRemaining x 0 remaining
@@ -213,13 +215,13 @@ module _ {R E : Type 0} (source : Ghosts R E) where
 
   -- all items were read, by what remains
   all_read : (x : Header) (d count : ℕ) (items : List ℕ) (remaining : Remaining) → IsRemaining x count remaining
-      → is_done remaining ≡ true → AreItems d count items → Completes (suc d) x items
+      → is_done remaining ≡ true → AreItems false d count items → Completes false (suc d) x items
   all_read (h.Tag n) d count items (r.Items zero) is done i =
-      let one : count ≡ 1 = omega (arith, is) in tag (subst (λ (m : ℕ). AreItems d m items) one i)
+      let one : count ≡ 1 = omega (arith, is) in tag (subst (λ (m : ℕ). AreItems false d m items) one i)
   all_read (h.Array (Some n)) d count items (r.Items zero) is done i =
-      let all : count ≡ n = omega (arith, is) in array (subst (λ (m : ℕ). AreItems d m items) all i)
+      let all : count ≡ n = omega (arith, is) in array (subst (λ (m : ℕ). AreItems false d m items) all i)
   all_read (h.Map (Some n)) d count items (r.Pairs zero) is done i =
-      let all : count ≡ 2 * n = omega (arith, is) in pairs (subst (λ (m : ℕ). AreItems d m items) all i)
+      let all : count ≡ 2 * n = omega (arith, is) in pairs (subst (λ (m : ℕ). AreItems false d m items) all i)
   all_read (h.Tag n) d count items (r.Items (suc m)) is done i = absurd cc
   all_read (h.Array (Some n)) d count items (r.Items (suc m)) is done i = absurd cc
   all_read (h.Map (Some n)) d count items (r.Pairs (suc m)) is done i = absurd cc
@@ -239,10 +241,10 @@ module _ {R E : Type 0} (source : Ghosts R E) where
 
   -- a break ended them, by what remains
   all_closed : (x : Header) (d count : ℕ) (items : List ℕ) (remaining : Remaining) → IsRemaining x count remaining
-      → closes remaining ≡ true → AreItems d count items → Completes (suc d) x (items ++ 0xff ∷ [])
+      → closes remaining ≡ true → AreItems false d count items → Completes false (suc d) x (items ++ 0xff ∷ [])
   all_closed (h.Array None) d count items r.OpenItems is may i = open_array i
   all_closed (h.Map None) d count items r.OpenPairs is may i =
-      open_pairs is.0 (subst (λ (m : ℕ). AreItems d m items) is.1 i)
+      open_pairs is.0 (subst (λ (m : ℕ). AreItems false d m items) is.1 i)
   all_closed (h.Tag n) d count items (r.Items m) is may i = absurd cc
   all_closed (h.Array (Some n)) d count items (r.Items m) is may i = absurd cc
   all_closed (h.Map (Some n)) d count items (r.Pairs m) is may i = absurd cc

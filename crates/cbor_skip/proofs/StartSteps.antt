@@ -1,5 +1,5 @@
 -- What a title begins tells its header.
-use Rattle.std.proofs.Common.{◌≡◌, ℕ, Option, [], refl}
+use Rattle.std.proofs.Common.{◌≡◌, ℕ, Option, [], refl, false}
 use Rattle.ciborium_ll.specs.Types.Header.{Header}
 use Rattle.ciborium_ll.specs.Types.Header.TheVariants as h
 use Rattle.ciborium_ll.specs.Items.{Completes, positive, negative, float, simple}
@@ -56,7 +56,7 @@ nest_start (h.Bytes k) nest e = absurd cc
 nest_start (h.Text k) nest e = absurd cc
 
 -- a value is an item by itself
-pub value_start : (depth : ℕ) (header : Header) → start_of header ≡ s.Value → Completes depth header []
+pub value_start : (depth : ℕ) (header : Header) → start_of header ≡ s.Value → Completes false depth header []
 value_start depth (h.Positive n) e = positive
 value_start depth (h.Negative n) e = negative
 value_start depth (h.Float x) e = float

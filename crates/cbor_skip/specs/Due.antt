@@ -47,7 +47,7 @@ pub data ItemDue : Bool → ℕ → List ℕ → ℕ → Bool → Type 0 where
   here : {outer : Bool} {depth : ℕ} → ItemDue outer depth [] depth outer
   -- a nest's title and some of its items were read, and a beginning of the next one
   within : {outer closable : Bool} {depth levels count : ℕ} {title items more : List ℕ} {header : Header}
-      → IsTitle title header → TakesMore header count → AreItems depth count items
+      → IsTitle title header → TakesMore header count → AreItems false depth count items
       → ItemDue (may_close header count) depth more levels closable
       → ItemDue outer (suc depth) (title ++ (items ++ more)) levels closable
 

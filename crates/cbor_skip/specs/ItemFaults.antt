@@ -10,7 +10,7 @@ use Rattle.cbor_skip.specs.Due.{IsNest, ItemDue, ReachesItem}
 pub record ItemInFront (depth : ℕ) (bytes : List ℕ) : Type 0 where
   pub item : List ℕ
   pub rest : List ℕ
-  pub is_item : IsItem depth item
+  pub is_item : IsItem false depth item
   pub is : bytes ≡ item ++ rest
 
 -- Behind a beginning of an item the bytes are at fault: a title is cut off, none, or may not stand within its string,

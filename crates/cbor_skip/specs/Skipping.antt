@@ -63,7 +63,7 @@ module _ {R E : Type 0} (source : Ghosts R E) where
   -- one item was read
   pub record ReadsItem (depth : ℕ) (old new : Decoder R) : Type 0 where
     pub item : List ℕ
-    pub is_item : IsItem depth item
+    pub is_item : IsItem false depth item
     pub passed : Passes source old item new
 
   -- what a title began: an item, which was read whole and is one to any depth, a break, or a nest, which may be one of
@@ -78,7 +78,7 @@ module _ {R E : Type 0} (source : Ghosts R E) where
   -- so many items were read
   pub record ReadsCounted (count depth : ℕ) (old new : Decoder R) : Type 0 where
     pub items : List ℕ
-    pub are_items : AreItems depth count items
+    pub are_items : AreItems false depth count items
     pub passed : Passes source old items new
 
   -- of so many items some were read, and of one more a beginning
@@ -87,7 +87,7 @@ module _ {R E : Type 0} (source : Ghosts R E) where
     pub before : ℕ
     pub items : List ℕ
     pub more : before < count
-    pub are_items : AreItems depth before items
+    pub are_items : AreItems false depth before items
     pub between : Decoder R
     pub passed : Passes source old items between
     pub stops : StopsItem false depth room between error new
@@ -105,7 +105,7 @@ module _ {R E : Type 0} (source : Ghosts R E) where
   -- behind the header of a nest the rest of it was read
   pub record ReadsWithin (header : Header) (depth : ℕ) (old new : Decoder R) : Type 0 where
     pub rest : List ℕ
-    pub completes : Completes (suc depth) header rest
+    pub completes : Completes false (suc depth) header rest
     pub passed : Passes source old rest new
 
   -- behind the header of a nest so many items were read, and of one more a beginning
@@ -114,7 +114,7 @@ module _ {R E : Type 0} (source : Ghosts R E) where
     pub count : ℕ
     pub items : List ℕ
     pub takes_more : TakesMore header count
-    pub are_items : AreItems depth count items
+    pub are_items : AreItems false depth count items
     pub between : Decoder R
     pub passed : Passes source old items between
     pub stops : StopsItem (may_close header count) depth room between error new

@@ -1,45 +1,57 @@
--- Whole items (RFC 7049, 2.1 to 2.4), with tags, arrays and maps nested to a depth at most.
-use Rattle.std.specs.Prelude.{◌≡◌, ℕ, zero, suc, ◌*◌, List, [], ◌∷◌, ◌++◌, length, Some, None}
+-- Whole items (RFC 7049, 2.1 to 2.4), with tags, arrays and maps nested to a depth at most: any, or those in their
+-- shortest spelling alone.
+use Rattle.std.specs.Prelude.{◌≡◌, ℕ, zero, suc, ◌*◌, Bool, true, false, List, [], ◌∷◌, ◌++◌, length, Some, None}
 use Rattle.ciborium_ll_grammar.specs.declared.hdr.Header.{Header}
 use Rattle.ciborium_ll_grammar.specs.declared.hdr.Header.TheVariants as h
 use Rattle.ciborium_ll_grammar.specs.declared.hdr.Float.{Float}
-use Rattle.ciborium_ll_grammar.specs.Title.{IsTitle}
-use Rattle.ciborium_ll_grammar.specs.Strings.{Bytes, Text, AreStrings, IsWritable}
+use Rattle.ciborium_ll_grammar.specs.Title.{IsTitle, IsStrictTitle}
+use Rattle.ciborium_ll_grammar.specs.Strings.{Kind, Bytes, Text, AreStrings, IsWritable}
 use Rattle.ciborium_ll_grammar.specs.Elements.{AreWritable}
+use Rattle.ciborium_ll_grammar.specs.StrictElements.{AreFlat}
 
--- `Completes depth header rest`: behind a title of the header, the rest completes an item (RFC 7049, 2.1 to 2.4).
--- `AreItems depth count bytes`: the bytes are so many items, joined
+-- where only the shortest spelling is taken, a title is a strict one (RFC 7049, 3.9)
+abbrev pub IsTakenTitle : Bool → List ℕ → Header → Type 0
+IsTakenTitle true title header = IsStrictTitle title header
+IsTakenTitle false title header = Unit {0}
+
+-- and within an open only strings of a definite length stand, each under such a title (RFC 7049, 2.2.2 and 3.9)
+abbrev pub AreTakenStrings : Bool → Kind → List ℕ → List (List ℕ) → Type 0
+AreTakenStrings true kind strings bodies = AreFlat kind strings bodies
+AreTakenStrings false kind strings bodies = Unit {0}
+
+-- `Completes strict depth header rest`: behind a title of the header, the rest completes an item (RFC 7049, 2.1 to
+-- 2.4). `AreItems strict depth count bytes`: the bytes are so many items, joined
 mutual
-  pub data Completes : ℕ → Header → List ℕ → Type 0 where
-    positive : {depth number : ℕ} → Completes depth (h.Positive number) []
-    negative : {depth number : ℕ} → Completes depth (h.Negative number) []
-    float : {depth : ℕ} {value : Float} → Completes depth (h.Float value) []
-    simple : {depth number : ℕ} → Completes depth (h.Simple number) []
-    byte_string : {depth len : ℕ} {body : List ℕ} → length body ≡ len → Completes depth (h.Bytes (Some len)) body
+  pub data Completes (strict : Bool) : ℕ → Header → List ℕ → Type 0 where
+    positive : {depth number : ℕ} → Completes strict depth (h.Positive number) []
+    negative : {depth number : ℕ} → Completes strict depth (h.Negative number) []
+    float : {depth : ℕ} {value : Float} → Completes strict depth (h.Float value) []
+    simple : {depth number : ℕ} → Completes strict depth (h.Simple number) []
+    byte_string : {depth len : ℕ} {body : List ℕ} → length body ≡ len → Completes strict depth (h.Bytes (Some len)) body
     text_string : {depth len : ℕ} {body : List ℕ} → length body ≡ len → IsWritable Text body
-        → Completes depth (h.Text (Some len)) body
+        → Completes strict depth (h.Text (Some len)) body
     open_bytes : {depth : ℕ} {strings : List ℕ} {bodies : List (List ℕ)} → AreStrings Bytes strings bodies
-        → Completes depth (h.Bytes None) (strings ++ 0xff ∷ [])
+        → AreTakenStrings strict Bytes strings bodies → Completes strict depth (h.Bytes None) (strings ++ 0xff ∷ [])
     open_text : {depth : ℕ} {strings : List ℕ} {bodies : List (List ℕ)} → AreStrings Text strings bodies
-        → AreWritable Text bodies
-        → Completes depth (h.Text None) (strings ++ 0xff ∷ [])
-    tag : {depth number : ℕ} {item : List ℕ} → AreItems depth (suc zero) item
-        → Completes (suc depth) (h.Tag number) item
-    array : {depth count : ℕ} {items : List ℕ} → AreItems depth count items
-        → Completes (suc depth) (h.Array (Some count)) items
-    pairs : {depth count : ℕ} {items : List ℕ} → AreItems depth (2 * count) items
-        → Completes (suc depth) (h.Map (Some count)) items
-    open_array : {depth count : ℕ} {items : List ℕ} → AreItems depth count items
-        → Completes (suc depth) (h.Array None) (items ++ 0xff ∷ [])
-    open_pairs : {depth : ℕ} {items : List ℕ} (count : ℕ) → AreItems depth (2 * count) items
-        → Completes (suc depth) (h.Map None) (items ++ 0xff ∷ [])
+        → AreTakenStrings strict Text strings bodies → AreWritable Text bodies
+        → Completes strict depth (h.Text None) (strings ++ 0xff ∷ [])
+    tag : {depth number : ℕ} {item : List ℕ} → AreItems strict depth (suc zero) item
+        → Completes strict (suc depth) (h.Tag number) item
+    array : {depth count : ℕ} {items : List ℕ} → AreItems strict depth count items
+        → Completes strict (suc depth) (h.Array (Some count)) items
+    pairs : {depth count : ℕ} {items : List ℕ} → AreItems strict depth (2 * count) items
+        → Completes strict (suc depth) (h.Map (Some count)) items
+    open_array : {depth count : ℕ} {items : List ℕ} → AreItems strict depth count items
+        → Completes strict (suc depth) (h.Array None) (items ++ 0xff ∷ [])
+    open_pairs : {depth : ℕ} {items : List ℕ} (count : ℕ) → AreItems strict depth (2 * count) items
+        → Completes strict (suc depth) (h.Map None) (items ++ 0xff ∷ [])
 
-  pub data AreItems : ℕ → ℕ → List ℕ → Type 0 where
-    no_items : {depth : ℕ} → AreItems depth zero []
+  pub data AreItems (strict : Bool) : ℕ → ℕ → List ℕ → Type 0 where
+    no_items : {depth : ℕ} → AreItems strict depth zero []
     more_items : {depth count : ℕ} {title rest others : List ℕ} {header : Header} → IsTitle title header
-        → Completes depth header rest
-        → AreItems depth count others → AreItems depth (suc count) (title ++ (rest ++ others))
+        → IsTakenTitle strict title header → Completes strict depth header rest
+        → AreItems strict depth count others → AreItems strict depth (suc count) (title ++ (rest ++ others))
 
 -- the bytes are one item
-abbrev pub IsItem : ℕ → List ℕ → Type 0
-IsItem depth bytes = AreItems depth (suc zero) bytes
+abbrev pub IsItem : Bool → ℕ → List ℕ → Type 0
+IsItem strict depth bytes = AreItems strict depth (suc zero) bytes

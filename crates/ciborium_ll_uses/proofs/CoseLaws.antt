@@ -1,5 +1,6 @@
 -- What was taken, call by call.
 use Rattle.std.proofs.Common.{◌≡◌, ℕ, ◌+◌, ◌<◌, List, [], ◌∷◌, ◌++◌, length, Option, Some, None, Result, Ok, Err, IfOk}
+use Rattle.std.proofs.Common.{false}
 use Rattle.std.proofs.Common.{refl, sym, ap, subst, ◌∙◌, arith, length-append, true, inl, inr, ◌⊎◌}
 use Rattle.std.specs.Io.KnownBytes.{Consumes, prepend_known}
 use Rattle.std.proofs.KnownBytes.{Consumes-trans}
@@ -8,7 +9,7 @@ use Rattle.ciborium_ll.specs.Types.Header.{Header}
 use Rattle.ciborium_ll.specs.Types.Header.TheVariants as h
 use Rattle.ciborium_ll.specs.Types.Decoder.{Decoder}
 use Rattle.ciborium_ll.specs.Title.{shortest_title, IsTitle}
-use Rattle.ciborium_ll.specs.Items.{IsItem, AreItems, more_items, Completes}
+use Rattle.ciborium_ll.specs.Items.{IsItem, AreItems, more_items}
 use Rattle.ciborium_ll.specs.Decoding.{view, IsSteady, Passes, PullsTitle, TakesBack, Begins, behind_waiting}
 use Rattle.ciborium_ll.proofs.DecodingLaws.{IfSome-at, Passes-none}
 use Rattle.ciborium_ll.proofs.NestLaws.{title_some}
@@ -23,9 +24,9 @@ use Rattle.ciborium_ll_uses.specs.Cose.{UnprotectedDue, PayloadDue, SignatureDue
 use Rattle.ciborium_ll_uses.specs.Cose.{to_protected, to_unprotected, to_payload, to_signature, Took, TookBody}
 use Rattle.ciborium_ll_uses.specs.Cose.{TookString, TookPayload, TookMap, StopsAt, StopsSign1}
 
-item_some : (depth : ℕ) (item : List ℕ) → IsItem depth item → 0 < length item
-item_some depth item (more_items {title = title} {rest = rest} {others = others} {header = header} is_title rests
-    more) =
+item_some : (depth : ℕ) (item : List ℕ) → IsItem false depth item → 0 < length item
+item_some depth item (more_items {title = title} {rest = rest} {others = others} {header = header} is_title
+    taken rests more) =
     omega (arith, length-append title (rest ++ others), title_some title header is_title)
 
 -- where the bytes are known, what was taken is in front of them
@@ -75,14 +76,15 @@ module _ {R E : Type 0} (source : Ghosts R E) where
     mode = second.mode ∙ first.mode;
   }
 
-  settled : (depth : ℕ) (pushed new : Decoder R) (item : List ℕ) → IsItem depth item → Passes source pushed item new
+  settled : (depth : ℕ) (pushed new : Decoder R) (item : List ℕ) → IsItem false depth item
+      → Passes source pushed item new
       → new.waiting ≡ None
   settled depth pushed new item is_item passed = elim passed.waiting [
     | inl none ↦ absurd (let e : item ≡ [] = none.0 in omega (arith, item_some depth item is_item, ap length e))
     | inr waits ↦ waits
   ]
 
-  map_begins : (depth : ℕ) (pushed new : Decoder R) (item : List ℕ) (header : Header) → IsItem depth item
+  map_begins : (depth : ℕ) (pushed new : Decoder R) (item : List ℕ) (header : Header) → IsItem false depth item
       → Passes source pushed item new → pushed.waiting ≡ Some header → Begins (shortest_title header) item
   map_begins depth pushed new item header is_item passed waits =
       elim (IfSome-at pushed.waiting header _ waits passed.waited) [

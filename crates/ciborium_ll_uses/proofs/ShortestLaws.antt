@@ -1,5 +1,6 @@
 -- An item in its shortest spelling, element by element.
 use Rattle.std.proofs.Common.{◌≡◌, ℕ, suc, ◌<◌, List, [], ◌∷◌, ◌++◌, length, take, drop, ◌-◌, None, Some, refl, sym}
+use Rattle.std.proofs.Common.{false}
 use Rattle.std.proofs.Common.{ap, subst, ◌∙◌, arith, append_assoc, append-nil, length-append, length-drop}
 use Rattle.std.proofs.lemmas.List.{length-take, take-append-drop}
 use Rattle.std.proofs.Math.Seq.{take-append_seam, take-length}
@@ -169,7 +170,8 @@ pub no_shortest : (depth : ℕ) (bytes rest : List ℕ) (len : ℕ) (front : Ite
     → ShortestInFront depth bytes other → ⊥
 no_shortest depth bytes rest len front counted so_far some none other shortest =
     let item = shortest.is_shortest in
-    let same = one_item depth depth shortest.item front.item shortest.rest front.rest item.is_item front.is_item
+    let same = one_item false false depth depth shortest.item front.item shortest.rest front.rest item.is_item
+    front.is_item
     (sym shortest.is ∙ front.is) in
     let whole = same.0 ∙ sym (taken bytes front.item front.rest len front.is counted) ∙ so_far.whole in
     none (strict_behind so_far.front so_far.marks so_far.count so_far.strict.run item.count shortest.item item.marks

@@ -1,6 +1,6 @@
 -- A signed message, COSE_Sign1 (RFC 9052, 4.2): its parts, where they stand, and why none was read.
-use Rattle.std.specs.Prelude.{◌≡◌, ℕ, ◌+◌, ◌<◌, ◌≤◌, ◌⊎◌, List, [], ◌∷◌, ◌++◌, length, Option, Some, None, true}
-use Rattle.std.specs.Prelude.{Result, Err}
+use Rattle.std.specs.Prelude.{◌≡◌, ℕ, ◌+◌, ◌<◌, ◌≤◌, ◌⊎◌, List, [], ◌∷◌, ◌++◌, length, Option, Some, None}
+use Rattle.std.specs.Prelude.{true, false, Result, Err}
 use Rattle.std.specs.Io.KnownBytes.{Consumes}
 use Rattle.ciborium_ll.specs.Types.Read.{Ghosts}
 use Rattle.ciborium_ll.specs.Types.Header.{Header}
@@ -30,7 +30,7 @@ pub record IsByteString (bytes : List ℕ) (at : ℕ) (span : Span) : Type 0 whe
 
 -- the bytes are a map under its shortest title, which begins at this offset; the span is that of the whole map
 pub record IsMap (bytes : List ℕ) (at : ℕ) (span : Span) : Type 0 where
-  pub is_item : IsItem MAP_DEPTH bytes
+  pub is_item : IsItem false MAP_DEPTH bytes
   pub len : Option ℕ
   pub rest : List ℕ
   pub is : bytes ≡ shortest_title (h.Map len) ++ rest
