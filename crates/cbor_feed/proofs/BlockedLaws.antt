@@ -8,7 +8,8 @@ use Rattle.ciborium_ll_grammar.specs.declared.hdr.table.TitleKind.TheVariants as
 use Rattle.ciborium_ll_grammar.specs.Title.{Major, Unsigned, Negative, ByteString, TextString, Array, Map, Tag, Other}
 use Rattle.ciborium_ll_grammar.specs.Title.{major_code, first_byte, Size, Small, One, Two, Four, Eight}
 use Rattle.ciborium_ll_grammar.specs.Title.{minor_of, affix_len, numbered_header, IsTitle, numbered, alone}
-use Rattle.ciborium_ll_grammar.specs.Title.{IsCutTitle, NamesNoTitle, BeginsRefused}
+use Rattle.ciborium_ll_grammar.specs.Title.{IsCutTitle, NamesNoTitle}
+use Rattle.ciborium_ll_grammar.specs.Items.{IsTakenTitle}
 use Rattle.ciborium_ll_grammar.specs.TitleRows.{IsTitleKind, IsRow}
 use Rattle.ciborium_ll_grammar.specs.declared.hdr.table.Row.{Row}
 use Rattle.ciborium_ll_grammar.proofs.TitleLaws.{same_major, minor_below}
@@ -23,7 +24,7 @@ use Rattle.cbor_feed.specs.Blocked.{blocked}
 use Rattle.cbor_feed.specs.Levels.{next}
 use Rattle.cbor_feed.specs.Spots.{Spot, at_phase, settled, string_done, bytes_due, text_due, nested, entered}
 use Rattle.cbor_feed.specs.Spots.{body_placed, refused}
-use Rattle.cbor_feed.specs.Steps.{titled, TitleStep, cut, early, whole, none}
+use Rattle.cbor_feed.specs.Steps.{SomeTaken, NoneTaken, titled, TitleStep, cut, early, whole, none}
 
 -- ---- the kind of a major type
 
@@ -212,19 +213,21 @@ module _ (spot : Spot) (kind : TitleKind) (byte : ℕ) (bytes : List ℕ) (front
       numbered_title byte (bytes ++ behind) (spot.front ++ behind) x q (ap (λ (z : List ℕ). z ++ behind) front)
       (omega (arith, is_cut))
 
-  pub blocked_early : (fault : Fault) → blocked spot.within spot.depth spot.place kind ≡ Some fault
+  pub blocked_early : SomeTaken spot.strict spot.front → (fault : Fault)
+      → blocked spot.within spot.depth spot.place kind ≡ Some fault
       → TitleStep spot (at_phase (p.Faulted fault) spot)
-  blocked_early fault b =
-      early fault whole_cut (λ behind x q.
+  blocked_early some fault b =
+      early fault whole_cut some (λ behind x q.
       let o = title_of behind x q in
       let same = kind_at kind byte o.major o.code (omega (arith, is_cut)) is_kind in
       let known = subst (λ (z : TitleKind). blocked spot.within spot.depth spot.place z ≡ Some fault) same b in
       subst (λ (z : Header). (titled z spot).phase ≡ p.Faulted fault) (sym o.is)
       (may_not spot.within spot.depth o.major o.size o.number (record spot { front = [] }) fault refl known))
 
-  pub blocked_none : blocked spot.within spot.depth spot.place kind ≡ None → TitleStep spot spot
-  blocked_none b =
-      cut whole_cut (λ behind x fault q is.
+  pub blocked_none : SomeTaken spot.strict spot.front → blocked spot.within spot.depth spot.place kind ≡ None
+      → TitleStep spot spot
+  blocked_none some b =
+      cut whole_cut some (λ behind x fault q is.
       let o = title_of behind x q in
       let same = kind_at kind byte o.major o.code (omega (arith, is_cut)) is_kind in
       let known = subst (λ (z : TitleKind). blocked spot.within spot.depth spot.place z ≡ None) same b in
@@ -256,24 +259,25 @@ module _ (spot new : Spot) (row : Row) (some : 0 < length spot.front)
       → length (drop 1 spot.front) < affix_len (slice_index spot.front 0 % 32)
   cut_length short = let whole = ap length (parted spot.front some) in omega (arith, whole, short)
 
-  pub step_early : (fault : Fault) → length spot.front ≤ affix_len (slice_index spot.front 0 % 32)
+  pub step_early : SomeTaken spot.strict spot.front → (fault : Fault)
+      → length spot.front ≤ affix_len (slice_index spot.front 0 % 32)
       → blocked spot.within spot.depth spot.place row.kind ≡ Some fault → new ≡ at_phase (p.Faulted fault) spot
       → TitleStep spot new
-  step_early fault short b e =
+  step_early goes fault short b e =
       subst (TitleStep spot) (sym e) (blocked_early spot row.kind (slice_index spot.front 0) (drop 1 spot.front)
-      (parted spot.front some) (cut_length short) says.kind fault b)
+      (parted spot.front some) (cut_length short) says.kind goes fault b)
 
-  pub step_cut : length spot.front ≤ affix_len (slice_index spot.front 0 % 32)
+  pub step_cut : SomeTaken spot.strict spot.front → length spot.front ≤ affix_len (slice_index spot.front 0 % 32)
       → blocked spot.within spot.depth spot.place row.kind ≡ None → new ≡ spot
       → TitleStep spot new
-  step_cut short b e =
+  step_cut goes short b e =
       subst (TitleStep spot) (sym e) (blocked_none spot row.kind (slice_index spot.front 0) (drop 1 spot.front)
-      (parted spot.front some) (cut_length short) says.kind b)
+      (parted spot.front some) (cut_length short) says.kind goes b)
 
-pub step_whole : (spot new : Spot) (header : Header) → IsTitle spot.front header → new ≡ titled header spot
-    → TitleStep spot new
-step_whole spot new header q e = subst (TitleStep spot) (sym e) (whole header q)
+pub step_whole : (spot new : Spot) (header : Header) → IsTitle spot.front header
+    → IsTakenTitle spot.strict spot.front header → new ≡ titled header spot → TitleStep spot new
+step_whole spot new header q g e = subst (TitleStep spot) (sym e) (whole header q g)
 
-pub step_none : (spot new : Spot) → BeginsRefused spot.front → new ≡ refused (record spot { front = [] })
+pub step_none : (spot new : Spot) → NoneTaken spot.strict spot.front → new ≡ refused (record spot { front = [] })
     → TitleStep spot new
-step_none spot new r e = subst (TitleStep spot) (sym e) (none r)
+step_none spot new never e = subst (TitleStep spot) (sym e) (none never)

@@ -1,5 +1,5 @@
 -- Where an item has ended and where there is a fault, in terms of the bytes alone.
-use Rattle.std.proofs.Common.{◌≡◌, ℕ, zero, suc, ◌↔◌, List, [], ◌++◌, length, refl, sym, ap, subst, ◌∙◌, arith, false}
+use Rattle.std.proofs.Common.{◌≡◌, ℕ, zero, suc, ◌↔◌, Bool, List, [], ◌++◌, length, refl, sym, ap, subst, ◌∙◌, arith}
 use Rattle.std.proofs.Common.{append-nil}
 use Rattle.std.proofs.Common.{length-append, inl, inr}
 use Rattle.ciborium_ll_grammar.specs.Items.{IsItem}
@@ -33,17 +33,17 @@ fault_or (p.Text n state) spot e has = absurd (has (λ fault same. let both = e 
 fault_or p.Ended spot e has = absurd (has (λ fault same. let both = e ∙ same in cc))
 
 -- there is a fault just where no item begins so
-pub fault_exact : (d : ℕ) (fed : List ℕ) (spot : Spot) → IsFed d fed spot
-    → HasFault spot ↔ ((more : List ℕ) → IsItem false d (fed ++ more) → ⊥)
-fault_exact d fed spot is = (
-  λ has y i. fault_none spot.phase spot y refl has ((fed_same d fed spot is y).0 i),
-  λ never. fault_or spot.phase spot refl (λ sound. let o = fed_goes d fed spot is sound in never o.0 o.1),
+pub fault_exact : (s : Bool) (d : ℕ) (fed : List ℕ) (spot : Spot) → IsFed s d fed spot
+    → HasFault spot ↔ ((more : List ℕ) → IsItem s d (fed ++ more) → ⊥)
+fault_exact s d fed spot is = (
+  λ has y i. fault_none spot.phase spot y refl has ((fed_same s d fed spot is y).0 i),
+  λ never. fault_or spot.phase spot refl (λ sound. let o = fed_goes s d fed spot is sound in never o.0 o.1),
 )
 
 -- ---- an end
 
 -- a title is due where no byte follows: there is none
-no_title : (spot : Spot) → FrontSound spot → Titled (spot.front ++ []) → ⊥
+no_title : (spot : Spot) → FrontSound spot → Titled spot.strict (spot.front ++ []) → ⊥
 no_title spot (inl clear) o =
     let a = announced o.title o.header o.is_title in
     let none : spot.front ++ [] ≡ [] = ap (λ (z : List ℕ). z ++ []) clear in
@@ -60,13 +60,13 @@ body_none n P Then o = let whole = ap length o.is in omega (arith, whole, o.long
 ended_in : (phase : Phase) (spot : Spot) → SoundIn phase spot → WaitsIn phase spot [] → EndedIn phase
 ended_in p.Ended spot sound waits = tt
 ended_in p.Title spot sound waits =
-    absurd (no_title spot sound (due_titled spot.within spot.depth spot.levels (spot.front ++ []) waits))
+    absurd (no_title spot sound (due_titled spot.strict spot.within spot.depth spot.levels (spot.front ++ []) waits))
 ended_in (p.Bytes zero) spot sound waits = absurd sound
 ended_in (p.Bytes (suc n)) spot sound waits =
-    absurd (body_none n AnyBody (StringDone spot.within spot.depth spot.levels) waits)
+    absurd (body_none n AnyBody (StringDone spot.strict spot.within spot.depth spot.levels) waits)
 ended_in (p.Text zero state) spot sound waits = absurd sound
 ended_in (p.Text (suc n) state) spot sound waits =
-    absurd (body_none n (TextBody state) (StringDone spot.within spot.depth spot.levels) waits)
+    absurd (body_none n (TextBody state) (StringDone spot.strict spot.within spot.depth spot.levels) waits)
 ended_in (p.Faulted fault) spot sound waits = absurd waits
 
 whole_in : (phase : Phase) (spot : Spot) → phase ≡ spot.phase → EndedIn phase → Waits spot []
@@ -77,10 +77,10 @@ whole_in (p.Text n state) spot e has = absurd has
 whole_in (p.Faulted fault) spot e has = absurd has
 
 -- the item has ended just where the bytes so far are one
-pub ended_exact : (d : ℕ) (fed : List ℕ) (spot : Spot) → IsFed d fed spot → HasEnded spot ↔ IsItem false d fed
-ended_exact d fed spot is =
-    let same = fed_same d fed spot is [] in (
-      λ has. subst (IsItem false d) (append-nil fed) (same.1 (whole_in spot.phase spot refl has)),
-      λ item. ended_in spot.phase spot (fed_sound d fed spot is)
-          (same.0 (subst (IsItem false d) (sym (append-nil fed)) item)),
+pub ended_exact : (s : Bool) (d : ℕ) (fed : List ℕ) (spot : Spot) → IsFed s d fed spot → HasEnded spot ↔ IsItem s d fed
+ended_exact s d fed spot is =
+    let same = fed_same s d fed spot is [] in (
+      λ has. subst (IsItem s d) (append-nil fed) (same.1 (whole_in spot.phase spot refl has)),
+      λ item. ended_in spot.phase spot (fed_sound s d fed spot is)
+          (same.0 (subst (IsItem s d) (sym (append-nil fed)) item)),
     )

@@ -9,7 +9,8 @@ use Rattle.cbor_feed.specs.declared.phase.Within.{Within}
 use Rattle.cbor_feed.specs.declared.phase.Within.TheVariants as w
 use Rattle.cbor_feed.specs.Levels.{closes, contents, next}
 use Rattle.cbor_feed.specs.Spots.{Spot, settled, string_done, bytes_due, text_due, nested, broken}
-use Rattle.cbor_feed.specs.Spots.{body_placed, item_entered, string_closed, bytes_entered, text_entered, entered}
+use Rattle.cbor_feed.specs.Spots.{body_placed, item_entered, open_entered, string_closed, bytes_entered, text_entered}
+use Rattle.cbor_feed.specs.Spots.{entered}
 use Rattle.cbor_feed.specs.Steps.{text_left}
 
 -- ---- a title and the end of an item or a string leave what came of a title, and count nothing
@@ -69,15 +70,19 @@ closed_kept : (i : ℕ → Within) (n : ℕ) (spot : Spot) → Kept spot (string
 closed_kept i zero spot = settled_kept spot.levels spot.depth spot
 closed_kept i (suc n) spot = (refl, refl)
 
+open_kept : (s : Bool) (i : Within) (spot : Spot) → Kept spot (open_entered s i spot)
+open_kept true i spot = (refl, refl)
+open_kept false i spot = (refl, refl)
+
 in_bytes_kept : (x : Header) (n : ℕ) (spot : Spot) → Kept spot (bytes_entered x n spot)
 in_bytes_kept (h.Bytes (Some len)) n spot = bytes_kept len spot
-in_bytes_kept (h.Bytes None) n spot = (refl, refl)
+in_bytes_kept (h.Bytes None) n spot = open_kept spot.strict (w.Bytes (suc n)) spot
 in_bytes_kept h.Break n spot = closed_kept w.Bytes n spot
 in_bytes_kept x n spot = (refl, refl)
 
 in_text_kept : (x : Header) (n : ℕ) (spot : Spot) → Kept spot (text_entered x n spot)
 in_text_kept (h.Text (Some len)) n spot = text_kept len spot
-in_text_kept (h.Text None) n spot = (refl, refl)
+in_text_kept (h.Text None) n spot = open_kept spot.strict (w.Text (suc n)) spot
 in_text_kept h.Break n spot = closed_kept w.Text n spot
 in_text_kept x n spot = (refl, refl)
 

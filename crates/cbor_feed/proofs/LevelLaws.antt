@@ -1,9 +1,9 @@
 -- What levels and strings that end leave due.
-use Rattle.std.proofs.Common.{◌≡◌, ℕ, zero, suc, ◌⊎◌, true, List, [], ◌∷◌, ◌++◌, Option, false}
+use Rattle.std.proofs.Common.{◌≡◌, ℕ, zero, suc, ◌⊎◌, Bool, true, List, [], ◌∷◌, ◌++◌, Option}
 use Rattle.std.proofs.Common.{Some, None, refl, sym, ap, subst, ◌∙◌, inl, inr, arith, append_assoc, append-nil}
 use Rattle.ciborium_ll_grammar.specs.declared.hdr.Header.{Header}
 use Rattle.ciborium_ll_grammar.specs.Title.{IsTitle}
-use Rattle.ciborium_ll_grammar.specs.Items.{Completes, AreItems, no_items, more_items, IsItem}
+use Rattle.ciborium_ll_grammar.specs.Items.{Completes, AreItems, IsTakenTitle, no_items, more_items, IsItem}
 use Rattle.cbor_feed.specs.declared.level.Level.{Level}
 use Rattle.cbor_feed.specs.declared.level.Level.TheVariants as l
 use Rattle.cbor_feed.specs.declared.phase.Within.{Within}
@@ -99,18 +99,19 @@ end_back l.OpenValue g d c =
 -- ---- a level where one item more is due
 
 -- an item of a title and what completes it
-pub item_of : (d : ℕ) (t r : List ℕ) (x : Header) → IsTitle t x → Completes false d x r → IsItem false d (t ++ r)
-item_of d t r x p c = subst (λ (z : List ℕ). IsItem false d (t ++ z)) (append-nil r) (more_items p tt c no_items)
+pub item_of : (s : Bool) (d : ℕ) (t r : List ℕ) (x : Header) → IsTitle t x → IsTakenTitle s t x → Completes s d x r
+    → IsItem s d (t ++ r)
+item_of s d t r x p g c = subst (λ (z : List ℕ). IsItem s d (t ++ z)) (append-nil r) (more_items p g c no_items)
 
 -- a title, what completes it and other items, with more behind: the first item in front
 first_apart : (t r a s : List ℕ) → (t ++ (r ++ a)) ++ s ≡ (t ++ r) ++ (a ++ s)
 first_apart t r a s =
     append_assoc t (r ++ a) s ∙ (ap (λ (z : List ℕ). t ++ z) (append_assoc r a s) ∙ sym (append_assoc t r (a ++ s)))
 
-module _ (f g : Level) (d : ℕ) (Then : List ℕ → Type 0) (goes : next f ≡ Some g) where
-  level_opens : (n : ℕ) (items e rest y : List ℕ) → AreItems false d n items → Takes f n e → Then rest
+module _ (s : Bool) (f g : Level) (d : ℕ) (Then : List ℕ → Type 0) (goes : next f ≡ Some g) where
+  level_opens : (n : ℕ) (items e rest y : List ℕ) → AreItems s d n items → Takes f n e → Then rest
       → y ≡ items ++ (e ++ rest)
-      → ItemThen d (EndsLevel g d Then) y ⊎ BreakThen g Then y
+      → ItemThen s d (EndsLevel s g d Then) y ⊎ BreakThen g Then y
   level_opens n items e rest y no_items t k is =
       let o = next_end f g e goes t in
       inr (record {
@@ -119,12 +120,12 @@ module _ (f g : Level) (d : ℕ) (Then : List ℕ → Type 0) (goes : next f ≡
         behind = k;
         is = is ∙ ap (λ (z : List ℕ). z ++ rest) o.1;
       })
-  level_opens n items e rest y (more_items {count = m} {title = t} {rest = r} {others = a} {header = x} q s c i) u
+  level_opens n items e rest y (more_items {count = m} {title = t} {rest = r} {others = a} {header = x} q v c i) u
       k is =
       inl (record {
         item = t ++ r;
         rest = a ++ (e ++ rest);
-        is_item = item_of d t r x q c;
+        is_item = item_of s d t r x q v c;
         behind = record {
           count = m;
           items = a;
@@ -139,24 +140,24 @@ module _ (f g : Level) (d : ℕ) (Then : List ℕ → Type 0) (goes : next f ≡
       })
 
   -- an item in front of items
-  item_then_items : (n : ℕ) (item a e rest y : List ℕ) → IsItem false d item → AreItems false d n a → Takes g n e
+  item_then_items : (n : ℕ) (item a e rest y : List ℕ) → IsItem s d item → AreItems s d n a → Takes g n e
       → Then rest
       → y ≡ item ++ (a ++ (e ++ rest))
-      → EndsLevel f d Then y
-  item_then_items n item a e rest y (more_items {title = t} {rest = r} {header = x} q s c no_items) i u k is = record {
+      → EndsLevel s f d Then y
+  item_then_items n item a e rest y (more_items {title = t} {rest = r} {header = x} q v c no_items) i u k is = record {
     count = suc n;
     items = t ++ (r ++ a);
     end = e;
     rest = rest;
     takes = next_back f g n e goes u;
-    are_items = more_items q s c i;
+    are_items = more_items q v c i;
     behind = k;
     is =
         is ∙ (ap (λ (z : List ℕ). (t ++ z) ++ (a ++ (e ++ rest))) (append-nil r)
         ∙ sym (first_apart t r a (e ++ rest)));
   }
 
-  level_closes : (y : List ℕ) → ItemThen d (EndsLevel g d Then) y ⊎ BreakThen g Then y → EndsLevel f d Then y
+  level_closes : (y : List ℕ) → ItemThen s d (EndsLevel s g d Then) y ⊎ BreakThen g Then y → EndsLevel s f d Then y
   level_closes y (inl o) =
       let b = o.behind in
       item_then_items b.count o.item b.items b.end b.rest y o.is_item b.are_items b.takes b.behind
@@ -179,22 +180,23 @@ abbrev pub Same : Type 0 → Type 0 → Type 0
 Same A B = (A → B) × (B → A)
 
 -- a level that is done is nothing
-done_level : (f : Level) (d : ℕ) (Then : List ℕ → Type 0) → next f ≡ None → (n : ℕ) (items e rest y : List ℕ)
-    → AreItems false d n items
+done_level : (s : Bool) (f : Level) (d : ℕ) (Then : List ℕ → Type 0) → next f ≡ None → (n : ℕ) (items e rest y : List ℕ)
+    → AreItems s d n items
     → Takes f n e → Then rest → y ≡ items ++ (e ++ rest) → Then y
-done_level f d Then done n items e rest y no_items t k is =
+done_level s f d Then done n items e rest y no_items t k is =
     let o = done_takes f n e done t in
     subst Then (sym (is ∙ ap (λ (z : List ℕ). z ++ rest) o.1)) k
-done_level f d Then done n items e rest y (more_items q s c i) t k is =
+done_level s f d Then done n items e rest y (more_items q v c i) t k is =
     absurd (let o = done_takes f n e done t in omega (arith, o.0))
 
 settled_next : (o : Option Level) (f : Level) (fs : List Level) (d : ℕ) (spot : Spot) (y : List ℕ) → next f ≡ o
     → spot.front ≡ []
-    → Same (Ends (suc d) fs y) (Waits (settled (suc d) fs spot) y)
-    → Same (Ends d (f ∷ fs) y) (Waits (settled d (f ∷ fs) spot) y)
+    → Same (Ends spot.strict (suc d) fs y) (Waits (settled (suc d) fs spot) y)
+    → Same (Ends spot.strict d (f ∷ fs) y) (Waits (settled d (f ∷ fs) spot) y)
 settled_next None f fs d spot y e clear same =
     rw (e, settled) (
-      λ o. same.0 (done_level f d (Ends (suc d) fs) e o.count o.items o.end o.rest y o.are_items o.takes o.behind o.is),
+      λ o. same.0 (done_level spot.strict f d (Ends spot.strict
+          (suc d) fs) e o.count o.items o.end o.rest y o.are_items o.takes o.behind o.is),
       λ waits. record {
         count = 0;
         items = [];
@@ -208,21 +210,22 @@ settled_next None f fs d spot y e clear same =
     )
 settled_next (Some g) f fs d spot y e clear same =
     rw (e, settled) (
-      λ o. subst (λ (z : List ℕ). ItemDue d (g ∷ fs) (z ++ y)) (sym clear)
-          (level_opens f g d (Ends (suc d) fs) e o.count o.items o.end o.rest y o.are_items o.takes o.behind o.is),
-      λ waits. level_closes f g d (Ends (suc d) fs) e y
-          (subst (λ (z : List ℕ). ItemDue d (g ∷ fs) (z ++ y)) clear waits),
+      λ o. subst (λ (z : List ℕ). ItemDue spot.strict d (g ∷ fs) (z ++ y)) (sym clear)
+          (level_opens spot.strict f g d (Ends spot.strict
+          (suc d) fs) e o.count o.items o.end o.rest y o.are_items o.takes o.behind o.is),
+      λ waits. level_closes spot.strict f g d (Ends spot.strict (suc d) fs) e y
+          (subst (λ (z : List ℕ). ItemDue spot.strict d (g ∷ fs) (z ++ y)) clear waits),
     )
 
 -- what is due behind a whole item
 pub settles : (fs : List Level) (d : ℕ) (spot : Spot) (y : List ℕ) → spot.front ≡ []
-    → Same (Ends d fs y) (Waits (settled d fs spot) y)
+    → Same (Ends spot.strict d fs y) (Waits (settled d fs spot) y)
 settles [] d spot y clear = (λ e. e, λ e. e)
 settles (f ∷ fs) d spot y clear = settled_next (next f) f fs d spot y refl clear (settles fs (suc d) spot y clear)
 
 -- what is due behind a string
 pub string_ends : (i : Within) (spot : Spot) (y : List ℕ) → spot.front ≡ [] → i ≡ spot.within
-    → Same (StringDone i spot.depth spot.levels y) (Waits (string_done i spot) y)
+    → Same (StringDone spot.strict i spot.depth spot.levels y) (Waits (string_done i spot) y)
 string_ends w.Nothing spot y clear same = settles spot.levels spot.depth spot y clear
 string_ends (w.Bytes n) spot y clear same = rw (← same, clear) (λ e. e, λ e. e)
 string_ends (w.Text n) spot y clear same = rw (← same, clear) (λ e. e, λ e. e)

@@ -4,6 +4,7 @@ pub mod LevelLaws
 pub mod BlockedLaws
 pub mod EnterLaws
 pub mod LiveLaws
+pub mod LongerBegun
 pub mod OneSpot
 pub mod SettledLaws
 pub mod SnapshotLaws

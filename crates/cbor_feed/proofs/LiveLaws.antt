@@ -8,9 +8,9 @@ use Rattle.std.proofs.lemmas.List.{length-replicate}
 use Rattle.ciborium_ll_grammar.specs.declared.hdr.Header.{Header}
 use Rattle.ciborium_ll_grammar.specs.declared.hdr.Header.TheVariants as h
 use Rattle.ciborium_ll_grammar.specs.Title.{IsTitle, IsCutTitle, AreBytes, numbered, Unsigned, Small}
-use Rattle.ciborium_ll_grammar.specs.Items.{AreItems, IsItem, no_items, more_items, positive}
+use Rattle.ciborium_ll_grammar.specs.Items.{AreItems, IsItem, IsTakenTitle, no_items, more_items, positive}
 use Rattle.ciborium_ll_grammar.specs.Strings.{Kind, Bytes, Text, none as no_strings}
-use Rattle.ciborium_ll_grammar.proofs.AffixLaws.{AreBytes-append, cut_begins}
+use Rattle.ciborium_ll_grammar.proofs.AffixLaws.{AreBytes-append}
 use Rattle.ciborium_ll_text.specs.declared.state.State.{State}
 use Rattle.ciborium_ll_text.specs.declared.state.State.TheVariants as s
 use Rattle.ciborium_ll_text.specs.States.{is_from, after_first, after_next, after_byte, after}
@@ -24,23 +24,31 @@ use Rattle.cbor_feed.specs.declared.phase.Within.{Within}
 use Rattle.cbor_feed.specs.declared.phase.Within.TheVariants as w
 use Rattle.cbor_feed.specs.Levels.{closes, contents, next}
 use Rattle.cbor_feed.specs.Spots.{Spot, settled, string_done, bytes_due, text_due, nested, broken, body_placed}
-use Rattle.cbor_feed.specs.Spots.{item_entered, string_closed, bytes_entered, text_entered, entered}
-use Rattle.cbor_feed.specs.Steps.{with_byte, titled, TitleStep, cut, early, whole, none, tail_due, may_end}
+use Rattle.cbor_feed.specs.Spots.{item_entered, open_entered, string_closed, bytes_entered, text_entered, entered}
+use Rattle.cbor_feed.specs.Steps.{SomeTaken, with_byte, titled, TitleStep, cut, early, whole, none, tail_due, may_end}
 use Rattle.cbor_feed.specs.Steps.{text_left, counted, StepIn, IsFed, fresh, more}
 use Rattle.cbor_feed.proofs.Waiting.{Takes, Ends, EndsString, EndsStrings, BodyThen, AnyBody, TextBody, TitleDue}
 use Rattle.cbor_feed.proofs.Waiting.{StringDone, WaitsIn}
+use Rattle.cbor_feed.proofs.StringLaws.{taken_none}
 use Rattle.cbor_feed.proofs.StepLaws.{fed_same}
 use Rattle.cbor_feed.proofs.TitleDueLaws.{title_enters}
 use Rattle.cbor_feed.proofs.KeptLaws.{entered_kept}
 
 -- ---- what ends levels and strings
 
+-- zero is a number under its shortest title
+zero_taken : (s : Bool) → IsTakenTitle s (0 ∷ []) (h.Positive 0)
+zero_taken true = record { shortest = refl; meant = λ small. small }
+zero_taken false = tt
+
 -- zeros are items
-zeros : (d n : ℕ) → (items : List ℕ) × AreItems false d n items
-zeros d zero = ([], no_items)
-zeros d (suc n) =
-    let others = zeros d n in
-    ((0 ∷ []) ++ ([] ++ others.0), more_items (numbered Unsigned Small 0 (omega arith)) tt positive others.1)
+zeros : (s : Bool) (d n : ℕ) → (items : List ℕ) × AreItems s d n items
+zeros s d zero = ([], no_items)
+zeros s d (suc n) =
+    let others = zeros s d n in (
+      (0 ∷ []) ++ ([] ++ others.0),
+      more_items (numbered Unsigned Small 0 (omega arith)) (zero_taken s) positive others.1,
+    )
 
 -- so many items end the level
 record Ending (level : Level) : Type 0 where
@@ -56,12 +64,12 @@ level_ending l.OpenItems = record { count = 0; end = 0xff ∷ []; takes = (tt, r
 level_ending l.OpenPairs = record { count = 0; end = 0xff ∷ []; takes = ((0, omega arith), refl) }
 level_ending l.OpenValue = record { count = 1; end = 0xff ∷ []; takes = ((0, omega arith), refl) }
 
-some_ends : (levels : List Level) (d : ℕ) → (y : List ℕ) × Ends d levels y
-some_ends [] d = ([], refl)
-some_ends (level ∷ levels) d =
-    let others = some_ends levels (suc d) in
+some_ends : (s : Bool) (levels : List Level) (d : ℕ) → (y : List ℕ) × Ends s d levels y
+some_ends s [] d = ([], refl)
+some_ends s (level ∷ levels) d =
+    let others = some_ends s levels (suc d) in
     let ending = level_ending level in
-    let items = zeros d ending.count in (
+    let items = zeros s d ending.count in (
       items.0 ++ (ending.end ++ others.0),
       record {
         count = ending.count;
@@ -75,35 +83,37 @@ some_ends (level ∷ levels) d =
       },
     )
 
-string_ended : (k : Kind) (Then : List ℕ → Type 0) (y : List ℕ) → Then y → EndsString k Then (0xff ∷ y)
-string_ended k Then y behind = record {
+string_ended : (s : Bool) (k : Kind) (Then : List ℕ → Type 0) (y : List ℕ) → Then y → EndsString s k Then (0xff ∷ y)
+string_ended s k Then y behind = record {
   strings = [];
   bodies = [];
   rest = y;
   are = no_strings;
+  taken = taken_none s k;
   sound = tt;
   behind = behind;
   is = refl;
 }
 
-some_strings : (k : Kind) (n : ℕ) (Then : List ℕ → Type 0) (y : List ℕ) → Then y → (z : List ℕ) × EndsStrings k n Then z
-some_strings k zero Then y behind = (0xff ∷ y, string_ended k Then y behind)
-some_strings k (suc n) Then y behind =
-    let inner = some_strings k n Then y behind in
-    (0xff ∷ inner.0, string_ended k (EndsStrings k n Then) inner.0 inner.1)
+some_strings : (s : Bool) (k : Kind) (n : ℕ) (Then : List ℕ → Type 0) (y : List ℕ) → Then y
+    → (z : List ℕ) × EndsStrings s k n Then z
+some_strings s k zero Then y behind = (0xff ∷ y, string_ended s k Then y behind)
+some_strings s k (suc n) Then y behind =
+    let inner = some_strings s k n Then y behind in
+    (0xff ∷ inner.0, string_ended s k (EndsStrings s k n Then) inner.0 inner.1)
 
-some_done : (i : Within) (d : ℕ) (levels : List Level) → (y : List ℕ) × StringDone i d levels y
-some_done w.Nothing d levels = some_ends levels d
-some_done (w.Bytes n) d levels = let o = some_ends levels d in some_strings Bytes n (Ends d levels) o.0 o.1
-some_done (w.Text n) d levels = let o = some_ends levels d in some_strings Text n (Ends d levels) o.0 o.1
+some_done : (s : Bool) (i : Within) (d : ℕ) (levels : List Level) → (y : List ℕ) × StringDone s i d levels y
+some_done s w.Nothing d levels = some_ends s levels d
+some_done s (w.Bytes n) d levels = let o = some_ends s levels d in some_strings s Bytes n (Ends s d levels) o.0 o.1
+some_done s (w.Text n) d levels = let o = some_ends s levels d in some_strings s Text n (Ends s d levels) o.0 o.1
 
-some_due : (i : Within) (d : ℕ) (levels : List Level) → (y : List ℕ) × TitleDue i d levels y
-some_due w.Nothing d levels =
-    let o = some_ends levels d in
-    let item = zeros d 1 in
+some_due : (s : Bool) (i : Within) (d : ℕ) (levels : List Level) → (y : List ℕ) × TitleDue s i d levels y
+some_due s w.Nothing d levels =
+    let o = some_ends s levels d in
+    let item = zeros s d 1 in
     (item.0 ++ o.0, inl (record { item = item.0; rest = o.0; is_item = item.1; behind = o.1; is = refl }))
-some_due (w.Bytes n) d levels = let o = some_ends levels d in some_strings Bytes n (Ends d levels) o.0 o.1
-some_due (w.Text n) d levels = let o = some_ends levels d in some_strings Text n (Ends d levels) o.0 o.1
+some_due s (w.Bytes n) d levels = let o = some_ends s levels d in some_strings s Bytes n (Ends s d levels) o.0 o.1
+some_due s (w.Text n) d levels = let o = some_ends s levels d in some_strings s Text n (Ends s d levels) o.0 o.1
 
 -- ---- what ends a text
 
@@ -175,10 +185,11 @@ some_body state n may =
 
 -- ---- spots that are sound
 
--- no title came, or a part of one that may stand there
+-- no title came, or a part of one that is taken and may stand there
 abbrev pub FrontSound : Spot → Type 0
 FrontSound spot = (spot.front ≡ []) ⊎ (AreBytes spot.front × IsCutTitle spot.front
-    × ((behind : List ℕ) (x : Header) (fault : Fault) → IsTitle (spot.front ++ behind) x
+    × SomeTaken spot.strict spot.front × ((behind : List ℕ) (x : Header) (fault : Fault)
+    → IsTitle (spot.front ++ behind) x
     → (titled x spot).phase ≡ p.Faulted fault → ⊥))
 
 abbrev pub SoundIn : Phase → Spot → Type 0
@@ -231,15 +242,19 @@ module _ (spot : Spot) (clear : spot.front ≡ []) where
   closed_sound i zero = settled_sound spot.levels spot.depth
   closed_sound i (suc n) = inl clear
 
+  open_sound : (s : Bool) (i : Within) → Sound (open_entered s i spot)
+  open_sound true i = tt
+  open_sound false i = inl clear
+
   in_bytes_sound : (x : Header) (n : ℕ) → Sound (bytes_entered x n spot)
   in_bytes_sound (h.Bytes (Some len)) n = bytes_sound len
-  in_bytes_sound (h.Bytes None) n = inl clear
+  in_bytes_sound (h.Bytes None) n = open_sound spot.strict (w.Bytes (suc n))
   in_bytes_sound h.Break n = closed_sound w.Bytes n
   in_bytes_sound x n = tt
 
   in_text_sound : (x : Header) (n : ℕ) → Sound (text_entered x n spot)
   in_text_sound (h.Text (Some len)) n = text_sound len
-  in_text_sound (h.Text None) n = inl clear
+  in_text_sound (h.Text None) n = open_sound spot.strict (w.Text (suc n))
   in_text_sound h.Break n = closed_sound w.Text n
   in_text_sound x n = tt
 
@@ -274,9 +289,10 @@ byte_front spot b byte (inl clear) = rw clear (byte, tt)
 byte_front spot b byte (inr o) = AreBytes-append spot.front (b ∷ []) o.0 (byte, tt)
 
 title_sound : (spot new : Spot) → TitleStep spot new → spot.phase ≡ p.Title → AreBytes spot.front → Sound new
-title_sound spot new (cut c may) e bytes = subst (λ (z : Phase). SoundIn z spot) (sym e) (inr (bytes, c, may))
-title_sound spot new (early fault c all) e bytes = tt
-title_sound spot new (whole x q) e bytes = entered_sound spot.within x (record spot { front = [] }) refl
+title_sound spot new (cut c some may) e bytes =
+    subst (λ (z : Phase). SoundIn z spot) (sym e) (inr (bytes, c, some, may))
+title_sound spot new (early fault c some all) e bytes = tt
+title_sound spot new (whole x q g) e bytes = entered_sound spot.within x (record spot { front = [] }) refl
 title_sound spot new (none r) e bytes = tt
 
 step_sound : (phase : Phase) (spot new : Spot) (b : ℕ) → phase ≡ spot.phase → SoundIn phase spot → b < 256
@@ -294,10 +310,10 @@ step_sound (p.Text (suc left) state) spot new b e sound byte step =
 step_sound p.Ended spot new b e sound byte step = absurd step
 step_sound (p.Faulted fault) spot new b e sound byte step = absurd step
 
-pub fed_sound : (d : ℕ) (fed : List ℕ) (spot : Spot) → IsFed d fed spot → Sound spot
-fed_sound d fed spot fresh = inl refl
-fed_sound d fed spot (more {bytes = a} {spot = before} b byte is step) =
-    step_sound before.phase before spot b refl (fed_sound d a before is) byte step
+pub fed_sound : (s : Bool) (d : ℕ) (fed : List ℕ) (spot : Spot) → IsFed s d fed spot → Sound spot
+fed_sound s d fed spot fresh = inl refl
+fed_sound s d fed spot (more {bytes = a} {spot = before} b byte is step) =
+    step_sound before.phase before spot b refl (fed_sound s d a before is) byte step
 
 -- ---- and goes on
 
@@ -305,9 +321,9 @@ abbrev NoFault : Spot → Type 0
 NoFault spot = (fault : Fault) → spot.phase ≡ p.Faulted fault → ⊥
 
 bytes_goes : (n : ℕ) (spot : Spot)
-    → (y : List ℕ) × BodyThen n AnyBody (StringDone spot.within spot.depth spot.levels) y
+    → (y : List ℕ) × BodyThen n AnyBody (StringDone spot.strict spot.within spot.depth spot.levels) y
 bytes_goes n spot =
-    let o = some_done spot.within spot.depth spot.levels in (
+    let o = some_done spot.strict spot.within spot.depth spot.levels in (
       replicate n 0 ++ o.0,
       record {
         body = replicate n 0;
@@ -320,9 +336,9 @@ bytes_goes n spot =
     )
 
 text_goes : (n : ℕ) (state : State) (spot : Spot) → may_end state n ≡ true
-    → (y : List ℕ) × BodyThen n (TextBody state) (StringDone spot.within spot.depth spot.levels) y
+    → (y : List ℕ) × BodyThen n (TextBody state) (StringDone spot.strict spot.within spot.depth spot.levels) y
 text_goes n state spot may =
-    let o = some_done spot.within spot.depth spot.levels in
+    let o = some_done spot.strict spot.within spot.depth spot.levels in
     let b = some_body state n may in (
       b.bytes ++ o.0,
       record {
@@ -336,10 +352,10 @@ text_goes n state spot may =
     )
 
 first_goes : (spot : Spot) → spot.front ≡ []
-    → (y : List ℕ) × TitleDue spot.within spot.depth spot.levels (spot.front ++ y)
+    → (y : List ℕ) × TitleDue spot.strict spot.within spot.depth spot.levels (spot.front ++ y)
 first_goes spot clear =
-    let o = some_due spot.within spot.depth spot.levels in
-    (o.0, subst (λ (z : List ℕ). TitleDue spot.within spot.depth spot.levels (z ++ o.0)) (sym clear) o.1)
+    let o = some_due spot.strict spot.within spot.depth spot.levels in
+    (o.0, subst (λ (z : List ℕ). TitleDue spot.strict spot.within spot.depth spot.levels (z ++ o.0)) (sym clear) o.1)
 
 -- with no part of a title
 clear_in : (phase : Phase) (spot : Spot) → phase ≡ spot.phase → SoundIn phase spot → spot.front ≡ [] → NoFault spot
@@ -352,19 +368,22 @@ clear_in p.Ended spot e sound clear goes = ([], refl)
 clear_in (p.Faulted fault) spot e sound clear goes = absurd (goes fault (sym e))
 
 title_goes : (spot : Spot) → FrontSound spot
-    → (y : List ℕ) × TitleDue spot.within spot.depth spot.levels (spot.front ++ y)
+    → (y : List ℕ) × TitleDue spot.strict spot.within spot.depth spot.levels (spot.front ++ y)
 title_goes spot (inl clear) = first_goes spot clear
 title_goes spot (inr o) =
-    let begun = cut_begins spot.front o.0 o.1 in
-    let behind = begun.byte ∷ begun.more in
-    let at = titled begun.header spot in
+    let some = o.2 in
+    let behind = some.0 in
+    let header = some.1 in
+    let at = titled header spot in
     let before = record spot { front = [] } in
-    let sound = entered_sound spot.within begun.header before refl in
-    let kept = entered_kept spot.within begun.header before in
-    let goes = clear_in at.phase at refl sound kept.0 (λ fault is. o.2 behind begun.header fault begun.title is) in
-    let due = (title_enters spot.within before (spot.front ++ behind) goes.0 begun.header refl refl begun.title).1
-    goes.1 in
-    (behind ++ goes.0, subst (TitleDue spot.within spot.depth spot.levels) (append_assoc spot.front behind goes.0) due)
+    let sound = entered_sound spot.within header before refl in
+    let kept = entered_kept spot.within header before in
+    let goes = clear_in at.phase at refl sound kept.0 (λ fault is. o.3 behind header fault some.2 is) in
+    let due = (title_enters spot.within before (spot.front ++ behind) goes.0 header refl refl some.2 some.3).1
+    goes.1 in (
+      behind ++ goes.0,
+      subst (TitleDue spot.strict spot.within spot.depth spot.levels) (append_assoc spot.front behind goes.0) due,
+    )
 
 live_in : (phase : Phase) (spot : Spot) → phase ≡ spot.phase → SoundIn phase spot → NoFault spot
     → (y : List ℕ) × WaitsIn phase spot y
@@ -376,8 +395,8 @@ live_in p.Ended spot e sound goes = ([], refl)
 live_in (p.Faulted fault) spot e sound goes = absurd (goes fault (sym e))
 
 -- where there is no fault, some bytes make an item
-pub fed_goes : (d : ℕ) (fed : List ℕ) (spot : Spot) → IsFed d fed spot → NoFault spot
-    → (y : List ℕ) × IsItem false d (fed ++ y)
-fed_goes d fed spot is goes =
-    let o = live_in spot.phase spot refl (fed_sound d fed spot is) goes in
-    (o.0, (fed_same d fed spot is o.0).1 o.1)
+pub fed_goes : (s : Bool) (d : ℕ) (fed : List ℕ) (spot : Spot) → IsFed s d fed spot → NoFault spot
+    → (y : List ℕ) × IsItem s d (fed ++ y)
+fed_goes s d fed spot is goes =
+    let o = live_in spot.phase spot refl (fed_sound s d fed spot is) goes in
+    (o.0, (fed_same s d fed spot is o.0).1 o.1)

@@ -1,5 +1,5 @@
 -- What the answer of a checker says of the bytes so far.
-use Rattle.std.proofs.Common.{◌≡◌, ℕ, zero, suc, ◌+◌, ◌%◌, ◌<◌, ◌≤◌, true, List, [], ◌∷◌, ◌++◌, false}
+use Rattle.std.proofs.Common.{◌≡◌, ℕ, zero, suc, ◌+◌, ◌%◌, ◌<◌, ◌≤◌, Bool, true, List, [], ◌∷◌, ◌++◌}
 use Rattle.std.proofs.Common.{length, take, get_or, slice_index, refl, sym, ap, subst, ◌∙◌, arith}
 use Rattle.std.proofs.Common.{append_assoc, append-nil, length-append}
 use Rattle.std.proofs.lemmas.List.{take_more}
@@ -22,23 +22,24 @@ use Rattle.cbor_feed.proofs.StepLaws.{Titled, due_titled, fed_same}
 
 -- ---- bytes fed one by one
 
-pub fed_fresh : (d : ℕ) (spot : Spot) → spot ≡ start d → IsFed d [] spot
-fed_fresh d spot e = subst (IsFed d []) (sym e) fresh
+pub fed_fresh : (s : Bool) (d : ℕ) (spot : Spot) → spot ≡ start s d → IsFed s d [] spot
+fed_fresh s d spot e = subst (IsFed s d []) (sym e) fresh
 
-pub fed_more : (d : ℕ) (fed : List ℕ) (spot new : Spot) (xs : List ℕ) (i : ℕ) → i < length xs → get_or xs i 0 < 256
-    → IsFed d (fed ++ take i xs) spot → Step spot (get_or xs i 0) new
-    → IsFed d (fed ++ take (i + 1) xs) new
-fed_more d fed spot new xs i l b is step =
+pub fed_more : (s : Bool) (d : ℕ) (fed : List ℕ) (spot new : Spot) (xs : List ℕ) (i : ℕ) → i < length xs
+    → get_or xs i 0 < 256
+    → IsFed s d (fed ++ take i xs) spot → Step spot (get_or xs i 0) new
+    → IsFed s d (fed ++ take (i + 1) xs) new
+fed_more s d fed spot new xs i l b is step =
     let e = ap (λ (z : List ℕ). fed ++ z) (take_more xs i 0 l)
     ∙ sym (append_assoc fed (take i xs) (get_or xs i 0 ∷ [])) in
-    subst (λ (z : List ℕ). IsFed d z new) (sym e) (more (get_or xs i 0) b is step)
+    subst (λ (z : List ℕ). IsFed s d z new) (sym e) (more (get_or xs i 0) b is step)
 
 -- ---- each byte is counted
 
 title_counts : (spot new : Spot) → TitleStep spot new → new.offset ≡ spot.offset
-title_counts spot new (cut c may) = refl
-title_counts spot new (early fault c all) = refl
-title_counts spot new (whole x q) = (entered_kept spot.within x (record spot { front = [] })).1
+title_counts spot new (cut c some may) = refl
+title_counts spot new (early fault c some all) = refl
+title_counts spot new (whole x q g) = (entered_kept spot.within x (record spot { front = [] })).1
 title_counts spot new (none r) = refl
 
 step_counts : (phase : Phase) (spot new : Spot) (b : ℕ) → StepIn phase spot b new → new.offset ≡ spot.offset + 1
@@ -53,10 +54,10 @@ step_counts (p.Text (suc left) state) spot new b step =
 step_counts p.Ended spot new b step = absurd step
 step_counts (p.Faulted fault) spot new b step = absurd step
 
-pub fed_counts : (d : ℕ) (fed : List ℕ) (spot : Spot) → IsFed d fed spot → spot.offset ≡ length fed
-fed_counts d fed spot fresh = refl
-fed_counts d fed spot (more {bytes = a} {spot = before} b byte is step) =
-    let so_far = fed_counts d a before is in
+pub fed_counts : (s : Bool) (d : ℕ) (fed : List ℕ) (spot : Spot) → IsFed s d fed spot → spot.offset ≡ length fed
+fed_counts s d fed spot fresh = refl
+fed_counts s d fed spot (more {bytes = a} {spot = before} b byte is step) =
+    let so_far = fed_counts s d a before is in
     let one = step_counts before.phase before spot b step in
     omega (arith, so_far, one, length-append a (b ∷ []))
 
@@ -74,7 +75,7 @@ title_least (b ∷ front) y rest t affix byte e is long =
     let same : affix_len (b % 32) ≡ affix_len (byte % 32) = ap (λ (z : ℕ). affix_len (z % 32)) heads in
     omega (arith, whole, some, same, long, length-append t rest, length-append front y)
 
-due_by : (spot : Spot) (y : List ℕ) → Titled (spot.front ++ y) → title_due spot.front ≤ length y
+due_by : (spot : Spot) (y : List ℕ) → Titled spot.strict (spot.front ++ y) → title_due spot.front ≤ length y
 due_by spot y o =
     let a = announced o.title o.header o.is_title in
     title_least spot.front y o.rest o.title a.affix a.byte o.is a.is a.long
@@ -83,41 +84,42 @@ title_lacks : (front : List ℕ) → length front ≤ affix_len (slice_index fro
 title_lacks [] short = omega arith
 title_lacks (b ∷ front) short = omega (arith, short)
 
-tells_in : (phase : Phase) (d : ℕ) (fed : List ℕ) (spot : Spot) → phase ≡ spot.phase → IsFed d fed spot
+tells_in : (phase : Phase) (s : Bool) (d : ℕ) (fed : List ℕ) (spot : Spot) → phase ≡ spot.phase → IsFed s d fed spot
     → has_left phase ≡ true
-    → length spot.front ≤ affix_len (slice_index spot.front 0 % 32) → Tells d fed (progress_in phase spot)
-tells_in p.Title d fed spot e is left short =
-    let go : (y : List ℕ) → IsItem false d (fed ++ y) → title_due spot.front ≤ length y = λ y i.
-    let waits = (fed_same d fed spot is y).0 i in
-    due_by spot y (due_titled spot.within spot.depth spot.levels (spot.front ++ y)
+    → length spot.front ≤ affix_len (slice_index spot.front 0 % 32) → Tells s d fed (progress_in phase spot)
+tells_in p.Title s d fed spot e is left short =
+    let go : (y : List ℕ) → IsItem s d (fed ++ y) → title_due spot.front ≤ length y = λ y i.
+    let waits = (fed_same s d fed spot is y).0 i in
+    due_by spot y (due_titled spot.strict spot.within spot.depth spot.levels (spot.front ++ y)
     (subst (λ (z : Phase). WaitsIn z spot y) (sym e) waits)) in
-    (title_lacks spot.front short, fed_goes d fed spot is (λ fault same. let both = e ∙ same in cc), go)
-tells_in (p.Bytes zero) d fed spot e is left short = absurd cc
-tells_in (p.Bytes (suc n)) d fed spot e is left short =
-    let go : (y : List ℕ) → IsItem false d (fed ++ y) → suc n ≤ length y = λ y i.
-    let waits = subst (λ (z : Phase). WaitsIn z spot y) (sym e) ((fed_same d fed spot is y).0 i) in
+    (title_lacks spot.front short, fed_goes s d fed spot is (λ fault same. let both = e ∙ same in cc), go)
+tells_in (p.Bytes zero) s d fed spot e is left short = absurd cc
+tells_in (p.Bytes (suc n)) s d fed spot e is left short =
+    let go : (y : List ℕ) → IsItem s d (fed ++ y) → suc n ≤ length y = λ y i.
+    let waits = subst (λ (z : Phase). WaitsIn z spot y) (sym e) ((fed_same s d fed spot is y).0 i) in
     let whole = ap length waits.is in
     omega (arith, waits.long, whole, length-append waits.body waits.rest) in
-    (omega arith, fed_goes d fed spot is (λ fault same. let both = e ∙ same in cc), go)
-tells_in (p.Text zero state) d fed spot e is left short = absurd cc
-tells_in (p.Text (suc n) state) d fed spot e is left short =
-    let go : (y : List ℕ) → IsItem false d (fed ++ y) → suc n ≤ length y = λ y i.
-    let waits = subst (λ (z : Phase). WaitsIn z spot y) (sym e) ((fed_same d fed spot is y).0 i) in
+    (omega arith, fed_goes s d fed spot is (λ fault same. let both = e ∙ same in cc), go)
+tells_in (p.Text zero state) s d fed spot e is left short = absurd cc
+tells_in (p.Text (suc n) state) s d fed spot e is left short =
+    let go : (y : List ℕ) → IsItem s d (fed ++ y) → suc n ≤ length y = λ y i.
+    let waits = subst (λ (z : Phase). WaitsIn z spot y) (sym e) ((fed_same s d fed spot is y).0 i) in
     let whole = ap length waits.is in
     omega (arith, waits.long, whole, length-append waits.body waits.rest) in
-    (omega arith, fed_goes d fed spot is (λ fault same. let both = e ∙ same in cc), go)
-tells_in p.Ended d fed spot e is left short =
-    let item = (fed_same d fed spot is []).1 (subst (λ (z : Phase). WaitsIn z spot []) e refl) in
-    (subst (IsItem false d) (append-nil fed) item, fed_counts d fed spot is)
-tells_in (p.Faulted fault) d fed spot e is left short =
-    λ y i. subst (λ (z : Phase). WaitsIn z spot y) (sym e) ((fed_same d fed spot is y).0 i)
+    (omega arith, fed_goes s d fed spot is (λ fault same. let both = e ∙ same in cc), go)
+tells_in p.Ended s d fed spot e is left short =
+    let item = (fed_same s d fed spot is []).1 (subst (λ (z : Phase). WaitsIn z spot []) e refl) in
+    (subst (IsItem s d) (append-nil fed) item, fed_counts s d fed spot is)
+tells_in (p.Faulted fault) s d fed spot e is left short =
+    λ y i. subst (λ (z : Phase). WaitsIn z spot y) (sym e) ((fed_same s d fed spot is y).0 i)
 
-pub tells : (d : ℕ) (fed : List ℕ) (spot : Spot) → IsFed d fed spot → has_left spot.phase ≡ true
-    → length spot.front ≤ affix_len (slice_index spot.front 0 % 32) → Tells d fed (progress_of spot)
-tells d fed spot is left short = tells_in spot.phase d fed spot refl is left short
+pub tells : (s : Bool) (d : ℕ) (fed : List ℕ) (spot : Spot) → IsFed s d fed spot → has_left spot.phase ≡ true
+    → length spot.front ≤ affix_len (slice_index spot.front 0 % 32) → Tells s d fed (progress_of spot)
+tells s d fed spot is left short = tells_in spot.phase s d fed spot refl is left short
 
 -- the same of an answer that is the spot's
-pub told : (d : ℕ) (fed : List ℕ) (spot : Spot) (progress : Progress) → progress ≡ progress_of spot → IsFed d fed spot
+pub told : (s : Bool) (d : ℕ) (fed : List ℕ) (spot : Spot) (progress : Progress) → progress ≡ progress_of spot
+    → IsFed s d fed spot
     → has_left spot.phase ≡ true
-    → length spot.front ≤ affix_len (slice_index spot.front 0 % 32) → Tells d fed progress
-told d fed spot progress e is left short = subst (Tells d fed) (sym e) (tells d fed spot is left short)
+    → length spot.front ≤ affix_len (slice_index spot.front 0 % 32) → Tells s d fed progress
+told s d fed spot progress e is left short = subst (Tells s d fed) (sym e) (tells s d fed spot is left short)

@@ -1,6 +1,6 @@
 -- Which bytes behind a spot make a whole item of all.
-use Rattle.std.proofs.Common.{◌≡◌, ℕ, zero, suc, ◌*◌, ◌⊎◌, true, List, [], ◌∷◌, ◌++◌, length, false}
-use Rattle.ciborium_ll_grammar.specs.Items.{AreItems, IsItem}
+use Rattle.std.proofs.Common.{◌≡◌, ℕ, zero, suc, ◌*◌, ◌⊎◌, Bool, true, List, [], ◌∷◌, ◌++◌, length}
+use Rattle.ciborium_ll_grammar.specs.Items.{AreItems, AreTakenStrings, IsItem}
 use Rattle.ciborium_ll_grammar.specs.Strings.{Kind, Bytes, Text, AreStrings}
 use Rattle.ciborium_ll_grammar.specs.Elements.{AreWritable}
 use Rattle.ciborium_ll_text.specs.declared.state.State.{State}
@@ -25,26 +25,27 @@ Takes l.OpenPairs count end = ((pairs : ℕ) × (count ≡ 2 * pairs)) × (end �
 Takes l.OpenValue count end = ((pairs : ℕ) × (count ≡ suc (2 * pairs))) × (end ≡ 0xff ∷ [])
 
 -- the bytes end the level, and those behind it are so
-pub record EndsLevel (level : Level) (depth : ℕ) (Then : List ℕ → Type 0) (bytes : List ℕ) : Type 0 where
+pub record EndsLevel (strict : Bool) (level : Level) (depth : ℕ) (Then : List ℕ
+    → Type 0) (bytes : List ℕ) : Type 0 where
   pub count : ℕ
   pub items : List ℕ
   pub end : List ℕ
   pub rest : List ℕ
   pub takes : Takes level count end
-  pub are_items : AreItems false depth count items
+  pub are_items : AreItems strict depth count items
   pub behind : Then rest
   pub is : bytes ≡ items ++ (end ++ rest)
 
 -- the bytes end all levels
-abbrev pub Ends : ℕ → List Level → List ℕ → Type 0
-Ends depth [] bytes = bytes ≡ []
-Ends depth (level ∷ levels) bytes = EndsLevel level depth (Ends (suc depth) levels) bytes
+abbrev pub Ends : Bool → ℕ → List Level → List ℕ → Type 0
+Ends strict depth [] bytes = bytes ≡ []
+Ends strict depth (level ∷ levels) bytes = EndsLevel strict level depth (Ends strict (suc depth) levels) bytes
 
 -- the bytes are an item, and those behind it are so
-pub record ItemThen (depth : ℕ) (Then : List ℕ → Type 0) (bytes : List ℕ) : Type 0 where
+pub record ItemThen (strict : Bool) (depth : ℕ) (Then : List ℕ → Type 0) (bytes : List ℕ) : Type 0 where
   pub item : List ℕ
   pub rest : List ℕ
-  pub is_item : IsItem false depth item
+  pub is_item : IsItem strict depth item
   pub behind : Then rest
   pub is : bytes ≡ item ++ rest
 
@@ -55,40 +56,42 @@ pub record BreakThen (level : Level) (Then : List ℕ → Type 0) (bytes : List 
   pub behind : Then rest
   pub is : bytes ≡ 0xff ∷ rest
 
-abbrev pub Breaks : ℕ → List Level → List ℕ → Type 0
-Breaks depth [] bytes = ⊥
-Breaks depth (level ∷ levels) bytes = BreakThen level (Ends (suc depth) levels) bytes
+abbrev pub Breaks : Bool → ℕ → List Level → List ℕ → Type 0
+Breaks strict depth [] bytes = ⊥
+Breaks strict depth (level ∷ levels) bytes = BreakThen level (Ends strict (suc depth) levels) bytes
 
 -- where an item is due
-abbrev pub ItemDue : ℕ → List Level → List ℕ → Type 0
-ItemDue depth levels bytes = ItemThen depth (Ends depth levels) bytes ⊎ Breaks depth levels bytes
+abbrev pub ItemDue : Bool → ℕ → List Level → List ℕ → Type 0
+ItemDue strict depth levels bytes = ItemThen strict depth
+    (Ends strict depth levels) bytes ⊎ Breaks strict depth levels bytes
 
 -- the bytes end an open string, and those behind it are so
-pub record EndsString (kind : Kind) (Then : List ℕ → Type 0) (bytes : List ℕ) : Type 0 where
+pub record EndsString (strict : Bool) (kind : Kind) (Then : List ℕ → Type 0) (bytes : List ℕ) : Type 0 where
   pub strings : List ℕ
   pub bodies : List (List ℕ)
   pub rest : List ℕ
   pub are : AreStrings kind strings bodies
+  pub taken : AreTakenStrings strict kind strings bodies
   pub sound : AreWritable kind bodies
   pub behind : Then rest
   pub is : bytes ≡ strings ++ 0xff ∷ rest
 
 -- the bytes end so many open strings, and one more
-abbrev pub EndsStrings : Kind → ℕ → (List ℕ → Type 0) → List ℕ → Type 0
-EndsStrings kind zero Then bytes = EndsString kind Then bytes
-EndsStrings kind (suc more) Then bytes = EndsString kind (EndsStrings kind more Then) bytes
+abbrev pub EndsStrings : Bool → Kind → ℕ → (List ℕ → Type 0) → List ℕ → Type 0
+EndsStrings strict kind zero Then bytes = EndsString strict kind Then bytes
+EndsStrings strict kind (suc more) Then bytes = EndsString strict kind (EndsStrings strict kind more Then) bytes
 
 -- behind a title or a string, where a title is due
-abbrev pub TitleDue : Within → ℕ → List Level → List ℕ → Type 0
-TitleDue w.Nothing depth levels bytes = ItemDue depth levels bytes
-TitleDue (w.Bytes more) depth levels bytes = EndsStrings Bytes more (Ends depth levels) bytes
-TitleDue (w.Text more) depth levels bytes = EndsStrings Text more (Ends depth levels) bytes
+abbrev pub TitleDue : Bool → Within → ℕ → List Level → List ℕ → Type 0
+TitleDue strict w.Nothing depth levels bytes = ItemDue strict depth levels bytes
+TitleDue strict (w.Bytes more) depth levels bytes = EndsStrings strict Bytes more (Ends strict depth levels) bytes
+TitleDue strict (w.Text more) depth levels bytes = EndsStrings strict Text more (Ends strict depth levels) bytes
 
 -- behind a string of a definite length
-abbrev pub StringDone : Within → ℕ → List Level → List ℕ → Type 0
-StringDone w.Nothing depth levels bytes = Ends depth levels bytes
-StringDone (w.Bytes more) depth levels bytes = EndsStrings Bytes more (Ends depth levels) bytes
-StringDone (w.Text more) depth levels bytes = EndsStrings Text more (Ends depth levels) bytes
+abbrev pub StringDone : Bool → Within → ℕ → List Level → List ℕ → Type 0
+StringDone strict w.Nothing depth levels bytes = Ends strict depth levels bytes
+StringDone strict (w.Bytes more) depth levels bytes = EndsStrings strict Bytes more (Ends strict depth levels) bytes
+StringDone strict (w.Text more) depth levels bytes = EndsStrings strict Text more (Ends strict depth levels) bytes
 
 -- a body of so many bytes
 pub record BodyThen (len : ℕ) (Sound Then : List ℕ → Type 0) (bytes : List ℕ) : Type 0 where
@@ -106,10 +109,11 @@ abbrev pub TextBody : State → List ℕ → Type 0
 TextBody state body = after state body ≡ s.Between
 
 abbrev pub WaitsIn : Phase → Spot → List ℕ → Type 0
-WaitsIn p.Title spot bytes = TitleDue spot.within spot.depth spot.levels (spot.front ++ bytes)
-WaitsIn (p.Bytes len) spot bytes = BodyThen len AnyBody (StringDone spot.within spot.depth spot.levels) bytes
+WaitsIn p.Title spot bytes = TitleDue spot.strict spot.within spot.depth spot.levels (spot.front ++ bytes)
+WaitsIn (p.Bytes len) spot bytes = BodyThen len AnyBody
+    (StringDone spot.strict spot.within spot.depth spot.levels) bytes
 WaitsIn (p.Text len state) spot bytes =
-    BodyThen len (TextBody state) (StringDone spot.within spot.depth spot.levels) bytes
+    BodyThen len (TextBody state) (StringDone spot.strict spot.within spot.depth spot.levels) bytes
 WaitsIn p.Ended spot bytes = bytes ≡ []
 WaitsIn (p.Faulted fault) spot bytes = ⊥
 

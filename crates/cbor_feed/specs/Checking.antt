@@ -5,6 +5,7 @@ use Rattle.cbor_feed.specs.Spots.{Spot}
 
 abbrev pub spot_of : Checker → Spot
 spot_of c = record {
+  strict = c.strict;
   phase = c.phase;
   front = c.front;
   within = c.within;

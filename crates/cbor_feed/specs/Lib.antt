@@ -1,6 +1,7 @@
 pub mod Blocked
 pub mod Checking
 pub mod Levels
+pub mod Longer
 pub mod Opens
 pub mod Snapshots
 pub mod Spots

@@ -1,5 +1,6 @@
 -- A spot as plain numbers, which a caller keeps in memory of its own.
-use Rattle.std.specs.Prelude.{◌≡◌, ◌==◌, ◌+◌, ◌≤◌, ◌%◌, ℕ, zero, suc, true, List, [], ◌∷◌, Option, Some, None}
+use Rattle.std.specs.Prelude.{◌≡◌, ◌==◌, ◌+◌, ◌≤◌, ◌%◌, ℕ, zero, suc, Bool, true, false, List, [], ◌∷◌, Option, Some}
+use Rattle.std.specs.Prelude.{None}
 use Rattle.std.specs.Prelude.{if◌then◌else◌, slice_index, take}
 use Rattle.ciborium_ll_grammar.specs.Title.{affix_len}
 use Rattle.ciborium_ll_text.specs.declared.state.State.{State}
@@ -45,6 +46,10 @@ phase_in kind number text =
     (if kind == 6 then Some (p.Faulted (f.Break number)) else
     (if kind == 7 then Some (p.Faulted (f.Deep number)) else None))))))
 
+-- whether the shortest spelling alone is taken, by its number
+abbrev pub strict_in : ℕ → Option Bool
+strict_in number = if number == 0 then Some false else (if number == 1 then Some true else None)
+
 -- the strings that are open, by the number of their kind and how many there are within the first
 abbrev pub within_in : ℕ → ℕ → Option Within
 within_in kind more =
@@ -87,6 +92,7 @@ pub record IsState (snapshot : Snapshot) (phase : Phase) (within : Within) : Typ
 -- the numbers are those of this spot
 pub record Holds (snapshot : Snapshot) (spot : Spot) : Type 0 where
   pub phase : phase_in snapshot.phase snapshot.number snapshot.text ≡ Some spot.phase
+  pub strict : strict_in snapshot.strict ≡ Some spot.strict
   pub title : take snapshot.title_len snapshot.title ≡ spot.front
   pub within : within_in snapshot.strings snapshot.more ≡ Some spot.within
   pub depth : snapshot.depth ≡ spot.depth

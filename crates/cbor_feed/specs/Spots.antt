@@ -1,5 +1,5 @@
 -- Where the bytes so far have come to, and where a whole title or the end of a string or an item leads.
-use Rattle.std.specs.Prelude.{ℕ, zero, suc, ◌-◌, true, false, List, [], ◌∷◌, Some, None}
+use Rattle.std.specs.Prelude.{ℕ, zero, suc, ◌-◌, Bool, true, false, List, [], ◌∷◌, Some, None}
 use Rattle.ciborium_ll_grammar.specs.declared.hdr.Header.{Header}
 use Rattle.ciborium_ll_grammar.specs.declared.hdr.Header.TheVariants as h
 use Rattle.ciborium_ll_grammar.specs.Title.{title_len}
@@ -12,9 +12,13 @@ use Rattle.cbor_feed.specs.declared.phase.Within.TheVariants as w
 use Rattle.cbor_feed.specs.declared.phase.Fault.TheVariants as f
 use Rattle.cbor_feed.specs.Levels.{closes, contents, next}
 
--- what is due, the bytes of a title that isn't whole, the strings that are open, how many levels are left, the nests
--- around the item, the innermost first, the place that a fault would name, and how many bytes came
+-- whether the shortest spelling alone is taken, what is due, the bytes of a title that isn't whole, the strings that
+-- are
+-- open, how many levels are left, the nests around the item, the innermost first, the place that a fault would name,
+-- and
+-- how many bytes came
 pub record Spot : Type 0 where
+  pub strict : Bool
   pub phase : Phase
   pub front : List ℕ
   pub within : Within
@@ -101,16 +105,21 @@ abbrev pub string_closed : (ℕ → Within) → ℕ → Spot → Spot
 string_closed within zero spot = item_done spot
 string_closed within (suc more) spot = string_open (within more) spot
 
+-- Behind an open within an open string of its kind (RFC 7049, 2.2.2). In the shortest spelling none stands there (3.9)
+abbrev pub open_entered : Bool → Within → Spot → Spot
+open_entered true within spot = refused spot
+open_entered false within spot = string_open within spot
+
 -- behind a whole title within a byte string or a text (RFC 7049, 2.2.2)
 abbrev pub bytes_entered : Header → ℕ → Spot → Spot
 bytes_entered (h.Bytes (Some len)) more spot = bytes_due len spot
-bytes_entered (h.Bytes None) more spot = string_open (w.Bytes (suc more)) spot
+bytes_entered (h.Bytes None) more spot = open_entered spot.strict (w.Bytes (suc more)) spot
 bytes_entered h.Break more spot = string_closed w.Bytes more spot
 bytes_entered header more spot = refused spot
 
 abbrev pub text_entered : Header → ℕ → Spot → Spot
 text_entered (h.Text (Some len)) more spot = text_due len spot
-text_entered (h.Text None) more spot = string_open (w.Text (suc more)) spot
+text_entered (h.Text None) more spot = open_entered spot.strict (w.Text (suc more)) spot
 text_entered h.Break more spot = string_closed w.Text more spot
 text_entered header more spot = refused spot
 

@@ -1,7 +1,8 @@
 -- How one byte more leads from a spot to the next, and where a list of bytes leads.
 use Rattle.std.specs.Prelude.{◌≡◌, ℕ, zero, suc, ◌+◌, ◌<◌, Bool, List, [], ◌∷◌, ◌++◌, nat_le, true, false}
 use Rattle.ciborium_ll_grammar.specs.declared.hdr.Header.{Header}
-use Rattle.ciborium_ll_grammar.specs.Title.{IsTitle, IsCutTitle, BeginsRefused}
+use Rattle.ciborium_ll_grammar.specs.Title.{IsTitle, IsCutTitle}
+use Rattle.ciborium_ll_grammar.specs.Items.{IsTakenTitle}
 use Rattle.ciborium_ll_text.specs.declared.state.State.{State}
 use Rattle.ciborium_ll_text.specs.declared.state.State.TheVariants as s
 use Rattle.ciborium_ll_text.specs.States.{after_byte}
@@ -12,8 +13,9 @@ use Rattle.cbor_feed.specs.declared.phase.Fault.{Fault}
 use Rattle.cbor_feed.specs.Spots.{Spot, at_phase, bytes_due, entered, refused, string_done}
 
 -- nothing came, and one item is due
-abbrev pub start : ℕ → Spot
-start depth = record {
+abbrev pub start : Bool → ℕ → Spot
+start strict depth = record {
+  strict = strict;
   phase = p.Title;
   front = [];
   within = w.Nothing;
@@ -40,22 +42,34 @@ with_byte byte spot = record spot {
 abbrev pub titled : Header → Spot → Spot
 titled header spot = entered spot.within header (record spot { front = [] })
 
+-- a title that begins so is taken (RFC 7049, 2.1 and 3.9)
+abbrev pub SomeTaken : Bool → List ℕ → Type 0
+SomeTaken strict front =
+    (more : List ℕ) × (header : Header) × IsTitle (front ++ more) header × IsTakenTitle strict (front ++ more) header
+
+-- what begins so begins with no title that is taken
+abbrev pub NoneTaken : Bool → List ℕ → Type 0
+NoneTaken strict front =
+    (more title rest : List ℕ) (header : Header) → IsTitle title header → IsTakenTitle strict title header
+    → front ++ more ≡ title ++ rest → ⊥
+
 -- Where a byte of a title has led, which now stands at the end of the front
 pub data TitleStep (spot : Spot) : Spot → Type 0 where
-  -- the title isn't whole, and each that begins so may stand here
-  cut : IsCutTitle spot.front
+  -- the title isn't whole, some that begin so are taken, and each that begins so may stand here
+  cut : IsCutTitle spot.front → SomeTaken spot.strict spot.front
       → ((more : List ℕ) (header : Header) (fault : Fault) → IsTitle (spot.front ++ more) header
       → (titled header spot).phase ≡ p.Faulted fault → ⊥)
       → TitleStep spot spot
-  -- it isn't whole, and none that begins so may stand here
-  early : (fault : Fault) → IsCutTitle spot.front
+  -- it isn't whole, some that begin so are taken, and none that begins so may stand here
+  early : (fault : Fault) → IsCutTitle spot.front → SomeTaken spot.strict spot.front
       → ((more : List ℕ) (header : Header) → IsTitle (spot.front ++ more) header
       → (titled header spot).phase ≡ p.Faulted fault)
       → TitleStep spot (at_phase (p.Faulted fault) spot)
-  -- it is whole
-  whole : (header : Header) → IsTitle spot.front header → TitleStep spot (titled header spot)
-  -- no title begins so
-  none : BeginsRefused spot.front → TitleStep spot (refused (record spot { front = [] }))
+  -- it is whole, and is taken
+  whole : (header : Header) → IsTitle spot.front header → IsTakenTitle spot.strict spot.front header
+      → TitleStep spot (titled header spot)
+  -- no title that is taken begins so
+  none : NoneTaken spot.strict spot.front → TitleStep spot (refused (record spot { front = [] }))
 
 -- how many bytes at least end the character (Unicode, Table 3-7)
 abbrev pub tail_due : State → ℕ
@@ -98,8 +112,9 @@ StepIn (p.Faulted fault) spot byte new = ⊥
 abbrev pub Step : Spot → ℕ → Spot → Type 0
 Step spot byte new = StepIn spot.phase spot byte new
 
--- `IsFed depth bytes spot`: to one item to the depth, these bytes have led to the spot
-pub data IsFed (depth : ℕ) : List ℕ → Spot → Type 0 where
-  fresh : IsFed depth [] (start depth)
-  more : {bytes : List ℕ} {spot new : Spot} (byte : ℕ) → byte < 256 → IsFed depth bytes spot → Step spot byte new
-      → IsFed depth (bytes ++ byte ∷ []) new
+-- `IsFed strict depth bytes spot`: to one item to the depth, and where `strict` holds to one in its shortest spelling,
+-- these bytes have led to the spot
+pub data IsFed (strict : Bool) (depth : ℕ) : List ℕ → Spot → Type 0 where
+  fresh : IsFed strict depth [] (start strict depth)
+  more : {bytes : List ℕ} {spot new : Spot} (byte : ℕ) → byte < 256 → IsFed strict depth bytes spot
+      → Step spot byte new → IsFed strict depth (bytes ++ byte ∷ []) new

@@ -1,6 +1,6 @@
 -- What a checker answers, and what that says of the bytes so far.
 use Rattle.std.specs.Prelude.{◌≡◌, ℕ, zero, ◌+◌, ◌-◌, ◌%◌, ◌<◌, ◌≤◌, ◌^◌, ◌⊎◌, Bool, true, false, List, [], ◌∷◌}
-use Rattle.std.specs.Prelude.{◌++◌, length}
+use Rattle.std.specs.Prelude.{◌++◌, ◌==◌, if◌then◌else◌, length}
 use Rattle.ciborium_ll_grammar.specs.Title.{affix_len}
 use Rattle.ciborium_ll_grammar.specs.Items.{IsItem}
 use Rattle.cbor_feed.specs.declared.phase.Phase.{Phase}
@@ -38,15 +38,30 @@ progress_in (p.Faulted fault) spot = r.Fault fault
 abbrev pub progress_of : Spot → Progress
 progress_of spot = progress_in spot.phase spot
 
+-- what it means that no more bytes come: they end between items where none came
+abbrev pub end_in : Progress → End
+end_in (r.More due) = e.Short due
+end_in (r.Ended len) = e.Between
+end_in (r.Fault fault) = e.Fault fault
+end_in r.TooLong = e.Between
+
+abbrev pub end_of : Spot → End
+end_of spot = if spot.offset == 0 then e.Between else end_in (progress_of spot)
+
+-- the answer is that of the spot, but where no more bytes can be counted
+abbrev pub IsAnswer : Progress → Spot → Type 0
+IsAnswer r.TooLong spot = Unit {0}
+IsAnswer progress spot = progress ≡ progress_of spot
+
 -- What is said of all bytes so far. More: they are no item, some more make one of them, and each that do are at least
 -- so many. Ended: they are one item, of this length. Fault: no item begins so (RFC 7049, 2.1 to 2.4)
-abbrev pub Tells : ℕ → List ℕ → Progress → Type 0
-Tells depth bytes (r.More due) =
-    (1 ≤ due) × ((more : List ℕ) × IsItem false depth (bytes ++ more))
-    × ((more : List ℕ) → IsItem false depth (bytes ++ more) → due ≤ length more)
-Tells depth bytes (r.Ended len) = IsItem false depth bytes × (len ≡ length bytes)
-Tells depth bytes (r.Fault fault) = (more : List ℕ) → IsItem false depth (bytes ++ more) → ⊥
-Tells depth bytes r.TooLong = 2 ^ 64 ≤ length bytes + 1
+abbrev pub Tells : Bool → ℕ → List ℕ → Progress → Type 0
+Tells strict depth bytes (r.More due) =
+    (1 ≤ due) × ((more : List ℕ) × IsItem strict depth (bytes ++ more))
+    × ((more : List ℕ) → IsItem strict depth (bytes ++ more) → due ≤ length more)
+Tells strict depth bytes (r.Ended len) = IsItem strict depth bytes × (len ≡ length bytes)
+Tells strict depth bytes (r.Fault fault) = (more : List ℕ) → IsItem strict depth (bytes ++ more) → ⊥
+Tells strict depth bytes r.TooLong = 2 ^ 64 ≤ length bytes + 1
 
 -- more bytes are due
 abbrev pub IsMore : Progress → Type 0
@@ -54,10 +69,10 @@ IsMore (r.More due) = Unit {0}
 IsMore progress = ⊥
 
 -- What it says that no more bytes come: they end between items, within one, or none begins so
-abbrev pub TellsEnd : ℕ → List ℕ → End → Type 0
-TellsEnd depth bytes e.Between = (bytes ≡ []) ⊎ IsItem false depth bytes
-TellsEnd depth bytes (e.Short due) = (0 < length bytes) × Tells depth bytes (r.More due)
-TellsEnd depth bytes (e.Fault fault) = Tells depth bytes (r.Fault fault)
+abbrev pub TellsEnd : Bool → ℕ → List ℕ → End → Type 0
+TellsEnd strict depth bytes e.Between = (bytes ≡ []) ⊎ IsItem strict depth bytes
+TellsEnd strict depth bytes (e.Short due) = (0 < length bytes) × Tells strict depth bytes (r.More due)
+TellsEnd strict depth bytes (e.Fault fault) = Tells strict depth bytes (r.Fault fault)
 
 -- the item is whole
 abbrev pub EndedIn : Phase → Type 0

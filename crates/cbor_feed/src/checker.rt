@@ -1,7 +1,7 @@
 //! The checker: one byte more, and where it leads.
 
 ghost use Rattle.std.specs.Prelude.{◌≡◌, ◌+◌, ◌<◌, ◌≤◌, ◌%◌, length, slice_index, true, false};
-ghost use Rattle.cbor_feed.specs.Snapshots.{IsState};
+ghost use Rattle.cbor_feed.specs.Snapshots.{IsState, strict_in};
 ghost use Rattle.cbor_feed.specs.Telling.{has_left};
 ghost use Rattle.cbor_feed.specs.Steps.{may_end};
 ghost use Rattle.ciborium_ll_grammar.specs.Title.{affix_len};
@@ -14,7 +14,7 @@ use crate::levels::{Levels, MOST_LEVELS};
 use crate::phase::{Fault, Phase, Within};
 use crate::progress::{End, Feed, Progress};
 use crate::snapshot::Snapshot;
-use crate::title::{affix_len, header_of};
+use crate::title::{affix_len, begins_none, header_of};
 use ciborium_ll_grammar::hdr::Header;
 use ciborium_ll_grammar::hdr::table::{TitleKind, row_of};
 use ciborium_ll_text::state::State;
@@ -77,6 +77,17 @@ fn are_begun(bytes: &[u8]) -> bool
     bytes.is_empty() || bytes.len() <= affix_len(row_of(bytes[0]).affix)
 }
 
+/// Whether the shortest spelling alone is taken, by its number.
+fn strict_of(number: u8) -> Option<bool>
+    ensures { result ≡ strict_in number }
+{
+    match number {
+        0 => Some(false),
+        1 => Some(true),
+        _ => None,
+    }
+}
+
 /// Whether the numbers that come with what is due and with the open strings are those of a state.
 fn is_state(snapshot: &Snapshot, phase: Phase, within: Within) -> bool
     ensures yes { result ≡ true → IsState snapshot.now phase within }
@@ -105,6 +116,7 @@ fn is_state(snapshot: &Snapshot, phase: Phase, within: Within) -> bool
 /// of it for the 256 levels of tags, arrays and maps around an item.
 #[derive(Drop)]
 pub struct Checker {
+    strict: bool,
     phase: Phase,
     front: Front,
     within: Within,
@@ -122,13 +134,13 @@ impl Checker {
     ghost use Rattle.std.specs.Prelude.{◌<◌};
     ghost use Rattle.cbor_feed.specs.Checking.{IsAt, spot_of};
     ghost use Rattle.cbor_feed.specs.Snapshots.{Holds};
-    ghost use Rattle.std.specs.Prelude.{ℕ, ◌-◌, ◌++◌, List, [], IfSome, take, false};
+    ghost use Rattle.std.specs.Prelude.{Bool, ℕ, ◌-◌, ◌++◌, List, [], IfSome, take, true, false};
     ghost use Rattle.ciborium_ll_text.specs.States.{after_byte};
-    ghost use Rattle.cbor_feed.specs.Steps.{IsFed, Step, TitleStep, counted, text_left, title_place, with_byte};
-    ghost use Rattle.cbor_feed.specs.Telling.{IsMore, Tells, TellsEnd, is_due, progress_of, title_due};
+    ghost use Rattle.cbor_feed.specs.Steps.{IsFed, Step, TitleStep, counted, start, text_left, title_place, with_byte};
+    ghost use Rattle.cbor_feed.specs.Telling.{IsAnswer, IsMore, Tells, TellsEnd, end_of, is_due, progress_of, title_due};
     ghost use Rattle.cbor_feed.specs.Spots.{Spot, at_phase, body_placed, broken, bytes_due, bytes_entered, entered};
     ghost use Rattle.cbor_feed.specs.Spots.{item_done, item_entered, nested, string_closed, string_done, string_open};
-    ghost use Rattle.cbor_feed.specs.Spots.{refused, text_due, text_entered};
+    ghost use Rattle.cbor_feed.specs.Spots.{open_entered, refused, text_due, text_entered};
     ghost use Rattle.cbor_feed.specs.declared.phase.Within.TheVariants as w;
     ghost use Rattle.cbor_feed.specs.declared.phase.Phase.TheVariants as p;
 
@@ -137,9 +149,29 @@ impl Checker {
     #[inline(always)]
     pub fn new(depth: usize) -> Checker
         requires { depth ≤ 256 }
-        ensures { IsFed depth [] (spot_of result) }
+        ensures { IsFed false depth [] (spot_of result) }
+    {
+        Checker::of(false, depth)
+    }
+
+    /// A checker of an item in its shortest spelling (RFC 7049, 3.9): each title is the shortest of its header, no
+    /// simple value from 24 to 31 stands there, and strings within an open one have a definite length.
+    #[inline(always)]
+    pub fn strict(depth: usize) -> Checker
+        requires { depth ≤ 256 }
+        ensures { IsFed true depth [] (spot_of result) }
+    {
+        Checker::of(true, depth)
+    }
+
+    /// A checker to which nothing came.
+    #[inline(always)]
+    fn of(strict: bool, depth: usize) -> Checker
+        requires { depth ≤ 256 }
+        ensures { spot_of result ≡ start strict depth }
     {
         Checker {
+            strict,
             phase: Phase::Title,
             front: Front::new(),
             within: Within::Nothing,
@@ -235,6 +267,18 @@ impl Checker {
         self.phase = Phase::Title;
     }
 
+    /// An open has come within one of its kind.
+    fn enter_open(&mut self, within: Within)
+        requires { open_count within ≤ self.old.offset }
+        ensures { spot_of self.new ≡ open_entered self.old.strict within (spot_of self.old) }
+    {
+        if self.strict {
+            self.refuse();
+        } else {
+            self.string_open(within);
+        }
+    }
+
     /// The title of this header has come where an item is due.
     fn enter_item(&mut self, header: Header)
         requires { 1 ≤ self.old.offset }
@@ -296,7 +340,7 @@ impl Checker {
     {
         match header {
             Header::Bytes(Some(len)) => self.bytes_due(len),
-            Header::Bytes(None) => self.string_open(Within::Bytes(more + 1)),
+            Header::Bytes(None) => self.enter_open(Within::Bytes(more + 1)),
             Header::Break => self.bytes_closed(more),
             _ => self.refuse(),
         }
@@ -309,7 +353,7 @@ impl Checker {
     {
         match header {
             Header::Text(Some(len)) => self.text_due(len),
-            Header::Text(None) => self.string_open(Within::Text(more + 1)),
+            Header::Text(None) => self.enter_open(Within::Text(more + 1)),
             Header::Break => self.text_closed(more),
             _ => self.refuse(),
         }
@@ -350,12 +394,15 @@ impl Checker {
         let bytes = self.front.bytes();
         let row = row_of(bytes[0]);
         if bytes.len() <= affix_len(row.affix) {
-            if let Some(fault) = blocked(self.within, self.depth, self.place, row.kind) {
+            if begins_none(bytes, self.strict) {
+                self.front.clear();
+                self.refuse();
+            } else if let Some(fault) = blocked(self.within, self.depth, self.place, row.kind) {
                 self.phase = Phase::Faulted(fault);
             }
             return;
         }
-        let header = header_of(bytes);
+        let header = header_of(bytes, self.strict);
         self.front.clear();
         match header {
             Some(header) => self.enter(header),
@@ -440,14 +487,18 @@ impl Checker {
 
     /// How far the item has come: what the last [`Checker::feed`] answered, and before the first that one byte is due.
     pub fn progress(&self) -> Progress
-        ensures { (depth : ℕ) (fed : List ℕ) → IsFed depth fed (spot_of self.now) → Tells depth fed result }
+        ensures answers { result ≡ progress_of (spot_of self.now) }
+        ensures tells { (strict : Bool) (depth : ℕ) (fed : List ℕ) → IsFed strict depth fed (spot_of self.now)
+            → Tells strict depth fed result }
     {
         self.answer()
     }
 
     /// What it means that no more bytes come.
     pub fn end(&self) -> End
-        ensures { (depth : ℕ) (fed : List ℕ) → IsFed depth fed (spot_of self.now) → TellsEnd depth fed result }
+        ensures answers { result ≡ end_of (spot_of self.now) }
+        ensures tells { (strict : Bool) (depth : ℕ) (fed : List ℕ) → IsFed strict depth fed (spot_of self.now)
+            → TellsEnd strict depth fed result }
     {
         if self.offset == 0 {
             return End::Between;
@@ -470,10 +521,11 @@ impl Checker {
     pub fn feed(&mut self, bytes: &[u8]) -> Feed
         ensures taken { result.taken ≤ length bytes.now }
         ensures all { IsMore result.progress → result.taken ≡ length bytes.now }
-        ensures fed { (depth : ℕ) (fed : List ℕ) → IsFed depth fed (spot_of self.old)
-            → IsFed depth (fed ++ take result.taken bytes.now) (spot_of self.new) }
-        ensures tells { (depth : ℕ) (fed : List ℕ) → IsFed depth fed (spot_of self.old)
-            → Tells depth (fed ++ take result.taken bytes.now) result.progress }
+        ensures fed { (strict : Bool) (depth : ℕ) (fed : List ℕ) → IsFed strict depth fed (spot_of self.old)
+            → IsFed strict depth (fed ++ take result.taken bytes.now) (spot_of self.new) }
+        ensures tells { (strict : Bool) (depth : ℕ) (fed : List ℕ) → IsFed strict depth fed (spot_of self.old)
+            → Tells strict depth (fed ++ take result.taken bytes.now) result.progress }
+        ensures answers { IsAnswer result.progress (spot_of self.new) }
         ensures stays { is_due self.old.phase ≡ false → (result.taken ≡ 0) × (spot_of self.new ≡ spot_of self.old) }
     {
         for (at, byte) in bytes.iter().enumerate() {
@@ -509,7 +561,8 @@ impl Checker {
         snapshot.text = text;
         snapshot.strings = strings;
         snapshot.more = more as u64;
-        snapshot.title_len = self.front.save(&mut snapshot.title) as u16;
+        snapshot.title_len = self.front.save(&mut snapshot.title) as u8;
+        snapshot.strict = u8::from(self.strict);
         snapshot.nests = self.levels.save(&mut snapshot.kinds, &mut snapshot.counts) as u16;
         snapshot.depth = self.depth as u64;
         snapshot.place = self.place as u64;
@@ -525,12 +578,14 @@ impl Checker {
     {
         let phase = Phase::of(snapshot.phase, snapshot.number as usize, snapshot.text)?;
         let within = Within::of(snapshot.strings, snapshot.more as usize)?;
+        let strict = strict_of(snapshot.strict)?;
         if !is_state(snapshot, phase, within) {
             return None;
         }
         let nests = usize::from(snapshot.nests);
         let levels = Levels::restore(nests, &snapshot.kinds, &snapshot.counts)?;
         Some(Checker {
+            strict,
             phase,
             front: Front::restore(&snapshot.title, usize::from(snapshot.title_len)),
             within,

@@ -29,7 +29,9 @@ pub struct Snapshot {
     /// How many nests there are.
     pub nests: u16,
     /// How many bytes of a title came that isn't whole.
-    pub title_len: u16,
+    pub title_len: u8,
+    /// Whether the shortest spelling alone is taken.
+    pub strict: u8,
     /// These bytes.
     pub title: [u8; 9],
     /// What is due.
@@ -55,6 +57,7 @@ impl Snapshot {
             kinds: [0; 256],
             nests: 0,
             title_len: 0,
+            strict: 0,
             title: [0; 9],
             phase: 0,
             text: 0,

@@ -1,7 +1,10 @@
 //! The header that a whole title means.
 
-ghost use Rattle.std.specs.Prelude.{ℕ, ◌≡◌, ◌+◌, ◌%◌, IfSome, IfNone, length, slice_index};
-ghost use Rattle.ciborium_ll_grammar.specs.Title.{BeginsRefused, IsReserved, IsTitle, affix_len};
+ghost use Rattle.std.specs.Prelude.{ℕ, ◌≡◌, ◌<◌, ◌+◌, ◌%◌, ◌≤◌, true, false, IfSome, IfNone, length, slice_index};
+ghost use Rattle.ciborium_ll_grammar.specs.Title.{IsReserved, IsTitle, affix_len};
+ghost use Rattle.ciborium_ll_grammar.specs.Items.{IsTakenTitle};
+ghost use Rattle.cbor_feed.specs.Steps.{NoneTaken, SomeTaken};
+ghost use Rattle.cbor_feed.specs.Longer.{BeginsLonger, HasZero};
 ghost use Rattle.ciborium_ll_grammar.specs.Parts.{IsMinor, minor_affix, minor_code};
 ghost use Rattle.ciborium_ll_grammar.specs.TitleRows.{IsAffix};
 ghost use Rattle.std.specs.Int.{to_be_bytes, w16, w32, w64};
@@ -68,21 +71,64 @@ fn eight_bytes(bytes: &[u8]) -> u64
     ])
 }
 
-/// The header of a title, or nothing where no title begins with its first byte. All bytes that this one announces are
-/// there.
-pub(crate) fn header_of(bytes: &[u8]) -> Option<Header>
+/// The header of a title, or nothing where no title that is taken begins so: with no meaning, or where only the
+/// shortest spelling is taken a longer one. All bytes that the first one announces are there.
+pub(crate) fn header_of(bytes: &[u8], strict: bool) -> Option<Header>
     requires { length bytes.now ≡ 1 + affix_len (slice_index bytes.now 0 % 32) }
-    ensures some { IfSome result (IsTitle bytes.now) }
-    ensures none { IfNone result (BeginsRefused bytes.now) }
+    ensures title { IfSome result (IsTitle bytes.now) }
+    ensures taken { IfSome result (IsTakenTitle strict bytes.now) }
+    ensures none { IfNone result (NoneTaken strict bytes.now) }
 {
     let first = bytes[0];
     let row = row_of(first);
     let Some(minor) = minor_of(row.affix, first, &bytes[1..]) else {
         return None;
     };
+    if strict && minor.is_longer(first / 32) {
+        return None;
+    }
     let title = Title {
         major: first / 32,
         minor,
     };
     title.header(row.kind)
+}
+
+/// Whether a byte of 0 stands there.
+fn has_zero(bytes: &[u8], at: usize) -> bool
+    ensures yes { result ≡ true → HasZero bytes.now at }
+    ensures no { HasZero bytes.now at → result ≡ true }
+{
+    at < bytes.len() && bytes[at] == 0
+}
+
+/// Whether only longer titles begin so: a number in two, four or eight bytes, the first half of which are 0, has a
+/// smaller form (RFC 7049, 3.9). A float has one title alone.
+fn begins_longer(bytes: &[u8]) -> bool
+    requires { 0 < length bytes.now }
+    ensures yes { result ≡ true → BeginsLonger bytes.now }
+    ensures no { BeginsLonger bytes.now → result ≡ true }
+{
+    if bytes[0] >= 224 {
+        return false;
+    }
+    match row_of(bytes[0]).affix {
+        Affix::Two => has_zero(bytes, 1),
+        Affix::Four => has_zero(bytes, 1) && has_zero(bytes, 2),
+        Affix::Eight => has_zero(bytes, 1)
+            && has_zero(bytes, 2)
+            && has_zero(bytes, 3)
+            && has_zero(bytes, 4),
+        _ => false,
+    }
+}
+
+/// Whether no title that begins so is taken, where these are too few bytes for a whole one.
+pub(crate) fn begins_none(bytes: &[u8], strict: bool) -> bool
+    requires some { 0 < length bytes.now }
+    requires cut { length bytes.now ≤ affix_len (slice_index bytes.now 0 % 32) }
+    ensures yes { result ≡ true → NoneTaken strict bytes.now }
+    ensures no { result ≡ false → SomeTaken strict bytes.now }
+{
+    if strict { begins_longer(bytes) } else { false }
 }

@@ -9,3 +9,5 @@ mod cuts;
 mod memory;
 #[cfg(test)]
 mod rows;
+#[cfg(test)]
+mod strict;

@@ -57,17 +57,18 @@ fn damage(memory: &mut Snapshot, field: u32, number: u64) {
         5 => memory.counts[0] = number,
         6 => memory.kinds[0] = byte,
         7 => memory.nests = pair,
-        8 => memory.title_len = pair,
+        8 => memory.title_len = byte,
         9 => memory.title[0] = byte,
         10 => memory.phase = byte,
         11 => memory.text = byte,
+        12 => memory.strict = byte,
         _ => memory.strings = byte,
     }
 }
 
 // Damages each field of what is kept behind some bytes.
 fn damaged(rt: &impl Abort, bytes: &[u8]) {
-    for field in 0..13 {
+    for field in 0..14 {
         for number in &EDGES {
             let mut memory = behind(bytes);
             damage(&mut memory, field, *number);

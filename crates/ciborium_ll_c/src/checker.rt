@@ -1,6 +1,6 @@
 //! Checkers that a program in C keeps in memory of its own.
 
-ghost use Rattle.std.specs.Prelude.{◌≡◌, ◌≤◌, ℕ, List, IfSome};
+ghost use Rattle.std.specs.Prelude.{◌≡◌, ◌≤◌, Bool, ℕ, List, IfSome};
 ghost use Rattle.cbor_feed.specs.Checking.{IsAt, spot_of};
 ghost use Rattle.cbor_feed.specs.Spots.{Spot};
 ghost use Rattle.cbor_feed.specs.Steps.{IsFed};
@@ -80,19 +80,24 @@ fn told_end(end: End) -> (CllAnswer, usize)
     }
 }
 
-/// Sets a checker up.
-pub(crate) fn init(checker: &mut CllChecker, depth: usize)
+/// Sets a checker up, of any spelling or of the shortest alone.
+pub(crate) fn init(checker: &mut CllChecker, depth: usize, strict: bool)
     requires { depth ≤ 256 }
-    ensures { IsSetUp depth checker.new }
+    ensures { IsSetUp strict depth checker.new }
 {
-    Checker::new(depth).save(&mut checker.state);
+    let fresh = if strict {
+        Checker::strict(depth)
+    } else {
+        Checker::new(depth)
+    };
+    fresh.save(&mut checker.state);
     checker.mark = MARK;
 }
 
 /// Feeds a checker.
 pub(crate) fn feed(checker: &mut CllChecker, bytes: &[u8], report: &mut CllReport) -> CllAnswer
-    ensures fed { (depth : ℕ) (fed : List ℕ) (spot : Spot) → IsFed depth fed spot → IsKept checker.old spot
-        → Feeds depth fed spot bytes.now result report.new checker.new }
+    ensures fed { (strict : Bool) (depth : ℕ) (fed : List ℕ) (spot : Spot) → IsFed strict depth fed spot → IsKept checker.old spot
+        → Feeds strict depth fed spot bytes.now result report.new checker.new }
     ensures argument { IsNoChecker checker.old
         → (result ≡ a.Argument) × (checker.new ≡ checker.old) × Reports report.new 0 0 0 }
 {
@@ -109,8 +114,8 @@ pub(crate) fn feed(checker: &mut CllChecker, bytes: &[u8], report: &mut CllRepor
 
 /// Says what it means that no more bytes come to a checker.
 pub(crate) fn end(checker: &CllChecker, report: &mut CllReport) -> CllAnswer
-    ensures ended { (depth : ℕ) (fed : List ℕ) (spot : Spot) → IsFed depth fed spot → IsKept checker.now spot
-        → EndsFed depth fed result report.new }
+    ensures ended { (strict : Bool) (depth : ℕ) (fed : List ℕ) (spot : Spot) → IsFed strict depth fed spot → IsKept checker.now spot
+        → EndsFed strict depth fed spot result report.new }
     ensures argument { IsNoChecker checker.now → (result ≡ a.Argument) × Reports report.new 0 0 0 }
 {
     let Some(restored) = checker.restored() else {

@@ -5,7 +5,7 @@
 //! [`CllAnswer`], and says in a [`CllReport`] how far it came.
 #![tactic(auto)]
 
-ghost use Rattle.std.specs.Prelude.{◌≡◌, ◌↔◌, ◌≤◌, ◌<◌, List, ◌++◌, drop, length, ℕ};
+ghost use Rattle.std.specs.Prelude.{◌≡◌, ◌↔◌, ◌≤◌, ◌<◌, List, ◌++◌, drop, length, Bool, true, false, ℕ};
 ghost use Rattle.cbor_feed.specs.Spots.{Spot};
 ghost use Rattle.cbor_feed.specs.Steps.{IsFed};
 ghost use Rattle.ciborium_ll.specs.Faults.{RunInFront};
@@ -381,13 +381,27 @@ pub extern "C" fn cll_utf8(bytes: &[u8], report: &mut CllReport) -> u32
 /// The answers are `Ok`; and `Argument` for a depth above 256, after which that memory is as it was.
 #[unsafe(no_mangle)]
 pub extern "C" fn cll_checker_init(checker: &mut CllChecker, depth: u32) -> u32
-    ensures set_up { depth ≤ 256 → (result ≡ code a.Ok) × IsSetUp depth checker.new }
+    ensures set_up { depth ≤ 256 → (result ≡ code a.Ok) × IsSetUp false depth checker.new }
     ensures argument { 256 < depth → (result ≡ code a.Argument) × (checker.new ≡ checker.old) }
 {
     if depth > 256 {
         return CllAnswer::Argument.code();
     }
-    checker::init(checker, depth as usize);
+    checker::init(checker, depth as usize, false);
+    CllAnswer::Ok.code()
+}
+
+/// Sets a checker up as `cll_checker_init` does, of an item in its shortest spelling: any other title is a `Syntax`, and
+/// so is a string of indefinite length inside another one.
+#[unsafe(no_mangle)]
+pub extern "C" fn cll_checker_init_strict(checker: &mut CllChecker, depth: u32) -> u32
+    ensures set_up { depth ≤ 256 → (result ≡ code a.Ok) × IsSetUp true depth checker.new }
+    ensures argument { 256 < depth → (result ≡ code a.Argument) × (checker.new ≡ checker.old) }
+{
+    if depth > 256 {
+        return CllAnswer::Argument.code();
+    }
+    checker::init(checker, depth as usize, true);
     CllAnswer::Ok.code()
 }
 
@@ -405,9 +419,9 @@ pub extern "C" fn cll_checker_feed(
     bytes: &[u8],
     report: &mut CllReport,
 ) -> u32
-    ensures fed { (depth : ℕ) (fed : List ℕ) (spot : Spot) → IsFed depth fed spot → IsKept checker.old spot
+    ensures fed { (strict : Bool) (depth : ℕ) (fed : List ℕ) (spot : Spot) → IsFed strict depth fed spot → IsKept checker.old spot
         → (answer : CllAnswer) × (result ≡ code answer)
-        × Feeds depth fed spot bytes.now answer report.new checker.new }
+        × Feeds strict depth fed spot bytes.now answer report.new checker.new }
     ensures argument { IsNoChecker checker.old
         → (result ≡ code a.Argument) × (checker.new ≡ checker.old) × Reports report.new 0 0 0 }
 {
@@ -420,8 +434,8 @@ pub extern "C" fn cll_checker_feed(
 /// bytes were due as the place; and `Syntax`, `BreakDue`, `TooDeep` and `Argument` as of `cll_checker_feed`.
 #[unsafe(no_mangle)]
 pub extern "C" fn cll_checker_end(checker: &CllChecker, report: &mut CllReport) -> u32
-    ensures ended { (depth : ℕ) (fed : List ℕ) (spot : Spot) → IsFed depth fed spot → IsKept checker.now spot
-        → (answer : CllAnswer) × (result ≡ code answer) × EndsFed depth fed answer report.new }
+    ensures ended { (strict : Bool) (depth : ℕ) (fed : List ℕ) (spot : Spot) → IsFed strict depth fed spot → IsKept checker.now spot
+        → (answer : CllAnswer) × (result ≡ code answer) × EndsFed strict depth fed spot answer report.new }
     ensures argument { IsNoChecker checker.now → (result ≡ code a.Argument) × Reports report.new 0 0 0 }
 {
     checker::end(checker, report).code()

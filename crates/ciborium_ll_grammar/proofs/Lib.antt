@@ -4,6 +4,7 @@ pub mod ElementLaws
 pub mod FaultLaws
 pub mod HaltLaws
 pub mod ItemLaws
+pub mod LongerLaws
 pub mod OneFault
 pub mod OpenStrings
 pub mod PartsLaws

@@ -5,29 +5,31 @@ use Rattle.cbor_feed.specs.Checking.{spot_of}
 use Rattle.cbor_feed.proofs.TellLaws.{fed_counts, told}
 use Rattle.cbor_feed.proofs.checker.Checker.end.Goals as goal
 
-pub returns-then-self-eq0 : goal.returns-then-self-eq0
-returns-then-self-eq0 c = λ depth fed is.
-    let counts = fed_counts depth fed (spot_of c.args.self.now) is in
+pub returns-then-self-eq0-clause-tells : goal.returns-then-self-eq0-clause-tells
+returns-then-self-eq0-clause-tells c = λ strict depth fed is.
+    let counts = fed_counts strict depth fed (spot_of c.args.self.now) is in
     inl (length_zero fed (omega (arith, counts, c.if-self-eq0.true)))
 
-pub returns-in-Ended : goal.returns-in-Ended
-returns-in-Ended c = λ depth fed is.
+pub returns-in-Ended-clause-tells : goal.returns-in-Ended-clause-tells
+returns-in-Ended-clause-tells c = λ strict depth fed is.
     let checker = c.args.self.now in
-    inr (told depth fed (spot_of checker) (r.Ended c.in-Ended.field-0) (sym c.in-Ended.is ∙ c.answer.ensures) is
+    inr (told strict depth fed (spot_of checker) (r.Ended c.in-Ended.field-0) (sym c.in-Ended.is ∙ c.answer.ensures) is
     checker.left checker.begun).0
 
-pub returns-in-Fault : goal.returns-in-Fault
-returns-in-Fault c = λ depth fed is.
+pub returns-in-Fault-clause-tells : goal.returns-in-Fault-clause-tells
+returns-in-Fault-clause-tells c = λ strict depth fed is.
     let checker = c.args.self.now in
-    told depth fed (spot_of checker) (r.Fault c.in-Fault.fault) (sym c.in-Fault.is ∙ c.answer.ensures) is checker.left
+    told strict depth fed (spot_of checker) (r.Fault c.in-Fault.fault)
+    (sym c.in-Fault.is ∙ c.answer.ensures) is checker.left
     checker.begun
 
-pub returns-in-More : goal.returns-in-More
-returns-in-More c = λ depth fed is.
+pub returns-in-More-clause-tells : goal.returns-in-More-clause-tells
+returns-in-More-clause-tells c = λ strict depth fed is.
     let checker = c.args.self.now in
-    let counts = fed_counts depth fed (spot_of checker) is in
+    let counts = fed_counts strict depth fed (spot_of checker) is in
     let some : 0 < length fed = omega (arith, counts, c.if-self-eq0.false) in (
       some,
-      told depth fed (spot_of checker) (r.More c.in-More.due) (sym c.in-More.is ∙ c.answer.ensures) is checker.left
+      told strict depth fed (spot_of checker) (r.More c.in-More.due)
+          (sym c.in-More.is ∙ c.answer.ensures) is checker.left
           checker.begun,
     )

@@ -7,9 +7,10 @@ use Rattle.cbor_feed.proofs.checker.Checker.feed.Goals as goal
 
 pub loop-at-preserved : goal.loop-at-preserved
 loop-at-preserved c = record {
-  fed = λ depth fed is.
-      fed_more depth fed (spot_of c.loop-at.self) (spot_of c.step.new.self) c.args.bytes.now c.loop-at.at (search rules)
-      (search rules) (c.loop-at.invariant.fed depth fed is) (search rules);
+  fed = λ strict depth fed is.
+      fed_more strict depth fed (spot_of c.loop-at.self) (spot_of c.step.new.self) c.args.bytes.now c.loop-at.at
+      (search rules)
+      (search rules) (c.loop-at.invariant.fed strict depth fed is) (search rules);
   stays = λ off.
       let same = ap (λ (spot : Spot). is_due spot.phase) (c.loop-at.invariant.stays off).1 in
       let is = c.is_due.ensures in
@@ -18,24 +19,26 @@ loop-at-preserved c = record {
 }
 
 pub returns-then-not-is_due-clause-tells : goal.returns-then-not-is_due-clause-tells
-returns-then-not-is_due-clause-tells c = λ depth fed is.
+returns-then-not-is_due-clause-tells c = λ strict depth fed is.
     let checker = c.loop-at.self in
     let whole = fed ++ take c.loop-at.at c.args.bytes.now in
-    told depth whole (spot_of checker) c.answer.result c.answer.ensures (c.loop-at.invariant.fed depth fed is)
+    told strict depth whole (spot_of checker) c.answer.result c.answer.ensures
+    (c.loop-at.invariant.fed strict depth fed is)
     checker.left checker.begun
 
 pub returns-then-self-clause-tells : goal.returns-then-self-clause-tells
-returns-then-self-clause-tells c = λ depth fed is.
+returns-then-self-clause-tells c = λ strict depth fed is.
     let whole = fed ++ take c.loop-at.at c.args.bytes.now in
-    let counts = fed_counts depth whole (spot_of c.loop-at.self) (c.loop-at.invariant.fed depth fed is) in
+    let counts = fed_counts strict depth whole (spot_of c.loop-at.self) (c.loop-at.invariant.fed strict depth fed is) in
     omega (arith, counts, c.if-self.true)
 
 pub returns-clause-tells : goal.returns-clause-tells
-returns-clause-tells c = λ depth fed is.
+returns-clause-tells c = λ strict depth fed is.
     let checker = c.loop-at.self in
     let bytes = c.args.bytes.now in
     let whole = fed ++ take c.loop-at.at bytes in
     let all : c.loop-at.at ≡ length bytes = search rules in
-    subst (λ (n : ℕ). Tells depth (fed ++ take n bytes) c.answer-2.result) all
-    (told depth whole (spot_of checker) c.answer-2.result c.answer-2.ensures (c.loop-at.invariant.fed depth fed is)
+    subst (λ (n : ℕ). Tells strict depth (fed ++ take n bytes) c.answer-2.result) all
+    (told strict depth whole (spot_of checker) c.answer-2.result c.answer-2.ensures
+    (c.loop-at.invariant.fed strict depth fed is)
     checker.left checker.begun)

@@ -10,6 +10,7 @@ invariant-loop-level l =
     record {
       same : settled l.self.depth l.self.levels first ≡ settled l.fn.self.depth l.fn.self.levels first;
       within : l.self.within ≡ w.Nothing;
+      strict : l.self.strict ≡ l.fn.self.strict;
       front : l.self.front ≡ l.fn.self.front;
       place : l.self.place ≡ l.fn.self.place;
       offset : l.self.offset ≡ l.fn.self.offset;

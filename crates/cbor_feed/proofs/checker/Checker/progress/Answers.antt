@@ -2,7 +2,7 @@ use Rattle.cbor_feed.specs.Checking.{spot_of}
 use Rattle.cbor_feed.proofs.TellLaws.{told}
 use Rattle.cbor_feed.proofs.checker.Checker.progress.Goals as goal
 
-pub returns : goal.returns
-returns c = λ depth fed is.
+pub returns-clause-tells : goal.returns-clause-tells
+returns-clause-tells c = λ strict depth fed is.
     let checker = c.args.self.now in
-    told depth fed (spot_of checker) c.answer.result c.answer.ensures is checker.left checker.begun
+    told strict depth fed (spot_of checker) c.answer.result c.answer.ensures is checker.left checker.begun

@@ -1,8 +1,8 @@
 use Rattle.std.proofs.Common.{◌≡◌, ◌/◌, length, rules, sym, refl, subst, inl, inr, get_or, ◌<◌, ℕ}
 use Rattle.ciborium_ll_grammar.specs.Parts.{parts_bytes}
 use Rattle.ciborium_ll_grammar.specs.TitleRows.{IsTitleKind}
-use Rattle.ciborium_ll_decoder.proofs.StrictLaws.{parts_header, parts_taken, parts_refused, first_parts}
-use Rattle.ciborium_ll_decoder.proofs.StrictLaws.{first_refused, title_read}
+use Rattle.ciborium_ll_grammar.proofs.LongerLaws.{parts_header, parts_taken, parts_refused}
+use Rattle.ciborium_ll_decoder.proofs.StrictLaws.{first_parts, first_refused, title_read}
 use Rattle.ciborium_ll_decoder.proofs.dec.Decoder.title.Goals as goal
 
 pub returns-in_default-clause-header : goal.returns-in_default-clause-header
