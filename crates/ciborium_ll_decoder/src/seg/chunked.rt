@@ -1,12 +1,14 @@
 //! Bodies in chunks and read to their end, for both kinds of string alike.
 
-ghost use Rattle.std.specs.Prelude.{◌≡◌, ◌≤◌, ◌+◌, [], length, IfOk, IfSome, None};
-ghost use Rattle.ciborium_ll_decoder.specs.Decoding.{MovesOn, waiting_of};
+ghost use Rattle.std.specs.Prelude.{◌≡◌, ◌≤◌, ◌+◌, ◌-◌, [], length, IfOk, IfSome, None, Some};
+ghost use Rattle.ciborium_ll_grammar.specs.Title.{title_len};
+ghost use Rattle.ciborium_ll_grammar.specs.Strings.{kind_header};
+ghost use Rattle.ciborium_ll_decoder.specs.Decoding.{MovesOn, offset_of, waiting_of};
 ghost use Rattle.ciborium_ll_decoder.specs.Segments.{progress_of, string_decoder, string_reference, string_strict};
 ghost use Rattle.ciborium_ll_decoder.specs.Chunks.{PullsChunk, left_of, segment_decoder, segment_reference};
 ghost use Rattle.ciborium_ll_decoder.specs.Finishing.{EndsBody, Finishes};
 
-use crate::dec::Error;
+use crate::dec::{Decoder, Error};
 use crate::seg::{Body, Bytes, Parser, Segment, Segments, Text};
 use ciborium_ll_io::io::Read;
 
@@ -114,4 +116,33 @@ impl<'r, R: Read, P: Chunked> Segments<'r, R, P> {
     {
         Segment::<R, P>::new(&mut *self.decoder, body).finish(buffer)
     }
+}
+
+/// Reads the body of a string of definite length to its end, by pulls through `buffer`, behind its header with this
+/// length, which was just pulled. It answers as [`Segment::finish`] does for the segment of that string, and pushes no
+/// header back. Users skip strings.
+///
+/// `Ok` says that the whole body was read, and that it is UTF-8 where it is of a text: the decoder is then behind it.
+/// The errors are `Syntax` where the body is no text, with the byte from which the header's shortest title would reach
+/// it; `Io` where the reader failed, and `TooLong` where the offset would pass `usize::MAX`. What was read before an
+/// error is consumed.
+#[inline(always)]
+pub fn finish_body<R: Read, P: Chunked>(
+    decoder: &mut Decoder<R>,
+    len: usize,
+    buffer: &mut [u8],
+) -> Result<(), Error<R::Error>>
+    requires room { 4 ≤ length buffer.old }
+    requires none_waits { waiting_of decoder.old ≡ None }
+    requires covered { title_len (kind_header P.kind (Some len)) ≤ offset_of decoder.old }
+    ensures finishes { EndsBody R.Read P.kind [] len (length buffer.old)
+        (offset_of decoder.old - title_len (kind_header P.kind (Some len))) decoder.old result decoder.new }
+    ensures moves_on { MovesOn R.Read decoder.old decoder.new }
+{
+    let body = Body {
+        length: len,
+        place: decoder.offset() - P::header(Some(len)).title_len(),
+    };
+    let mut segment = Segment::<R, P>::new(decoder, body);
+    segment.drain(buffer)
 }
