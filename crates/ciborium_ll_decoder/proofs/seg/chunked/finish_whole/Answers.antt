@@ -1,4 +1,4 @@
-use Rattle.std.proofs.Common.{◌≡◌, rules, length}
+use Rattle.std.proofs.Common.{rules, length}
 use Rattle.ciborium_ll_decoder.proofs.WholeBodyLaws.{unread_ends, damaged_ends}
 use Rattle.ciborium_ll_decoder.proofs.seg.chunked.finish_whole.Goals as goal
 
