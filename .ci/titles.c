@@ -105,7 +105,7 @@ static int reads(const struct row *row)
     uint8_t title[SPACE];
     const size_t len = bytes_of(row->title, title);
     cll_header header = {99, 99, 99};
-    cll_report report = {99, 99, 99};
+    cll_report report = {99, 99, 99, 99, 99};
     for (size_t cut = 0; cut < len; cut++) {
         if (cll_pull(title, cut, &header, &report) != CLL_SHORT || report.consumed != (cut > 0) || header.kind != 99)
             return 0;
@@ -120,7 +120,7 @@ static int writes(const struct row *row)
     uint8_t title[SPACE], out[SPACE], untouched[SPACE];
     const size_t len = bytes_of(row->shortest, title);
     const cll_header header = {row->value, row->kind, row->indefinite};
-    cll_report report = {99, 99, 99};
+    cll_report report = {99, 99, 99, 99, 99};
     memset(untouched, 0xee, SPACE);
     memset(out, 0xee, SPACE);
     if (cll_push(&header, out, len - 1, &report) != CLL_ROOM || report.written != 0

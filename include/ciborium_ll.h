@@ -49,8 +49,11 @@ typedef struct { uint64_t value; uint8_t kind; uint8_t indefinite; } cll_header;
  *
  * Of the calls of a checker the offset is counted from the item's first byte, through all pieces; and with CLL_OK and
  * CLL_SHORT `place` says more, as stands at these calls.
+ *
+ * Of cll_recode and cll_strict `elements` says how many elements were done whole, whatever the answer, and `whole` the
+ * offset in `data` behind the last of them. Of the other calls both are 0.
  */
-typedef struct { uint64_t consumed; uint64_t written; uint64_t place; } cll_report;
+typedef struct { uint64_t consumed; uint64_t written; uint64_t place; uint64_t elements; uint64_t whole; } cll_report;
 
 /*
  * A checker of one item whose bytes come in pieces, as out of a socket or a pipe. It stands in memory of the caller's
@@ -128,6 +131,10 @@ uint32_t cll_push_wide(const cll_header *header, uint32_t width, uint8_t *out, s
  * written before an error stands in `out`, with CLL_ROOM at most a beginning of what did not fit behind it, which
  * `written` counts too. Behind what was written `out` is as it was.
  *
+ * `elements` of them were copied whole, and `data` has no more of them in front of the fault or of its end, or with
+ * CLL_ROOM one more does not fit into `out`. So a `count` of UINT64_MAX copies all that are there: `data` ends behind a
+ * whole element where the answer is CLL_SHORT and `whole` is `len`, and else within one.
+ *
  * Bodies are read through a buffer of 1,024 bytes. So the body of a text that is no UTF-8, and of which `data` ends too
  * early, is answered by CLL_SHORT or by CLL_SYNTAX, depending on its length and on where it goes wrong.
  */
@@ -139,7 +146,7 @@ uint32_t cll_recode(const uint8_t *data, size_t len, uint64_t count, uint8_t *ou
  *
  * CLL_OK; CLL_SHORT where `data` ends before so many elements do; CLL_SYNTAX as in cll_recode, and at the title that is
  * longer than it need be, is such a simple value, or opens such a string. A text that is no UTF-8 and ends too early is
- * answered as by cll_recode.
+ * answered as by cll_recode. `elements` and `whole` are as of cll_recode.
  */
 uint32_t cll_strict(const uint8_t *data, size_t len, uint64_t count, cll_report *report);
 

@@ -123,13 +123,16 @@ constexpr const char *name_of(answer code) noexcept
 
 /*
  * Why a call has no value, and how far it came. `place` is the offset that the fault names: where `too_short` stopped,
- * and 0 for `room` and `argument`.
+ * and 0 for `room` and `argument`. `elements` is how many elements `recode` and `strict` did whole, and `whole` how many
+ * bytes these have.
  */
 struct fault {
     answer code;
     std::uint64_t place;
     std::uint64_t consumed;
     std::uint64_t written;
+    std::uint64_t elements;
+    std::uint64_t whole;
 
     const char *name() const noexcept { return name_of(code); }
 };
@@ -176,7 +179,7 @@ public:
 
 private:
     std::optional<T> value_;
-    ciborium_ll::fault fault_{answer::ok, 0, 0, 0};
+    ciborium_ll::fault fault_{answer::ok, 0, 0, 0, 0, 0};
 };
 
 /* A header, and the length of the title that it was read from. */
@@ -202,7 +205,7 @@ inline cll_header parts_of(const header &header) noexcept
 inline fault fault_of(std::uint32_t code, const cll_report &report) noexcept
 {
     return {static_cast<answer>(code), code == CLL_SHORT ? report.consumed : report.place, report.consumed,
-        report.written};
+        report.written, report.elements, report.whole};
 }
 
 } /* namespace detail */
@@ -335,7 +338,7 @@ public:
         const std::uint32_t code = cll_checker_end(&kept_, &report);
         if (code == CLL_OK)
             return std::nullopt;
-        return fault{static_cast<answer>(code), code == CLL_SHORT ? taken_ : report.place, 0, 0};
+        return fault{static_cast<answer>(code), code == CLL_SHORT ? taken_ : report.place, 0, 0, 0, 0};
     }
 
     /* How many bytes were taken of all pieces. */

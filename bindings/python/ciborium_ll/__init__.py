@@ -36,17 +36,19 @@ class Error(ValueError):
     """Why a call failed.
 
     ``name`` names the answer, and ``place`` is the offset that it names, in all of the bytes; of ``short`` it is where
-    the read stopped. ``consumed`` and ``written`` say how far the call came.
+    the read stopped. ``consumed`` and ``written`` say how far the call came; ``elements`` how many elements ``recode``
+    and ``strict`` did whole, and ``whole`` how many bytes these have.
     """
 
     name = "error"
 
-    def __init__(self, place, consumed, written):
+    def __init__(self, place, consumed, written, elements=0, whole=0):
         super().__init__(f"{self.name} at {place}")
         self.place, self.consumed, self.written = place, consumed, written
+        self.elements, self.whole = elements, whole
 
     def __reduce__(self):
-        return type(self), (self.place, self.consumed, self.written)
+        return type(self), (self.place, self.consumed, self.written, self.elements, self.whole)
 
 
 class Short(Error):
@@ -96,7 +98,7 @@ class _Header(ctypes.Structure):
 
 
 class _Report(ctypes.Structure):
-    _fields_ = [("consumed", ctypes.c_uint64), ("written", ctypes.c_uint64), ("place", ctypes.c_uint64)]
+    _fields_ = [(name, ctypes.c_uint64) for name in ("consumed", "written", "place", "elements", "whole")]
 
 
 class _Checker(ctypes.Structure):
@@ -179,7 +181,8 @@ def _check(answer, report, offset=0):
     """Raises the error of an answer."""
     if answer != 0:
         place = report.consumed if answer == 1 else report.place
-        raise _ERRORS[answer](place if answer in (3, 7) else place + offset, report.consumed, report.written)
+        raise _ERRORS[answer](place if answer in (3, 7) else place + offset, report.consumed, report.written,
+                              report.elements, report.whole)
 
 
 def _pulled(at, length, offset):

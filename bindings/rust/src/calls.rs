@@ -5,13 +5,29 @@ use crate::sys::{self, cll_checker, cll_header, cll_report};
 use crate::{Error, Header};
 use core::str;
 
-/// How many bytes were consumed and written.
+/// How many bytes were consumed and written, and how many elements were done.
 #[derive(Clone, Copy, Debug, PartialEq, Eq)]
 pub struct Copied {
     /// How many bytes were read.
     pub consumed: usize,
     /// How many bytes stand in front of the output.
     pub written: usize,
+    /// How many elements were done whole.
+    pub elements: u64,
+    /// How many bytes these have.
+    pub whole: usize,
+}
+
+impl Copied {
+    /// What a report says.
+    fn of(report: &cll_report) -> Copied {
+        Copied {
+            consumed: report.consumed as usize,
+            written: report.written as usize,
+            elements: report.elements,
+            whole: report.whole as usize,
+        }
+    }
 }
 
 /// Why a copy stopped, and how far it came.
@@ -60,27 +76,36 @@ pub fn recode(bytes: &[u8], count: u64, out: &mut [u8]) -> Result<Copied, Stoppe
     let (from, to) = (bytes.as_ptr(), out.as_mut_ptr());
     // SAFETY: as this file says.
     let answer = unsafe { sys::cll_recode(from, bytes.len(), count, to, out.len(), &mut report) };
-    let copied = Copied {
-        consumed: report.consumed as usize,
-        written: report.written as usize,
-    };
+    ended(answer, &report)
+}
+
+/// Whether all of a copy or a check was done, and how far it came.
+fn ended(answer: u32, report: &cll_report) -> Result<Copied, Stopped> {
+    let copied = Copied::of(report);
     match answer {
         0 => Ok(copied),
         answer => Err(Stopped {
-            error: Error::of(answer, &report, 0),
+            error: Error::of(answer, report, 0),
             copied,
         }),
     }
 }
 
+/// Whether so many elements stand in front in their one shortest spelling, as [`strict_len`] has it, and how far they
+/// do. Nothing is written.
+pub fn strict(bytes: &[u8], count: u64) -> Result<Copied, Stopped> {
+    let mut report = cll_report::default();
+    // SAFETY: as this file says.
+    let answer = unsafe { sys::cll_strict(bytes.as_ptr(), bytes.len(), count, &mut report) };
+    ended(answer, &report)
+}
+
 /// The length of so many elements in their one shortest spelling, with no simple value from 24 to 31 and no string of
 /// indefinite length inside another one.
 pub fn strict_len(bytes: &[u8], count: u64) -> Result<usize, Error> {
-    let mut report = cll_report::default();
-    // SAFETY: as this file says.
-    match unsafe { sys::cll_strict(bytes.as_ptr(), bytes.len(), count, &mut report) } {
-        0 => Ok(report.consumed as usize),
-        answer => Err(Error::of(answer, &report, 0)),
+    match strict(bytes, count) {
+        Ok(checked) => Ok(checked.consumed),
+        Err(stopped) => Err(stopped.error),
     }
 }
 

@@ -28,7 +28,7 @@ mod error;
 mod header;
 pub mod sys;
 
-pub use calls::{recode, skip_item, strict_len, utf8, Copied, Stopped};
+pub use calls::{recode, skip_item, strict, strict_len, utf8, Copied, Stopped};
 pub use checker::{Checker, Feed, Progress};
 pub use decoder::{Decoder, Segments};
 pub use encoder::Encoder;

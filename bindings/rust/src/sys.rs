@@ -24,6 +24,10 @@ pub struct cll_report {
     pub written: u64,
     /// The offset that the answer names, if it names one, else 0.
     pub place: u64,
+    /// Of a copy and of a strict check how many elements were done whole, else 0.
+    pub elements: u64,
+    /// Of both the offset behind the last of them, else 0.
+    pub whole: u64,
 }
 
 /// A checker of one item whose bytes come in pieces. What stands in it is the library's, and zeros are none.

@@ -1,11 +1,11 @@
 -- Items that follow one another, over any reader, where only their number is known.
-use Rattle.std.proofs.Common.{◌≡◌, ℕ, suc, List, [], ◌++◌, Some, None, Result, Ok, Err}
+use Rattle.std.proofs.Common.{◌≡◌, ℕ, suc, ◌*◌, List, [], ◌++◌, Some, None, Result, Ok, Err}
 use Rattle.std.proofs.Common.{refl, sym, ap, subst, ◌∙◌, arith, append_assoc, append-nil, false}
 use Rattle.ciborium_ll.specs.Types.Read.{Ghosts}
 use Rattle.ciborium_ll.specs.Types.Header.{Header}
 use Rattle.ciborium_ll.specs.Types.Header.TheVariants as h
 use Rattle.ciborium_ll.specs.Types.Decoder.{Decoder}
-use Rattle.ciborium_ll.specs.Items.{AreItems, IsItem, array, more_items, no_items, tag}
+use Rattle.ciborium_ll.specs.Items.{AreItems, IsItem, array, more_items, no_items, pairs, tag}
 use Rattle.ciborium_ll.specs.Decoding.{IsSteady, Passes, PullsTitle}
 use Rattle.ciborium_ll.proofs.DecodingLaws.{Passes-none, Passes-then}
 use Rattle.cbor_skip.specs.declared.SkipError.{SkipError}
@@ -25,7 +25,8 @@ item_first d n u v (more_items {title = t} {rest = w} p g c no_items) i =
 pub counted_nest : (x : Header) (n : ℕ) → item_count x ≡ Some n → IsNest x
 counted_nest (h.Tag m) n is = tt
 counted_nest (h.Array len) n is = tt
-counted_nest (h.Map len) n is = absurd cc
+counted_nest (h.Map (Some len)) n is = tt
+counted_nest (h.Map None) n is = absurd cc
 counted_nest (h.Positive m) n is = absurd cc
 counted_nest (h.Negative m) n is = absurd cc
 counted_nest (h.Float x) n is = absurd cc
@@ -120,7 +121,20 @@ module _ {R E : Type 0} (source : Ghosts R E) where
     stops = stops.stops;
   }
   counted_within (h.Array None) n d room old is result new skips = absurd cc
-  counted_within (h.Map len) n d room old is result new skips = absurd cc
+  counted_within (h.Map (Some m)) n d room old is (Ok done) new reads =
+      let twice : n ≡ 2 * m = cc in
+      let items = subst (λ (k : ℕ). AreItems false d k reads.items) twice reads.are_items in
+      record { rest = reads.items; completes = pairs items; passed = reads.passed }
+  counted_within (h.Map (Some m)) n d room old is (Err error) new stops = record {
+    count = stops.before;
+    items = stops.items;
+    takes_more = (let twice : n ≡ 2 * m = cc in let less = stops.more in omega (arith, twice, less));
+    are_items = stops.are_items;
+    between = stops.between;
+    passed = stops.passed;
+    stops = stops.stops;
+  }
+  counted_within (h.Map None) n d room old is result new skips = absurd cc
   counted_within (h.Positive m) n d room old is result new skips = absurd cc
   counted_within (h.Negative m) n d room old is result new skips = absurd cc
   counted_within (h.Float x) n d room old is result new skips = absurd cc

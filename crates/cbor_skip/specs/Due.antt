@@ -27,10 +27,12 @@ TakesMore (h.Array None) count = Unit {0}
 TakesMore (h.Map None) count = Unit {0}
 TakesMore header count = ⊥
 
--- how many items the nest contains, where its header counts them one by one (RFC 7049, 2.1 and 2.4)
+-- how many items the nest contains, where its header tells it: one behind a tag, as many as an array counts, and two
+-- for each pair of a map (RFC 7049, 2.1 and 2.4)
 abbrev pub item_count : Header → Option ℕ
 item_count (h.Tag number) = Some 1
 item_count (h.Array len) = len
+item_count (h.Map (Some len)) = Some (2 * len)
 item_count header = None
 
 -- Whether a break may stand in place of that item: in an array of indefinite length, and in such a map behind whole

@@ -37,9 +37,9 @@ enum Begun {
     Item,
     /// The end of an indefinite form.
     Break,
-    /// A tag or an array of so many items.
+    /// A tag, an array or a map of so many items.
     Items(usize),
-    /// A map, or an array of indefinite length, with this header.
+    /// An array or a map of indefinite length, or a map of more items than a `usize` counts, with this header.
     Nest(Header),
 }
 
@@ -56,12 +56,15 @@ fn skip_title<R: Read>(
     ensures rises { IsOk result → offset_of decoder.old < offset_of decoder.new }
 {
     let (header, title) = pull_title(decoder)?;
-    // Of the title's parts, so that no header is made but that of a map.
+    // Of the title's parts, so that no header is made but that of a nest whose items are not counted.
     match title.start(header) {
         Start::Value => Ok(Begun::Item),
         Start::Break => Ok(Begun::Break),
         Start::Nest(Header::Tag(_)) => Ok(Begun::Items(1)),
         Start::Nest(Header::Array(Some(count))) => Ok(Begun::Items(count)),
+        Start::Nest(Header::Map(Some(pairs))) if pairs <= usize::MAX / 2 => {
+            Ok(Begun::Items(2 * pairs))
+        }
         Start::Nest(nest) => Ok(Begun::Nest(nest)),
         Start::Bytes(len) => {
             skip_bytes(decoder, len, buffer)?;
@@ -118,7 +121,8 @@ fn skip_items<R: Read>(
     Ok(())
 }
 
-/// Skips what a map or an array of indefinite length contains, behind its header.
+/// Skips what an array or a map of indefinite length contains, or a map of more items than a `usize` counts, behind its
+/// header.
 #[cycle(nests)]
 fn skip_within<R: Read>(
     decoder: &mut Decoder<R>,

@@ -130,6 +130,28 @@ module _ {R E : Type 0} (source : Reader R E) (k : Kind) where
 
   -- ---- a lone body
 
+  -- it was read, and makes a string
+  whole_body : (len : ℕ) (opened new : Decoder R) → IsInRange (kind_header k (Some len))
+      → ReadsRest source k [] len opened new → SkipsWhole source k (Some len) opened new
+  whole_body len opened new range reads =
+      let body = reads.read in
+      let title = shortest_title (kind_header k (Some len)) in
+      record {
+        behind = body;
+        bodies = body ∷ [];
+        is_string = definite (subst (λ (n : ℕ). IsTitle title (kind_header k (Some n))) (sym reads.all)
+            (IsTitle-shortest (kind_header k (Some len)) range));
+        sound = sound_body k body reads.sound;
+        passed = reads.passed;
+      }
+
+  pub definite_skipped : (len room : ℕ) (opened new : Decoder R) (result : Result (Unit {0}) (Error E))
+      → IsInRange (kind_header k (Some len))
+      → EndsBody source k [] len room (opened.offset - title_len (kind_header k (Some len))) opened result new
+      → SkipsString source k (Some len) room opened result new
+  definite_skipped len room opened new (Ok done) range reads = whole_body len opened new range reads
+  definite_skipped len room opened new (Err error) range ends = ends
+
   module _ (strict : Bool) (len : ℕ) (opened now new : Decoder R) (progress progress' : Progress)
       (so_far : AloneSoFar len opened progress now) where
     -- the only answers: the body first, and then the end
@@ -152,18 +174,7 @@ module _ {R E : Type 0} (source : Reader R E) (k : Kind) where
         new
     lone_end advances = elim (lone_found (Ok None) advances) [
       | inl only ↦ absurd (let found = only.found in cc)
-      | inr read ↦ (
-          let body = read.1.read in
-          let title = shortest_title (kind_header k (Some len)) in
-          record {
-            behind = body;
-            bodies = body ∷ [];
-            is_string = definite (subst (λ (n : ℕ). IsTitle title (kind_header k (Some n))) (sym read.1.all)
-                (IsTitle-shortest (kind_header k (Some len)) so_far.in_range));
-            sound = sound_body k body read.1.sound;
-            passed = read.1.passed;
-          }
-          )
+      | inr read ↦ whole_body len opened new so_far.in_range read.1
     ]
 
     lone_error : (error : Error E) → AdvancesTo source k strict progress now (Err error) progress' new → ⊥

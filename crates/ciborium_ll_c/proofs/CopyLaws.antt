@@ -22,7 +22,7 @@ use Rattle.ciborium_ll.specs.Transfer.{Target}
 use Rattle.ciborium_ll_c.specs.declared.answer.CllAnswer.{CllAnswer}
 use Rattle.ciborium_ll_c.specs.declared.answer.CllAnswer.TheVariants as a
 use Rattle.ciborium_ll_c.specs.declared.answer.CllReport.{CllReport}
-use Rattle.ciborium_ll_c.specs.Answers.{Reports}
+use Rattle.ciborium_ll_c.specs.Answers.{ReportsCopy}
 use Rattle.ciborium_ll_c.specs.Checking.{Checks}
 use Rattle.ciborium_ll_c.specs.Copying.{CopiesInto, CopiesAnyhow, HasRoom, StandInFront, StopsForRoom, buffer_size}
 use Rattle.ciborium_ll_c.specs.Copying.{copy_answer, copy_place}
@@ -94,7 +94,7 @@ module _ {R E W F : Type 0} (source : Reader R E) (sink : Writer W F) where
       (count : ℕ) (due : List ℕ) (old new : Decoder R) (writer' : W) (result : Result (Unit {0}) (RecodeError E F))
       (report : CllReport) (output before after : List ℕ)
       → RecodesTold source sink count due [] old result (sides new writer') → old.offset ≡ 0
-      → sink.written writer' ≡ Some output → Reports report new.offset (length output) (copy_place result)
+      → sink.written writer' ≡ Some output → ReportsCopy report new.offset (length output) (copy_place result)
       → StandInFront output before after → CopiesInto count due before (copy_answer result) after report
   copy_reported count due old new writer' (Ok done) report output before after told start out reports stands = (
     told.front,
@@ -168,7 +168,7 @@ module _ {R E W F : Type 0} (source : Reader R E) (sink : Writer W F) where
       )
 
   -- no bytes in memory make the offset pass its greatest number
-  never_too_long : (count : ℕ) (due : List ℕ) (old : Decoder R) (new : Sides R W)
+  pub never_too_long : (count : ℕ) (due : List ℕ) (old : Decoder R) (new : Sides R W)
       → StopsShort source sink count due [] old new × (offset_limit ≤ new.decoder.offset + max 8 buffer_size)
       → length due < 2 ^ 63 → old.offset ≡ 0 → ⊥
   never_too_long count due old new told object start =
@@ -184,7 +184,7 @@ module _ {R E W F : Type 0} (source : Reader R E) (sink : Writer W F) where
       → CopiesElements source sink count buffer_size (sides old writer) result (sides new writer')
       → IsSteady source old → IsToldAs source sink false (sides old writer) due []
       → sink.room writer ≡ Some (length before) → length due < 2 ^ 63 → old.offset ≡ 0
-      → sink.written writer' ≡ Some output → Reports report new.offset (length output) (copy_place result)
+      → sink.written writer' ≡ Some output → ReportsCopy report new.offset (length output) (copy_place result)
       → StandInFront output before after → CopiesAnyhow count due before (copy_answer result) after report
   anyhow_reported count due old new writer writer' (Ok done) report output before after copied steady told space
       object start out reports stands =
@@ -227,7 +227,7 @@ module _ {R E W F : Type 0} (source : Reader R E) (sink : Writer W F) where
       (report : CllReport) (output before after : List ℕ)
       (answer : CllAnswer) (place behind : ℕ) → RecodesTold source sink count due [] old result (sides new writer')
       → old.offset ≡ 0 → sink.written writer' ≡ Some output → answer ≡ copy_answer result → place ≡ copy_place result
-      → behind ≡ new.offset → Reports report behind (length output) place
+      → behind ≡ new.offset → ReportsCopy report behind (length output) place
       → StandInFront output before after → CopiesInto count due before answer after report
   copy_said count due old new writer' result report output before after answer place behind told start out same
       named at reports stands =
@@ -246,7 +246,7 @@ module _ {R E W F : Type 0} (source : Reader R E) (sink : Writer W F) where
       → IsSteady source old → IsToldAs source sink false (sides old writer) due []
       → sink.room writer ≡ Some (length before) → length due < 2 ^ 63 → old.offset ≡ 0
       → sink.written writer' ≡ Some output → answer ≡ copy_answer result → place ≡ copy_place result
-      → behind ≡ new.offset → Reports report behind (length output) place
+      → behind ≡ new.offset → ReportsCopy report behind (length output) place
       → StandInFront output before after → CopiesAnyhow count due before answer after report
   anyhow_said count due old new writer writer' result report output before after answer place behind copied steady
       told space object start out same named at reports stands =
@@ -262,7 +262,7 @@ module _ {R E W F : Type 0} (source : Reader R E) (sink : Writer W F) where
   check_reported :
       (count : ℕ) (due : List ℕ) (old new : Decoder R) (writer' : W) (result : Result (Unit {0}) (RecodeError E F))
       (report : CllReport) → RecodesStrictly source sink count due [] old result (sides new writer') → old.offset ≡ 0
-      → Reports report new.offset 0 (copy_place result) → Checks count due (copy_answer result) report
+      → ReportsCopy report new.offset 0 (copy_place result) → Checks count due (copy_answer result) report
   check_reported count due old new writer' (Ok done) report told start reports = (
     told.front,
     record {
@@ -300,7 +300,7 @@ module _ {R E W F : Type 0} (source : Reader R E) (sink : Writer W F) where
       (report : CllReport) (answer : CllAnswer) (place behind : ℕ)
       → RecodesStrictly source sink count due [] old result (sides new writer') → old.offset ≡ 0
       → answer ≡ copy_answer result → place ≡ copy_place result → behind ≡ new.offset
-      → Reports report behind 0 place → Checks count due answer report
+      → ReportsCopy report behind 0 place → Checks count due answer report
   check_said count due old new writer' result report answer place behind told start same named at reports =
       let said = check_reported count due old new writer' result report told start record {
         consumed_is = reports.consumed_is ∙ at;

@@ -1,4 +1,5 @@
 pub mod CopyLaws
+pub mod CountLaws
 pub mod PullLaws
 pub mod SkipLaws
 pub mod TextFronts

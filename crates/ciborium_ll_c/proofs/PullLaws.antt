@@ -83,6 +83,8 @@ module _ {R E : Type 0} (source : Ghosts R E) where
         record {
           consumed_is = omega (arith, reports.consumed_is, behind, pulled.offset, fresh.offset);
           written_is = reports.written_is;
+          none_counted = reports.none_counted;
+          none_whole = reports.none_whole;
           place_is = reports.place_is;
         },
       )

@@ -36,6 +36,8 @@ module _ {R E : Type 0} (source : Ghosts R E) where
     record {
       consumed_is = omega (arith, reports.consumed_is, told.offset, start);
       written_is = reports.written_is;
+      none_counted = reports.none_counted;
+      none_whole = reports.none_whole;
       place_is = reports.place_is;
     },
   )
@@ -45,6 +47,8 @@ module _ {R E : Type 0} (source : Ghosts R E) where
     record {
       consumed_is = omega (arith, reports.consumed_is, told.offset, start);
       written_is = reports.written_is;
+      none_counted = reports.none_counted;
+      none_whole = reports.none_whole;
       place_is = reports.place_is;
     },
   )
@@ -56,6 +60,8 @@ module _ {R E : Type 0} (source : Ghosts R E) where
         record {
           consumed_is = omega (arith, reports.consumed_is, met.offset, start);
           written_is = reports.written_is;
+          none_counted = reports.none_counted;
+          none_whole = reports.none_whole;
           place_is = refl;
         },
       )
@@ -66,6 +72,8 @@ module _ {R E : Type 0} (source : Ghosts R E) where
     record {
       consumed_is = omega (arith, reports.consumed_is, told.offset, told.place, start);
       written_is = reports.written_is;
+      none_counted = reports.none_counted;
+      none_whole = reports.none_whole;
       place_is = omega (arith, reports.place_is, told.place, start);
     },
   )
@@ -74,6 +82,8 @@ module _ {R E : Type 0} (source : Ghosts R E) where
     record {
       consumed_is = omega (arith, reports.consumed_is, told.offset, told.place, start);
       written_is = reports.written_is;
+      none_counted = reports.none_counted;
+      none_whole = reports.none_whole;
       place_is = omega (arith, reports.place_is, told.place, start);
     },
   )
@@ -86,6 +96,8 @@ module _ {R E : Type 0} (source : Ghosts R E) where
       let said = skip_reported depth due old new result report told start record {
         consumed_is = reports.consumed_is ∙ behind;
         written_is = reports.written_is;
+        none_counted = reports.none_counted;
+        none_whole = reports.none_whole;
         place_is = reports.place_is ∙ named;
       } in
       subst (λ (x : CllAnswer). Skips depth due x report) (sym same) said

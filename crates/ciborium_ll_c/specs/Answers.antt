@@ -19,8 +19,21 @@ code a.Argument = 7
 abbrev pub version_code : ℕ → ℕ → ℕ → ℕ
 version_code major minor patch = 65536 * major + 256 * minor + patch
 
--- a report says that so many bytes were consumed and so many were written, and names this place
+-- a report says that so many bytes were consumed and so many were written, and names this place. It counts no elements
 pub record Reports (report : CllReport) (consumed written place : ℕ) : Type 0 where
   pub consumed_is : report.consumed ≡ consumed
   pub written_is : report.written ≡ written
   pub place_is : report.place ≡ place
+  pub none_counted : report.elements ≡ 0
+  pub none_whole : report.whole ≡ 0
+
+-- the same of a copy or a check, which counts elements
+pub record ReportsCopy (report : CllReport) (consumed written place : ℕ) : Type 0 where
+  pub consumed_is : report.consumed ≡ consumed
+  pub written_is : report.written ≡ written
+  pub place_is : report.place ≡ place
+
+-- a report says that so many elements were done, and that the last of them ends at this offset
+pub record ReportsElements (report : CllReport) (elements whole : ℕ) : Type 0 where
+  pub elements_is : report.elements ≡ elements
+  pub whole_is : report.whole ≡ whole

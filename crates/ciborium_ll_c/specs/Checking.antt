@@ -5,16 +5,16 @@ use Rattle.ciborium_ll.specs.StrictRecoding.{StrictRunInFront, HasStrictFault}
 use Rattle.ciborium_ll_c.specs.declared.answer.CllAnswer.{CllAnswer}
 use Rattle.ciborium_ll_c.specs.declared.answer.CllAnswer.TheVariants as a
 use Rattle.ciborium_ll_c.specs.declared.answer.CllReport.{CllReport}
-use Rattle.ciborium_ll_c.specs.Answers.{Reports}
+use Rattle.ciborium_ll_c.specs.Answers.{ReportsCopy}
 
 -- so many elements in their shortest spelling stand in front, or the first fault of a strict read stands in their
 -- place, by the answer. Nothing is written
 abbrev pub Checks : ℕ → List ℕ → CllAnswer → CllReport → Type 0
-Checks count bytes a.Ok report = (front : StrictRunInFront count bytes) × Reports report (length front.elements) 0 0
+Checks count bytes a.Ok report = (front : StrictRunInFront count bytes) × ReportsCopy report (length front.elements) 0 0
 Checks count bytes a.Short report =
     (fault : HasStrictFault count bytes) × (fault.answer ≡ Short)
-    × Reports report (length fault.before + fault.consumed) 0 0
+    × ReportsCopy report (length fault.before + fault.consumed) 0 0
 Checks count bytes a.Syntax report =
     (fault : HasStrictFault count bytes) × (fault.answer ≡ Syntax report.place)
-    × Reports report (length fault.before + fault.consumed) 0 report.place
+    × ReportsCopy report (length fault.before + fault.consumed) 0 report.place
 Checks count bytes answer report = ⊥

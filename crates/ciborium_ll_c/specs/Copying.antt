@@ -10,7 +10,7 @@ use Rattle.ciborium_ll.specs.Recoding.{NextWrite}
 use Rattle.ciborium_ll_c.specs.declared.answer.CllAnswer.{CllAnswer}
 use Rattle.ciborium_ll_c.specs.declared.answer.CllAnswer.TheVariants as a
 use Rattle.ciborium_ll_c.specs.declared.answer.CllReport.{CllReport}
-use Rattle.ciborium_ll_c.specs.Answers.{Reports}
+use Rattle.ciborium_ll_c.specs.Answers.{ReportsCopy}
 
 -- the room is enough for the spelling of the elements where they stand in front, else for as many bytes as are due
 abbrev pub HasRoom : ℕ → List ℕ → ℕ → Type 0
@@ -25,20 +25,20 @@ StandInFront bytes old new = new ≡ bytes ++ drop (length bytes) old
 abbrev pub OutputsElements : ℕ → List ℕ → List ℕ → List ℕ → CllReport → Type 0
 OutputsElements count bytes old new report =
     (front : RunInFront count bytes) × StandInFront (spelling front.marks) old new
-    × Reports report (length front.elements) (length (spelling front.marks)) 0
+    × ReportsCopy report (length front.elements) (length (spelling front.marks)) 0
 
 -- the first fault stopped the copy at this place of the bytes, and what was written before stands in the output
 abbrev pub OutputsUpToFault : ℕ → List ℕ → List ℕ → List ℕ → CllReport → Type 0
 OutputsUpToFault count bytes old new report =
     (fault : HasFault count bytes) × (fault.answer ≡ Syntax report.place) × StandInFront fault.written old new
-    × Reports report (length fault.before + fault.consumed) (length fault.written) report.place
+    × ReportsCopy report (length fault.before + fault.consumed) (length fault.written) report.place
 
 -- a copy where there is room, by the answer: the first fault stops it where so many elements do not stand in front
 abbrev pub CopiesInto : ℕ → List ℕ → List ℕ → CllAnswer → List ℕ → CllReport → Type 0
 CopiesInto count bytes old a.Ok new report = OutputsElements count bytes old new report
 CopiesInto count bytes old a.Short new report =
     (fault : HasFault count bytes) × (fault.answer ≡ Short) × StandInFront fault.written old new
-    × Reports report (length fault.before + fault.consumed) (length fault.written) 0
+    × ReportsCopy report (length fault.before + fault.consumed) (length fault.written) 0
 CopiesInto count bytes old a.Syntax new report = OutputsUpToFault count bytes old new report
 CopiesInto count bytes old answer new report = ⊥
 
@@ -65,7 +65,7 @@ pub record StopsForRoom (count : ℕ) (bytes : List ℕ) (room : ℕ) : Type 0 w
 abbrev pub CopiesAnyhow : ℕ → List ℕ → List ℕ → CllAnswer → List ℕ → CllReport → Type 0
 CopiesAnyhow count bytes old a.Room new report =
     (stop : StopsForRoom count bytes (length old)) × StandInFront stop.written old new
-    × Reports report (length stop.before + length stop.read) (length stop.written) 0
+    × ReportsCopy report (length stop.before + length stop.read) (length stop.written) 0
 CopiesAnyhow count bytes old answer new report = CopiesInto count bytes old answer new report
 
 module _ {E F : Type 0} where

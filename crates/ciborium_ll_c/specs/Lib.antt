@@ -1,6 +1,7 @@
 pub mod Answers
 pub mod Checking
 pub mod Copying
+pub mod Counting
 pub mod Feeding
 pub mod Headers
 pub mod Pulling

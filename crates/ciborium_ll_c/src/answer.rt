@@ -1,7 +1,9 @@
 //! What a call answers, and what it reports.
 
 ghost use Rattle.std.specs.Prelude.{◌≡◌};
-ghost use Rattle.ciborium_ll_c.specs.Answers.{Reports, code};
+ghost use Rattle.ciborium_ll_c.specs.Answers.{Reports, ReportsCopy, ReportsElements, code};
+
+use crate::tally::Tally;
 
 /// How a call came out.
 #[derive(Clone, Copy, Debug, PartialEq, Eq)]
@@ -53,6 +55,10 @@ pub struct CllReport {
     pub written: u64,
     /// Of `Syntax`, `BreakDue` and `TooDeep` the offset in the bytes that the answer names, else 0.
     pub place: u64,
+    /// Of a copy and of a strict check how many elements were done whole, else 0.
+    pub elements: u64,
+    /// Of both the offset behind the last of them, else 0.
+    pub whole: u64,
 }
 
 impl CllReport {
@@ -64,5 +70,26 @@ impl CllReport {
         self.consumed = consumed as u64;
         self.written = written as u64;
         self.place = place as u64;
+        self.elements = 0;
+        self.whole = 0;
+    }
+
+    /// Says the same of elements, and how many of them were done.
+    #[inline(always)]
+    pub(crate) fn say_elements(
+        &mut self,
+        consumed: usize,
+        written: usize,
+        place: usize,
+        tally: Tally,
+    )
+        ensures reports { ReportsCopy self.new consumed written place }
+        ensures elements { ReportsElements self.new tally.elements tally.whole }
+    {
+        self.consumed = consumed as u64;
+        self.written = written as u64;
+        self.place = place as u64;
+        self.elements = tally.elements as u64;
+        self.whole = tally.whole as u64;
     }
 }

@@ -21,6 +21,7 @@ ghost use Rattle.ciborium_ll_c.specs.declared.answer.CllAnswer.TheVariants as a;
 ghost use Rattle.ciborium_ll_c.specs.Answers.{Reports, code, version_code};
 ghost use Rattle.ciborium_ll_c.specs.Checking.{Checks};
 ghost use Rattle.ciborium_ll_c.specs.Copying.{CopiesInto, CopiesAnyhow, HasRoom, copy_answer, copy_place};
+ghost use Rattle.ciborium_ll_c.specs.Counting.{CountsCopy, CountsElements, CountsStrictly};
 ghost use Rattle.ciborium_ll_c.specs.Feeding.{EndsFed, Feeds, IsKept, IsNoChecker, IsSetUp};
 ghost use Rattle.ciborium_ll_c.specs.Pulling.{Pulls, TitleInFront};
 ghost use Rattle.ciborium_ll_c.specs.Pushing.{Pushes, Puts};
@@ -31,6 +32,7 @@ ghost use Rattle.ciborium_ll_c.specs.Widths.{PushesWide};
 mod answer;
 mod checker;
 mod header;
+mod tally;
 #[cfg(test)]
 mod tests;
 mod wide;
@@ -38,10 +40,10 @@ mod wide;
 pub use self::answer::{CllAnswer, CllReport};
 pub use self::checker::CllChecker;
 pub use self::header::CllHeader;
+use self::tally::{Tally, copy_counted};
 use self::wide::title_in;
 use cbor_skip::{SkipError, skip_item};
 use ciborium_ll::io::{Discard, EndOfFile, OutOfSpace, Read, SliceReader, SliceWriter, Write};
-use ciborium_ll::recode::recode;
 use ciborium_ll::{Decoder, Encoder, Error, RecodeError};
 use ciborium_ll_decoder::title::pull_title;
 use ciborium_ll_encoder::enc::push_title;
@@ -200,16 +202,19 @@ fn copy_onto<'a, R: Read>(
     writer: &mut SliceWriter<'a>,
     count: usize,
     buffer: &mut [u8],
+    tally: &mut Tally,
 ) -> Result<(), RecodeError<R::Error, OutOfSpace>>
     requires room { 4 ≤ length buffer.old }
     ensures copied { CopiesElements R.Read ⟦<SliceWriter<'a> as Write>⟧ count (length buffer.old)
         (sides decoder.old writer.old) result (sides decoder.new writer.new) }
+    ensures counted { CountsCopy R.Read ⟦<SliceWriter<'a> as Write>⟧ count (length buffer.old)
+        (sides decoder.old writer.old) result (sides decoder.new writer.new) tally.new.elements tally.new.whole }
     ensures target { slice_target writer.new ≡ slice_target writer.old }
 {
     // A loan inside a writer is followed to its end, and one inside an encoder over it is not. So the encoder has the
     // writer for this call alone, and what it writes to then is put back.
     let mut encoder = Encoder::from(mem::replace(writer, SliceWriter::new(&mut [])));
-    let copied = recode(decoder, &mut encoder, count, buffer);
+    let copied = copy_counted(decoder, &mut encoder, count, buffer, tally);
     *writer = encoder.into_inner();
     copied
 }
@@ -221,14 +226,19 @@ fn copy(bytes: &[u8], count: usize, out: &mut [u8], report: &mut CllReport) -> C
     ensures exactly { HasRoom count bytes.now (length out.old)
         → (result ≡ a.Ok ↔ RunInFront count bytes.now) }
     ensures anyhow { CopiesAnyhow count bytes.now out.old result out.new report.new }
+    ensures counted { CountsElements count bytes.now (length out.old) result report.new }
 {
     let mut buffer = [0; BUFFER_SIZE];
     let mut decoder = Decoder::from(SliceReader::new(bytes));
     let mut writer = SliceWriter::new(out);
-    let copied = copy_onto(&mut decoder, &mut writer, count, &mut buffer);
+    let mut tally = Tally {
+        elements: 0,
+        whole: 0,
+    };
+    let copied = copy_onto(&mut decoder, &mut writer, count, &mut buffer, &mut tally);
     let (answer, place) = stop_of_copy(copied);
     let written = writer.written().len();
-    report.say(decoder.offset(), written, place);
+    report.say_elements(decoder.offset(), written, place, tally);
     answer
 }
 
@@ -258,6 +268,8 @@ pub extern "C" fn cll_recode(
         → (result ≡ code a.Ok ↔ RunInFront count bytes.now) }
     ensures anyhow { (answer : CllAnswer) × (result ≡ code answer)
         × CopiesAnyhow count bytes.now out.old answer out.new report.new }
+    ensures counted { (answer : CllAnswer) × (result ≡ code answer)
+        × CountsElements count bytes.now (length out.old) answer report.new }
 {
     copy(bytes, count as usize, out, report).code()
 }
@@ -266,14 +278,19 @@ pub extern "C" fn cll_recode(
 fn check(bytes: &[u8], count: usize, report: &mut CllReport) -> CllAnswer
     ensures checked { Checks count bytes.now result report.new }
     ensures exactly { result ≡ a.Ok ↔ StrictRunInFront count bytes.now }
+    ensures counted { CountsStrictly count bytes.now result report.new }
 {
     let mut buffer = [0; BUFFER_SIZE];
+    let mut tally = Tally {
+        elements: 0,
+        whole: 0,
+    };
     let mut decoder = Decoder::strict(SliceReader::new(bytes));
     // What a strict copy writes is what it reads, so that many bytes are room enough.
     let mut encoder = Encoder::from(Discard::new(bytes.len()));
-    let copied = recode(&mut decoder, &mut encoder, count, &mut buffer);
+    let copied = copy_counted(&mut decoder, &mut encoder, count, &mut buffer, &mut tally);
     let (answer, place) = stop_of_copy(copied);
-    report.say(decoder.offset(), 0, place);
+    report.say_elements(decoder.offset(), 0, place, tally);
     answer
 }
 
@@ -287,6 +304,8 @@ fn check(bytes: &[u8], count: usize, report: &mut CllReport) -> CllAnswer
 pub extern "C" fn cll_strict(bytes: &[u8], count: u64, report: &mut CllReport) -> u32
     ensures checked { (answer : CllAnswer) × (result ≡ code answer) × Checks count bytes.now answer report.new }
     ensures exactly { result ≡ code a.Ok ↔ StrictRunInFront count bytes.now }
+    ensures counted { (answer : CllAnswer) × (result ≡ code answer)
+        × CountsStrictly count bytes.now answer report.new }
 {
     check(bytes, count as usize, report).code()
 }

@@ -14,6 +14,8 @@ fn nothing() -> CllReport {
         consumed: 7,
         written: 7,
         place: 7,
+        elements: 7,
+        whole: 7,
     }
 }
 

@@ -21,3 +21,4 @@ pub mod SegmentLaws
 pub mod SpelledLaws
 pub mod StrictFaultLaws
 pub mod StrictLaws
+pub mod WholeBodyLaws

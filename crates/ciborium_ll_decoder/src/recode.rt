@@ -139,8 +139,9 @@ fn copy_string<R: Read, W: Write, P: Chunked>(
     }
 }
 
-/// Copies one element.
-fn copy_element<R: Read, W: Write>(
+/// Copies one element, as [`recode`] copies each of its elements, and answers as that does. It is for whoever counts
+/// them: its contract speaks of the elements before it, too. Users copy by [`recode`].
+pub fn copy_element<R: Read, W: Write>(
     decoder: &mut Decoder<R>,
     encoder: &mut Encoder<W>,
     buffer: &mut [u8],

@@ -13,7 +13,7 @@ ghost use Rattle.ciborium_ll_text.specs.Text.{IsStuck};
 mod chunked;
 mod strings;
 
-pub use self::chunked::Chunked;
+pub use self::chunked::{Chunked, finish_body};
 use crate::dec::{Decoder, Error};
 use ciborium_ll_grammar::hdr::Header;
 use ciborium_ll_io::io::Read;

@@ -10,7 +10,7 @@ ghost use Rattle.ciborium_ll_decoder.specs.Segments.{IsAtBeginning, string_decod
 ghost use Rattle.ciborium_ll.specs.Skipping.{SkipsString};
 
 use ciborium_ll_decoder::dec::{Decoder, Error};
-use ciborium_ll_decoder::seg::{Bytes, Chunked, Segments, Text};
+use ciborium_ll_decoder::seg::{Bytes, Chunked, Segments, Text, finish_body};
 use ciborium_ll_io::io::Read;
 
 /// Reads a byte string to its end, behind its header with this length, which was just pulled.
@@ -18,6 +18,7 @@ use ciborium_ll_io::io::Read;
 /// `Ok` says that one whole string was there, and the decoder is behind it. `Syntax` names the offset of a title that
 /// is none or may not stand within the string. `Io` says that the reader failed, `TooLong` that the offset can't take
 /// the next read. What was read before an error is consumed.
+#[tactic(auto, using(crate::proofs::SkipLaws::definite_skipped))]
 pub fn skip_bytes<R: Read>(
     decoder: &mut Decoder<R>,
     len: Option<usize>,
@@ -29,8 +30,10 @@ pub fn skip_bytes<R: Read>(
     ensures skipped { SkipsString R.Read byte_strings len (length buffer.old) decoder.old result decoder.new }
     ensures moves_on { MovesOn R.Read decoder.old decoder.new }
 {
-    let mut segments = decoder.bytes(len);
-    skip_segments::<R, Bytes>(&mut segments, buffer)
+    match len {
+        Some(length) => finish_body::<R, Bytes>(decoder, length, buffer),
+        None => skip_segments::<R, Bytes>(&mut decoder.bytes(None), buffer),
+    }
 }
 
 /// Reads a text string to its end, behind its header with this length, which was just pulled.
@@ -38,6 +41,7 @@ pub fn skip_bytes<R: Read>(
 /// The answers are those of [`skip_bytes`], and `Syntax` also where a body is no text by itself. It then names the
 /// offset of that body's title; where the body is the whole string, the byte from which the header's shortest title
 /// would reach the body.
+#[tactic(auto, using(crate::proofs::SkipLaws::definite_skipped))]
 pub fn skip_text<R: Read>(
     decoder: &mut Decoder<R>,
     len: Option<usize>,
@@ -49,8 +53,10 @@ pub fn skip_text<R: Read>(
     ensures skipped { SkipsString R.Read text_strings len (length buffer.old) decoder.old result decoder.new }
     ensures moves_on { MovesOn R.Read decoder.old decoder.new }
 {
-    let mut segments = decoder.text(len);
-    skip_segments::<R, Text>(&mut segments, buffer)
+    match len {
+        Some(length) => finish_body::<R, Text>(decoder, length, buffer),
+        None => skip_segments::<R, Text>(&mut decoder.text(None), buffer),
+    }
 }
 
 /// Reads the segments of a string that was just begun, each to its end.

@@ -1,5 +1,8 @@
-use Rattle.std.proofs.Common.{true, length, [], refl, sym, inr, arith}
+use Rattle.std.proofs.Common.{ℕ, true, length, [], refl, sym, inr, arith, ◌∙◌}
+use Rattle.ciborium_ll.specs.Sides.{sides}
+use Rattle.ciborium_ll_decoder.proofs.RecodeStrictLaws.{recode_strictly, recode_strictly_exactly}
 use Rattle.ciborium_ll_c.proofs.CopyLaws.{check_said, copy_exactly, ready_to_copy}
+use Rattle.ciborium_ll_c.proofs.CountLaws.{strictly_said}
 use Rattle.ciborium_ll_c.proofs.check.Goals as goal
 
 pub returns : goal.returns
@@ -7,26 +10,32 @@ returns c =
     let due = c.args.bytes.now in
     let old = c.strict-decoder.result in
     let writer = c.from-encoder.result.writer in
-    let new = c.recode-copied.new.decoder in
-    let copied = c.recode-copied.result in
+    let new = c.copy_counted-copied.new.decoder in
+    let behind = c.copy_counted-copied.new.encoder.writer in
+    let copied = c.copy_counted-copied.result in
+    let all = c.copy_counted-copied.ensures.copied in
     let stop = c.stop_of_copy-answer in
+    let none = c.strict-decoder.ensures.none_waits in
+    let ready = λ (n : ℕ). ready_to_copy _ _ true n 1024 (length due) c.new.result old writer due
+    c.strict-decoder.ensures refl
+    c.new.ensures.ahead (rw (sym c.from-encoder.ensures) at c.new-2.ensures.written)
+    (rw (sym c.from-encoder.ensures) at c.new-2.ensures.room) (inr (omega arith)) (omega arith) (omega arith) in
     record {
       checked =
-          check_said _ _ c.args.count due old new c.recode-copied.new.encoder.writer copied c.say.new.self stop.result.0
+          check_said _ _ c.args.count due old new behind copied c.say_elements.new.self stop.result.0
           stop.result.1 c.offset.result
-          (c.recode-copied.ensures.strictly due []
-          (ready_to_copy _ _ true c.args.count 1024 (length due) c.new.result old writer due
-          c.strict-decoder.ensures refl
-          c.new.ensures.ahead (rw (sym c.from-encoder.ensures) at c.new-2.ensures.written)
-          (rw (sym c.from-encoder.ensures) at c.new-2.ensures.room) (inr (omega arith)) (omega arith) (omega arith))
-          c.strict-decoder.ensures.none_waits)
-          c.strict-decoder.ensures.offset stop.ensures.answer stop.ensures.place c.offset.ensures.value c.say.ensures;
+          (recode_strictly _ _ c.args.count 1024 (sides old writer) due [] (ready c.args.count) refl none
+          (sides new behind) copied all)
+          c.strict-decoder.ensures.offset stop.ensures.answer stop.ensures.place c.offset.ensures.value
+          c.say_elements.ensures.reports;
       exactly =
           copy_exactly copied stop.result.0 stop.ensures.answer
-          (c.recode-copied.ensures.strictly_exactly due []
-          (ready_to_copy _ _ true c.args.count 1024 (length due) c.new.result old writer due
-          c.strict-decoder.ensures refl
-          c.new.ensures.ahead (rw (sym c.from-encoder.ensures) at c.new-2.ensures.written)
-          (rw (sym c.from-encoder.ensures) at c.new-2.ensures.room) (inr (omega arith)) (omega arith) (omega arith))
-          c.strict-decoder.ensures.none_waits);
+          (recode_strictly_exactly _ _ c.args.count 1024 (sides old writer) due [] (ready c.args.count) refl none
+          (sides new behind) copied all);
+      counted =
+          strictly_said _ _ c.args.count due old new writer behind c.say_elements.new.self ready none
+          c.strict-decoder.ensures.offset
+          (λ whole. whole ∙ sym (c.say_elements.ensures.reports.consumed_is ∙ c.offset.ensures.value))
+          copied stop.result.0 _ _ c.copy_counted-copied.ensures.counted c.say_elements.ensures.elements
+          stop.ensures.answer;
     }

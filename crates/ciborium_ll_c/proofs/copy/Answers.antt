@@ -1,6 +1,7 @@
 use Rattle.std.proofs.Common.{false, length, ap, ◌∙◌, [], refl, sym, arith}
 use Rattle.ciborium_ll_c.proofs.CopyLaws.{anyhow_said, copy_exactly, copy_said, ready_to_copy, stands_behind}
 use Rattle.ciborium_ll_c.proofs.CopyLaws.{told_to_copy}
+use Rattle.ciborium_ll_c.proofs.CountLaws.{counts_said}
 use Rattle.ciborium_ll_decoder.proofs.RecodeReadyLaws.{recode_exactly, recode_told}
 use Rattle.ciborium_ll.specs.Sides.{sides}
 use Rattle.ciborium_ll.specs.Transfer.{Target}
@@ -30,19 +31,30 @@ returns c =
     c.new.ensures.ahead c.new-writer.ensures.written c.new-writer.ensures.room room (omega arith) (omega arith) in
     record {
       copied = λ room.
-          copy_said _ _ c.args.count due old new behind copied c.say.new.self output_is c.args.out.now _
+          copy_said _ _ c.args.count due old new behind copied c.say_elements.new.self output_is c.args.out.now _
           stop.result.0 stop.result.1 c.offset.result
           (recode_told _ _ c.args.count 1024 (sides old writer) due [] (ready room) refl (sides new behind) copied all)
           c.from-decoder.ensures.offset output stop.ensures.answer stop.ensures.place c.offset.ensures.value
-          c.say.ensures stands;
+          c.say_elements.ensures.reports stands;
       exactly = λ room. copy_exactly copied stop.result.0 stop.ensures.answer
           (recode_exactly _ _ c.args.count 1024 (sides old writer) due [] (ready room) refl (sides new behind) copied
           all);
       anyhow =
-          anyhow_said _ _ c.args.count due old new writer behind copied c.say.new.self output_is c.args.out.now _
+          anyhow_said _ _ c.args.count due old new writer behind copied c.say_elements.new.self output_is c.args.out.now _
           stop.result.0 stop.result.1 c.offset.result all refl
           (told_to_copy _ _ false c.new.result old writer due c.from-decoder.ensures c.new.ensures.ahead
           c.new-writer.ensures.written)
           c.new-writer.ensures.room (omega arith) c.from-decoder.ensures.offset output stop.ensures.answer
-          stop.ensures.place c.offset.ensures.value c.say.ensures stands;
+          stop.ensures.place c.offset.ensures.value c.say_elements.ensures.reports stands;
+      counted =
+          counts_said _ _ c.args.count due old new writer behind c.say_elements.new.self (length c.args.out.now) refl
+          (told_to_copy _ _ false c.new.result old writer due c.from-decoder.ensures c.new.ensures.ahead
+          c.new-writer.ensures.written)
+          (λ n room. ready_to_copy _ _ false n 1024 (length c.args.out.now) c.new.result old writer due
+          c.from-decoder.ensures refl c.new.ensures.ahead c.new-writer.ensures.written c.new-writer.ensures.room room
+          (omega arith) (omega arith))
+          (omega arith) c.from-decoder.ensures.offset
+          (λ whole. whole ∙ sym (c.say_elements.ensures.reports.consumed_is ∙ c.offset.ensures.value))
+          copied stop.result.0 _ _ c.copy_onto-copied.ensures.counted c.say_elements.ensures.elements
+          stop.ensures.answer;
     }

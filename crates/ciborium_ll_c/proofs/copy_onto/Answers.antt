@@ -7,6 +7,7 @@ returns g c =
     let begun : c.from-encoder.result.writer ≡ c.args.writer.now = c.from-encoder.ensures ∙ c.replace.ensures.value in
     let ended = sym c.into_inner.ensures in
     record {
-      copied = rw ended at rw begun at c.recode-copied.ensures.copied;
-      target = same_target (rw ended at rw begun at c.recode-copied.ensures.target);
+      copied = rw ended at rw begun at c.copy_counted-copied.ensures.copied;
+      counted = rw ended at rw begun at c.copy_counted-copied.ensures.counted;
+      target = same_target (rw ended at rw begun at c.copy_counted-copied.ensures.target);
     }

@@ -1,14 +1,17 @@
 //! Bodies in chunks and read to their end, for both kinds of string alike.
 
-ghost use Rattle.std.specs.Prelude.{◌≡◌, ◌≤◌, ◌+◌, [], length, IfOk, IfSome, None};
-ghost use Rattle.ciborium_ll_decoder.specs.Decoding.{MovesOn, waiting_of};
+ghost use Rattle.std.specs.Prelude.{◌≡◌, ◌≤◌, ◌+◌, ◌-◌, ◌↔◌, [], length, IfOk, IfSome, IsTrue, None, Some};
+ghost use Rattle.ciborium_ll_grammar.specs.Title.{title_len};
+ghost use Rattle.ciborium_ll_grammar.specs.Strings.{IsWritable, kind_header};
+ghost use Rattle.ciborium_ll_decoder.specs.Decoding.{MovesOn, offset_of, waiting_of};
 ghost use Rattle.ciborium_ll_decoder.specs.Segments.{progress_of, string_decoder, string_reference, string_strict};
 ghost use Rattle.ciborium_ll_decoder.specs.Chunks.{PullsChunk, left_of, segment_decoder, segment_reference};
 ghost use Rattle.ciborium_ll_decoder.specs.Finishing.{EndsBody, Finishes};
 
-use crate::dec::Error;
+use crate::dec::{Decoder, Error};
 use crate::seg::{Body, Bytes, Parser, Segment, Segments, Text};
 use ciborium_ll_io::io::Read;
+use ciborium_ll_text::state::{State, text_front};
 
 /// A kind of string whose chunks are bytes: what [`Bytes`] and [`Text`] have in common. It is the bound of a loop that
 /// reads the segments of either kind.
@@ -24,6 +27,10 @@ pub trait Chunked: Parser {
             (λ c. length c.now + left_of segment.new ≡ left_of segment.old)) }
         ensures same_reference { segment_reference segment.new ≡ segment_reference segment.old }
         ensures moves_on { MovesOn R.Read (segment_decoder segment.old) (segment_decoder segment.new) };
+
+    /// Whether bytes may be the body of a string: any bytes, of a text those that are UTF-8.
+    fn is_body(bytes: &[u8]) -> bool
+        ensures { IsTrue result ↔ IsWritable Self.kind bytes.now };
 }
 
 impl Chunked for Bytes {
@@ -33,6 +40,11 @@ impl Chunked for Bytes {
     ) -> Result<Option<&'a [u8]>, Error<R::Error>> {
         segment.pull(buffer)
     }
+
+    #[inline(always)]
+    fn is_body(_bytes: &[u8]) -> bool {
+        true
+    }
 }
 
 impl Chunked for Text {
@@ -41,6 +53,12 @@ impl Chunked for Text {
         buffer: &'a mut [u8],
     ) -> Result<Option<&'a [u8]>, Error<R::Error>> {
         segment.pull_front(buffer)
+    }
+
+    #[inline(always)]
+    fn is_body(bytes: &[u8]) -> bool {
+        let (front, _state) = text_front(bytes, 0, State::Between);
+        front.len() == bytes.len()
     }
 }
 
@@ -114,4 +132,77 @@ impl<'r, R: Read, P: Chunked> Segments<'r, R, P> {
     {
         Segment::<R, P>::new(&mut *self.decoder, body).finish(buffer)
     }
+}
+
+/// Reads the body of a string of definite length to its end, behind its header with this length, which was just
+/// pulled: by one read where `buffer` holds it, else by pulls through `buffer`. It answers as [`Segment::finish`] does
+/// for the segment of that string, and pushes no header back. Users skip strings.
+///
+/// `Ok` says that the whole body was read, and that it is UTF-8 where it is of a text: the decoder is then behind it.
+/// The errors are `Syntax` where the body is no text, with the byte from which the header's shortest title would reach
+/// it; `Io` where the reader failed, and `TooLong` where the offset would pass `usize::MAX`. What was read before an
+/// error is consumed.
+#[inline(always)]
+pub fn finish_body<R: Read, P: Chunked>(
+    decoder: &mut Decoder<R>,
+    len: usize,
+    buffer: &mut [u8],
+) -> Result<(), Error<R::Error>>
+    requires room { 4 ≤ length buffer.old }
+    requires none_waits { waiting_of decoder.old ≡ None }
+    requires covered { title_len (kind_header P.kind (Some len)) ≤ offset_of decoder.old }
+    ensures finishes { EndsBody R.Read P.kind [] len (length buffer.old)
+        (offset_of decoder.old - title_len (kind_header P.kind (Some len))) decoder.old result decoder.new }
+    ensures moves_on { MovesOn R.Read decoder.old decoder.new }
+{
+    let place = decoder.offset() - P::header(Some(len)).title_len();
+    let body = Body { length: len, place };
+    if len > buffer.len() {
+        return finish_chunks::<R, P>(decoder, body, buffer);
+    }
+    finish_whole::<R, P>(decoder, body, buffer)
+}
+
+/// Reads a body that the buffer holds by one read, and an empty one by none.
+#[inline(always)]
+#[tactic(auto, using(crate::proofs::WholeBodyLaws::empty_ends, crate::proofs::WholeBodyLaws::whole_ends))]
+fn finish_whole<R: Read, P: Chunked>(
+    decoder: &mut Decoder<R>,
+    body: Body,
+    buffer: &mut [u8],
+) -> Result<(), Error<R::Error>>
+    requires held { body.length ≤ length buffer.old }
+    requires none_waits { waiting_of decoder.old ≡ None }
+    ensures finishes { EndsBody R.Read P.kind [] body.length (length buffer.old) body.place decoder.old result
+        decoder.new }
+    ensures moves_on { MovesOn R.Read decoder.old decoder.new }
+{
+    if body.length == 0 {
+        return Ok(());
+    }
+    let whole = &mut buffer[..body.length];
+    if let Err(error) = decoder.read(whole) {
+        return Err(error);
+    }
+    if P::is_body(whole) {
+        Ok(())
+    } else {
+        Err(Error::Syntax(body.place))
+    }
+}
+
+/// Reads a body by pulls through the buffer.
+#[inline(never)]
+fn finish_chunks<R: Read, P: Chunked>(
+    decoder: &mut Decoder<R>,
+    body: Body,
+    buffer: &mut [u8],
+) -> Result<(), Error<R::Error>>
+    requires room { 4 ≤ length buffer.old }
+    requires none_waits { waiting_of decoder.old ≡ None }
+    ensures finishes { EndsBody R.Read P.kind [] body.length (length buffer.old) body.place decoder.old result
+        decoder.new }
+    ensures moves_on { MovesOn R.Read decoder.old decoder.new }
+{
+    Segment::<R, P>::new(decoder, body).finish(buffer)
 }

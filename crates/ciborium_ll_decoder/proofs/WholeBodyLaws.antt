@@ -1,0 +1,119 @@
+-- A body that one read gives whole.
+use Rattle.std.proofs.Common.{◌≡◌, ◌∙◌, ℕ, ◌<◌, ◌≤◌, List, [], ◌++◌, length, None, Ok, Err, refl, sym, ap, subst}
+use Rattle.std.proofs.Common.{append-nil, length-append, inl, arith}
+use Rattle.ciborium_ll_text.proofs.Lists.{length_zero}
+use Rattle.ciborium_ll_io.specs.declared.io.Read.{Ghosts as Reader}
+use Rattle.ciborium_ll_decoder.specs.declared.dec.Decoder.{Decoder}
+use Rattle.ciborium_ll_decoder.specs.declared.dec.Error.{Error}
+use Rattle.ciborium_ll_decoder.specs.declared.dec.Error.TheVariants as e
+use Rattle.ciborium_ll_grammar.specs.Strings.{Kind, Bytes, Text, IsWritable}
+use Rattle.ciborium_ll_decoder.specs.Decoding.{IsSteady, Passes, ReadsAll, ReadsBytes}
+use Rattle.ciborium_ll_decoder.specs.Finishing.{BeginsRest, EndsBody}
+use Rattle.ciborium_ll_decoder.proofs.DecodingLaws.{Passes-none}
+use Rattle.ciborium_ll_decoder.proofs.BodyLaws.{writable_nil, Passes-read}
+use Rattle.ciborium_ll_text.specs.Text.{IsCharacters, IsFront}
+use Rattle.ciborium_ll_text.proofs.TextLaws.{IsCharacters-nil}
+
+-- any bytes are the body of a byte string
+textual : (kind : Kind) (bytes : List ℕ) → (IsWritable kind bytes → ⊥) → kind ≡ Text
+textual Bytes bytes unsound = absurd (unsound tt)
+textual Text bytes unsound = refl
+
+no_text : (kind : Kind) (bytes : List ℕ) → (IsWritable kind bytes → ⊥) → IsCharacters bytes → ⊥
+no_text Bytes bytes unsound whole = unsound tt
+no_text Text bytes unsound whole = unsound whole
+
+-- bytes are text just where the longest front that is text is all of them
+pub all_in_front : (bytes front rest : List ℕ) → IsFront bytes front rest → length front ≡ length bytes
+    → IsCharacters bytes
+all_in_front bytes front rest found all =
+    let none : rest ≡ [] = length_zero rest (omega (arith, all, ap length found.parts, length-append front rest)) in
+    let same : bytes ≡ front = found.parts ∙ ap (λ (z : List ℕ). front ++ z) none ∙ append-nil front in
+    subst IsCharacters (sym same) found.text
+
+pub front_of_all : (bytes front rest : List ℕ) → IsFront bytes front rest → IsCharacters bytes
+    → length front ≡ length bytes
+front_of_all bytes front rest found whole =
+    let longest = found.longest bytes [] (sym (append-nil bytes)) whole in
+    omega (arith, longest, ap length found.parts, length-append front rest)
+
+module _ {R E : Type 0} (source : Reader R E) (kind : Kind) (len room place : ℕ) (old : Decoder R) where
+  -- an empty one takes no read
+  pub empty_ends : len ≡ 0 → EndsBody source kind [] len room place old (Ok (tt {0})) old
+  empty_ends none = record {
+    read = [];
+    all = sym none;
+    sound = writable_nil kind;
+    passed = Passes-none source old;
+  }
+
+  module _ (read : List ℕ) (new : Decoder R) (all : length read ≡ len) where
+    read_passed : ReadsAll source old read new → (IsSteady source old → IsSteady source new)
+        → Passes source old read new
+    read_passed reads steady = Passes-read source old old new [] read (Passes-none source old) reads steady
+
+    -- it may be written
+    pub whole_ends : IsWritable kind read → ReadsAll source old read new
+        → (IsSteady source old → IsSteady source new) → EndsBody source kind [] len room place old (Ok (tt {0})) new
+    whole_ends sound reads steady = record {
+      read = read;
+      all = all;
+      sound = sound;
+      passed = read_passed reads steady;
+    }
+
+    -- it is no text
+    pub damaged_ends : (IsWritable kind read → ⊥) → ReadsAll source old read new
+        → (IsSteady source old → IsSteady source new)
+        → EndsBody source kind [] len room place old (Err (e.Syntax place)) new
+    damaged_ends unsound reads steady = (
+      refl,
+      record {
+        textual = textual kind read unsound;
+        read = read;
+        front = [];
+        left = read;
+        parts = refl;
+        sound = IsCharacters-nil;
+        within = omega (arith, all);
+        no_text = inl (all, no_text kind read unsound);
+        passed = read_passed reads steady;
+      },
+    )
+
+  -- nothing of it was read
+  abbrev begun : BeginsRest source kind [] len old old
+  begun = record {
+    read = [];
+    front = [];
+    left = [];
+    parts = refl;
+    few = omega arith;
+    sound = writable_nil kind;
+    within = omega arith;
+    passed = Passes-none source old;
+  }
+
+  -- the read failed, which is one of no more bytes than the buffer holds
+  pub unread_ends : (read : List ℕ) (new : Decoder R) (error : Error E) → old.waiting ≡ None → length read ≡ len
+      → 0 < len → len ≤ room → ReadsBytes source old (Err error) read new
+      → EndsBody source kind [] len room place old (Err error) new
+  unread_ends read new (e.Io fault) none all some held fails = record {
+    between = old;
+    part = begun;
+    count = length read;
+    some = omega (arith, all, some);
+    more = omega (arith, all);
+    fails = fails;
+  }
+  unread_ends read new (e.Syntax at) none all some held fails = absurd fails
+  unread_ends read new e.TooLong none all some held fails = record {
+    between = old;
+    part = begun;
+    count = length read;
+    held = omega (arith, all, held);
+    more = omega (arith, all);
+    full = fails.1;
+    untouched = fails.2;
+  }
+  unread_ends read new e.Waiting none all some held fails = absurd (let waits = fails.0 in cc)
