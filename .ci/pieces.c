@@ -9,7 +9,8 @@
  *
  * usage: pieces [ITEMS [SEED]]
  *
- * With a number of items the lists are left out. It prints how many fronts had which answer. It says which bytes went wrong, and then ends with the status 1.
+ * With a number of items the lists are left out. It prints how many fronts had which answer. It says which bytes went
+ * wrong, and then ends with the status 1.
  */
 #define _DEFAULT_SOURCE
 #include "items.h"
