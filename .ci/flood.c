@@ -1,0 +1,162 @@
+/*
+ * Feeds a checker one item of 1 GiB and a byte, in pieces of 1 to 65,536 bytes, each of which ends at a guard page. The
+ * memory must not grow with it. Then the same item is skipped as a whole: for that its pages stand in a row, where all
+ * but the first ones and the last ones are the same.
+ *
+ * It prints how many pieces there were. It says what went wrong, and then ends with the status 1.
+ */
+#define _DEFAULT_SOURCE
+#include <sys/resource.h>
+
+#include "items.h"
+
+enum { BLOCK = 1 << 20, BLOCKS = 1 << 10, LONGEST = 1 << 16, GROWTH = 1024 };
+
+/* The item is an open, the blocks, and a last one that ends with a break. */
+static const uint64_t whole = 1 + (uint64_t)BLOCKS * BLOCK;
+
+static uint8_t blocks[2][BLOCK];
+static struct guarded input;
+static cll_checker checker;
+static cll_report report;
+
+/* A string that fills so many bytes. A text has characters of each length. */
+static void fill(uint8_t *data, size_t room, int is_text)
+{
+    const size_t len = room - 5;
+    size_t at = 0;
+    data[0] = is_text ? 0x7a : 0x5a;
+    for (size_t i = 0; i < 4; i++)
+        data[1 + i] = (uint8_t)(len >> (24 - 8 * i));
+    while (is_text && len - at >= 4)
+        at += character(data + 5 + at);
+    memset(data + 5 + at, 'a', len - at);
+}
+
+/* Items that fill a block up to its end: short ones, and strings that are longer than a piece, few of them texts. */
+static void fill_block(uint8_t *data, size_t room)
+{
+    static struct item item;
+    size_t left = room;
+    while (left > (size_t)4 * LONGEST) {
+        make(&item);
+        memcpy(data + room - left, item.data, item.len);
+        left -= item.len;
+        if (below(64) == 0) {
+            const size_t len = LONGEST + (size_t)below(LONGEST);
+            fill(data + room - left, len, below(8) == 0);
+            left -= len;
+        }
+    }
+    fill(data + room - left, left, 0);
+}
+
+/* Copies a piece of the item to the guard page. */
+static const uint8_t *piece(uint64_t from, size_t len)
+{
+    uint8_t *at = input.end - len;
+    for (size_t i = 0; i < len;) {
+        const uint64_t inside = from + i - 1;
+        const size_t start = (size_t)(inside % BLOCK), room = BLOCK - start;
+        const size_t count = from + i == 0 ? 1 : len - i < room ? len - i : room;
+        if (from + i == 0)
+            at[0] = 0x9f;
+        else
+            memcpy(at + i, blocks[inside / BLOCK == BLOCKS - 1] + start, count);
+        i += count;
+    }
+    return at;
+}
+
+/* A length: as often one from 1 to 16 as one from 4,097 to 65,536. */
+static size_t length(void) { return 1 + (size_t)below(UINT64_C(1) << below(17)); }
+
+static long peak(void)
+{
+    struct rusage used;
+    getrusage(RUSAGE_SELF, &used);
+    return used.ru_maxrss;
+}
+
+static int says(uint32_t answer, uint32_t want, uint64_t consumed, uint64_t place)
+{
+    if (answer == want && report.consumed == consumed && report.place == place)
+        return 1;
+    fprintf(stderr, "flood: answer %lu, consumed %llu, place %llu\n", (unsigned long)answer,
+        (unsigned long long)report.consumed, (unsigned long long)report.place);
+    return 0;
+}
+
+/* Feeds all but the last byte, and returns how many pieces that took, or 0. */
+static unsigned long flows(void)
+{
+    unsigned long pieces = 0;
+    uint64_t there = 0;
+    for (; there < whole - 1; pieces++) {
+        size_t len = length();
+        if (len > whole - 1 - there)
+            len = (size_t)(whole - 1 - there);
+        const uint32_t answer = cll_checker_feed(&checker, piece(there, len), len, &report);
+        there += len;
+        if (answer != CLL_SHORT || report.consumed != len || report.place < 1 || report.place > whole - there) {
+            says(answer, CLL_SHORT, len, 1);
+            return 0;
+        }
+    }
+    return pieces;
+}
+
+/* The item ends with a break, and not with another byte. */
+static int has_an_end(void)
+{
+    static const uint8_t last[] = {0xff, 0x05}, none[] = {0x1c}, text[] = {0x62, 0xc3, 0x28};
+    cll_checker copies[2] = {checker, checker};
+    return says(cll_checker_end(&checker, &report), CLL_SHORT, 0, 1)
+        && says(cll_checker_feed(&checker, last, sizeof last, &report), CLL_OK, 1, whole)
+        && says(cll_checker_feed(&copies[0], none, sizeof none, &report), CLL_SYNTAX, 1, whole - 1)
+        && says(cll_checker_feed(&copies[1], text, sizeof text, &report), CLL_SYNTAX, 3, whole - 1);
+}
+
+/* The item with all its bytes in a row, and a guard page behind it. Its memory is that of two blocks. */
+static const uint8_t *in_a_row(void)
+{
+    const size_t page = (size_t)sysconf(_SC_PAGESIZE);
+    FILE *file = tmpfile();
+    if (file == NULL || fwrite(blocks, 1, sizeof blocks, file) != sizeof blocks || fflush(file) != 0) {
+        perror("tmpfile");
+        exit(2);
+    }
+    const struct guarded row = guard(page + (size_t)(whole - 1));
+    for (size_t i = 0; i < BLOCKS; i++) {
+        if (mmap(row.start + page + i * BLOCK, BLOCK, PROT_READ, MAP_SHARED | MAP_FIXED, fileno(file),
+                i == BLOCKS - 1 ? BLOCK : 0) == MAP_FAILED) {
+            perror("mmap");
+            exit(2);
+        }
+    }
+    row.start[page - 1] = 0x9f;
+    return row.start + page - 1;
+}
+
+int main(void)
+{
+    input = guard(LONGEST);
+    memset(input.start, 0, LONGEST);
+    fill_block(blocks[0], BLOCK);
+    fill_block(blocks[1], BLOCK - 1);
+    blocks[1][BLOCK - 1] = 0xff;
+    if (cll_checker_init(&checker, TALLEST + 1) != CLL_OK)
+        return 2;
+    const long before = peak();
+    const unsigned long pieces = flows();
+    if (pieces == 0 || !has_an_end())
+        return 1;
+    if (peak() > before + GROWTH) {
+        fprintf(stderr, "flood: the memory grew from %ld to %ld KiB\n", before, peak());
+        return 1;
+    }
+    if (!says(cll_skip(in_a_row(), (size_t)whole, TALLEST + 1, &report), CLL_OK, whole, 0))
+        return 1;
+    printf("%lu pieces\n", pieces);
+    return 0;
+}

@@ -1,0 +1,191 @@
+/*
+ * For pieces.c and flood.c: memory with a guard page in front of it and one behind, numbers from a seed, and random
+ * items of CBOR. Of each offset in an item is known how many bytes are surely due there, by how the item was made.
+ */
+#include <stdint.h>
+#include <stdio.h>
+#include <stdlib.h>
+#include <string.h>
+#include <sys/mman.h>
+#include <unistd.h>
+
+#include "ciborium_ll.h"
+
+/* Memory in whole pages. Whoever reads or writes in front of it or behind it is ended by the system. */
+struct guarded { uint8_t *start, *end; };
+
+static struct guarded guard(size_t room)
+{
+    const size_t page = (size_t)sysconf(_SC_PAGESIZE), pages = (room + page - 1) / page;
+    uint8_t *at = (uint8_t *)mmap(NULL, (pages + 2) * page, PROT_NONE, MAP_PRIVATE | MAP_ANONYMOUS, -1, 0);
+    struct guarded made;
+    if (at == MAP_FAILED || mprotect(at + page, pages * page, PROT_READ | PROT_WRITE) != 0) {
+        perror("mmap");
+        exit(2);
+    }
+    made.start = at + page;
+    made.end = made.start + pages * page;
+    return made;
+}
+
+/* The next number from a seed (SplitMix64). */
+static uint64_t seed = 1;
+
+static uint64_t any(void)
+{
+    uint64_t mixed = seed += 0x9e3779b97f4a7c15u;
+    mixed = (mixed ^ (mixed >> 30)) * 0xbf58476d1ce4e5b9u;
+    mixed = (mixed ^ (mixed >> 27)) * 0x94d049bb133111ebu;
+    return mixed ^ (mixed >> 31);
+}
+
+/* A number below a bound that is not 0. */
+static uint64_t below(uint64_t bound) { return any() % bound; }
+
+enum { MOST = 1 << 13, TALLEST = 16 };
+
+/* An item: its bytes, how many bytes are due in front of each of them, and how many levels it has. */
+struct item {
+    uint8_t data[MOST];
+    uint32_t due[MOST];
+    size_t len;
+    unsigned levels;
+};
+
+static void byte(struct item *item, unsigned value, size_t due)
+{
+    if (item->len < MOST) {
+        item->due[item->len] = (uint32_t)due;
+        item->data[item->len] = (uint8_t)value;
+    }
+    item->len++;
+}
+
+/* A title with so many bytes behind its first one. */
+static void title(struct item *item, unsigned major, uint64_t value, unsigned width)
+{
+    static const unsigned minors[] = {0, 24, 25, 0, 26, 0, 0, 0, 27};
+    byte(item, major << 5 | (width > 0 ? minors[width] : (unsigned)value), 1);
+    for (unsigned left = width; left > 0; left--)
+        byte(item, (unsigned)(value >> 8 * (left - 1)) & 0xff, left);
+}
+
+/* Any title of a number: the shortest one or a longer one. */
+static void number(struct item *item, unsigned major, uint64_t value)
+{
+    static const unsigned widths[] = {0, 1, 2, 4, 8};
+    size_t shortest = value < 24 ? 0 : value < 0x100 ? 1 : value < 0x10000 ? 2 : value < 0x100000000u ? 3 : 4;
+    title(item, major, value, widths[below(3) > 0 ? shortest : shortest + below(5 - shortest)]);
+}
+
+/* A character of each length, as it stands in UTF-8. */
+static size_t character(uint8_t *bytes)
+{
+    static const uint32_t bounds[] = {0, 0x80, 0x800, 0x10000, 0x110000};
+    const size_t len = 1 + below(4);
+    uint32_t point = bounds[len - 1] + (uint32_t)below(bounds[len] - bounds[len - 1]);
+    if (point >= 0xd800 && point < 0xe000)
+        point = below(2) ? 0xd7ff : 0xe000;
+    for (size_t at = len; at-- > 1; point >>= 6)
+        bytes[at] = (uint8_t)(0x80 | (point & 0x3f));
+    bytes[0] = (uint8_t)(len == 1 ? point : (0xf00u >> len & 0xff) | point);
+    return len;
+}
+
+/* A string whose length its title tells. */
+static void body(struct item *item, int is_text, size_t room)
+{
+    uint8_t bytes[MOST];
+    size_t len = 0;
+    while (room >= 4 && len <= room - 4 && below(16) > 0)
+        len += is_text ? character(bytes + len) : (bytes[len] = (uint8_t)any(), 1);
+    number(item, is_text ? 3 : 2, len);
+    for (size_t at = 0; at < len; at++)
+        byte(item, bytes[at], len - at);
+}
+
+/* A string in pieces. An open may stand within another one. */
+static void string(struct item *item, int is_text, size_t room)
+{
+    unsigned opens = 1;
+    byte(item, is_text ? 0x7f : 0x5f, 1);
+    while (opens > 0) {
+        const uint64_t choice = below(8);
+        if (choice < 3) {
+            body(item, is_text, room / 8);
+        } else if (choice < 4 && opens < 5) {
+            byte(item, is_text ? 0x7f : 0x5f, 1);
+            opens++;
+        } else {
+            byte(item, 0xff, 1);
+            opens--;
+        }
+    }
+}
+
+/* A number, a simple value, a float or a string. */
+static void leaf(struct item *item, size_t room)
+{
+    switch (below(8)) {
+    case 0:
+    case 1:
+        number(item, (unsigned)below(2), any() >> below(64));
+        break;
+    case 2:
+        title(item, 7, below(24), 0);
+        break;
+    case 3:
+        title(item, 7, any(), 1u << below(4));
+        break;
+    case 4:
+    case 5:
+        body(item, (int)below(2), room);
+        break;
+    default:
+        string(item, (int)below(2), room);
+    }
+}
+
+static void append(struct item *item, unsigned level, size_t room);
+
+/* A tag, an array or a map, at a level from 1 on. */
+static void nest(struct item *item, unsigned level, size_t room)
+{
+    const unsigned major = 4 + (unsigned)below(3);
+    const uint64_t count = below(6);
+    const int is_open = major < 6 && below(2);
+    if (item->levels < level)
+        item->levels = level;
+    if (major == 6) {
+        number(item, major, any() >> below(64));
+        append(item, level, room);
+        return;
+    }
+    if (is_open)
+        byte(item, major << 5 | 31, 1);
+    else
+        number(item, major, count);
+    for (uint64_t left = major == 5 ? 2 * count : count; left > 0; left--)
+        append(item, level, room / 4);
+    if (is_open)
+        byte(item, 0xff, 1);
+}
+
+/* Another item, with so many levels around it. */
+static void append(struct item *item, unsigned level, size_t room)
+{
+    if (level < TALLEST && room > 8 && below(5) < 3)
+        nest(item, level + 1, room);
+    else
+        leaf(item, room);
+}
+
+/* A new item. Now and then it is a long one. One that has no room is given up for another one. */
+static void make(struct item *item)
+{
+    do {
+        item->len = 0;
+        item->levels = 0;
+        append(item, 0, below(64) ? 16 << below(4) : 2048);
+    } while (item->len > MOST);
+}

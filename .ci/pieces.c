@@ -1,0 +1,355 @@
+/*
+ * Feeds a checker random items, whole and damaged, random bytes, and all lists of one and of two bytes: each front of
+ * them at once and then the rest, byte by byte, and in random pieces. Each piece ends at a guard page, and so does the
+ * checker, or it begins behind one.
+ *
+ * What has to be answered comes from calls over the whole front, cll_skip and cll_recode, whose answers are proved.
+ * Where a skip says that the bytes end too early, more is due just where some bytes behind them make an item: so such
+ * bytes are looked for, and skipped. How many bytes are due at least is known of an item by how it was made.
+ *
+ * usage: pieces [ITEMS [SEED]]
+ *
+ * With a number of items the lists are left out. It prints how many fronts had which answer. It says which bytes went
+ * wrong, and then ends with the status 1.
+ */
+#define _DEFAULT_SOURCE
+#include "items.h"
+
+enum { ITEMS = 4000, PLENTY = 4096, MORE = 1024, ROUNDS = 3 };
+
+/* What is found of a front: the answer, how many bytes are taken, and the place. */
+struct finding { uint32_t answer; uint64_t taken, place; };
+
+/* A front to which bytes are added: what is answered, and how many bytes are due. */
+struct front { uint8_t data[PLENTY + MORE]; size_t len; uint32_t answer; uint64_t due; };
+
+static struct guarded input, output, checkers, reports;
+static cll_checker *checker;
+static cll_report *report;
+static unsigned long answers[CLL_ARGUMENT + 1], completed, fronts;
+
+/* A copy of bytes that ends right at the guard page. Of no bytes it is the page's first address. */
+static const uint8_t *at_end(const struct guarded *memory, const uint8_t *data, size_t len)
+{
+    return len > 0 ? (const uint8_t *)memcpy(memory->end - len, data, len) : memory->end;
+}
+
+/* Puts the checker to the other side of its memory, as it is: it points nowhere. */
+static void move(void)
+{
+    uint8_t *other = (uint8_t *)checker == checkers.start ? checkers.end - sizeof *checker : checkers.start;
+    checker = (cll_checker *)memmove(other, checker, sizeof *checker);
+}
+
+static void begin(uint32_t depth)
+{
+    if (cll_checker_init(checker, depth) != CLL_OK)
+        exit(2);
+}
+
+/* Feeds a piece, which ends at the guard page, and adds to what was found before it. */
+static void feed(struct finding *found, const uint8_t *data, size_t len)
+{
+    found->answer = cll_checker_feed(checker, at_end(&input, data, len), len, report);
+    found->taken += report->consumed;
+    found->place = report->place;
+}
+
+static int same(const struct finding *one, const struct finding *other)
+{
+    return one->answer == other->answer && one->taken == other->taken && one->place == other->place;
+}
+
+/* What is found of a front that is fed at once. */
+static struct finding at_once(const uint8_t *data, size_t len, uint32_t depth)
+{
+    struct finding found = {CLL_ARGUMENT, 0, 0};
+    begin(depth);
+    feed(&found, data, len);
+    return found;
+}
+
+/* Whether a checker says so of the end of the bytes. */
+static int ends(const struct finding *found, size_t len)
+{
+    const uint32_t want = len == 0 ? CLL_OK : found->answer;
+    const uint32_t answer = cll_checker_end(checker, report);
+    return answer == want && report->consumed == 0 && report->written == 0
+        && report->place == (want == CLL_OK ? 0 : found->place);
+}
+
+/* Whether a skip of the front says the same, or that it ends too early. */
+static int skips(const struct finding *found, const uint8_t *data, size_t len, uint32_t depth)
+{
+    const uint32_t answer = cll_skip(at_end(&input, data, len), len, depth, report);
+    switch (answer) {
+    case CLL_OK:
+        return found->answer == CLL_OK && found->place == report->consumed && found->taken == report->consumed;
+    case CLL_SHORT:
+        return found->answer != CLL_OK;
+    default:
+        return found->answer == answer && found->place == report->place && found->taken <= len;
+    }
+}
+
+/*
+ * Whether a copy of all elements says the same: an item has only whole elements, and what a copy writes of them is an
+ * item again. A fault in a title or a text is that of the copy, unless the bytes end too early for it.
+ */
+static int copies(const struct finding *found, const uint8_t *data, size_t len, uint32_t depth)
+{
+    uint8_t *out = output.end - len;
+    uint32_t answer;
+    if (found->answer != CLL_OK && found->answer != CLL_SYNTAX)
+        return 1;
+    if (found->answer == CLL_OK) {
+        len = (size_t)found->place;
+        out = output.end - len;
+    }
+    answer = cll_recode(at_end(&input, data, len), len, UINT64_MAX, out, len, report);
+    if (found->answer == CLL_SYNTAX)
+        return answer == CLL_SHORT || (answer == CLL_SYNTAX && report->place == found->place);
+    if (answer != CLL_SHORT || report->consumed != len)
+        return 0;
+    const uint64_t written = report->written;
+    const struct finding again = at_once(out, (size_t)written, depth), want = {CLL_OK, written, written};
+    return same(&again, &want);
+}
+
+/* Feeds so many bytes of one value behind a front, and says whether the checker goes on or ends. If not, none came. */
+static int goes_on(struct front *front, uint8_t value, size_t count)
+{
+    const cll_checker was = *checker;
+    if (count > sizeof front->data - front->len)
+        return 0;
+    memset(front->data + front->len, value, count);
+    front->answer = cll_checker_feed(checker, front->data + front->len, count, report);
+    if (front->answer != CLL_SHORT && front->answer != CLL_OK) {
+        *checker = was;
+        return 0;
+    }
+    front->len += (size_t)report->consumed;
+    front->due = report->place;
+    return 1;
+}
+
+/* The same for one byte, of any value with which it does. Those that go on a character are first. */
+static int finds_byte(struct front *front)
+{
+    static const uint8_t first[] = {0x80, 0x90, 0xa0, 0xff};
+    for (size_t i = 0; i < sizeof first; i++) {
+        if (goes_on(front, first[i], 1))
+            return 1;
+    }
+    for (unsigned value = 0; value < 256; value++) {
+        if (goes_on(front, (uint8_t)value, 1))
+            return 1;
+    }
+    return 0;
+}
+
+/*
+ * Whether some bytes behind a front make an item of it, as a skip of all of them says. Where that takes too many it is
+ * not tried out. More of the front is due.
+ *
+ * What is open is ended. What is counted is filled with zeros, first one and then more at a time.
+ */
+static int completes(const uint8_t *data, size_t len, uint32_t depth)
+{
+    static struct front front;
+    size_t run = 1;
+    if (len > PLENTY)
+        return 1;
+    if (len > 0)
+        memcpy(front.data, data, len);
+    front.len = len;
+    front.answer = CLL_SHORT;
+    front.due = at_once(data, len, depth).place;
+    while (front.answer == CLL_SHORT) {
+        const size_t room = sizeof front.data - front.len;
+        if (front.due > room || run > room)
+            return 1;
+        if (front.due == 1 && goes_on(&front, 0xff, 1))
+            run = 1;
+        else if (goes_on(&front, 0, front.due > run ? (size_t)front.due : run))
+            run *= 2;
+        else if (!finds_byte(&front))
+            return 0;
+    }
+    completed++;
+    return cll_skip(at_end(&input, front.data, front.len), front.len, depth, report) == CLL_OK
+        && report->consumed == front.len;
+}
+
+/* Whether pieces of random lengths lead to what is found of each front. The checker moves between them. */
+static int in_pieces(const struct finding *want, const uint8_t *data, size_t len, uint32_t depth, size_t longest)
+{
+    struct finding found = {CLL_ARGUMENT, 0, 0};
+    size_t there = 0;
+    begin(depth);
+    do {
+        const size_t room = len - there, piece = longest == 1 ? 1 : (size_t)below(longest + 1);
+        const size_t taken = piece < room ? piece : room;
+        feed(&found, data + there, taken);
+        there += taken;
+        if (!same(&found, &want[there]))
+            return 0;
+        move();
+    } while (there < len);
+    return ends(&want[len], len);
+}
+
+/* Whether each front is found to be what it is, and all of it where the rest comes behind it. */
+static int in_two(struct finding *want, const uint8_t *data, size_t len, uint32_t depth)
+{
+    const struct finding all = at_once(data, len, depth);
+    for (size_t cut = 0; cut <= len; cut++) {
+        struct finding found = want[cut] = at_once(data, cut, depth);
+        answers[found.answer]++;
+        fronts++;
+        if (found.answer == CLL_SHORT && (found.taken != cut || found.place == 0))
+            return 0;
+        if (!ends(&found, cut))
+            return 0;
+        feed(&found, data + cut, len - cut);
+        if (!same(&found, &all) || !skips(&want[cut], data, cut, depth))
+            return 0;
+    }
+    return copies(&all, data, len, depth);
+}
+
+/* Tries bytes in all ways. */
+static int holds(const uint8_t *data, size_t len, uint32_t depth)
+{
+    static struct finding want[MOST + 1];
+    if (!in_two(want, data, len, depth) || !in_pieces(want, data, len, depth, 1))
+        return 0;
+    for (unsigned i = 0; i < ROUNDS; i++) {
+        const size_t cut = i > 0 ? (size_t)below(len + 1) : len;
+        if (!in_pieces(want, data, len, depth, 1 + (size_t)below(len + 1)))
+            return 0;
+        if (want[cut].answer == CLL_SHORT && !completes(data, cut, depth))
+            return 0;
+    }
+    return 1;
+}
+
+/* Whether as many bytes are due in front of each byte of an item as were, when it was made. */
+static int tells_due(const struct item *item)
+{
+    struct finding found = {CLL_ARGUMENT, 0, 0};
+    begin(item->levels);
+    for (size_t at = 0; at < item->len; at++) {
+        feed(&found, item->data + at, 0);
+        if (found.answer != CLL_SHORT || found.place != item->due[at])
+            return 0;
+        feed(&found, item->data + at, 1);
+    }
+    return found.answer == CLL_OK && found.place == item->len;
+}
+
+/* Damages bytes in one place. */
+static void damage(struct item *item)
+{
+    const size_t at = (size_t)below(item->len);
+    switch (below(6)) {
+    case 0:
+        item->data[at] ^= (uint8_t)(1 << below(8));
+        break;
+    case 1:
+        item->data[at] = 0xff;
+        break;
+    case 2:
+        item->len = at + 1;
+        break;
+    case 3:
+        memmove(item->data + at, item->data + at + 1, item->len - at - 1);
+        item->len -= item->len > 1;
+        break;
+    case 4:
+        item->len += item->len < MOST;
+        memmove(item->data + at + 1, item->data + at, item->len - at - 1);
+        break;
+    default:
+        item->data[at] = (uint8_t)any();
+    }
+}
+
+/* Says which bytes went wrong. */
+static int fails(const uint8_t *data, size_t len, uint32_t depth)
+{
+    fprintf(stderr, "pieces: to a depth of %lu: ", (unsigned long)depth);
+    for (size_t at = 0; at < len; at++)
+        fprintf(stderr, "%02x", data[at]);
+    fprintf(stderr, "\n");
+    return 1;
+}
+
+/* A random item: as it is, with a level too few, with another item behind it, and damaged. */
+static int tries_item(struct item *item)
+{
+    static struct item next;
+    make(item);
+    if (!tells_due(item) || !holds(item->data, item->len, item->levels))
+        return fails(item->data, item->len, item->levels);
+    if (item->levels > 0 && !holds(item->data, item->len, item->levels - 1))
+        return fails(item->data, item->len, item->levels - 1);
+    make(&next);
+    if (item->len + next.len < MOST) {
+        memcpy(item->data + item->len, next.data, next.len);
+        item->len += next.len;
+    }
+    for (uint64_t left = 1 + below(3); left > 0; left--)
+        damage(item);
+    return holds(item->data, item->len, item->levels) ? 0 : fails(item->data, item->len, item->levels);
+}
+
+/* Bytes of which each is any, or most of them begin an item. */
+static int tries_bytes(void)
+{
+    uint8_t data[32];
+    const size_t len = (size_t)below(sizeof data + 1);
+    const uint32_t depth = (uint32_t)below(5);
+    for (size_t at = 0; at < len; at++)
+        data[at] = (uint8_t)(below(4) > 0 ? below(8) << 5 | below(4) : any());
+    return holds(data, len, depth) ? 0 : fails(data, len, depth);
+}
+
+/* Each list of one byte and of two. */
+static int tries_lists(void)
+{
+    for (unsigned first = 0; first < 256; first++) {
+        uint8_t data[] = {(uint8_t)first, 0};
+        if (!holds(data, 1, 1))
+            return fails(data, 1, 1);
+        for (unsigned second = 0; second < 256; second++) {
+            data[1] = (uint8_t)second;
+            if (!holds(data, 2, 1))
+                return fails(data, 2, 1);
+        }
+    }
+    return 0;
+}
+
+int main(int argc, char **argv)
+{
+    static struct item item;
+    const unsigned long items = argc > 1 ? strtoul(argv[1], NULL, 10) : ITEMS;
+    seed = argc > 2 ? strtoull(argv[2], NULL, 10) : seed;
+    input = guard(MOST + MORE);
+    output = guard(MOST);
+    checkers = guard(sizeof *checker);
+    reports = guard(sizeof *report);
+    checker = (cll_checker *)checkers.start;
+    report = (cll_report *)(reports.end - sizeof *report);
+    if (argc < 2 && tries_lists() != 0)
+        return 1;
+    for (unsigned long left = items; left > 0; left--) {
+        if (tries_item(&item) != 0 || tries_bytes() != 0)
+            return 1;
+    }
+    printf("%lu fronts: %lu ended, %lu short, of which %lu were completed, %lu syntax, %lu break, %lu deep\n", fronts,
+        answers[CLL_OK], answers[CLL_SHORT], completed, answers[CLL_SYNTAX], answers[CLL_BREAK_DUE],
+        answers[CLL_TOO_DEEP]);
+    return answers[CLL_TOO_LONG] + answers[CLL_ARGUMENT] + answers[CLL_ROOM] > 0;
+}
