@@ -182,6 +182,13 @@ uint32_t cll_utf8(const uint8_t *data, size_t len, cll_report *report);
 uint32_t cll_checker_init(cll_checker *checker, uint32_t depth);
 
 /*
+ * The same of one item in its shortest spelling, as cll_strict takes it: CLL_SYNTAX comes also for a title that isn't
+ * the shortest, for a simple value below 32 in two bytes, and for a string of indefinite length inside another one, with
+ * the first byte of which that is so.
+ */
+uint32_t cll_checker_init_strict(cll_checker *checker, uint32_t depth);
+
+/*
  * Gives a checker the next bytes of its item, as many as there are. `consumed` says how many of them it took: all, but
  * behind the end of the item none, and behind the byte with which a fault comes none. So what follows an item in `data`
  * may begin another one, for which the checker is set up again. How the bytes are cut into pieces changes no answer.

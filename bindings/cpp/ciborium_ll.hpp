@@ -307,10 +307,14 @@ struct progress {
 /*
  * Checks one item whose bytes come in pieces, as out of a socket, however they are cut. It takes no memory but its own,
  * and may be copied. The item contains at most so many levels, and no more than 256: with more each call is a fault.
+ * Where `shortest` is true it takes an item in its shortest spelling alone.
  */
 class checker {
 public:
-    explicit checker(std::uint32_t depth = 256) noexcept { (void)cll_checker_init(&kept_, depth); }
+    explicit checker(std::uint32_t depth = 256, bool shortest = false) noexcept
+    {
+        (void)(shortest ? cll_checker_init_strict(&kept_, depth) : cll_checker_init(&kept_, depth));
+    }
 
     /*
      * Takes the next bytes: all, but none behind the end of the item. A fault comes with the first byte behind which no

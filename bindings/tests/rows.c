@@ -36,13 +36,16 @@ static const char *told(char *text, const cll_header *header)
 }
 
 /* Gives a checker the bytes one by one, and makes how long the item is, or how many bytes more are due. */
-static uint32_t fed(char *text, const uint8_t *data, size_t len, uint32_t depth, cll_report *report)
+static uint32_t fed(char *text, const uint8_t *data, size_t len, uint32_t depth, int strict, cll_report *report)
 {
     cll_checker checker;
     uint64_t taken = 0;
     uint32_t answer;
     memset(&checker, 0, sizeof checker);
-    cll_checker_init(&checker, depth);
+    if (strict)
+        cll_checker_init_strict(&checker, depth);
+    else
+        cll_checker_init(&checker, depth);
     answer = cll_checker_feed(&checker, data, 0, report);
     for (size_t i = 0; i < len; i++) {
         answer = cll_checker_feed(&checker, data + i, 1, report);
@@ -91,8 +94,8 @@ static int holds(const struct row *row)
         answer = cll_skip(data, row->len, (uint32_t)row->number, &report);
     } else if (strcmp(row->call, "utf8") == 0) {
         answer = cll_utf8(data, row->len, &report);
-    } else if (strcmp(row->call, "feed") == 0) {
-        answer = fed(text, data, row->len, (uint32_t)row->number, &report);
+    } else if (strcmp(row->call, "feed") == 0 || strcmp(row->call, "feed_strict") == 0) {
+        answer = fed(text, data, row->len, (uint32_t)row->number, strcmp(row->call, "feed") != 0, &report);
         made = text;
     }
     int same = answer == row->answer && report.consumed == row->consumed && strcmp(made, row->made) == 0

@@ -50,7 +50,7 @@ bool fits(const row &row, const cll::result<T> &got, std::uint64_t consumed, con
 /* Gives a checker the bytes one by one. */
 bool feeds(const row &row, const std::vector<std::uint8_t> &data)
 {
-    cll::checker checker(static_cast<std::uint32_t>(row.number));
+    cll::checker checker(static_cast<std::uint32_t>(row.number), std::string(row.call) == "feed_strict");
     auto got = checker.feed({});
     for (const std::uint8_t byte : data)
         got = checker.feed({&byte, 1});
@@ -91,7 +91,7 @@ int holds(const row *row)
         const auto written = got ? got->written : static_cast<std::size_t>(got.fault().written);
         return fits(*row, got, got ? got->consumed : 0, shown({out.data(), written}));
     }
-    if (call == "feed")
+    if (call == "feed" || call == "feed_strict")
         return feeds(*row, data);
     const auto depth = static_cast<std::uint32_t>(row->number);
     const auto got = call == "strict" ? cll::strict(data, row->number)

@@ -130,10 +130,12 @@ def _library():
     calls.cll_skip.argtypes = [data, size, ctypes.c_uint32, report]
     calls.cll_utf8.argtypes = [data, size, report]
     calls.cll_checker_init.argtypes = [checker, ctypes.c_uint32]
+    calls.cll_checker_init_strict.argtypes = [checker, ctypes.c_uint32]
     calls.cll_checker_feed.argtypes = [checker, data, size, report]
     calls.cll_checker_end.argtypes = [checker, report]
     calls.cll_version.argtypes = []
-    for call in "version pull push push_wide recode strict skip utf8 checker_init checker_feed checker_end".split():
+    for call in ("version pull push push_wide recode strict skip utf8 checker_init checker_init_strict "
+                 "checker_feed checker_end").split():
         getattr(calls, f"cll_{call}").restype = ctypes.c_uint32
     return calls
 
@@ -282,15 +284,16 @@ def headers(data, offset=0):
 class Checker:
     """Checks one item whose bytes come in pieces, as out of a socket, however they are cut.
 
-    The item contains at most ``depth`` levels, and no more than 256. ``consumed`` is how many bytes were taken of all
-    pieces.
+    The item contains at most ``depth`` levels, and no more than 256. Where ``shortest`` is true it is taken in its
+    shortest spelling alone. ``consumed`` is how many bytes were taken of all pieces.
     """
 
     __slots__ = ("consumed", "_kept")
 
-    def __init__(self, depth=256):
+    def __init__(self, depth=256, *, shortest=False):
         self.consumed, self._kept = 0, _Checker()
-        _check(_CALLS.cll_checker_init(self._kept, _held(depth, 32, "the depth")), _Report())
+        init = _CALLS.cll_checker_init_strict if shortest else _CALLS.cll_checker_init
+        _check(init(self._kept, _held(depth, 32, "the depth")), _Report())
 
     def feed(self, data, offset=0):
         """Takes the bytes from the offset on: all of them, but none behind the end of the item.

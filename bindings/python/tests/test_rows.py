@@ -37,11 +37,11 @@ def made(call, number, given):
     return {"strict": ciborium_ll.strict, "skip": ciborium_ll.skip}[call](data, number), "-"
 
 
-def fed(depth, data):
+def fed(depth, data, shortest):
     """What a checker says that gets the bytes one by one, as it stands in the table."""
     taken = 0
     try:
-        checker = ciborium_ll.Checker(depth)
+        checker = ciborium_ll.Checker(depth, shortest=shortest)
         progress = checker.feed(b"")
         for at in range(len(data)):
             progress = checker.feed(data[:at + 1], at)
@@ -62,8 +62,9 @@ class Rows(unittest.TestCase):
                 if answer == "room":
                     # `push` of the package always has room.
                     continue
-                if call == "feed":
-                    got = fed(int(number), b"" if given == "-" else bytes.fromhex(given))
+                if call in ("feed", "feed_strict"):
+                    data = b"" if given == "-" else bytes.fromhex(given)
+                    got = fed(int(number), data, call == "feed_strict")
                     self.assertEqual(got, (answer, int(consumed), int(place), want))
                     continue
                 try:

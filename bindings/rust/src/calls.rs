@@ -138,11 +138,13 @@ pub fn utf8(bytes: &[u8]) -> Result<&str, Error> {
     }
 }
 
-/// A checker of an item that contains at most so many levels, to which nothing came.
-pub(crate) fn new_checker(depth: u32) -> Result<cll_checker, Error> {
+/// A checker of an item that contains at most so many levels, to which nothing came. A strict one takes the shortest
+/// spelling alone.
+pub(crate) fn new_checker(depth: u32, strict: bool) -> Result<cll_checker, Error> {
     let mut checker = cll_checker { words: [0; 296] };
+    let init = if strict { sys::cll_checker_init_strict } else { sys::cll_checker_init };
     // SAFETY: as this file says.
-    match unsafe { sys::cll_checker_init(&mut checker, depth) } {
+    match unsafe { init(&mut checker, depth) } {
         0 => Ok(checker),
         answer => Err(Error::of(answer, &cll_report::default(), 0)),
     }

@@ -41,7 +41,13 @@ impl Checker {
     /// A checker of an item that contains at most so many levels of tags, arrays and maps. `Argument` where that is
     /// more than 256.
     pub fn new(depth: u32) -> Result<Checker, Error> {
-        let kept = calls::new_checker(depth)?;
+        let kept = calls::new_checker(depth, false)?;
+        Ok(Checker { kept, taken: 0 })
+    }
+
+    /// The same of an item in its shortest spelling (RFC 7049, 3.9).
+    pub fn strict(depth: u32) -> Result<Checker, Error> {
+        let kept = calls::new_checker(depth, true)?;
         Ok(Checker { kept, taken: 0 })
     }
 

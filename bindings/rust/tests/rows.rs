@@ -114,8 +114,9 @@ fn made(call: &str, number: u64, given: &str) -> Result<(usize, String), Error> 
 }
 
 /// What a checker says that gets the bytes one by one, as it stands in the table.
-fn fed(depth: u32, data: &[u8]) -> String {
-    let mut checker = match Checker::new(depth) {
+fn fed(depth: u32, data: &[u8], strict: bool) -> String {
+    let made = if strict { Checker::strict(depth) } else { Checker::new(depth) };
+    let mut checker = match made {
         Ok(checker) => checker,
         Err(error) => return format!("{} 0 0 -", error.name()),
     };
@@ -160,8 +161,8 @@ fn rows_hold() {
             words[3],
             words[5],
         );
-        if call == "feed" {
-            let got = fed(number as u32, &bytes_of(given));
+        if call == "feed" || call == "feed_strict" {
+            let got = fed(number as u32, &bytes_of(given), call == "feed_strict");
             assert_eq!(got, words[3..].join(" "), "{row}");
             count += 1;
             continue;
