@@ -182,9 +182,9 @@ uint32_t cll_utf8(const uint8_t *data, size_t len, cll_report *report);
 uint32_t cll_checker_init(cll_checker *checker, uint32_t depth);
 
 /*
- * The same of one item in its shortest spelling, as cll_strict takes it: CLL_SYNTAX comes also for a title that isn't
- * the shortest, for a simple value below 32 in two bytes, and for a string of indefinite length inside another one, with
- * the first byte of which that is so.
+ * The same of one item in its shortest spelling, as cll_strict takes it. CLL_SYNTAX comes also for a title that isn't
+ * the shortest, for a simple value below 32 in two bytes and for a string of indefinite length inside another one, each
+ * with the first byte behind which no shortest spelling goes on.
  */
 uint32_t cll_checker_init_strict(cll_checker *checker, uint32_t depth);
 
