@@ -78,6 +78,7 @@ impl Levels {
     }
 
     /// Writes the numbers of each level in front of both, and says how many levels there are.
+    #[inline(always)]
     pub(crate) fn save(
         &self,
         kinds: &mut [u8; MOST_LEVELS],
