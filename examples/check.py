@@ -17,7 +17,7 @@ class Header(ctypes.Structure):
 
 
 class Report(ctypes.Structure):
-    _fields_ = [("consumed", ctypes.c_uint64), ("written", ctypes.c_uint64), ("place", ctypes.c_uint64)]
+    _fields_ = [(name, ctypes.c_uint64) for name in ("consumed", "written", "place", "elements", "whole")]
 
 
 def library(name):

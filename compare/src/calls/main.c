@@ -1,10 +1,11 @@
 /*
  * Works of this repository's bench, done by the static library for C.
  *
- * usage: calls pull|recode|skip SIZE COUNT ROUNDS
+ * usage: calls pull|recode|skip|feed|whole SIZE COUNT ROUNDS
  *
  * It reads standard input whole, pulls the titles in it so many times, or brings the items in it to their shortest
- * spelling, or skips them one by one, and prints the sum that the same work over libcbor prints.
+ * spelling, or skips them one by one, or feeds them to a checker in pieces of SIZE bytes, and prints the sum that the
+ * same work over libcbor prints. `whole` skips them one by one too, and prints the sum that `feed` does.
  */
 #include <ciborium_ll.h>
 #include <inttypes.h>
@@ -49,10 +50,59 @@ static uint64_t items(const uint8_t *bytes, size_t size) {
     return count;
 }
 
+/* How many bytes the items have that end, where the bytes come in pieces of so many. */
+static uint64_t fed(const uint8_t *bytes, size_t size, size_t piece) {
+    size_t offset = 0, ended = 0;
+    cll_checker checker;
+    cll_report report;
+    cll_checker_init(&checker, 256);
+    while (offset < size) {
+        size_t end = offset - offset % piece + piece;
+        uint32_t answer = cll_checker_feed(&checker, bytes + offset, (end < size ? end : size) - offset, &report);
+        offset += report.consumed;
+        if (answer == CLL_SHORT)
+            continue;
+        if (answer != CLL_OK)
+            return 0;
+        ended = offset;
+        cll_checker_init(&checker, 256);
+    }
+    return ended;
+}
+
+/* How many bytes the items have, which are skipped where they are. */
+static uint64_t skipped(const uint8_t *bytes, size_t size) {
+    size_t offset = 0;
+    cll_report report;
+    while (offset < size && cll_skip(bytes + offset, size - offset, 256, &report) == CLL_OK)
+        offset += report.consumed;
+    return offset;
+}
+
+/* What a work adds to the sum, which its name tells by its first letter. */
+static uint64_t worked(char work, const uint8_t *bytes, size_t size, size_t piece, uint8_t *out) {
+    switch (work) {
+    case 'p':
+        return titles(bytes, size);
+    case 'r':
+        return copied(bytes, size, out);
+    case 'f':
+        return fed(bytes, size, piece);
+    case 'w':
+        return skipped(bytes, size);
+    default:
+        return items(bytes, size);
+    }
+}
+
 int main(int count, char **words) {
     const char *work = count == 5 ? words[1] : "";
-    if (strcmp(work, "pull") != 0 && strcmp(work, "recode") != 0 && strcmp(work, "skip") != 0) {
-        fputs("usage: calls pull|recode|skip SIZE COUNT ROUNDS\n", stderr);
+    static const char *const names[] = {"pull", "recode", "skip", "feed", "whole"};
+    size_t piece = count == 5 ? (size_t)strtoul(words[2], NULL, 10) : 0, name = 0;
+    while (name < sizeof names / sizeof *names && strcmp(work, names[name]) != 0)
+        name++;
+    if (name == sizeof names / sizeof *names || piece == 0) {
+        fputs("usage: calls pull|recode|skip|feed|whole SIZE COUNT ROUNDS\n", stderr);
         return 2;
     }
     size_t size;
@@ -62,7 +112,7 @@ int main(int count, char **words) {
         return 1;
     uint64_t sum = 0;
     for (long round = strtol(words[4], NULL, 10); round > 0; round--)
-        sum += *work == 'p' ? titles(bytes, size) : *work == 'r' ? copied(bytes, size, out) : items(bytes, size);
+        sum += worked(*work, bytes, size, piece, out);
     printf("%" PRIu64 "\n", sum);
     free(out);
     free(bytes);

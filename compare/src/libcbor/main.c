@@ -1,10 +1,11 @@
 /*
  * Works of this repository's bench, done by libcbor: titles by its streaming decoder, items by its trees.
  *
- * usage: libcbor pull|recode|skip SIZE COUNT ROUNDS
+ * usage: libcbor pull|recode|skip|feed SIZE COUNT ROUNDS
  *
  * It reads standard input whole, pulls the titles in it so many times, or loads the items in it and writes them or
- * drops them, and prints the sum that the bench and `calls` print.
+ * drops them, and prints the sum that the bench and `calls` print. For `feed` the bytes come in pieces of SIZE: what
+ * needs more data is kept in front of the next piece.
  */
 #include <cbor.h>
 #include <inttypes.h>
@@ -60,10 +61,36 @@ static uint64_t items(const unsigned char *bytes, size_t size, unsigned char *ou
     return sum;
 }
 
+/* How many bytes the titles and strings have, where the bytes come in pieces of so many. */
+static uint64_t fed(const unsigned char *bytes, size_t size, size_t piece, unsigned char *kept) {
+    size_t length = 0, ended = 0;
+    for (size_t offset = 0; offset < size; offset += piece) {
+        size_t more = size - offset < piece ? size - offset : piece, at = 0;
+        memcpy(kept + length, bytes + offset, more);
+        length += more;
+        while (at < length) {
+            struct cbor_decoder_result result =
+                cbor_stream_decode(kept + at, length - at, &cbor_empty_callbacks, NULL);
+            if (result.status == CBOR_DECODER_ERROR)
+                return 0;
+            if (result.status == CBOR_DECODER_NEDATA)
+                break;
+            at += result.read;
+        }
+        ended += at;
+        length -= at;
+        memmove(kept, kept + at, length);
+    }
+    return ended;
+}
+
 int main(int count, char **words) {
     const char *work = count == 5 ? words[1] : "";
-    if (strcmp(work, "pull") != 0 && strcmp(work, "recode") != 0 && strcmp(work, "skip") != 0) {
-        fputs("usage: libcbor pull|recode|skip SIZE COUNT ROUNDS\n", stderr);
+    size_t piece = count == 5 ? (size_t)strtoul(words[2], NULL, 10) : 0;
+    int is_fed = strcmp(work, "feed") == 0;
+    if (piece == 0
+        || (!is_fed && strcmp(work, "pull") != 0 && strcmp(work, "recode") != 0 && strcmp(work, "skip") != 0)) {
+        fputs("usage: libcbor pull|recode|skip|feed SIZE COUNT ROUNDS\n", stderr);
         return 2;
     }
     struct cbor_callbacks callbacks = cbor_empty_callbacks;
@@ -80,13 +107,15 @@ int main(int count, char **words) {
     callbacks.tag = one_64;
     size_t size;
     unsigned char *bytes = input(&size);
-    unsigned char *out = malloc(size + 1);
+    unsigned char *out = malloc(size + piece);
     if (!bytes || !out)
         return 1;
     uint64_t sum = 0;
     for (long round = strtol(words[4], NULL, 10); round > 0; round--) {
         if (*work == 'p')
             add_titles(bytes, size, &callbacks, &sum);
+        else if (is_fed)
+            sum += fed(bytes, size, piece, out);
         else
             sum += items(bytes, size, *work == 'r' ? out : NULL);
     }

@@ -34,6 +34,8 @@ enum Beside {
     Libcbor,
     /// The same, where ours is done by the static library, from C too.
     LibcborFromC,
+    /// The same items in one piece, skipped from C, as ours are fed from C.
+    Whole,
     /// The least that a pull has to do: one branch for each title.
     Branches,
     /// The least that a copy has to do.
@@ -55,6 +57,16 @@ impl Row {
 /// A row of titles, of which many are done.
 const fn titles(name: &'static str, work: &'static str, stream: fn(usize) -> Stream) -> Row {
     Row { name, work, size: 64, stream, times: 2, beside: Beside::Crate }
+}
+
+/// A row of items that come in pieces of so many bytes.
+const fn pieces(
+    name: &'static str,
+    size: usize,
+    stream: fn(usize) -> Stream,
+    beside: Beside,
+) -> Row {
+    Row { name, work: "feed", size, stream, times: 2, beside }
 }
 
 /// A row of large bodies, which take less time.
@@ -108,6 +120,14 @@ const ROWS: &[Row] = &[
     titles("`cll_recode`", "recode", streams::nested_items).beside(Beside::LibcborFromC),
     titles("`cll_skip`", "skip", streams::mixed_items).beside(Beside::LibcborFromC),
     titles("`cll_skip`", "skip", streams::nested_items).beside(Beside::LibcborFromC),
+    pieces("pieces of 64 bytes fed", 64, streams::mixed_items, Beside::LibcborFromC),
+    pieces("pieces of 1,460 bytes fed", 1460, streams::mixed_items, Beside::LibcborFromC),
+    pieces("pieces of 65,536 bytes fed", 65536, streams::mixed_items, Beside::LibcborFromC),
+    pieces("pieces of 1,460 bytes fed", 1460, streams::nested_items, Beside::LibcborFromC),
+    pieces("pieces of 64 bytes fed", 64, streams::mixed_items, Beside::Whole),
+    pieces("pieces of 1,460 bytes fed", 1460, streams::mixed_items, Beside::Whole),
+    pieces("pieces of 65,536 bytes fed", 65536, streams::mixed_items, Beside::Whole),
+    pieces("pieces of 1,460 bytes fed", 1460, streams::nested_items, Beside::Whole),
     titles("headers pulled", "pull", streams::titles).beside(Beside::Branches),
     bodies("`recode` by 4,096 bytes", "recode", 4096, streams::byte_string)
         .beside(Beside::Memory),
@@ -139,13 +159,14 @@ fn measure_row(asked: &Asked, row: &Row) -> io::Result<()> {
     let (beside, program, work) = match row.beside {
         Beside::Crate => ("the Rust crate", &asked.original, row.work),
         Beside::Libcbor | Beside::LibcborFromC => ("libcbor", &asked.libcbor, row.work),
+        Beside::Whole => ("`cll_skip` of the whole", &asked.calls, "whole"),
         Beside::Branches => ("one branch a title", &asked.original, "walk"),
         Beside::Memory => ("a copy of memory", &asked.original, "copy"),
         Beside::Flat => ("a bare loop of `pull`", &asked.bench, "flat"),
         Beside::Plain(work) => ("a decoder not strict", &asked.bench, work),
     };
     let ours = match row.beside {
-        Beside::LibcborFromC => &asked.calls,
+        Beside::LibcborFromC | Beside::Whole => &asked.calls,
         _ => &asked.bench,
     };
     let runs = |rounds: usize| {

@@ -1,29 +1,41 @@
--- A stack in an array.
-use Rattle.std.proofs.Common.{◌≡◌, ℕ, zero, suc, ◌+◌, ◌<◌, ◌≤◌, ◌≢◌, List, ◌∷◌, length, refl, ap, ◌∙◌, arith}
-use Rattle.std.proofs.Common.{get_or, get_or-set_other, get_or-set_same, add-one}
-use Rattle.std.proofs.Math.ListN.{set}
+-- The nests around an item, by their numbers in two arrays.
+use Rattle.std.proofs.Common.{◌≡◌, ℕ, zero, suc, ◌+◌, ◌<◌, ◌≤◌, List, [], ◌∷◌, ◌++◌, take, length, refl, sym, ap, ◌∙◌, arith}
+use Rattle.std.proofs.Common.{Option, Some, None, IsSome, get_or, add-one}
+use Rattle.std.proofs.Math.ListN.{get_or-append}
+use Rattle.std.proofs.lemmas.List.{get_or-take}
 use Rattle.cbor_feed.specs.declared.level.Level.{Level}
-use Rattle.cbor_feed.specs.declared.level.Level.TheVariants as l
-use Rattle.cbor_feed.specs.Stack.{topmost}
+use Rattle.cbor_feed.specs.Snapshots.{levels_in}
+use Rattle.cbor_feed.specs.Stack.{levels_of}
+use Rattle.cbor_feed.proofs.SnapshotLaws.{length_levels}
+
+-- where there are levels, they are these
+pub some_levels : (known : Option (List Level)) → IsSome known → known ≡ Some (levels_of known)
+some_levels (Some levels) some = refl
+some_levels None some = absurd (let none = some in cc)
+
+pub is_some : (known : Option (List Level)) (levels : List Level) → known ≡ Some levels → IsSome known
+is_some known levels is = rw is refl
 
 -- there are as many as are counted
-pub length-topmost : (n : ℕ) (s : List Level) → length (topmost n s) ≡ n
-length-topmost zero s = refl
-length-topmost (suc n) s = ap suc (length-topmost n s)
+pub length_of : (n : ℕ) (kinds counts : List ℕ) → IsSome (levels_in n kinds counts)
+    → length (levels_of (levels_in n kinds counts)) ≡ n
+length_of n kinds counts some = length_levels n kinds counts _ (some_levels (levels_in n kinds counts) some)
 
--- what is above does not count
-topmost-set : (n : ℕ) (s : List Level) (i : ℕ) (x : Level) → n ≤ i → topmost n (set s i x) ≡ topmost n s
-topmost-set zero s i x le = refl
-topmost-set (suc n) s i x le =
-    let ne : n ≢ i = omega arith in
-    let e : get_or (set s i x) n l.OpenItems ≡ get_or s n l.OpenItems = get_or-set_other s i n x l.OpenItems ne in
-    let f = topmost-set n s i x (omega arith) in
-    cc (e, f)
+-- only so many numbers count
+pub same_levels : (n m : ℕ) (kinds counts kinds' counts' : List ℕ) → n ≤ m
+    → ((i : ℕ) → i < m → get_or kinds' i 0 ≡ get_or kinds i 0)
+    → ((i : ℕ) → i < m → get_or counts' i 0 ≡ get_or counts i 0)
+    → levels_in n kinds' counts' ≡ levels_in n kinds counts
+same_levels zero m kinds counts kinds' counts' le k c = refl
+same_levels (suc n) m kinds counts kinds' counts' le k c =
+    let kind = k n (omega (arith, le)) in
+    let count = c n (omega (arith, le)) in
+    let below = same_levels n m kinds counts kinds' counts' (omega (arith, le)) k c in
+    cc (kind, count, below)
 
--- one element more
-pub topmost-push : (n m : ℕ) (s : List Level) (x : Level) → n < length s → m ≡ n + 1
-    → topmost m (set s n x) ≡ x ∷ topmost n s
-topmost-push n m s x lt e =
-    let first : get_or (set s n x) n l.OpenItems ≡ x = get_or-set_same s n x l.OpenItems lt in
-    let f = topmost-set n s n x (omega arith) in
-    ap (λ (z : ℕ). topmost z (set s n x)) (e ∙ add-one n) ∙ cc (first, f)
+-- numbers that were copied to the front are read there
+pub front_read : (numbers front behind : List ℕ) (n i : ℕ) → front ≡ take n numbers → length front ≡ n → i < n
+    → get_or (front ++ behind) i 0 ≡ get_or numbers i 0
+front_read numbers front behind n i same long less =
+    get_or-append front behind 0 i (omega (arith, long, less))
+    ∙ ap (λ (z : List ℕ). get_or z i 0) same ∙ get_or-take n numbers i 0 less

@@ -1,12 +1,11 @@
--- A stack in an array, as a list.
-use Rattle.std.specs.Prelude.{ℕ, zero, suc, List, [], ◌∷◌, Option, Some, None, slice_index_or}
+-- The nests around an item, as a list.
+use Rattle.std.specs.Prelude.{List, [], ◌∷◌, Option, Some, None}
 use Rattle.cbor_feed.specs.declared.level.Level.{Level}
-use Rattle.cbor_feed.specs.declared.level.Level.TheVariants as l
 
--- so many of the elements, the last first
-abbrev pub topmost : ℕ → List Level → List Level
-topmost zero stack = []
-topmost (suc len) stack = slice_index_or stack len l.OpenItems ∷ topmost len stack
+-- the levels, where there are such
+abbrev pub levels_of : Option (List Level) → List Level
+levels_of (Some levels) = levels
+levels_of None = []
 
 -- the first element
 abbrev pub innermost : List Level → Option Level

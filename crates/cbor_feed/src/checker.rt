@@ -551,6 +551,7 @@ impl Checker {
 
     /// Writes what has come so far into `snapshot`, as plain numbers, of which [`Checker::restore`] makes this checker
     /// again. Of the numbers of levels it writes those that are in use.
+    #[inline(always)]
     pub fn save(&self, snapshot: &mut Snapshot)
         ensures { Holds snapshot.new (spot_of self.now) }
     {

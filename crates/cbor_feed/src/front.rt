@@ -66,6 +66,7 @@ impl Front {
     }
 
     /// Writes the bytes in front of these, and says how many they are.
+    #[inline(always)]
     pub(crate) fn save(&self, bytes: &mut [u8; LONGEST]) -> usize
         ensures saved { take result bytes.new ≡ self.now }
         ensures len { result ≡ length self.now }

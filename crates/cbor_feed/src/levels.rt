@@ -1,8 +1,8 @@
 //! The tags, arrays and maps around an item.
 
-ghost use Rattle.std.specs.Prelude.{◌≡◌, ◌<◌, ◌≤◌, [], ◌∷◌, Some, length};
+ghost use Rattle.std.specs.Prelude.{◌≡◌, ◌<◌, ◌≤◌, [], ◌∷◌, None, Some, IsSome, false, length, true};
 ghost use Rattle.cbor_feed.specs.Snapshots.{levels_in};
-ghost use Rattle.cbor_feed.specs.Stack.{innermost, others, topmost};
+ghost use Rattle.cbor_feed.specs.Stack.{innermost, others};
 
 use crate::level::Level;
 use std::marker::Model;
@@ -10,41 +10,28 @@ use std::marker::Model;
 /// How many levels there may be.
 pub(crate) const MOST_LEVELS: usize = 256;
 
-/// Writes the numbers of so many levels in front of both.
-fn save_stack(
-    stack: &[Level; MOST_LEVELS],
-    len: usize,
-    kinds: &mut [u8; MOST_LEVELS],
-    counts: &mut [u64; MOST_LEVELS],
-)
-    requires { len ≤ 256 }
-    ensures { levels_in len kinds.new counts.new ≡ Some (topmost len stack.now) }
-{
-    for at in 0..len {
-        let (kind, count) = stack[at].numbers();
-        kinds[at] = kind;
-        counts[at] = count as u64;
-    }
-}
-
 /// What the nests around an item contain behind it. Seen as a list, the innermost is the first.
+///
+/// They are kept by their numbers, as a snapshot has them, so that those of a snapshot are taken as they are.
 #[derive(Drop)]
 pub(crate) struct Levels {
-    stack: [Level; MOST_LEVELS],
+    kinds: [u8; MOST_LEVELS],
+    counts: [u64; MOST_LEVELS],
     len: usize,
 }
 
 impl Model for Levels {
-    ghost use Rattle.std.specs.Prelude.{◌≤◌, List};
+    ghost use Rattle.std.specs.Prelude.{◌≤◌, List, IsSome};
     ghost use Rattle.cbor_feed.specs.declared.level.Level.{Level};
 
     ghost Value = { List Level };
 
-    ghost use Rattle.cbor_feed.specs.Stack.{topmost};
+    ghost use Rattle.cbor_feed.specs.Snapshots.{levels_in};
+    ghost use Rattle.cbor_feed.specs.Stack.{levels_of};
 
-    ghost view = { λ a. topmost a.len a.stack };
+    ghost view = { λ a. levels_of (levels_in a.len a.kinds a.counts) };
 
-    ghost invariant = { λ a. a.len ≤ 256 };
+    ghost invariant = { λ a. (a.len ≤ 256) × IsSome (levels_in a.len a.kinds a.counts) };
 }
 
 impl Levels {
@@ -54,7 +41,8 @@ impl Levels {
         ensures { result ≡ [] }
     {
         Levels {
-            stack: [Level::OpenItems; MOST_LEVELS],
+            kinds: [0; MOST_LEVELS],
+            counts: [0; MOST_LEVELS],
             len: 0,
         }
     }
@@ -66,7 +54,7 @@ impl Levels {
         if self.len == 0 {
             return None;
         }
-        Some(self.stack[self.len - 1])
+        Level::of(self.kinds[self.len - 1], self.counts[self.len - 1] as usize)
     }
 
     /// Takes the innermost level off.
@@ -83,11 +71,14 @@ impl Levels {
         requires { length self.old < 256 }
         ensures { self.new ≡ level ∷ self.old }
     {
-        self.stack[self.len] = level;
+        let (kind, count) = level.numbers();
+        self.kinds[self.len] = kind;
+        self.counts[self.len] = count as u64;
         self.len += 1;
     }
 
     /// Writes the numbers of each level in front of both, and says how many levels there are.
+    #[inline(always)]
     pub(crate) fn save(
         &self,
         kinds: &mut [u8; MOST_LEVELS],
@@ -96,7 +87,8 @@ impl Levels {
         ensures saved { levels_in result kinds.new counts.new ≡ Some self.now }
         ensures len { result ≡ length self.now }
     {
-        save_stack(&self.stack, self.len, kinds, counts);
+        kinds[..self.len].copy_from_slice(&self.kinds[..self.len]);
+        counts[..self.len].copy_from_slice(&self.counts[..self.len]);
         self.len
     }
 
@@ -110,13 +102,29 @@ impl Levels {
         requires { len ≤ 256 }
         ensures { result ≡ levels_in len kinds.now counts.now }
     {
-        let mut levels = Levels::new();
-        for at in 0..len {
-            match Level::of(kinds[at], counts[at] as usize) {
-                Some(level) => levels.push(level),
-                None => return None,
-            }
+        if are_levels(len, kinds, counts) {
+            Some(Levels {
+                kinds: *kinds,
+                counts: *counts,
+                len,
+            })
+        } else {
+            None
         }
-        Some(levels)
     }
+}
+
+/// Whether so many numbers are those of levels.
+#[inline(always)]
+fn are_levels(len: usize, kinds: &[u8; MOST_LEVELS], counts: &[u64; MOST_LEVELS]) -> bool
+    requires { len ≤ 256 }
+    ensures yes { result ≡ true → IsSome (levels_in len kinds.now counts.now) }
+    ensures no { result ≡ false → levels_in len kinds.now counts.now ≡ None }
+{
+    for at in 0..len {
+        if Level::of(kinds[at], counts[at] as usize).is_none() {
+            return false;
+        }
+    }
+    true
 }

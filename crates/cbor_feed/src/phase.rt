@@ -82,6 +82,7 @@ fn state_of(number: u8) -> Option<State>
 
 impl Phase {
     /// The number of the kind, how many bytes are due or the place of a fault, and the number of a text's state.
+    #[inline(always)]
     pub(crate) fn numbers(self) -> (u8, usize, u8)
         ensures { phase_in result.0 result.1 result.2 ≡ Some self }
     {
@@ -118,6 +119,7 @@ impl Phase {
 
 impl Within {
     /// The number of the kind, and how many strings are open within the first.
+    #[inline(always)]
     pub(crate) fn numbers(self) -> (u8, usize)
         ensures { within_in result.0 result.1 ≡ Some self }
     {
