@@ -1,0 +1,4 @@
+pub mod BlockedLaws
+pub mod FedLaws
+pub mod FrontLaws
+pub mod PendingLaws
