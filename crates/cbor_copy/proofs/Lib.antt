@@ -1,4 +1,6 @@
 pub mod BlockedLaws
+pub mod EnterLaws
 pub mod FedLaws
 pub mod FrontLaws
 pub mod PendingLaws
+pub mod Reached

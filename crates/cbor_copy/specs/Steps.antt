@@ -35,6 +35,7 @@ with_byte byte spot = record spot {
   front = spot.front ++ byte ∷ [];
   place = title_place spot.front spot;
   offset = spot.offset + 1;
+  put = [];
 }
 
 -- behind a whole title
@@ -67,7 +68,7 @@ may_end state left = nat_le (tail_due state) left
 
 -- one byte more of a character
 abbrev pub with_char : ℕ → Spot → Spot
-with_char byte spot = record spot { front = spot.front ++ byte ∷ []; offset = spot.offset + 1 }
+with_char byte spot = record spot { front = spot.front ++ byte ∷ []; offset = spot.offset + 1; put = [] }
 
 -- a whole character is put out
 abbrev pub char_put : Spot → Spot

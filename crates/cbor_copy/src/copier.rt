@@ -254,6 +254,7 @@ impl Copier {
     fn title_step(&mut self, byte: u8)
         requires room { self.old.offset < usize.MAX }
         requires due { self.old.phase ≡ p.Title }
+        requires given { self.old.pending ≡ [] }
         ensures { TitleStep (with_byte byte (spot_of self.old)) (spot_of self.new) }
     {
         self.place = self.title_place();
@@ -291,6 +292,7 @@ impl Copier {
     fn text_step(&mut self, left: usize, state: State, byte: u8)
         requires room { self.old.offset < usize.MAX }
         requires front { length self.old.front ≤ most_cut state }
+        requires given { self.old.pending ≡ [] }
         ensures { let next = after_byte state byte in spot_of self.new
             ≡ text_left (may_end next (left - 1)) (left - 1) next (with_char byte (spot_of self.old)) }
     {
