@@ -47,7 +47,7 @@ kind_is t.Refused m minor i some = absurd (some i)
 
 -- ---- no fault behind a whole element
 
-due_sound : (left : ℕ) (spot : Spot) → Faults (elements_due left spot) → ⊥
+pub due_sound : (left : ℕ) (spot : Spot) → Faults (elements_due left spot) → ⊥
 due_sound zero spot f = let is = f.1 in cc
 due_sound (suc left) spot f = let is = f.1 in cc
 

@@ -129,7 +129,7 @@ module _ (phase : Phase) (place offset : ℕ) (put : List ℕ) where
 
   -- ---- a part of a body
 
-  body_leads : (i : Within) (kind : StringKind) (count left len more : ℕ) (before title part : List ℕ) (marks : List Mark)
+  pub body_leads : (i : Within) (kind : StringKind) (count left len more : ℕ) (before title part : List ℕ) (marks : List Mark)
       → At i count left before marks → 0 < left → OfKind i kind
       → IsTitle title (kind_header (kind_of kind) (Some len)) → IsWritable (kind_of kind) part
       → length part + more ≡ len
