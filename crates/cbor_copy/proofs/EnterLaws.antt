@@ -49,8 +49,44 @@ empty_writable Text = IsCharacters-nil
 mark_behind : (marks : List Mark) (mark : Mark) → spelling (marks ++ mark ∷ []) ≡ spelling marks ++ spelling (mark ∷ [])
 mark_behind marks mark = spelling-append marks (mark ∷ [])
 
+-- behind a string of a definite length: it is an element
+pub whole_behind : (kind : Kind) (count left : ℕ) (before title body : List ℕ) (marks : List Mark)
+    → RunLeft count left before marks → 0 < left → IsTitle title (kind_header kind (Some (length body)))
+    → IsWritable kind body
+    → RunLeft count (left - 1) ((before ++ title) ++ body) (marks ++ WholeMark kind body ∷ [])
+whole_behind kind count left before title body marks r some q sound = record {
+  before = suc r.before;
+  run = subst (λ (z : List ℕ). IsRun (suc r.before) z (marks ++ WholeMark kind body ∷ []))
+      (sym (append_assoc before title body))
+      (add_element r.before before marks r.run (title ++ body) (WholeMark kind body ∷ [])
+      (string kind (definite q) (sound, tt)));
+  counted = omega (arith, r.counted, some);
+}
+
+-- or a piece of an open string
+pub piece_behind : (kind : Kind) (more count left : ℕ) (before title body : List ℕ) (marks : List Mark)
+    → InOpen kind more count left before marks → IsTitle title (kind_header kind (Some (length body)))
+    → IsWritable kind body
+    → InOpen kind more count left ((before ++ title) ++ body) (marks ++ Piece kind body ∷ [])
+piece_behind kind more count left before title body marks o q sound = record {
+  elements = o.elements;
+  element_marks = o.element_marks;
+  opens = o.opens ++ (title ++ body);
+  bodies = o.bodies ++ body ∷ [];
+  run = o.run;
+  inside = add_string kind (suc more) o.opens (title ++ body) o.bodies (body ∷ []) o.inside (definite q);
+  sound = AreWritable-append kind o.bodies (body ∷ []) o.sound (sound, tt);
+  is =
+      append_assoc before title body ∙ ap (λ (z : List ℕ). z ++ (title ++ body)) o.is
+      ∙ append_assoc o.elements o.opens (title ++ body);
+  marks_are =
+      ap (λ (z : List Mark). z ++ Piece kind body ∷ []) o.marks_are
+      ∙ append_assoc o.element_marks (Open kind ∷ pieces kind o.bodies) (Piece kind body ∷ [])
+      ∙ ap (λ (z : List Mark). o.element_marks ++ Open kind ∷ z) (sym (pieces-append kind o.bodies (body ∷ [])));
+}
+
 module _ (phase : Phase) (place offset : ℕ) (put : List ℕ) where
-  due_leads : (i : Within) (count old left : ℕ) (bytes : List ℕ) (marks : List Mark) → RunLeft count left bytes marks
+  pub due_leads : (i : Within) (count old left : ℕ) (bytes : List ℕ) (marks : List Mark) → RunLeft count left bytes marks
       → Holds count bytes (elements_due left (clear phase i old place offset put)) (spelling marks)
   due_leads i count old zero bytes marks r = record {
     marks = marks;
@@ -86,13 +122,12 @@ module _ (phase : Phase) (place offset : ℕ) (put : List ℕ) where
       (with_front marks (kind_of kind) (length body) body)
   string_leads w.Nothing kind count left before title body marks r some of_kind q sound =
       let mark = WholeMark (kind_of kind) body in
-      let led = element_leads w.Nothing count left before (title ++ body) marks (mark ∷ []) r some
-      (string (kind_of kind) (definite q) (sound, tt)) in
+      let led = due_leads w.Nothing count left (left - 1) ((before ++ title) ++ body) (marks ++ mark ∷ [])
+      (whole_behind (kind_of kind) count left before title body marks r some q sound) in
       let out : spelling (marks ++ mark ∷ []) ≡ with_front marks (kind_of kind) (length body) body =
       mark_behind marks mark ∙ ap (λ (z : List ℕ). spelling marks ++ z) (append-nil _) in
       let done : Spot = string_done w.Nothing (clear phase w.Nothing left place offset put) in
-      subst (λ (z : List ℕ). Holds count ((before ++ title) ++ body) done z) out
-      (subst (λ (z : List ℕ). Holds count z done (spelling (marks ++ mark ∷ []))) (sym (append_assoc before title body)) led)
+      subst (λ (z : List ℕ). Holds count ((before ++ title) ++ body) done z) out led
   string_leads (w.Open outer more) kind count left before title body marks o some of_kind q sound =
       let K = kind_of outer in
       let same : kind_of kind ≡ K = ap kind_of (sym of_kind) in
@@ -105,22 +140,7 @@ module _ (phase : Phase) (place offset : ℕ) (put : List ℕ) where
       record {
         before = (before ++ title) ++ body;
         marks = marks ++ mark ∷ [];
-        at = record {
-          elements = o.elements;
-          element_marks = o.element_marks;
-          opens = o.opens ++ (title ++ body);
-          bodies = o.bodies ++ body ∷ [];
-          run = o.run;
-          inside = add_string K (suc more) o.opens (title ++ body) o.bodies (body ∷ []) o.inside (definite here);
-          sound = AreWritable-append K o.bodies (body ∷ []) o.sound (fine, tt);
-          is =
-              append_assoc before title body ∙ ap (λ (z : List ℕ). z ++ (title ++ body)) o.is
-              ∙ append_assoc o.elements o.opens (title ++ body);
-          marks_are =
-              ap (λ (z : List Mark). z ++ mark ∷ []) o.marks_are
-              ∙ append_assoc o.element_marks (Open K ∷ pieces K o.bodies) (mark ∷ [])
-              ∙ ap (λ (z : List Mark). o.element_marks ++ Open K ∷ z) (sym (pieces-append K o.bodies (body ∷ [])));
-        };
+        at = piece_behind K more count left before title body marks o here fine;
         due = some;
         is = sym (append-nil ((before ++ title) ++ body));
         out = sym out;

@@ -3,6 +3,8 @@ pub mod BodySteps
 pub mod EnterLaws
 pub mod FedLaws
 pub mod FrontLaws
+pub mod HeldLaws
+pub mod KeptLaws
 pub mod PendingLaws
 pub mod Reached
 pub mod StepLaws

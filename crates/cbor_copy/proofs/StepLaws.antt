@@ -50,7 +50,7 @@ open_sound : (kind : StringKind) (more : ℕ) (spot : Spot) → Faults (record s
     → ⊥
 open_sound kind more spot f = let is = f.1 in cc
 
-faults_misplaced : (i : Within) (header : Header) (spot : Spot) → Faults (entered i header spot) → Misplaced i header
+pub faults_misplaced : (i : Within) (header : Header) (spot : Spot) → Faults (entered i header spot) → Misplaced i header
 faults_misplaced w.Nothing (h.Bytes (Some len)) spot f = body_sound k.Bytes len _ f
 faults_misplaced w.Nothing (h.Text (Some len)) spot f = body_sound k.Text len _ f
 faults_misplaced w.Nothing (h.Bytes None) spot f = let is = f.1 in cc
@@ -78,7 +78,7 @@ pub record Continued (front bytes : List ℕ) : Type 0 where
   pub is : bytes ≡ (front ++ more) ++ rest
 
 -- the bytes behind a part of a title end within it, or it goes on to its end
-continued : (first : ℕ) (front y : List ℕ) → AreBytes (first ∷ front) → AreBytes y → IsCutTitle (first ∷ front)
+pub continued : (first : ℕ) (front y : List ℕ) → AreBytes (first ∷ front) → AreBytes y → IsCutTitle (first ∷ front)
     → IsCutTitle (first ∷ (front ++ y)) ⊎ Continued (first ∷ front) (first ∷ (front ++ y))
 continued first front y bytes more is_cut =
     let lacks = affix_len (first % 32) - length front in
@@ -279,7 +279,7 @@ module _ (count b : ℕ) (byte : b < 256) (bytes output : List ℕ) (spot : Spot
       begun_refused count spot.left (with_byte b spot).place spot.within due.before (bytes ++ b ∷ []) (output ++ [])
       due.marks due.at due.due named quiet (spot.front ++ b ∷ []) r whole_is
 
-  title_step : (new : Spot) → TitleStep (with_byte b spot) new → spot.phase ≡ p.Title
+  pub title_step : (new : Spot) → TitleStep (with_byte b spot) new → spot.phase ≡ p.Title
       → Holds count (bytes ++ b ∷ []) new (output ++ new.put)
   title_step new (cut c may) e =
       subst (λ (z : Phase). HoldsIn z count (bytes ++ b ∷ []) (with_byte b spot) (output ++ [])) (sym e)
