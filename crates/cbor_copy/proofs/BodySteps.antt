@@ -38,7 +38,7 @@ from_next : (lowest highest b : ℕ) (to x : State) → Next lowest highest to b
 from_next lowest highest b to x (inside i) = inl refl
 from_next lowest highest b to x outside = inr refl
 
-not_damaged : (state : State) (n : ℕ) → may_end state n ≡ true → state ≡ s.Damaged → ⊥
+pub not_damaged : (state : State) (n : ℕ) → may_end state n ≡ true → state ≡ s.Damaged → ⊥
 not_damaged s.Damaged n may e = cc
 not_damaged s.Between n may e = cc
 not_damaged s.OneDue n may e = cc

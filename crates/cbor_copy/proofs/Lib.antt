@@ -5,6 +5,7 @@ pub mod FedLaws
 pub mod FrontLaws
 pub mod HeldLaws
 pub mod KeptLaws
+pub mod LiveLaws
 pub mod PendingLaws
 pub mod Reached
 pub mod StepLaws

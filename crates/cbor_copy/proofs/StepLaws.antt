@@ -72,6 +72,7 @@ faults_misplaced (w.Open k.Text more) header spot f = tt
 -- a title in front of bytes, with the bytes that began it
 pub record Continued (front bytes : List ℕ) : Type 0 where
   pub more : List ℕ
+  pub more_bytes : AreBytes more
   pub rest : List ℕ
   pub header : Header
   pub is_title : IsTitle (front ++ more) header
@@ -98,6 +99,7 @@ continued first front y bytes more is_cut =
             | inl r ↦ absurd (let e = refused_affix first r in omega (arith, e, is_cut))
             | inr o ↦ inr (record {
               more = take lacks y;
+              more_bytes = AreBytes-take lacks y more;
               rest = drop lacks y;
               header = o.0;
               is_title = o.1;
