@@ -88,7 +88,7 @@ text_may_end state (b ∷ bytes) e = one_more_due state b (length bytes) (text_m
 
 -- ---- the place of a body
 
-body_reached : (i : Within) (kind : StringKind) (count left len : ℕ) (before title : List ℕ) (marks : List Mark)
+pub body_reached : (i : Within) (kind : StringKind) (count left len : ℕ) (before title : List ℕ) (marks : List Mark)
     → At i count left before marks → 0 < left → OfKind i kind
     → IsTitle title (kind_header (kind_of kind) (Some len))
     → Reaches count (before ++ title) marks

@@ -9,3 +9,4 @@ pub mod LiveLaws
 pub mod PendingLaws
 pub mod Reached
 pub mod StepLaws
+pub mod TellLaws

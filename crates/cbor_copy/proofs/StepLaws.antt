@@ -113,7 +113,7 @@ refused_on : (a y : List ℕ) → BeginsRefused a → BeginsRefused (a ++ y)
 refused_on [] y r = absurd r
 refused_on (b ∷ a) y r = r
 
-at_title : (i : Within) → IsAtTitle (place_of i)
+pub at_title : (i : Within) → IsAtTitle (place_of i)
 at_title w.Nothing = tt
 at_title (w.Open kind more) = tt
 

@@ -1,6 +1,9 @@
-use Rattle.std.proofs.Common.{◌≡◌, ◌∙◌, [], take, sym, rules}
+use Rattle.std.proofs.Common.{◌≡◌, ◌∙◌, ℕ, List, [], ◌++◌, take, length, sym, subst, rules, arith}
 use Rattle.cbor_copy.specs.Copying.{spot_of}
+use Rattle.cbor_copy.specs.Spots.{putting}
+use Rattle.cbor_copy.specs.Telling.{Tells}
 use Rattle.cbor_copy.proofs.FedLaws.{fed_on, drop_later, more_given}
+use Rattle.cbor_copy.proofs.TellLaws.{tells, too_long}
 use Rattle.cbor_copy.proofs.copier.Copier.feed.Goals as goal
 
 pub loop-at-preserved : goal.loop-at-preserved
@@ -19,3 +22,28 @@ loop-at-preserved c =
           (c.loop-at.invariant.copied count fed given is) none none (search rules) gives.given;
       full = search rules;
     }
+
+pub returns-in_default-clause-tells : goal.returns-in_default-clause-tells
+returns-in_default-clause-tells c = λ count fed given is.
+    let copier = c.loop-at.self in
+    tells copier.pending count (fed ++ take c.loop-at.at c.args.bytes.now) (given ++ take c.loop-at.written c.loop-at.out)
+    (putting [] (spot_of copier)) c.progress.result c.progress.ensures (c.loop-at.invariant.copied count fed given is)
+
+pub returns-then-self-clause-tells : goal.returns-then-self-clause-tells
+returns-then-self-clause-tells c = λ count fed given is.
+    let copier = c.loop-at.self in
+    too_long copier.pending count (fed ++ take c.loop-at.at c.args.bytes.now)
+    (given ++ take c.loop-at.written c.loop-at.out) (putting [] (spot_of copier))
+    (sym c.in-More.is ∙ c.progress.ensures)
+    (c.loop-at.invariant.copied count fed given is) (omega (arith, c.if-self.true))
+
+pub returns-clause-tells : goal.returns-clause-tells
+returns-clause-tells c = λ count fed given is.
+    let copier = c.loop-at.self in
+    let bytes = c.args.bytes.now in
+    let all : c.loop-at.at ≡ length bytes = search rules in
+    subst (λ (n : ℕ). Tells count (fed ++ take n bytes) (given ++ take c.loop-at.written c.loop-at.out)
+    c.progress-2.result) all
+    (tells copier.pending count (fed ++ take c.loop-at.at bytes) (given ++ take c.loop-at.written c.loop-at.out)
+    (putting [] (spot_of copier)) c.progress-2.result c.progress-2.ensures
+    (c.loop-at.invariant.copied count fed given is))
