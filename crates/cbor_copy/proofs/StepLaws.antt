@@ -196,7 +196,7 @@ front_place at i [] bytes before spot counted is f =
 front_place at i (byte ∷ front) bytes before spot counted is (inl e) = absurd cc
 front_place at i (byte ∷ front) bytes before spot counted is (inr o) = o.3
 
-front_bytes : (i : Within) (at place b : ℕ) (front : List ℕ) → b < 256 → FrontAt i at place front
+pub front_bytes : (i : Within) (at place b : ℕ) (front : List ℕ) → b < 256 → FrontAt i at place front
     → AreBytes (front ++ b ∷ [])
 front_bytes i at place b front byte (inl e) = rw e (byte, tt)
 front_bytes i at place b front byte (inr o) = AreBytes-append front (b ∷ []) o.0 (byte, tt)

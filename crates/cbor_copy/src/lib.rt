@@ -4,6 +4,7 @@
 
 mod copier;
 mod few;
+pub mod laws;
 mod pending;
 mod phase;
 mod progress;
