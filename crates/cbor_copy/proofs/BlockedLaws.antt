@@ -22,7 +22,7 @@ use Rattle.cbor_copy.specs.Steps.{titled, Faults, TitleStep, cut, early, whole, 
 
 -- ---- the kind of a major type
 
-abbrev kind_of : Major → TitleKind
+abbrev pub kind_of : Major → TitleKind
 kind_of Unsigned = t.Positive
 kind_of Negative = t.Negative
 kind_of ByteString = t.Bytes
@@ -44,6 +44,18 @@ kind_is t.Map m minor i some = sym (ap kind_of (same_major m Map i.0))
 kind_is t.Tag m minor i some = sym (ap kind_of (same_major m Tag i.0))
 kind_is t.Other m minor i some = sym (ap kind_of (same_major m Other i.0))
 kind_is t.Refused m minor i some = absurd (some i)
+
+-- the kind that a first byte has which announces others
+pub kind_names : (m : Major) (major minor : ℕ) → major_code m ≡ major → (NamesNoTitle major minor → ⊥)
+    → IsTitleKind (kind_of m) major minor
+kind_names Unsigned major minor e some = (sym e, some)
+kind_names Negative major minor e some = (sym e, some)
+kind_names ByteString major minor e some = (sym e, some)
+kind_names TextString major minor e some = (sym e, some)
+kind_names Array major minor e some = (sym e, some)
+kind_names Map major minor e some = (sym e, some)
+kind_names Tag major minor e some = (sym e, some)
+kind_names Other major minor e some = (sym e, some)
 
 -- ---- no fault behind a whole element
 

@@ -1,14 +1,14 @@
 -- What one byte more of a body leads to, in terms of the elements so far.
-use Rattle.std.proofs.Common.{◌≡◌, ℕ, zero, suc, ◌+◌, ◌-◌, ◌<◌, ◌≤◌, Bool, true, false, List, [], ◌∷◌, ◌++◌, length}
-use Rattle.std.proofs.Common.{take, Some, None, ◌⊎◌, refl, sym, ap, subst, ◌∙◌, arith, inl, inr, append_assoc}
+use Rattle.std.proofs.Common.{◌≡◌, ℕ, zero, suc, ◌+◌, ◌<◌, ◌≤◌, Bool, true, false, List, [], ◌∷◌, ◌++◌, length}
+use Rattle.std.proofs.Common.{take, Some, ◌⊎◌, refl, sym, ap, subst, ◌∙◌, arith, inl, inr, append_assoc}
 use Rattle.std.proofs.Common.{append-nil, length-append, replicate, length-take-le, le-leb, leb-true}
 use Rattle.std.proofs.lemmas.Bool.{cases_lt}
 use Rattle.std.proofs.lemmas.List.{length-replicate}
 use Rattle.std.proofs.Math.Seq.{take-append-add}
-use Rattle.ciborium_ll_grammar.specs.Title.{IsTitle, AreBytes, shortest_title}
-use Rattle.ciborium_ll_grammar.specs.Strings.{Kind, Bytes, Text, kind_header, IsWritable}
+use Rattle.ciborium_ll_grammar.specs.Title.{IsTitle, shortest_title}
+use Rattle.ciborium_ll_grammar.specs.Strings.{Kind, Bytes, Text, kind_header}
 use Rattle.ciborium_ll_grammar.specs.Elements.{Mark, spelling}
-use Rattle.ciborium_ll_grammar.specs.Faults.{Place, BodyDue, Reaches, body, body_inside, Short, Syntax, with_front}
+use Rattle.ciborium_ll_grammar.specs.Faults.{BodyDue, Reaches, body, body_inside, Short, Syntax, with_front}
 use Rattle.ciborium_ll_grammar.specs.Faults.{FirstFault, CutBody, DamagedText}
 use Rattle.ciborium_ll_grammar.proofs.AffixLaws.{AreBytes-zeros}
 use Rattle.ciborium_ll_text.specs.declared.state.State.{State}
@@ -17,7 +17,6 @@ use Rattle.ciborium_ll_text.specs.States.{after, after_byte}
 use Rattle.ciborium_ll_text.specs.Text.{IsCharacters}
 use Rattle.ciborium_ll_text.proofs.StateLaws.{Next, inside, outside, next_view, after-append, text_ends, text_from}
 use Rattle.ciborium_ll_text.proofs.TextLaws.{IsCharacters-append, IsCharacters-nil}
-use Rattle.cbor_copy.specs.declared.phase.Phase.{Phase}
 use Rattle.cbor_copy.specs.declared.phase.Phase.TheVariants as p
 use Rattle.cbor_copy.specs.declared.phase.StringKind.{StringKind}
 use Rattle.cbor_copy.specs.declared.phase.StringKind.TheVariants as k
@@ -28,7 +27,7 @@ use Rattle.cbor_copy.specs.Spots.{Spot, at_phase, body_due}
 use Rattle.cbor_copy.specs.Steps.{may_end, with_char, text_left, byte_put}
 use Rattle.cbor_copy.proofs.EnterLaws.{reaches, body_leads, body_put}
 use Rattle.cbor_copy.proofs.FrontLaws.{text_some}
-use Rattle.cbor_copy.proofs.Reached.{kind_of, At, OfKind, place_of, body_place, Bodying, SomeFault, Broken, Holds}
+use Rattle.cbor_copy.proofs.Reached.{kind_of, At, OfKind, body_place, Bodying, Broken, Holds}
 use Rattle.cbor_copy.proofs.Reached.{HoldsIn, clear}
 
 -- ---- what ends a text

@@ -1,32 +1,30 @@
 -- Where a whole title, a whole body or a whole element leads.
-use Rattle.std.proofs.Common.{◌≡◌, ℕ, zero, suc, ◌+◌, ◌-◌, ◌<◌, List, [], ◌∷◌, ◌++◌, length, Option, Some, None}
-use Rattle.std.proofs.Common.{refl, sym, ap, subst, ◌∙◌, arith, inl, inr, append_assoc, append-nil, length-append, le-leb}
+use Rattle.std.proofs.Common.{◌≡◌, ℕ, zero, suc, ◌+◌, ◌-◌, ◌<◌, List, [], ◌∷◌, ◌++◌, length, Some, None}
+use Rattle.std.proofs.Common.{refl, sym, ap, subst, ◌∙◌, arith, inl, append_assoc, append-nil, le-leb}
 use Rattle.ciborium_ll_grammar.specs.declared.hdr.Header.{Header}
 use Rattle.ciborium_ll_grammar.specs.declared.hdr.Header.TheVariants as h
 use Rattle.ciborium_ll_grammar.specs.Title.{IsTitle, numbered, alone, Unsigned, Negative, ByteString, TextString}
 use Rattle.ciborium_ll_grammar.specs.Title.{Array, Map, Tag, Other, Small, One, Two, Four, Eight, shortest_title}
-use Rattle.ciborium_ll_grammar.specs.Title.{title_len, AreBytes}
-use Rattle.ciborium_ll_grammar.specs.Strings.{Kind, Bytes, Text, kind_header, IsString, IsMisplaced, IsWritable, none}
-use Rattle.ciborium_ll_grammar.specs.Strings.IsString.{definite, indefinite}
-use Rattle.ciborium_ll_grammar.specs.Elements.{AreWritable, Mark, Plain, Whole as WholeMark, Open, Piece, Close, pieces}
+use Rattle.ciborium_ll_grammar.specs.Title.{title_len}
+use Rattle.ciborium_ll_grammar.specs.Strings.{Kind, Bytes, Text, kind_header, IsMisplaced, IsWritable, none}
+use Rattle.ciborium_ll_grammar.specs.Strings.IsString.{definite}
+use Rattle.ciborium_ll_grammar.specs.Elements.{Mark, Plain, Whole as WholeMark, Open, Piece, Close, pieces}
 use Rattle.ciborium_ll_grammar.specs.Elements.{spelling, open_marks, IsElement, plain, string, IsRun, IsPlain}
-use Rattle.ciborium_ll_grammar.specs.Faults.{Place, Due, In, Reaches, due, inside, with_front, FirstFault, OtherTitle}
+use Rattle.ciborium_ll_grammar.specs.Faults.{In, Reaches, due, inside, with_front, FirstFault, OtherTitle}
 use Rattle.ciborium_ll_grammar.specs.Faults.{Syntax}
 use Rattle.ciborium_ll_grammar.proofs.StepLaws.{add_string, add_open, close_inner, close_last, add_element, counted}
 use Rattle.ciborium_ll_grammar.proofs.OpenStrings.{IsInsideAt, one_open}
 use Rattle.ciborium_ll_grammar.proofs.ElementLaws.{spelling-append, pieces-append, AreWritable-append}
 use Rattle.ciborium_ll_text.proofs.TextLaws.{IsCharacters-nil}
-use Rattle.ciborium_ll_text.specs.declared.state.State.TheVariants as s
 use Rattle.cbor_copy.specs.declared.phase.Phase.{Phase}
-use Rattle.cbor_copy.specs.declared.phase.Phase.TheVariants as p
 use Rattle.cbor_copy.specs.declared.phase.StringKind.{StringKind}
 use Rattle.cbor_copy.specs.declared.phase.StringKind.TheVariants as k
 use Rattle.cbor_copy.specs.declared.phase.Within.{Within}
 use Rattle.cbor_copy.specs.declared.phase.Within.TheVariants as w
 use Rattle.cbor_copy.specs.Spots.{Spot, elements_due, element_done, string_done, body_due, string_open, entered, refused}
 use Rattle.cbor_copy.specs.Spots.{string_closed}
-use Rattle.cbor_copy.proofs.Reached.{kind_of, RunLeft, InOpen, At, OfKind, place_of, body_place, Titling, Bodying}
-use Rattle.cbor_copy.proofs.Reached.{Whole, Broken, SomeFault, Holds, HoldsIn, clear}
+use Rattle.cbor_copy.proofs.Reached.{kind_of, RunLeft, InOpen, At, OfKind, place_of, body_place}
+use Rattle.cbor_copy.proofs.Reached.{Holds, clear}
 
 -- ---- what is due is a part of the elements
 

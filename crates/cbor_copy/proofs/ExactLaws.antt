@@ -1,5 +1,5 @@
 -- Where a copy has ended and where there is a fault, in terms of the bytes alone.
-use Rattle.std.proofs.Common.{◌≡◌, ℕ, ◌↔◌, List, [], ◌++◌, refl, sym, ap, subst, ◌∙◌, append-nil}
+use Rattle.std.proofs.Common.{ℕ, ◌↔◌, List, [], ◌++◌, refl, sym, append-nil}
 use Rattle.ciborium_ll_grammar.specs.Elements.{Mark, IsRun}
 use Rattle.ciborium_ll_grammar.specs.Faults.{Short, RunInFront}
 use Rattle.ciborium_ll_grammar.proofs.FaultLaws.{no_fault}

@@ -1,5 +1,5 @@
 -- What all bytes so far have led to, in terms of elements.
-use Rattle.std.proofs.Common.{◌≡◌, ℕ, zero, suc, ◌+◌, ◌<◌, List, [], ◌∷◌, ◌++◌, length, refl, sym, ap, subst, ◌∙◌, arith}
+use Rattle.std.proofs.Common.{◌≡◌, ℕ, zero, suc, ◌<◌, List, [], ◌∷◌, ◌++◌, length, refl, sym, subst, arith}
 use Rattle.std.proofs.Common.{length-append}
 use Rattle.ciborium_ll_grammar.specs.Elements.{done}
 use Rattle.ciborium_ll_text.specs.States.{after_byte}
@@ -8,11 +8,11 @@ use Rattle.cbor_copy.specs.declared.phase.Phase.TheVariants as p
 use Rattle.cbor_copy.specs.declared.phase.StringKind.{StringKind}
 use Rattle.cbor_copy.specs.declared.phase.Within.TheVariants as w
 use Rattle.cbor_copy.specs.Spots.{Spot, putting}
-use Rattle.cbor_copy.specs.Steps.{start, may_end, with_char, text_left, StepIn, IsFed, fresh, more}
+use Rattle.cbor_copy.specs.Steps.{start, may_end, StepIn, IsFed, fresh, more}
 use Rattle.cbor_copy.proofs.BodySteps.{byte_step, text_step}
 use Rattle.cbor_copy.proofs.EnterLaws.{due_leads}
 use Rattle.cbor_copy.proofs.KeptLaws.{step_counts}
-use Rattle.cbor_copy.proofs.Reached.{Titling, Bodying, HoldsIn, Holds}
+use Rattle.cbor_copy.proofs.Reached.{Bodying, HoldsIn, Holds}
 use Rattle.cbor_copy.proofs.StepLaws.{title_step}
 
 -- ---- what was put out last says nothing of that

@@ -1,12 +1,12 @@
 -- Where there is no fault, some bytes make so many elements of all.
-use Rattle.std.proofs.Common.{◌≡◌, ℕ, zero, suc, ◌+◌, ◌-◌, ◌%◌, ◌<◌, ◌≤◌, true, List, [], ◌∷◌, ◌++◌, length, Some}
-use Rattle.std.proofs.Common.{◌⊎◌, refl, sym, ap, subst, ◌∙◌, arith, inl, inr, append_assoc, append-nil, length-append}
+use Rattle.std.proofs.Common.{◌≡◌, ℕ, zero, suc, ◌-◌, ◌%◌, ◌<◌, ◌≤◌, true, List, [], ◌∷◌, ◌++◌, length, Some}
+use Rattle.std.proofs.Common.{refl, sym, ap, subst, ◌∙◌, arith, inl, inr, append_assoc, append-nil, length-append}
 use Rattle.std.proofs.Common.{replicate, leb-true}
 use Rattle.std.proofs.lemmas.List.{length-replicate}
 use Rattle.ciborium_ll_grammar.specs.declared.hdr.Header.{Header}
 use Rattle.ciborium_ll_grammar.specs.declared.hdr.Header.TheVariants as h
-use Rattle.ciborium_ll_grammar.specs.Title.{IsTitle, numbered, Unsigned, Small, IsCutTitle, AreBytes, affix_len}
-use Rattle.ciborium_ll_grammar.specs.Strings.{Kind, Bytes, Text, kind_header, IsWritable}
+use Rattle.ciborium_ll_grammar.specs.Title.{IsTitle, numbered, Unsigned, Small, IsCutTitle, AreBytes}
+use Rattle.ciborium_ll_grammar.specs.Strings.{Kind, kind_header, IsWritable}
 use Rattle.ciborium_ll_grammar.specs.Elements.{Mark, Plain, Whole as WholeMark, Piece, open_marks, IsElement, plain}
 use Rattle.ciborium_ll_grammar.specs.Elements.{IsRun, spelling}
 use Rattle.ciborium_ll_grammar.proofs.StepLaws.{close_inner, close_last, add_element}
@@ -29,7 +29,7 @@ use Rattle.cbor_copy.proofs.BlockedLaws.{affix_most}
 use Rattle.cbor_copy.proofs.BodySteps.{not_damaged}
 use Rattle.cbor_copy.proofs.EnterLaws.{whole_behind, piece_behind, title_leads}
 use Rattle.cbor_copy.proofs.KeptLaws.{entered_kept}
-use Rattle.cbor_copy.proofs.Reached.{kind_of, RunLeft, InOpen, At, Misplaced, OfKind, Titling, Bodying, HoldsIn, Holds}
+use Rattle.cbor_copy.proofs.Reached.{kind_of, RunLeft, InOpen, At, Misplaced, OfKind, Titling, Bodying, HoldsIn}
 use Rattle.cbor_copy.proofs.Reached.{clear}
 use Rattle.cbor_copy.proofs.StepLaws.{Continued, continued, faults_misplaced}
 

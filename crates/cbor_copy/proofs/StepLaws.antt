@@ -1,39 +1,31 @@
 -- What one byte more leads to, in terms of the elements so far.
-use Rattle.std.proofs.Common.{◌≡◌, ℕ, zero, suc, ◌+◌, ◌-◌, ◌%◌, ◌<◌, ◌≤◌, Bool, true, false, List, [], ◌∷◌, ◌++◌}
+use Rattle.std.proofs.Common.{◌≡◌, ℕ, zero, suc, ◌+◌, ◌-◌, ◌%◌, ◌<◌, ◌≤◌, List, [], ◌∷◌, ◌++◌}
 use Rattle.std.proofs.Common.{length, take, drop, Some, None, ◌⊎◌, refl, sym, ap, subst, ◌∙◌, arith, inl, inr}
 use Rattle.std.proofs.Common.{append_assoc, append-nil, length-append, replicate, length-take-le}
-use Rattle.std.proofs.Common.{take-append-drop, leb-true}
+use Rattle.std.proofs.Common.{take-append-drop}
 use Rattle.std.proofs.lemmas.Bool.{cases_lt}
 use Rattle.std.proofs.lemmas.List.{length-replicate}
 use Rattle.ciborium_ll_grammar.specs.declared.hdr.Header.{Header}
 use Rattle.ciborium_ll_grammar.specs.declared.hdr.Header.TheVariants as h
-use Rattle.ciborium_ll_grammar.specs.Title.{IsTitle, IsCutTitle, BeginsRefused, AreBytes, affix_len, shortest_title}
-use Rattle.ciborium_ll_grammar.specs.Strings.{Kind, Bytes, Text, kind_header, IsMisplaced, IsWritable}
+use Rattle.ciborium_ll_grammar.specs.Title.{IsTitle, IsCutTitle, BeginsRefused, AreBytes, affix_len}
+use Rattle.ciborium_ll_grammar.specs.Strings.{IsMisplaced}
 use Rattle.ciborium_ll_grammar.specs.Elements.{Mark, spelling}
-use Rattle.ciborium_ll_grammar.specs.Faults.{Place, Due, In, BodyDue, Reaches, body, body_inside, IsAtTitle, Short}
-use Rattle.ciborium_ll_grammar.specs.Faults.{Syntax, with_front, FirstFault, NoTitle, OtherTitle, CutTitle, CutBody}
-use Rattle.ciborium_ll_grammar.specs.Faults.{DamagedText}
+use Rattle.ciborium_ll_grammar.specs.Faults.{In, Reaches, IsAtTitle, Short}
+use Rattle.ciborium_ll_grammar.specs.Faults.{Syntax, FirstFault, NoTitle, OtherTitle, CutTitle}
 use Rattle.ciborium_ll_grammar.proofs.AffixLaws.{title_or_refused, AreBytes-zeros, AreBytes-append, AreBytes-take}
 use Rattle.ciborium_ll_grammar.proofs.AffixLaws.{refused_affix, cut_begins}
-use Rattle.ciborium_ll_text.specs.declared.state.State.{State}
-use Rattle.ciborium_ll_text.specs.declared.state.State.TheVariants as s
-use Rattle.ciborium_ll_text.specs.States.{after, after_byte}
-use Rattle.ciborium_ll_text.specs.Text.{IsCharacters}
-use Rattle.ciborium_ll_text.proofs.StateLaws.{after-append, text_ends, text_from}
-use Rattle.ciborium_ll_text.proofs.TextLaws.{IsCharacters-append, IsCharacters-nil}
 use Rattle.cbor_copy.specs.declared.phase.Phase.{Phase}
 use Rattle.cbor_copy.specs.declared.phase.Phase.TheVariants as p
 use Rattle.cbor_copy.specs.declared.phase.StringKind.{StringKind}
 use Rattle.cbor_copy.specs.declared.phase.StringKind.TheVariants as k
 use Rattle.cbor_copy.specs.declared.phase.Within.{Within}
 use Rattle.cbor_copy.specs.declared.phase.Within.TheVariants as w
-use Rattle.cbor_copy.specs.Spots.{Spot, at_phase, element_done, body_due, entered, refused}
-use Rattle.cbor_copy.specs.Steps.{title_place, with_byte, titled, Faults, TitleStep, cut, early, whole, none, may_end}
-use Rattle.cbor_copy.specs.Steps.{with_char, char_put, text_left, byte_put, StepIn, Step}
+use Rattle.cbor_copy.specs.Spots.{Spot, entered}
+use Rattle.cbor_copy.specs.Steps.{title_place, with_byte, titled, Faults, TitleStep, cut, early, whole, none}
 use Rattle.cbor_copy.proofs.BlockedLaws.{affix_most, due_sound, body_sound}
-use Rattle.cbor_copy.proofs.EnterLaws.{reaches, body_leads, body_put, title_leads}
-use Rattle.cbor_copy.proofs.Reached.{kind_of, At, Misplaced, OfKind, place_of, body_place, FrontAt, Titling, Bodying}
-use Rattle.cbor_copy.proofs.Reached.{SomeFault, Broken, HoldsIn, Holds, clear}
+use Rattle.cbor_copy.proofs.EnterLaws.{reaches, title_leads}
+use Rattle.cbor_copy.proofs.Reached.{kind_of, At, Misplaced, place_of, FrontAt, Titling}
+use Rattle.cbor_copy.proofs.Reached.{Broken, HoldsIn, Holds}
 
 -- ---- what is misplaced is a fault, and nothing else
 

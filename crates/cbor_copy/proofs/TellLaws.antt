@@ -1,11 +1,10 @@
 -- What the answer of a copier says of the bytes so far.
-use Rattle.std.proofs.Common.{◌≡◌, ℕ, zero, suc, ◌+◌, ◌<◌, ◌≤◌, ◌^◌, List, [], ◌∷◌, ◌++◌, length, refl, sym, ap, subst}
+use Rattle.std.proofs.Common.{◌≡◌, ℕ, ◌+◌, ◌<◌, ◌≤◌, ◌^◌, List, [], ◌∷◌, ◌++◌, length, refl, sym, ap, subst}
 use Rattle.std.proofs.Common.{◌∙◌, arith, inl, inr, append_assoc, append-nil, length-append}
-use Rattle.ciborium_ll_grammar.specs.Title.{IsCutTitle, AreBytes}
-use Rattle.ciborium_ll_grammar.specs.Faults.{Place, Reaches, Answer, Short, Syntax, FirstFault, CutTitle, CutBody}
-use Rattle.ciborium_ll_grammar.specs.Faults.{BodyDue, RunInFront, HasFault, with_front}
-use Rattle.ciborium_ll_grammar.specs.Elements.{Mark, spelling, IsRun}
-use Rattle.ciborium_ll_grammar.specs.Strings.{kind_header}
+use Rattle.ciborium_ll_grammar.specs.Title.{IsCutTitle}
+use Rattle.ciborium_ll_grammar.specs.Faults.{Short, Syntax, CutTitle, CutBody}
+use Rattle.ciborium_ll_grammar.specs.Faults.{with_front}
+use Rattle.ciborium_ll_grammar.specs.Elements.{spelling}
 use Rattle.ciborium_ll_grammar.proofs.FaultLaws.{no_fault}
 use Rattle.cbor_copy.specs.declared.phase.Phase.{Phase}
 use Rattle.cbor_copy.specs.declared.phase.Phase.TheVariants as p
@@ -15,12 +14,12 @@ use Rattle.cbor_copy.specs.declared.progress.Progress.{Progress}
 use Rattle.cbor_copy.specs.declared.progress.Progress.TheVariants as r
 use Rattle.cbor_copy.specs.Spots.{Spot}
 use Rattle.cbor_copy.specs.Steps.{IsFed}
-use Rattle.cbor_copy.specs.Telling.{progress_in, progress_of, AreSpelled, ComesTo, SomeGoOn, NoneGoOn, FaultsAt}
-use Rattle.cbor_copy.specs.Telling.{TellsWhole, LacksRoom, Tells}
+use Rattle.cbor_copy.specs.Telling.{progress_in, progress_of, ComesTo, SomeGoOn, NoneGoOn, FaultsAt}
+use Rattle.cbor_copy.specs.Telling.{TellsWhole, Tells}
 use Rattle.cbor_copy.proofs.BodySteps.{body_reached}
 use Rattle.cbor_copy.proofs.EnterLaws.{reaches}
 use Rattle.cbor_copy.proofs.HeldLaws.{fed_counts, fed_holds}
-use Rattle.cbor_copy.proofs.LiveLaws.{NoFault, Completed, holds_goes}
+use Rattle.cbor_copy.proofs.LiveLaws.{NoFault, holds_goes}
 use Rattle.cbor_copy.proofs.Reached.{kind_of, place_of, FrontAt, Titling, Bodying, Broken, HoldsIn}
 use Rattle.cbor_copy.proofs.StepLaws.{at_title}
 
