@@ -1,10 +1,12 @@
 -- Bytes that are fed one by one.
 use Rattle.std.proofs.Common.{◌≡◌, ℕ, zero, suc, ◌+◌, ◌-◌, ◌<◌, ◌≤◌, List, [], ◌∷◌, ◌++◌, length, take, get_or, refl, sym, ap}
-use Rattle.std.proofs.Common.{subst, ◌∙◌, arith, append_assoc, append-nil, drop, drop-drop}
+use Rattle.std.proofs.Common.{subst, ◌∙◌, arith, append_assoc, append-nil, drop, drop-drop, length-append, length-take-le, false}
 use Rattle.std.proofs.lemmas.List.{take_more}
+use Rattle.ciborium_ll_text.proofs.Lists.{length_zero}
 use Rattle.cbor_copy.specs.declared.phase.Phase.{Phase}
+use Rattle.cbor_copy.specs.declared.phase.Phase.TheVariants as p
 use Rattle.cbor_copy.specs.declared.progress.Progress.TheVariants as r
-use Rattle.cbor_copy.specs.Telling.{progress_of}
+use Rattle.cbor_copy.specs.Telling.{is_due, progress_of}
 use Rattle.cbor_copy.specs.Spots.{Spot, putting}
 use Rattle.cbor_copy.specs.Steps.{start, Step, IsFed, fresh, more}
 
@@ -54,3 +56,22 @@ drop_later at next xs ys later same =
 pub more_given : (pending : List ℕ) (phase : Phase) → progress_of pending phase ≡ r.More → pending ≡ []
 more_given [] phase e = refl
 more_given (byte ∷ pending) phase e = absurd cc
+
+-- where nothing was pending, nothing is given
+pub none_given : (written : ℕ) (out pending : List ℕ) → take written out ++ pending ≡ [] → written ≤ length out
+    → (written ≡ 0) × (pending ≡ [])
+none_given written out pending e within =
+    let l = ap length e in
+    let long = length-take-le written out within in (
+      omega (arith, l, long, length-append (take written out) pending),
+      length_zero pending (omega (arith, l, length-append (take written out) pending)),
+    )
+
+-- behind an end or a fault no more bytes are due
+pub not_more : (pending : List ℕ) (phase : Phase) → is_due phase ≡ false → progress_of pending phase ≡ r.More → ⊥
+not_more (byte ∷ pending) phase off e = cc
+not_more [] p.Title off e = cc
+not_more [] (p.Bytes left) off e = cc
+not_more [] (p.Text left state) off e = cc
+not_more [] p.Ended off e = cc
+not_more [] (p.Faulted place) off e = cc

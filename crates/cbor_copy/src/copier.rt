@@ -59,7 +59,7 @@ pub struct Copier {
 }
 
 impl Copier {
-    ghost use Rattle.std.specs.Prelude.{ℕ, ◌-◌, ◌++◌, ◌∷◌, List, take, drop};
+    ghost use Rattle.std.specs.Prelude.{ℕ, ◌-◌, ◌++◌, ◌∷◌, List, take, drop, false};
     ghost use Rattle.ciborium_ll_text.specs.States.{after_byte};
     ghost use Rattle.cbor_copy.specs.Copying.{IsCopied, spot_of};
     ghost use Rattle.cbor_copy.specs.Spots.{Spot, body_due, element_done, element_entered, elements_due, entered};
@@ -364,6 +364,8 @@ impl Copier {
             → Tells count (fed ++ take result.taken bytes.now) (given ++ take result.written out.new) result.progress }
         ensures all { IsMore result.progress → result.taken ≡ length bytes.now }
         ensures full { IsRoom result.progress → result.written ≡ length out.old }
+        ensures stays { is_due self.old.phase ≡ false → self.old.pending ≡ []
+            → (result.taken ≡ 0) × (result.written ≡ 0) × (spot_of self.new ≡ spot_of self.old) }
     {
         let mut written = self.pending.give(out, 0);
         for (at, byte) in bytes.iter().enumerate() {

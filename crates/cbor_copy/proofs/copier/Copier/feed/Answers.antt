@@ -1,8 +1,8 @@
-use Rattle.std.proofs.Common.{◌≡◌, ◌∙◌, ℕ, [], ◌++◌, take, length, sym, subst, rules, arith}
+use Rattle.std.proofs.Common.{◌≡◌, ◌∙◌, ℕ, [], ◌++◌, take, length, sym, ap, subst, rules, arith}
 use Rattle.cbor_copy.specs.Copying.{spot_of}
-use Rattle.cbor_copy.specs.Spots.{putting}
-use Rattle.cbor_copy.specs.Telling.{Tells}
-use Rattle.cbor_copy.proofs.FedLaws.{fed_on, drop_later, more_given}
+use Rattle.cbor_copy.specs.Spots.{Spot, putting}
+use Rattle.cbor_copy.specs.Telling.{Tells, is_due}
+use Rattle.cbor_copy.proofs.FedLaws.{fed_on, drop_later, more_given, not_more}
 use Rattle.cbor_copy.proofs.TellLaws.{tells, too_long}
 use Rattle.cbor_copy.proofs.copier.Copier.feed.Goals as goal
 
@@ -21,6 +21,10 @@ loop-at-preserved c =
           (spot_of c.step.new.self) c.args.bytes.now c.loop-at.at (search rules) (search rules)
           (c.loop-at.invariant.copied count fed given is) none none (search rules) gives.given;
       full = search rules;
+      stays = λ off given.
+          let same = c.loop-at.invariant.stays off given in
+          let phase = ap (λ (spot : Spot). is_due spot.phase) same.2 in
+          absurd (not_more before.pending before.phase (phase ∙ off) (sym c.progress.ensures ∙ c.in-More.is));
     }
 
 pub returns-in_default-clause-tells : goal.returns-in_default-clause-tells
