@@ -102,14 +102,21 @@ body_reached (w.Open outer more) kind count left len before title marks at some 
 
 -- ---- a byte
 
-pub byte_step : (count left b : ℕ) (bytes output : List ℕ) (spot : Spot) → Bodying k.Bytes (suc left) count bytes spot output
+pub byte_step : (count left b : ℕ) (bytes output : List ℕ) (spot : Spot)
+    → Bodying k.Bytes (suc left) count bytes spot output
     → spot.front ≡ [] → Holds count (bytes ++ b ∷ []) (body_due k.Bytes left (byte_put b spot))
     (output ++ (body_due k.Bytes left (byte_put b spot)).put)
 byte_step count left b bytes output spot due none =
     let here = clear spot.phase spot.within spot.left spot.place (spot.offset + 1) (b ∷ []) in
-    let same : byte_put b spot ≡ here = ap (λ (z : List ℕ). record spot { front = z; offset = spot.offset + 1; put = b ∷ [] }) none in
+    let same : byte_put b spot ≡ here = ap (λ (z : List ℕ). record spot {
+      front = z;
+      offset = spot.offset + 1;
+      put =
+          b ∷ [];
+    }) none in
     let part = due.part ++ b ∷ [] in
-    let led = body_leads spot.phase spot.place (spot.offset + 1) (b ∷ []) spot.within k.Bytes count spot.left due.len left
+    let led = body_leads spot.phase spot.place (spot.offset + 1) (b ∷ []) spot.within k.Bytes count spot.left due.len
+    left
     due.before due.title part due.marks due.at due.due due.of_kind due.is_title tt
     (omega (
       arith,
@@ -129,10 +136,12 @@ byte_step count left b bytes output spot due none =
     ∙ sym (append_assoc (spelling due.marks) (title ++ due.part) (b ∷ []))
     ∙ ap (λ (z : List ℕ). z ++ b ∷ []) (sym due.out)
     ∙ ap (λ (z : List ℕ). output ++ z) (sym (body_put k.Bytes left here)) in
-    subst (λ (z : Spot). Holds count (bytes ++ b ∷ []) (body_due k.Bytes left z) (output ++ (body_due k.Bytes left z).put))
+    subst (λ (z : Spot). Holds count (bytes ++ b ∷ []) (body_due k.Bytes left z) (output ++ (body_due k.Bytes left
+    z).put))
     (sym same)
     (subst (λ (z : List ℕ). Holds count (bytes ++ b ∷ []) (body_due k.Bytes left here) z) out
-    (subst (λ (z : List ℕ). Holds count z (body_due k.Bytes left here) (with_front due.marks Bytes due.len part)) bytes_are
+    (subst (λ (z : List ℕ). Holds count z (body_due k.Bytes left here) (with_front due.marks Bytes due.len part))
+    bytes_are
     led))
 
 -- ---- a byte of a text
@@ -206,7 +215,8 @@ module _ (count left b : ℕ) (bytes output : List ℕ) (spot : Spot) (state : S
         marks = due.marks;
         at = BodyDue Text due.len spot.place;
         ahead = ahead;
-        reach = rw due.place (body_reached spot.within k.Text count spot.left due.len due.before due.title due.marks due.at
+        reach = rw due.place (body_reached spot.within k.Text count spot.left due.len due.before due.title due.marks
+            due.at
             due.due due.of_kind due.is_title);
         is = whole_is;
         each = λ y some. elim (cases_lt (length (ahead ++ y)) due.len) [
@@ -214,7 +224,8 @@ module _ (count left b : ℕ) (bytes output : List ℕ) (spot : Spot) (state : S
             answer = Short;
             written = with_front due.marks Text due.len [];
             consumed = 0;
-            fault = CutBody {kind = Text} [] (ahead ++ y) short refl IsCharacters-nil (omega arith) (omega arith) (omega arith);
+            fault = CutBody {kind = Text} [] (ahead ++ y) short refl IsCharacters-nil (omega arith) (omega arith)
+                (omega arith);
           }
           | inr all ↦ record {
             answer = Syntax spot.place;
@@ -234,7 +245,8 @@ module _ (count left b : ℕ) (bytes output : List ℕ) (spot : Spot) (state : S
   -- a character is whole
   char_leads : after_byte state b ≡ s.Between
       → Holds count (bytes ++ b ∷ [])
-      (body_due k.Text left (clear spot.phase spot.within spot.left spot.place (spot.offset + 1) (spot.front ++ b ∷ [])))
+      (body_due k.Text left (clear spot.phase spot.within spot.left spot.place (spot.offset + 1) (spot.front ++ b ∷
+      [])))
       (output ++ (body_due k.Text left
       (clear spot.phase spot.within spot.left spot.place (spot.offset + 1) (spot.front ++ b ∷ []))).put)
   char_leads ends =
@@ -257,7 +269,8 @@ module _ (count left b : ℕ) (bytes output : List ℕ) (spot : Spot) (state : S
   -- it isn't
   part_leads : (next : State) → next ≡ after_byte state b → may_end (after_byte state b) left ≡ true
       → (next ≡ s.Between → ⊥)
-      → HoldsIn (p.Text left next) count (bytes ++ b ∷ []) (at_phase (p.Text left next) (with_char b spot)) (output ++ [])
+      → HoldsIn (p.Text left next) count (bytes ++ b ∷ []) (at_phase (p.Text left next) (with_char b spot)) (output
+      ++ [])
   part_leads next e may cut =
       let may_too = subst (λ (z : State). may_end z left ≡ true) (sym e) may in (
         record {

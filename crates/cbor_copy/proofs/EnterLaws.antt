@@ -21,7 +21,8 @@ use Rattle.cbor_copy.specs.declared.phase.StringKind.{StringKind}
 use Rattle.cbor_copy.specs.declared.phase.StringKind.TheVariants as k
 use Rattle.cbor_copy.specs.declared.phase.Within.{Within}
 use Rattle.cbor_copy.specs.declared.phase.Within.TheVariants as w
-use Rattle.cbor_copy.specs.Spots.{Spot, elements_due, element_done, string_done, body_due, string_open, entered, refused}
+use Rattle.cbor_copy.specs.Spots.{Spot, elements_due, element_done, string_done, body_due, string_open, entered}
+use Rattle.cbor_copy.specs.Spots.{refused}
 use Rattle.cbor_copy.specs.Spots.{string_closed}
 use Rattle.cbor_copy.proofs.Reached.{kind_of, RunLeft, InOpen, At, OfKind, place_of, body_place}
 use Rattle.cbor_copy.proofs.Reached.{Holds, clear}
@@ -33,7 +34,8 @@ pub reaches : (i : Within) (count left : ℕ) (bytes : List ℕ) (marks : List M
 reaches w.Nothing count left bytes marks r some = due {before = r.before} (omega (arith, r.counted)) r.run
 reaches (w.Open kind more) count left bytes marks o some =
     let r = o.run in
-    rw (o.is, o.marks_are) (inside {before = r.before} (omega (arith, r.counted)) r.run (counted (kind_of kind) (suc more) o.opens o.bodies o.inside)
+    rw (o.is, o.marks_are) (inside {before = r.before} (omega (arith, r.counted)) r.run (counted (kind_of kind) (suc
+    more) o.opens o.bodies o.inside)
     o.sound)
 
 -- ---- a whole element
@@ -84,7 +86,8 @@ piece_behind kind more count left before title body marks o q sound = record {
 }
 
 module _ (phase : Phase) (place offset : ℕ) (put : List ℕ) where
-  pub due_leads : (i : Within) (count old left : ℕ) (bytes : List ℕ) (marks : List Mark) → RunLeft count left bytes marks
+  pub due_leads : (i : Within) (count old left : ℕ) (bytes : List ℕ) (marks : List Mark)
+      → RunLeft count left bytes marks
       → Holds count bytes (elements_due left (clear phase i old place offset put)) (spelling marks)
   due_leads i count old zero bytes marks r = record {
     marks = marks;
@@ -147,7 +150,8 @@ module _ (phase : Phase) (place offset : ℕ) (put : List ℕ) where
 
   -- ---- a part of a body
 
-  pub body_leads : (i : Within) (kind : StringKind) (count left len more : ℕ) (before title part : List ℕ) (marks : List Mark)
+  pub body_leads : (i : Within) (kind : StringKind) (count left len more : ℕ) (before title part : List ℕ) (marks :
+      List Mark)
       → At i count left before marks → 0 < left → OfKind i kind
       → IsTitle title (kind_header (kind_of kind) (Some len)) → IsWritable (kind_of kind) part
       → length part + more ≡ len
@@ -255,7 +259,8 @@ module _ (phase : Phase) (count left place offset : ℕ) (before title : List �
   body_titled : (i : Within) (kind : StringKind) (len at : ℕ) → At i count left before marks → OfKind i kind
       → IsTitle title (kind_header (kind_of kind) (Some len))
       → at ≡ body_place i before title (kind_header (kind_of kind) (Some len))
-      → Leads (body_due kind len (clear phase i left at offset (shortest_title (kind_header (kind_of kind) (Some len)))))
+      → Leads (body_due kind len (clear phase i left at offset (shortest_title (kind_header (kind_of kind) (Some
+      len)))))
   body_titled i kind len at here of_kind q where_is =
       let header = kind_header (kind_of kind) (Some len) in
       let old = clear phase i left at offset (shortest_title header) in
@@ -268,7 +273,8 @@ module _ (phase : Phase) (count left place offset : ℕ) (before title : List �
       (append-nil (before ++ title)) led)
 
   open_titled : (kind : StringKind) → RunLeft count left before marks → IsTitle title (kind_header (kind_of kind) None)
-      → Leads (string_open kind zero (clear phase w.Nothing left place offset (shortest_title (kind_header (kind_of kind) None))))
+      → Leads (string_open kind zero (clear phase w.Nothing left place offset (shortest_title (kind_header (kind_of
+      kind) None))))
   open_titled kind r q = record {
     before = before ++ title;
     marks = marks ++ Open (kind_of kind) ∷ [];
@@ -305,25 +311,26 @@ module _ (phase : Phase) (count left place offset : ℕ) (before title : List �
   module _ (kind : StringKind) (more : ℕ) (o : InOpen (kind_of kind) more count left before marks) where
     inner_titled : IsTitle title (kind_header (kind_of kind) None)
         → Leads (string_open kind (suc more) (clear phase (w.Open kind more) left place offset []))
-    inner_titled q = Quiet (string_open kind (suc more) (clear phase (w.Open kind more) left place offset [])) refl (record {
-      before = before ++ title;
-      marks = marks;
-      at = record {
-        elements = o.elements;
-        element_marks = o.element_marks;
-        opens = o.opens ++ title;
-        bodies = o.bodies;
-        run = o.run;
-        inside = add_open (kind_of kind) (suc more) o.opens title o.bodies o.inside q;
-        sound = o.sound;
-        is = ap (λ (z : List ℕ). z ++ title) o.is ∙ append_assoc o.elements o.opens title;
-        marks_are = o.marks_are;
-      };
-      due = some;
-      is = sym (append-nil (before ++ title));
-      out = refl;
-      front = inl refl;
-    })
+    inner_titled q = Quiet (string_open kind (suc more) (clear phase (w.Open kind more) left place offset [])) refl
+        (record {
+          before = before ++ title;
+          marks = marks;
+          at = record {
+            elements = o.elements;
+            element_marks = o.element_marks;
+            opens = o.opens ++ title;
+            bodies = o.bodies;
+            run = o.run;
+            inside = add_open (kind_of kind) (suc more) o.opens title o.bodies o.inside q;
+            sound = o.sound;
+            is = ap (λ (z : List ℕ). z ++ title) o.is ∙ append_assoc o.elements o.opens title;
+            marks_are = o.marks_are;
+          };
+          due = some;
+          is = sym (append-nil (before ++ title));
+          out = refl;
+          front = inl refl;
+        })
 
     misplaced_titled : (header : Header) → IsMisplaced (kind_of kind) header → IsTitle title header
         → Leads (refused (clear phase (w.Open kind more) left place offset []))
@@ -345,7 +352,8 @@ module _ (phase : Phase) (count left place offset : ℕ) (before title : List �
           more = [];
           more_bytes = tt;
           consumed = length title;
-          fault = subst (λ (n : ℕ). FirstFault before marks (In (kind_of kind)) (title ++ []) (Syntax n) (spelling marks)
+          fault = subst (λ (n : ℕ). FirstFault before marks (In (kind_of kind)) (title ++ []) (Syntax n) (spelling
+              marks)
               (length title)) (sym named) (OtherTitle header [] q bad refl);
         })
 

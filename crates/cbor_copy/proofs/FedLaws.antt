@@ -1,12 +1,15 @@
 -- Bytes that are fed one by one.
-use Rattle.std.proofs.Common.{◌≡◌, ℕ, zero, suc, ◌+◌, ◌-◌, ◌<◌, ◌≤◌, List, [], ◌∷◌, ◌++◌, length, take, get_or, refl, sym, ap}
-use Rattle.std.proofs.Common.{subst, ◌∙◌, arith, append_assoc, append-nil, drop, drop-drop, length-append, length-take-le, false}
+use Rattle.std.proofs.Common.{◌≡◌, ℕ, zero, suc, ◌+◌, ◌-◌, ◌<◌, ◌≤◌, List, [], ◌∷◌, ◌++◌, length, take, get_or, refl}
+use Rattle.std.proofs.Common.{sym, ap}
+use Rattle.std.proofs.Common.{subst, ◌∙◌, arith, append_assoc, append-nil, drop, drop-drop, length-append}
+use Rattle.std.proofs.Common.{length-take-le, false}
 use Rattle.std.proofs.lemmas.List.{take_more}
 use Rattle.ciborium_ll_text.proofs.Lists.{length_zero}
 use Rattle.cbor_copy.specs.declared.phase.Phase.{Phase}
 use Rattle.cbor_copy.specs.declared.phase.Phase.TheVariants as p
+use Rattle.cbor_copy.specs.declared.progress.Progress.{Progress}
 use Rattle.cbor_copy.specs.declared.progress.Progress.TheVariants as r
-use Rattle.cbor_copy.specs.Telling.{is_due, progress_of}
+use Rattle.cbor_copy.specs.Telling.{is_due, progress_of, IsAnswer}
 use Rattle.cbor_copy.specs.Spots.{Spot, putting}
 use Rattle.cbor_copy.specs.Steps.{start, Step, IsFed, fresh, more}
 
@@ -75,3 +78,14 @@ not_more [] (p.Bytes left) off e = cc
 not_more [] (p.Text left state) off e = cc
 not_more [] p.Ended off e = cc
 not_more [] (p.Faulted place) off e = cc
+
+-- the answer of a spot is none of those that were not given
+pub is_answer : (progress : Progress) (pending : List ℕ) (phase : Phase) → progress ≡ progress_of pending phase
+    → IsAnswer progress pending phase
+is_answer r.TooLong (byte ∷ pending) phase e = absurd cc
+is_answer r.TooLong [] p.Title e = absurd cc
+is_answer r.TooLong [] (p.Bytes left) e = absurd cc
+is_answer r.TooLong [] (p.Text left state) e = absurd cc
+is_answer r.TooLong [] p.Ended e = absurd cc
+is_answer r.TooLong [] (p.Faulted place) e = absurd cc
+is_answer progress pending phase e = e

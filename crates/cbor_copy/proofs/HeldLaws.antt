@@ -88,7 +88,12 @@ fed_counts count bytes output spot (more {bytes = a} {output = before} {spot = o
 pub fed_holds : (count : ℕ) (bytes output : List ℕ) (spot : Spot) → IsFed count bytes spot output
     → Holds count bytes spot output
 fed_holds count bytes output spot fresh =
-    due_leads p.Title 0 0 [] w.Nothing count count count [] [] (record { before = 0; run = done; counted = omega arith })
+    due_leads p.Title 0 0 [] w.Nothing count count count [] [] (record {
+      before = 0;
+      run = done;
+      counted = omega
+          arith;
+    })
 fed_holds count bytes output spot (more {bytes = a} {output = before} {spot = old} b new byte is step) =
     rests new.phase count (a ++ b ∷ []) (before ++ new.put) new
     (step_holds old.phase count b a before old new refl byte (fed_counts count a before old is)

@@ -12,7 +12,8 @@ use Rattle.cbor_copy.specs.declared.phase.StringKind.TheVariants as k
 use Rattle.cbor_copy.specs.declared.phase.Within.{Within}
 use Rattle.cbor_copy.specs.declared.phase.Within.TheVariants as w
 use Rattle.cbor_copy.specs.Spots.{Spot, elements_due, string_done, body_due, entered}
-use Rattle.cbor_copy.specs.Steps.{with_byte, with_char, char_put, byte_put, text_left, TitleStep, cut, early, whole, none}
+use Rattle.cbor_copy.specs.Steps.{with_byte, with_char, char_put, byte_put, text_left, TitleStep, cut, early, whole}
+use Rattle.cbor_copy.specs.Steps.{none}
 use Rattle.cbor_copy.specs.Steps.{may_end, StepIn}
 
 -- what is held back, and how many bytes came
@@ -56,7 +57,8 @@ title_counts spot new (early c all) = refl
 title_counts spot new (whole header q) = (entered_kept spot.within header (record spot { front = [] })).1
 title_counts spot new (none r) = refl
 
-text_counts : (may : Bool) (left : ℕ) (state : State) (spot : Spot) → (text_left may left state spot).offset ≡ spot.offset
+text_counts : (may : Bool) (left : ℕ) (state : State) (spot : Spot)
+    → (text_left may left state spot).offset ≡ spot.offset
 text_counts false left state spot = refl
 text_counts true left s.Between spot = (body_kept k.Text left (char_put spot)).1
 text_counts true left state spot = refl

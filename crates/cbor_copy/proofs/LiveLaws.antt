@@ -41,7 +41,8 @@ pub record Completed (count : ℕ) (bytes : List ℕ) : Type 0 where
   pub run : IsRun count (bytes ++ more) marks
 
 -- bytes behind which some do
-before_those : (count : ℕ) (bytes more : List ℕ) → AreBytes more → Completed count (bytes ++ more) → Completed count bytes
+before_those : (count : ℕ) (bytes more : List ℕ) → AreBytes more → Completed count (bytes ++ more)
+    → Completed count bytes
 before_those count bytes more are_bytes o = record {
   more = more ++ o.more;
   more_bytes = AreBytes-append more o.more are_bytes o.more_bytes;
@@ -52,7 +53,8 @@ before_those count bytes more are_bytes o = record {
 zero_element : IsElement (0 ∷ []) (Plain (h.Positive 0) ∷ [])
 zero_element = plain (h.Positive 0) (numbered Unsigned Small 0 (omega arith)) tt
 
-run_goes : (left count : ℕ) (bytes : List ℕ) (marks : List Mark) → RunLeft count left bytes marks → Completed count bytes
+run_goes : (left count : ℕ) (bytes : List ℕ) (marks : List Mark) → RunLeft count left bytes marks
+    → Completed count bytes
 run_goes zero count bytes marks r = record {
   more = [];
   more_bytes = tt;
@@ -68,7 +70,8 @@ run_goes (suc left) count bytes marks r =
       counted = omega (arith, r.counted);
     }))
 
-open_goes : (kind : Kind) (more count left : ℕ) (bytes : List ℕ) (marks : List Mark) → InOpen kind more count left bytes marks
+open_goes : (kind : Kind) (more count left : ℕ) (bytes : List ℕ) (marks : List Mark)
+    → InOpen kind more count left bytes marks
     → 0 < left → Completed count bytes
 open_goes kind zero count left bytes marks o some =
     let r = o.run in

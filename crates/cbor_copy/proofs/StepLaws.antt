@@ -38,11 +38,16 @@ misplaced_faults (w.Open k.Text more) h.Break spot bad = absurd bad
 misplaced_faults (w.Open k.Bytes more) header spot bad = (spot.place, refl)
 misplaced_faults (w.Open k.Text more) header spot bad = (spot.place, refl)
 
-open_sound : (kind : StringKind) (more : ℕ) (spot : Spot) → Faults (record spot { phase = p.Title; within = w.Open kind more })
+open_sound : (kind : StringKind) (more : ℕ) (spot : Spot) → Faults (record spot {
+  phase = p.Title;
+  within = w.Open
+      kind more;
+})
     → ⊥
 open_sound kind more spot f = let is = f.1 in cc
 
-pub faults_misplaced : (i : Within) (header : Header) (spot : Spot) → Faults (entered i header spot) → Misplaced i header
+pub faults_misplaced : (i : Within) (header : Header) (spot : Spot) → Faults (entered i header spot)
+    → Misplaced i header
 faults_misplaced w.Nothing (h.Bytes (Some len)) spot f = body_sound k.Bytes len _ f
 faults_misplaced w.Nothing (h.Text (Some len)) spot f = body_sound k.Text len _ f
 faults_misplaced w.Nothing (h.Bytes None) spot f = let is = f.1 in cc
@@ -226,7 +231,12 @@ module _ (count b : ℕ) (byte : b < 256) (bytes output : List ℕ) (spot : Spot
     due = due.due;
     is = whole_is;
     out = quiet;
-    front = inr (sound, c, λ behind header q bad. may behind header q (misplaced_faults spot.within header _ bad), named);
+    front = inr (
+      sound,
+      c,
+      λ behind header q bad. may behind header q (misplaced_faults spot.within header _ bad),
+      named,
+    );
   }
 
   early_leads : IsCutTitle (spot.front ++ b ∷ [])
@@ -262,7 +272,8 @@ module _ (count b : ℕ) (byte : b < 256) (bytes output : List ℕ) (spot : Spot
       let title = spot.front ++ b ∷ [] in
       let offset : spot.offset + 1 ≡ length (due.before ++ title) =
       omega (arith, counted, ap length whole_is, length-append bytes (b ∷ [])) in
-      let led = title_leads spot.phase count spot.left (with_byte b spot).place (spot.offset + 1) due.before title due.marks
+      let led = title_leads spot.phase count spot.left (with_byte b spot).place (spot.offset + 1) due.before title
+      due.marks
       due.due named offset spot.within header due.at q in
       subst (λ (z : List ℕ). Holds count (bytes ++ b ∷ []) new (z ++ new.put)) (sym due.out)
       (subst (λ (z : List ℕ). Holds count z new (spelling due.marks ++ new.put)) (sym whole_is) led)

@@ -60,7 +60,8 @@ body_short kind left count bytes output spot o some = record {
     answer = Short;
     written = with_front o.marks (kind_of kind) o.len o.part;
     consumed = length o.part;
-    reach = body_reached spot.within kind count spot.left o.len o.before o.title o.marks o.at o.due o.of_kind o.is_title;
+    reach = body_reached spot.within kind count spot.left o.len o.before o.title o.marks o.at o.due o.of_kind
+        o.is_title;
     is = o.is;
     fault = CutBody {kind = kind_of kind} o.part spot.front (omega (arith, o.long, some)) refl o.sound (omega arith)
         (omega arith) (omega (arith, length-append o.part spot.front));
@@ -120,8 +121,11 @@ pub told_in : (phase : Phase) (count : ℕ) (bytes output : List ℕ) (spot : Sp
     → TellsWhole count bytes output (progress_in phase)
 told_in p.Title count bytes output spot o =
     (title_short count bytes output spot o, goes_on p.Title count bytes output spot o (λ place e. cc))
-told_in (p.Bytes left) count bytes output spot o =
-    (body_short k.Bytes left count bytes output spot o.0 o.2, goes_on (p.Bytes left) count bytes output spot o (λ place e. cc))
+told_in (p.Bytes left) count bytes output spot o = (
+  body_short k.Bytes left count bytes output spot o.0 o.2,
+  goes_on (p.Bytes left) count bytes output spot o (λ
+      place e. cc),
+)
 told_in (p.Text left state) count bytes output spot o = (
   body_short k.Text left count bytes output spot o.0 o.3,
   goes_on (p.Text left state) count bytes output spot o (λ place e. cc),
@@ -138,7 +142,8 @@ no_room p.Ended count bytes output told = told
 no_room (p.Faulted place) count bytes output told = told
 
 -- what the answer says, by what is pending
-tells_by : (pending : List ℕ) (count : ℕ) (bytes given : List ℕ) (spot : Spot) → IsFed count bytes spot (given ++ pending)
+tells_by : (pending : List ℕ) (count : ℕ) (bytes given : List ℕ) (spot : Spot)
+    → IsFed count bytes spot (given ++ pending)
     → Tells count bytes given (progress_of pending spot.phase)
 tells_by [] count bytes given spot is =
     subst (λ (z : List ℕ). Tells count bytes z (progress_in spot.phase)) (append-nil given)

@@ -25,6 +25,11 @@ abbrev pub progress_of : List ℕ → Phase → Progress
 progress_of [] phase = progress_in phase
 progress_of (byte ∷ bytes) phase = r.Room
 
+-- it is so, but where no more bytes can be counted
+abbrev pub IsAnswer : Progress → List ℕ → Phase → Type 0
+IsAnswer r.TooLong pending phase = progress_of pending phase ≡ r.More
+IsAnswer progress pending phase = progress ≡ progress_of pending phase
+
 -- more bytes are due
 abbrev pub IsMore : Progress → Type 0
 IsMore r.More = Unit {0}

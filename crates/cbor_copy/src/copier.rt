@@ -67,7 +67,7 @@ impl Copier {
     ghost use Rattle.cbor_copy.specs.Spots.{piece_entered, refused};
     ghost use Rattle.cbor_copy.specs.Fronts.{most_cut};
     ghost use Rattle.cbor_copy.specs.Steps.{Step, TitleStep, byte_put, text_left, title_place, with_byte, with_char};
-    ghost use Rattle.cbor_copy.specs.Telling.{IsMore, IsRoom, Tells, is_due, progress_of};
+    ghost use Rattle.cbor_copy.specs.Telling.{IsAnswer, IsMore, IsRoom, Tells, is_due, progress_of};
     ghost use Rattle.cbor_copy.specs.declared.phase.Phase.TheVariants as p;
     ghost use Rattle.cbor_copy.specs.declared.phase.StringKind.TheVariants as k;
 
@@ -362,6 +362,7 @@ impl Copier {
             → IsCopied count (fed ++ take result.taken bytes.now) (given ++ take result.written out.new) self.new }
         ensures tells { (count : ℕ) (fed given : List ℕ) → IsCopied count fed given self.old
             → Tells count (fed ++ take result.taken bytes.now) (given ++ take result.written out.new) result.progress }
+        ensures answers { IsAnswer result.progress self.new.pending self.new.phase }
         ensures all { IsMore result.progress → result.taken ≡ length bytes.now }
         ensures full { IsRoom result.progress → result.written ≡ length out.old }
         ensures stays { is_due self.old.phase ≡ false → self.old.pending ≡ []

@@ -8,14 +8,14 @@ ghost use Rattle.cbor_copy.specs.Steps.{IsFed};
 ghost use Rattle.cbor_copy.specs.Telling.{HasEnded, IsAtFault, NoneGoOn};
 
 /// The same bytes lead to one state, and put the same out, however they were cut into pieces.
-pub fn one_state()
+pub fn one_copy()
     ensures { (count : ℕ) (bytes output others : List ℕ) (spot other : Spot) → IsFed count bytes spot output
         → IsFed count bytes other others → (spot ≡ other) × (output ≡ others) }
 {}
 
 /// A copy has ended exactly where the bytes so far are so many elements, and there is a fault exactly where no such
 /// elements begin so.
-pub fn exact_states()
+pub fn exact_copies()
     ensures ended { (count : ℕ) (bytes output : List ℕ) (spot : Spot) → IsFed count bytes spot output
         → (HasEnded spot ↔ ((marks : List Mark) × IsRun count bytes marks)) }
     ensures fault { (count : ℕ) (bytes output : List ℕ) (spot : Spot) → IsFed count bytes spot output

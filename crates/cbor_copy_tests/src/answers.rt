@@ -114,7 +114,10 @@ pub fn all_ways(rt: &impl Abort, count: usize, bytes: &[u8]) {
     for cut in 0..=bytes.len() {
         for room in [1, 2, MOST] {
             let fed = copied(count, bytes, cut, room);
-            assert!(rt; agree(&fed, &whole), "{count} of {bytes:?}, cut at {cut}, room for {room}");
+            assert!(rt;
+                agree(&fed, &whole),
+                "{count} of {bytes:?}, cut at {cut}, room for {room}"
+            );
         }
     }
 }

@@ -5,3 +5,5 @@
 mod answers;
 #[cfg(test)]
 mod cuts;
+#[cfg(test)]
+mod rows;

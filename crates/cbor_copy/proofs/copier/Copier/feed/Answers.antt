@@ -2,7 +2,7 @@ use Rattle.std.proofs.Common.{◌≡◌, ◌∙◌, ℕ, [], ◌++◌, take, len
 use Rattle.cbor_copy.specs.Copying.{spot_of}
 use Rattle.cbor_copy.specs.Spots.{Spot, putting}
 use Rattle.cbor_copy.specs.Telling.{Tells, is_due}
-use Rattle.cbor_copy.proofs.FedLaws.{fed_on, drop_later, more_given, not_more}
+use Rattle.cbor_copy.proofs.FedLaws.{is_answer, fed_on, drop_later, more_given, not_more}
 use Rattle.cbor_copy.proofs.TellLaws.{tells, too_long}
 use Rattle.cbor_copy.proofs.copier.Copier.feed.Goals as goal
 
@@ -30,7 +30,8 @@ loop-at-preserved c =
 pub returns-in_default-clause-tells : goal.returns-in_default-clause-tells
 returns-in_default-clause-tells c = λ count fed given is.
     let copier = c.loop-at.self in
-    tells copier.pending count (fed ++ take c.loop-at.at c.args.bytes.now) (given ++ take c.loop-at.written c.loop-at.out)
+    tells copier.pending count (fed ++ take c.loop-at.at c.args.bytes.now) (given ++ take c.loop-at.written
+    c.loop-at.out)
     (putting [] (spot_of copier)) c.progress.result c.progress.ensures (c.loop-at.invariant.copied count fed given is)
 
 pub returns-then-self-clause-tells : goal.returns-then-self-clause-tells
@@ -51,3 +52,11 @@ returns-clause-tells c = λ count fed given is.
     (tells copier.pending count (fed ++ take c.loop-at.at bytes) (given ++ take c.loop-at.written c.loop-at.out)
     (putting [] (spot_of copier)) c.progress-2.result c.progress-2.ensures
     (c.loop-at.invariant.copied count fed given is))
+
+pub returns-in_default-clause-answers : goal.returns-in_default-clause-answers
+returns-in_default-clause-answers c =
+    is_answer c.progress.result c.loop-at.self.pending c.loop-at.self.phase c.progress.ensures
+
+pub returns-clause-answers : goal.returns-clause-answers
+returns-clause-answers c =
+    is_answer c.progress-2.result c.loop-at.self.pending c.loop-at.self.phase c.progress-2.ensures
