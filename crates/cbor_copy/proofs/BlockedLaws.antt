@@ -1,0 +1,240 @@
+-- The kind of a first byte tells whether a title that begins so may stand there.
+use Rattle.std.proofs.Common.{◌≡◌, ℕ, zero, suc, ◌/◌, ◌%◌, ◌<◌, ◌≤◌, Bool, true, false, List, [], ◌∷◌, ◌++◌, length}
+use Rattle.std.proofs.Common.{refl, sym, ap, subst, arith, cond, ◌==◌, slice_index, drop}
+use Rattle.ciborium_ll_grammar.specs.declared.hdr.Header.{Header}
+use Rattle.ciborium_ll_grammar.specs.declared.hdr.table.TitleKind.{TitleKind}
+use Rattle.ciborium_ll_grammar.specs.declared.hdr.table.TitleKind.TheVariants as t
+use Rattle.ciborium_ll_grammar.specs.declared.hdr.table.Row.{Row}
+use Rattle.ciborium_ll_grammar.specs.Title.{Major, Unsigned, Negative, ByteString, TextString, Array, Map, Tag, Other}
+use Rattle.ciborium_ll_grammar.specs.Title.{major_code, first_byte, Size, Small, One, Two, Four, Eight}
+use Rattle.ciborium_ll_grammar.specs.Title.{minor_of, affix_len, numbered_header, IsTitle, numbered, alone}
+use Rattle.ciborium_ll_grammar.specs.Title.{IsCutTitle, NamesNoTitle, BeginsRefused}
+use Rattle.ciborium_ll_grammar.specs.TitleRows.{IsTitleKind, IsRow}
+use Rattle.ciborium_ll_grammar.proofs.TitleLaws.{same_major, minor_below}
+use Rattle.ciborium_ll_grammar.proofs.AffixLaws.{refused_affix}
+use Rattle.cbor_copy.specs.declared.phase.StringKind.{StringKind}
+use Rattle.cbor_copy.specs.declared.phase.StringKind.TheVariants as k
+use Rattle.cbor_copy.specs.declared.phase.Within.{Within}
+use Rattle.cbor_copy.specs.declared.phase.Within.TheVariants as w
+use Rattle.cbor_copy.specs.Blocked.{is_blocked}
+use Rattle.cbor_copy.specs.Spots.{Spot, elements_due, string_done, body_due, entered, refused}
+use Rattle.cbor_copy.specs.Steps.{titled, Faults, TitleStep, cut, early, whole, none}
+
+-- ---- the kind of a major type
+
+abbrev pub kind_of : Major → TitleKind
+kind_of Unsigned = t.Positive
+kind_of Negative = t.Negative
+kind_of ByteString = t.Bytes
+kind_of TextString = t.Text
+kind_of Array = t.Array
+kind_of Map = t.Map
+kind_of Tag = t.Tag
+kind_of Other = t.Other
+
+kind_is : (kind : TitleKind) (m : Major) (minor : ℕ) → IsTitleKind kind (major_code m) minor
+    → (NamesNoTitle (major_code m) minor → ⊥)
+    → kind ≡ kind_of m
+kind_is t.Positive m minor i some = sym (ap kind_of (same_major m Unsigned i.0))
+kind_is t.Negative m minor i some = sym (ap kind_of (same_major m Negative i.0))
+kind_is t.Bytes m minor i some = sym (ap kind_of (same_major m ByteString i.0))
+kind_is t.Text m minor i some = sym (ap kind_of (same_major m TextString i.0))
+kind_is t.Array m minor i some = sym (ap kind_of (same_major m Array i.0))
+kind_is t.Map m minor i some = sym (ap kind_of (same_major m Map i.0))
+kind_is t.Tag m minor i some = sym (ap kind_of (same_major m Tag i.0))
+kind_is t.Other m minor i some = sym (ap kind_of (same_major m Other i.0))
+kind_is t.Refused m minor i some = absurd (some i)
+
+-- the kind that a first byte has which announces others
+pub kind_names : (m : Major) (major minor : ℕ) → major_code m ≡ major → (NamesNoTitle major minor → ⊥)
+    → IsTitleKind (kind_of m) major minor
+kind_names Unsigned major minor e some = (sym e, some)
+kind_names Negative major minor e some = (sym e, some)
+kind_names ByteString major minor e some = (sym e, some)
+kind_names TextString major minor e some = (sym e, some)
+kind_names Array major minor e some = (sym e, some)
+kind_names Map major minor e some = (sym e, some)
+kind_names Tag major minor e some = (sym e, some)
+kind_names Other major minor e some = (sym e, some)
+
+-- ---- no fault behind a whole element
+
+pub due_sound : (left : ℕ) (spot : Spot) → Faults (elements_due left spot) → ⊥
+due_sound zero spot f = let is = f.1 in cc
+due_sound (suc left) spot f = let is = f.1 in cc
+
+string_sound : (i : Within) (spot : Spot) → Faults (string_done i spot) → ⊥
+string_sound w.Nothing spot f = due_sound _ spot f
+string_sound (w.Open kind more) spot f = let is = f.1 in cc
+
+pub body_sound : (kind : StringKind) (len : ℕ) (spot : Spot) → Faults (body_due kind len spot) → ⊥
+body_sound kind zero spot f = string_sound spot.within spot f
+body_sound k.Bytes (suc len) spot f = let is = f.1 in cc
+body_sound k.Text (suc len) spot f = let is = f.1 in cc
+
+-- ---- a title that may stand there
+
+may_stand : (i : Within) (m : Major) (s : Size) (n : ℕ) (spot : Spot) → is_blocked i (kind_of m) ≡ false
+    → Faults (entered i (numbered_header m s n) spot) → ⊥
+may_stand w.Nothing Unsigned s n spot b f = due_sound _ _ f
+may_stand w.Nothing Negative s n spot b f = due_sound _ _ f
+may_stand w.Nothing ByteString s n spot b f = body_sound k.Bytes n _ f
+may_stand w.Nothing TextString s n spot b f = body_sound k.Text n _ f
+may_stand w.Nothing Array s n spot b f = due_sound _ _ f
+may_stand w.Nothing Map s n spot b f = due_sound _ _ f
+may_stand w.Nothing Tag s n spot b f = due_sound _ _ f
+may_stand w.Nothing Other Small n spot b f = due_sound _ _ f
+may_stand w.Nothing Other One n spot b f = due_sound _ _ f
+may_stand w.Nothing Other Two n spot b f = due_sound _ _ f
+may_stand w.Nothing Other Four n spot b f = due_sound _ _ f
+may_stand w.Nothing Other Eight n spot b f = due_sound _ _ f
+may_stand (w.Open k.Bytes j) ByteString s n spot b f = body_sound k.Bytes n _ f
+may_stand (w.Open k.Bytes j) Unsigned s n spot b f = cc
+may_stand (w.Open k.Bytes j) Negative s n spot b f = cc
+may_stand (w.Open k.Bytes j) TextString s n spot b f = cc
+may_stand (w.Open k.Bytes j) Array s n spot b f = cc
+may_stand (w.Open k.Bytes j) Map s n spot b f = cc
+may_stand (w.Open k.Bytes j) Tag s n spot b f = cc
+may_stand (w.Open k.Bytes j) Other s n spot b f = cc
+may_stand (w.Open k.Text j) TextString s n spot b f = body_sound k.Text n _ f
+may_stand (w.Open k.Text j) Unsigned s n spot b f = cc
+may_stand (w.Open k.Text j) Negative s n spot b f = cc
+may_stand (w.Open k.Text j) ByteString s n spot b f = cc
+may_stand (w.Open k.Text j) Array s n spot b f = cc
+may_stand (w.Open k.Text j) Map s n spot b f = cc
+may_stand (w.Open k.Text j) Tag s n spot b f = cc
+may_stand (w.Open k.Text j) Other s n spot b f = cc
+
+-- ---- a title that may not
+
+may_not : (i : Within) (m : Major) (s : Size) (n : ℕ) (spot : Spot) → is_blocked i (kind_of m) ≡ true
+    → Faults (entered i (numbered_header m s n) spot)
+may_not w.Nothing m s n spot b = absurd cc
+may_not (w.Open k.Bytes j) ByteString s n spot b = absurd cc
+may_not (w.Open k.Bytes j) Unsigned s n spot b = (spot.place, refl)
+may_not (w.Open k.Bytes j) Negative s n spot b = (spot.place, refl)
+may_not (w.Open k.Bytes j) TextString s n spot b = (spot.place, refl)
+may_not (w.Open k.Bytes j) Array s n spot b = (spot.place, refl)
+may_not (w.Open k.Bytes j) Map s n spot b = (spot.place, refl)
+may_not (w.Open k.Bytes j) Tag s n spot b = (spot.place, refl)
+may_not (w.Open k.Bytes j) Other Small n spot b = (spot.place, refl)
+may_not (w.Open k.Bytes j) Other One n spot b = (spot.place, refl)
+may_not (w.Open k.Bytes j) Other Two n spot b = (spot.place, refl)
+may_not (w.Open k.Bytes j) Other Four n spot b = (spot.place, refl)
+may_not (w.Open k.Bytes j) Other Eight n spot b = (spot.place, refl)
+may_not (w.Open k.Text j) TextString s n spot b = absurd cc
+may_not (w.Open k.Text j) Unsigned s n spot b = (spot.place, refl)
+may_not (w.Open k.Text j) Negative s n spot b = (spot.place, refl)
+may_not (w.Open k.Text j) ByteString s n spot b = (spot.place, refl)
+may_not (w.Open k.Text j) Array s n spot b = (spot.place, refl)
+may_not (w.Open k.Text j) Map s n spot b = (spot.place, refl)
+may_not (w.Open k.Text j) Tag s n spot b = (spot.place, refl)
+may_not (w.Open k.Text j) Other Small n spot b = (spot.place, refl)
+may_not (w.Open k.Text j) Other One n spot b = (spot.place, refl)
+may_not (w.Open k.Text j) Other Two n spot b = (spot.place, refl)
+may_not (w.Open k.Text j) Other Four n spot b = (spot.place, refl)
+may_not (w.Open k.Text j) Other Eight n spot b = (spot.place, refl)
+
+-- ---- titles that begin with a byte that announces others
+
+-- such a title is one of a number
+record Numbered (byte : ℕ) (x : Header) : Type 0 where
+  major : Major
+  size : Size
+  number : ℕ
+  is : x ≡ numbered_header major size number
+  code : major_code major ≡ byte / 32
+
+numbered_title : (byte : ℕ) (v t : List ℕ) (x : Header) → IsTitle t x → t ≡ byte ∷ v → 0 < affix_len (byte % 32)
+    → Numbered byte x
+numbered_title byte v t x (numbered m s n q) e more =
+    let below = minor_below s n q in
+    let heads : first_byte m (minor_of s n) ≡ byte = cc in
+    record { major = m; size = s; number = n; is = refl; code = omega (arith, below, heads) }
+numbered_title byte v t x (alone m y o) e more =
+    let heads : first_byte m 31 ≡ byte = cc in
+    let minor : byte % 32 ≡ 31 = omega (arith, heads) in
+    let empty = ap affix_len minor in
+    absurd (omega (arith, empty, more))
+
+kind_at : (kind : TitleKind) (byte : ℕ) (m : Major) → major_code m ≡ byte / 32 → 0 < affix_len (byte % 32)
+    → IsTitleKind kind (byte / 32) (byte % 32) → kind ≡ kind_of m
+kind_at kind byte m e more i =
+    kind_is kind m (byte % 32) (subst (λ (z : ℕ). IsTitleKind kind z (byte % 32)) (sym e) i)
+    (λ refuses. let empty = refused_affix byte (subst (λ (z : ℕ). NamesNoTitle z (byte % 32)) e refuses) in
+    omega (arith, empty, more))
+
+module _ (spot : Spot) (kind : TitleKind) (byte : ℕ) (bytes : List ℕ) (front : spot.front ≡ byte ∷ bytes)
+    (is_cut : length bytes < affix_len (byte % 32)) (is_kind : IsTitleKind kind (byte / 32) (byte % 32)) where
+  whole_cut : IsCutTitle spot.front
+  whole_cut = rw front is_cut
+
+  title_of : (behind : List ℕ) (x : Header) → IsTitle (spot.front ++ behind) x → Numbered byte x
+  title_of behind x q =
+      numbered_title byte (bytes ++ behind) (spot.front ++ behind) x q (ap (λ (z : List ℕ). z ++ behind) front)
+      (omega (arith, is_cut))
+
+  pub blocked_early : is_blocked spot.within kind ≡ true → TitleStep spot (refused spot)
+  blocked_early b =
+      early whole_cut (λ behind x q.
+      let o = title_of behind x q in
+      let same = kind_at kind byte o.major o.code (omega (arith, is_cut)) is_kind in
+      let known = subst (λ (z : TitleKind). is_blocked spot.within z ≡ true) same b in
+      subst (λ (z : Header). Faults (titled z spot)) (sym o.is)
+      (may_not spot.within o.major o.size o.number (record spot { front = [] }) known))
+
+  pub blocked_none : is_blocked spot.within kind ≡ false → TitleStep spot spot
+  blocked_none b =
+      cut whole_cut (λ behind x q is.
+      let o = title_of behind x q in
+      let same = kind_at kind byte o.major o.code (omega (arith, is_cut)) is_kind in
+      let known = subst (λ (z : TitleKind). is_blocked spot.within z ≡ false) same b in
+      may_stand spot.within o.major o.size o.number (record spot { front = [] }) known
+      (subst (λ (z : Header). Faults (titled z spot)) o.is is))
+
+cond_most : (b : Bool) (m n most : ℕ) → m ≤ most → n ≤ most → cond b m n ≤ most
+cond_most true m n most l k = l
+cond_most false m n most l k = k
+
+-- no byte announces more than eight
+pub affix_most : (minor : ℕ) → affix_len minor ≤ 8
+affix_most minor =
+    let eight = cond_most (minor == 27) 8 0 8 (omega arith) (omega arith) in
+    let four = cond_most (minor == 26) 4 (cond (minor == 27) 8 0) 8 (omega arith) eight in
+    let two = cond_most (minor == 25) 2 (cond (minor == 26) 4 (cond (minor == 27) 8 0)) 8 (omega arith) four in
+    cond_most (minor == 24) 1 (cond (minor == 25) 2 (cond (minor == 26) 4 (cond (minor == 27) 8 0))) 8 (omega arith) two
+
+-- ---- where a byte of a title leads, as the code finds it
+
+-- a first byte, and the others
+parted : (xs : List ℕ) → 0 < length xs → xs ≡ slice_index xs 0 ∷ drop 1 xs
+parted [] l = absurd (omega arith)
+parted (x ∷ xs) l = refl
+
+module _ (spot new : Spot) (row : Row) (some : 0 < length spot.front)
+    (says : IsRow (slice_index spot.front 0) row) where
+  cut_length : length spot.front ≤ affix_len (slice_index spot.front 0 % 32)
+      → length (drop 1 spot.front) < affix_len (slice_index spot.front 0 % 32)
+  cut_length short = let whole = ap length (parted spot.front some) in omega (arith, whole, short)
+
+  pub step_early : length spot.front ≤ affix_len (slice_index spot.front 0 % 32)
+      → is_blocked spot.within row.kind ≡ true → new ≡ refused spot
+      → TitleStep spot new
+  step_early short b e =
+      subst (TitleStep spot) (sym e) (blocked_early spot row.kind (slice_index spot.front 0) (drop 1 spot.front)
+      (parted spot.front some) (cut_length short) says.kind b)
+
+  pub step_cut : length spot.front ≤ affix_len (slice_index spot.front 0 % 32)
+      → is_blocked spot.within row.kind ≡ false → new ≡ spot
+      → TitleStep spot new
+  step_cut short b e =
+      subst (TitleStep spot) (sym e) (blocked_none spot row.kind (slice_index spot.front 0) (drop 1 spot.front)
+      (parted spot.front some) (cut_length short) says.kind b)
+
+pub step_whole : (spot new : Spot) (header : Header) → IsTitle spot.front header → new ≡ titled header spot
+    → TitleStep spot new
+step_whole spot new header q e = subst (TitleStep spot) (sym e) (whole header q)
+
+pub step_none : (spot new : Spot) → BeginsRefused spot.front → new ≡ refused (record spot { front = [] })
+    → TitleStep spot new
+step_none spot new r e = subst (TitleStep spot) (sym e) (none r)

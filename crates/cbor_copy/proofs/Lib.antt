@@ -1,0 +1,15 @@
+pub mod BlockedLaws
+pub mod BodySteps
+pub mod EnterLaws
+pub mod ExactLaws
+pub mod FedLaws
+pub mod FrontLaws
+pub mod HeldLaws
+pub mod KeptLaws
+pub mod LiveLaws
+pub mod OneSpot
+pub mod PendingLaws
+pub mod Reached
+pub mod SpelledLaws
+pub mod StepLaws
+pub mod TellLaws

@@ -1,0 +1,148 @@
+-- What the bytes of a copy have led to, in terms of elements, and what was put out till there.
+use Rattle.std.proofs.Common.{◌≡◌, ℕ, suc, ◌+◌, ◌-◌, ◌<◌, true, List, [], ◌∷◌, ◌++◌, length, Some, ◌⊎◌}
+use Rattle.ciborium_ll_grammar.specs.declared.hdr.Header.{Header}
+use Rattle.ciborium_ll_grammar.specs.Title.{IsTitle, title_len, IsCutTitle, AreBytes}
+use Rattle.ciborium_ll_grammar.specs.Strings.{Kind, Bytes, Text, kind_header, IsMisplaced, IsWritable}
+use Rattle.ciborium_ll_grammar.specs.Elements.{AreWritable, Mark, Open, pieces, spelling, IsRun}
+use Rattle.ciborium_ll_grammar.specs.Faults.{Place, Due, In, Reaches, Answer, Syntax, with_front, FirstFault}
+use Rattle.ciborium_ll_grammar.proofs.OpenStrings.{IsInsideAt}
+use Rattle.ciborium_ll_text.specs.declared.state.State.TheVariants as s
+use Rattle.ciborium_ll_text.specs.States.{after}
+use Rattle.cbor_copy.specs.declared.phase.Phase.{Phase}
+use Rattle.cbor_copy.specs.declared.phase.Phase.TheVariants as p
+use Rattle.cbor_copy.specs.declared.phase.StringKind.{StringKind}
+use Rattle.cbor_copy.specs.declared.phase.StringKind.TheVariants as k
+use Rattle.cbor_copy.specs.declared.phase.Within.{Within}
+use Rattle.cbor_copy.specs.declared.phase.Within.TheVariants as w
+use Rattle.cbor_copy.specs.Spots.{Spot}
+use Rattle.cbor_copy.specs.Steps.{may_end}
+
+abbrev pub kind_of : StringKind → Kind
+kind_of k.Bytes = Bytes
+kind_of k.Text = Text
+
+-- the bytes are all of the elements but so many
+pub record RunLeft (count left : ℕ) (bytes : List ℕ) (marks : List Mark) : Type 0 where
+  pub before : ℕ
+  pub run : IsRun before bytes marks
+  pub counted : before + left ≡ count
+
+-- behind those a string of the kind is open, and so many within it
+pub record InOpen (kind : Kind) (more count left : ℕ) (bytes : List ℕ) (marks : List Mark) : Type 0 where
+  pub elements : List ℕ
+  pub element_marks : List Mark
+  pub opens : List ℕ
+  pub bodies : List (List ℕ)
+  pub run : RunLeft count left elements element_marks
+  pub inside : IsInsideAt kind (suc more) opens bodies
+  pub sound : AreWritable kind bodies
+  pub is : bytes ≡ elements ++ opens
+  pub marks_are : marks ≡ element_marks ++ Open kind ∷ pieces kind bodies
+
+-- a title is due
+abbrev pub At : Within → ℕ → ℕ → List ℕ → List Mark → Type 0
+At w.Nothing count left bytes marks = RunLeft count left bytes marks
+At (w.Open kind more) count left bytes marks = InOpen (kind_of kind) more count left bytes marks
+
+-- a header that may not stand there
+abbrev pub Misplaced : Within → Header → Type 0
+Misplaced w.Nothing header = ⊥
+Misplaced (w.Open kind more) header = IsMisplaced (kind_of kind) header
+
+-- a string of the kind may stand there
+abbrev pub OfKind : Within → StringKind → Type 0
+OfKind w.Nothing kind = Unit {0}
+OfKind (w.Open outer more) kind = outer ≡ kind
+
+abbrev pub place_of : Within → Place
+place_of w.Nothing = Due
+place_of (w.Open kind more) = In (kind_of kind)
+
+-- the place that a fault of a body names
+abbrev pub body_place : Within → List ℕ → List ℕ → Header → ℕ
+body_place w.Nothing before title header = length (before ++ title) - title_len header
+body_place (w.Open kind more) before title header = length before
+
+-- no title came, or a part of one that may stand there
+abbrev pub FrontAt : Within → ℕ → ℕ → List ℕ → Type 0
+FrontAt i at place front = (front ≡ []) ⊎ (AreBytes front × IsCutTitle front
+    × ((more : List ℕ) (header : Header) → IsTitle (front ++ more) header → Misplaced i header → ⊥) × (place ≡ at))
+
+-- where a title is due
+pub record Titling (count : ℕ) (bytes : List ℕ) (spot : Spot) (output : List ℕ) : Type 0 where
+  pub before : List ℕ
+  pub marks : List Mark
+  pub at : At spot.within count spot.left before marks
+  pub due : 0 < spot.left
+  pub is : bytes ≡ before ++ spot.front
+  pub out : output ≡ spelling marks
+  pub front : FrontAt spot.within (length before) spot.place spot.front
+
+-- where so many bytes of a body are due
+pub record Bodying (kind : StringKind) (left count : ℕ) (bytes : List ℕ) (spot : Spot) (output : List ℕ) : Type 0 where
+  pub before : List ℕ
+  pub title : List ℕ
+  pub part : List ℕ
+  pub marks : List Mark
+  pub len : ℕ
+  pub at : At spot.within count spot.left before marks
+  pub due : 0 < spot.left
+  pub of_kind : OfKind spot.within kind
+  pub is_title : IsTitle title (kind_header (kind_of kind) (Some len))
+  pub is : bytes ≡ (before ++ title) ++ (part ++ spot.front)
+  pub long : length (part ++ spot.front) + left ≡ len
+  pub out : output ≡ with_front marks (kind_of kind) len part
+  pub sound : IsWritable (kind_of kind) part
+  pub place : spot.place ≡ body_place spot.within before title (kind_header (kind_of kind) (Some len))
+
+-- so many elements have come
+pub record Whole (count : ℕ) (bytes output : List ℕ) : Type 0 where
+  pub marks : List Mark
+  pub run : IsRun count bytes marks
+  pub out : output ≡ spelling marks
+
+-- a fault, of whatever answer
+pub record SomeFault (before : List ℕ) (marks : List Mark) (at : Place) (ahead : List ℕ) : Type 0 where
+  pub answer : Answer
+  pub written : List ℕ
+  pub consumed : ℕ
+  pub fault : FirstFault before marks at ahead answer written consumed
+
+-- whatever follows, there is a fault, and something follows with which it is the one at this place
+pub record Broken (place count : ℕ) (bytes output : List ℕ) : Type 0 where
+  pub before : List ℕ
+  pub marks : List Mark
+  pub at : Place
+  pub ahead : List ℕ
+  pub reach : Reaches count before marks at
+  pub is : bytes ≡ before ++ ahead
+  pub each : (more : List ℕ) → AreBytes more → SomeFault before marks at (ahead ++ more)
+  pub more : List ℕ
+  pub more_bytes : AreBytes more
+  pub consumed : ℕ
+  pub fault : FirstFault before marks at (ahead ++ more) (Syntax place) output consumed
+
+abbrev pub HoldsIn : Phase → ℕ → List ℕ → Spot → List ℕ → Type 0
+HoldsIn p.Title count bytes spot output = Titling count bytes spot output
+HoldsIn (p.Bytes left) count bytes spot output =
+    Bodying k.Bytes left count bytes spot output × (spot.front ≡ []) × (0 < left)
+HoldsIn (p.Text left state) count bytes spot output =
+    Bodying k.Text left count bytes spot output × (state ≡ after s.Between spot.front) × (may_end state left ≡ true)
+    × (0 < left)
+HoldsIn p.Ended count bytes spot output = Whole count bytes output
+HoldsIn (p.Faulted place) count bytes spot output = Broken place count bytes output
+
+abbrev pub Holds : ℕ → List ℕ → Spot → List ℕ → Type 0
+Holds count bytes spot output = HoldsIn spot.phase count bytes spot output
+
+-- a spot that holds no bytes back
+abbrev pub clear : Phase → Within → ℕ → ℕ → ℕ → List ℕ → Spot
+clear phase i left place offset put = record {
+  phase = phase;
+  front = [];
+  within = i;
+  left = left;
+  place = place;
+  offset = offset;
+  put = put;
+}

@@ -1,0 +1,20 @@
+-- A copier as the spot that it has come to.
+use Rattle.std.specs.Prelude.{ℕ, List, [], ◌++◌}
+use Rattle.cbor_copy.specs.declared.copier.Copier.{Copier}
+use Rattle.cbor_copy.specs.Spots.{Spot, putting}
+use Rattle.cbor_copy.specs.Steps.{IsFed}
+
+abbrev pub spot_of : Copier → Spot
+spot_of c = record {
+  phase = c.phase;
+  front = c.front;
+  within = c.within;
+  left = c.left;
+  place = c.place;
+  offset = c.offset;
+  put = c.pending;
+}
+
+-- to a copy of so many elements these bytes came, and these were given of what they put out: all but what is pending
+abbrev pub IsCopied : ℕ → List ℕ → List ℕ → Copier → Type 0
+IsCopied count fed given c = IsFed count fed (putting [] (spot_of c)) (given ++ c.pending)

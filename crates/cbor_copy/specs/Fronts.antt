@@ -1,0 +1,44 @@
+-- How many bytes at most are held back of a title or of a character, and how many strings are open.
+use Rattle.std.specs.Prelude.{ℕ, zero, suc, ◌-◌, ◌%◌, Bool, true, false, List, slice_index}
+use Rattle.ciborium_ll_grammar.specs.Title.{affix_len}
+use Rattle.ciborium_ll_text.specs.declared.state.State.{State}
+use Rattle.ciborium_ll_text.specs.declared.state.State.TheVariants as s
+use Rattle.cbor_copy.specs.declared.phase.Phase.{Phase}
+use Rattle.cbor_copy.specs.declared.phase.Phase.TheVariants as p
+use Rattle.cbor_copy.specs.declared.phase.Within.{Within}
+use Rattle.cbor_copy.specs.declared.phase.Within.TheVariants as w
+
+-- how many bytes at least end the character (Unicode, Table 3-7)
+abbrev pub tail_due : State → ℕ
+tail_due s.Between = 0
+tail_due s.OneDue = 1
+tail_due s.TwoDue = 2
+tail_due s.ThreeDue = 3
+tail_due s.BehindE0 = 2
+tail_due s.BehindEd = 2
+tail_due s.BehindF0 = 3
+tail_due s.BehindF4 = 3
+tail_due s.Damaged = 0
+
+-- of a character that is cut, by the bytes that end it: it has at most four
+abbrev pub most_cut : State → ℕ
+most_cut s.Between = 0
+most_cut s.Damaged = 0
+most_cut state = 4 - tail_due state
+
+-- of a title that is cut: fewer follow the first byte than it announces (RFC 7049, 2.1)
+abbrev pub most_front : Phase → List ℕ → ℕ
+most_front p.Title front = affix_len (slice_index front 0 % 32)
+most_front (p.Text left state) front = most_cut state
+most_front (p.Faulted place) front = 8
+most_front phase front = 0
+
+abbrev pub open_count : Within → ℕ
+open_count w.Nothing = 0
+open_count (w.Open kind more) = suc more
+
+-- a body has bytes left
+abbrev pub has_left : Phase → Bool
+has_left (p.Bytes zero) = false
+has_left (p.Text zero state) = false
+has_left phase = true

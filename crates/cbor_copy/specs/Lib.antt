@@ -1,0 +1,6 @@
+pub mod Blocked
+pub mod Copying
+pub mod Fronts
+pub mod Spots
+pub mod Steps
+pub mod Telling

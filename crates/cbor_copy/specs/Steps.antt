@@ -1,0 +1,107 @@
+-- How one byte more leads from a spot to the next, and where a list of bytes leads.
+use Rattle.std.specs.Prelude.{◌≡◌, ℕ, zero, suc, ◌+◌, ◌<◌, Bool, List, [], ◌∷◌, ◌++◌, nat_le, true, false}
+use Rattle.ciborium_ll_grammar.specs.declared.hdr.Header.{Header}
+use Rattle.ciborium_ll_grammar.specs.Title.{IsTitle, IsCutTitle, BeginsRefused}
+use Rattle.ciborium_ll_text.specs.declared.state.State.{State}
+use Rattle.ciborium_ll_text.specs.declared.state.State.TheVariants as s
+use Rattle.ciborium_ll_text.specs.States.{after_byte}
+use Rattle.cbor_copy.specs.declared.phase.Phase.{Phase}
+use Rattle.cbor_copy.specs.declared.phase.Phase.TheVariants as p
+use Rattle.cbor_copy.specs.declared.phase.StringKind.TheVariants as k
+use Rattle.cbor_copy.specs.declared.phase.Within.TheVariants as w
+use Rattle.cbor_copy.specs.Fronts.{tail_due}
+use Rattle.cbor_copy.specs.Spots.{Spot, at_phase, putting, elements_due, body_due, entered, refused}
+
+-- nothing came, and so many elements are due
+abbrev pub start : ℕ → Spot
+start count = elements_due count (record {
+  phase = p.Title;
+  front = [];
+  within = w.Nothing;
+  left = count;
+  place = 0;
+  offset = 0;
+  put = [];
+})
+
+-- a fault in this title names where it began
+abbrev pub title_place : List ℕ → Spot → ℕ
+title_place [] spot = spot.offset
+title_place (byte ∷ bytes) spot = spot.place
+
+-- one byte more of a title
+abbrev pub with_byte : ℕ → Spot → Spot
+with_byte byte spot = record spot {
+  front = spot.front ++ byte ∷ [];
+  place = title_place spot.front spot;
+  offset = spot.offset + 1;
+  put = [];
+}
+
+-- behind a whole title
+abbrev pub titled : Header → Spot → Spot
+titled header spot = entered spot.within header (record spot { front = [] })
+
+-- it is a fault
+abbrev pub Faults : Spot → Type 0
+Faults spot = (place : ℕ) × (spot.phase ≡ p.Faulted place)
+
+-- Where a byte of a title has led, which now stands at the end of the front
+pub data TitleStep (spot : Spot) : Spot → Type 0 where
+  -- the title isn't whole, and each that begins so may stand here
+  cut : IsCutTitle spot.front
+      → ((more : List ℕ) (header : Header) → IsTitle (spot.front ++ more) header → Faults (titled header spot) → ⊥)
+      → TitleStep spot spot
+  -- it isn't whole, and none that begins so may stand here
+  early : IsCutTitle spot.front
+      → ((more : List ℕ) (header : Header) → IsTitle (spot.front ++ more) header → Faults (titled header spot))
+      → TitleStep spot (refused spot)
+  -- it is whole
+  whole : (header : Header) → IsTitle spot.front header → TitleStep spot (titled header spot)
+  -- no title begins so
+  none : BeginsRefused spot.front → TitleStep spot (refused (record spot { front = [] }))
+
+-- so many bytes may end a text that has come to this state
+abbrev pub may_end : State → ℕ → Bool
+may_end s.Damaged left = false
+may_end state left = nat_le (tail_due state) left
+
+-- one byte more of a character
+abbrev pub with_char : ℕ → Spot → Spot
+with_char byte spot = record spot { front = spot.front ++ byte ∷ []; offset = spot.offset + 1; put = [] }
+
+-- a whole character is put out
+abbrev pub char_put : Spot → Spot
+char_put spot = record spot { front = []; put = spot.front }
+
+-- behind a byte of a text, of which so many bytes are left
+abbrev pub text_left : Bool → ℕ → State → Spot → Spot
+text_left false left state spot = refused (record spot { front = [] })
+text_left true left s.Between spot = body_due k.Text left (char_put spot)
+text_left true left state spot = at_phase (p.Text left state) spot
+
+-- a byte of a byte string is put out
+abbrev pub byte_put : ℕ → Spot → Spot
+byte_put byte spot = record spot { offset = spot.offset + 1; put = byte ∷ [] }
+
+-- where one byte more leads, and what it puts out
+abbrev pub StepIn : Phase → Spot → ℕ → Spot → Type 0
+StepIn p.Title spot byte new = TitleStep (with_byte byte spot) new
+StepIn (p.Bytes zero) spot byte new = ⊥
+StepIn (p.Bytes (suc left)) spot byte new = new ≡ body_due k.Bytes left (byte_put byte spot)
+StepIn (p.Text zero state) spot byte new = ⊥
+StepIn (p.Text (suc left) state) spot byte new =
+    new ≡ text_left (may_end (after_byte state byte) left) left (after_byte state byte) (with_char byte spot)
+StepIn p.Ended spot byte new = ⊥
+StepIn (p.Faulted place) spot byte new = ⊥
+
+abbrev pub Step : Spot → ℕ → Spot → Type 0
+Step spot byte new = StepIn spot.phase spot byte new
+
+-- `IsFed count bytes spot output`: to a copy of so many elements, these bytes have led to the spot, and all that they
+-- put out
+pub data IsFed (count : ℕ) : List ℕ → Spot → List ℕ → Type 0 where
+  fresh : IsFed count [] (start count) []
+  more : {bytes output : List ℕ} {spot : Spot} (byte : ℕ) (new : Spot) → byte < 256 → IsFed count bytes spot output
+      → Step spot byte new
+      → IsFed count (bytes ++ byte ∷ []) (putting [] new) (output ++ new.put)

@@ -1,0 +1,110 @@
+-- What a copier answers, and what that says of the bytes so far and of what was written.
+use Rattle.std.specs.Prelude.{◌≡◌, ℕ, ◌+◌, ◌<◌, ◌≤◌, ◌^◌, Bool, true, false, List, [], ◌∷◌, ◌++◌, length}
+use Rattle.ciborium_ll_grammar.specs.Title.{AreBytes}
+use Rattle.ciborium_ll_grammar.specs.Elements.{Mark, spelling, IsRun}
+use Rattle.ciborium_ll_grammar.specs.Faults.{Answer, Short, Syntax, RunInFront, HasFault}
+use Rattle.cbor_copy.specs.declared.phase.Phase.{Phase}
+use Rattle.cbor_copy.specs.declared.phase.Phase.TheVariants as p
+use Rattle.cbor_copy.specs.declared.progress.Progress.{Progress}
+use Rattle.cbor_copy.specs.declared.progress.Progress.TheVariants as r
+use Rattle.cbor_copy.specs.Spots.{Spot}
+
+-- more bytes may come
+abbrev pub is_due : Phase → Bool
+is_due p.Ended = false
+is_due (p.Faulted place) = false
+is_due phase = true
+
+abbrev pub progress_in : Phase → Progress
+progress_in p.Ended = r.Ended
+progress_in (p.Faulted place) = r.Syntax place
+progress_in phase = r.More
+
+-- the answer, by what is pending and what is due
+abbrev pub progress_of : List ℕ → Phase → Progress
+progress_of [] phase = progress_in phase
+progress_of (byte ∷ bytes) phase = r.Room
+
+-- it is so, but where no more bytes can be counted
+abbrev pub IsAnswer : Progress → List ℕ → Phase → Type 0
+IsAnswer r.TooLong pending phase = progress_of pending phase ≡ r.More
+IsAnswer progress pending phase = progress ≡ progress_of pending phase
+
+-- more bytes are due
+abbrev pub IsMore : Progress → Type 0
+IsMore r.More = Unit {0}
+IsMore progress = ⊥
+
+-- there is no room for what is pending
+abbrev pub IsRoom : Progress → Type 0
+IsRoom r.Room = Unit {0}
+IsRoom progress = ⊥
+
+-- ---- what is said of all bytes so far
+
+-- they are so many elements, and what was put out is their shortest spelling
+pub record AreSpelled (count : ℕ) (bytes output : List ℕ) : Type 0 where
+  pub marks : List Mark
+  pub run : IsRun count bytes marks
+  pub spelled : output ≡ spelling marks
+
+-- where no more come, a copy of so many elements is at this fault, with this written
+pub record ComesTo (count : ℕ) (bytes : List ℕ) (answer : Answer) (output : List ℕ) : Type 0 where
+  pub fault : HasFault count bytes
+  pub answered : fault.answer ≡ answer
+  pub written : fault.written ≡ output
+
+-- some bytes behind them make so many elements of all
+pub record SomeGoOn (count : ℕ) (bytes : List ℕ) : Type 0 where
+  pub more : List ℕ
+  pub more_bytes : AreBytes more
+  pub marks : List Mark
+  pub run : IsRun count (bytes ++ more) marks
+
+-- with no bytes behind them so many elements stand in front
+abbrev pub NoneGoOn : ℕ → List ℕ → Type 0
+NoneGoOn count bytes = (more : List ℕ) → AreBytes more → RunInFront count (bytes ++ more) → ⊥
+
+-- with some bytes behind them, a copy is at the fault of this place, with this written
+pub record FaultsAt (place count : ℕ) (bytes output : List ℕ) : Type 0 where
+  pub more : List ℕ
+  pub more_bytes : AreBytes more
+  pub comes_to : ComesTo count (bytes ++ more) (Syntax place) output
+
+-- More: they are a part of so many elements. Ended: they are all. Syntax: no such elements begin so
+abbrev pub TellsWhole : ℕ → List ℕ → List ℕ → Progress → Type 0
+TellsWhole count bytes output r.More = ComesTo count bytes Short output × SomeGoOn count bytes
+TellsWhole count bytes output r.Room = ⊥
+TellsWhole count bytes output r.Ended = AreSpelled count bytes output
+TellsWhole count bytes output (r.Syntax place) = NoneGoOn count bytes × FaultsAt place count bytes output
+TellsWhole count bytes output r.TooLong =
+    ComesTo count bytes Short output × SomeGoOn count bytes × (2 ^ 64 ≤ length bytes + 1)
+
+-- of what was written and a pending rest one of these is so
+pub record LacksRoom (count : ℕ) (bytes output : List ℕ) : Type 0 where
+  pub pending : List ℕ
+  pub some : 0 < length pending
+  pub progress : Progress
+  pub told : TellsWhole count bytes (output ++ pending) progress
+
+abbrev pub Tells : ℕ → List ℕ → List ℕ → Progress → Type 0
+Tells count bytes output r.Room = LacksRoom count bytes output
+Tells count bytes output progress = TellsWhole count bytes output progress
+
+-- ---- by the spot
+
+-- so many elements came
+abbrev pub EndedIn : Phase → Type 0
+EndedIn p.Ended = Unit {0}
+EndedIn phase = ⊥
+
+abbrev pub HasEnded : Spot → Type 0
+HasEnded spot = EndedIn spot.phase
+
+-- no such elements begin so
+abbrev pub FaultIn : Phase → Type 0
+FaultIn (p.Faulted place) = Unit {0}
+FaultIn phase = ⊥
+
+abbrev pub IsAtFault : Spot → Type 0
+IsAtFault spot = FaultIn spot.phase

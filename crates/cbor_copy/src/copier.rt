@@ -1,0 +1,399 @@
+//! The copier: one byte more, and what it puts out.
+
+ghost use Rattle.std.specs.Prelude.{◌≡◌, ◌+◌, ◌<◌, ◌≤◌, [], length, slice_index, true};
+ghost use Rattle.cbor_copy.specs.Fronts.{has_left, most_front, open_count};
+ghost use Rattle.cbor_copy.specs.Blocked.{is_blocked};
+ghost use Rattle.cbor_copy.specs.Steps.{may_end};
+
+use crate::few::Few;
+use crate::pending::Pending;
+use crate::phase::{Phase, StringKind, Within};
+use crate::progress::{Copied, Progress};
+use crate::title::{affix_len, header_of};
+use ciborium_ll_grammar::hdr::Header;
+use ciborium_ll_grammar::hdr::table::{TitleKind, row_of};
+use ciborium_ll_text::state::State;
+
+/// Whether a title of this kind may not stand there, where not all of its bytes came.
+fn is_blocked(within: Within, kind: TitleKind) -> bool
+    ensures { result ≡ is_blocked within kind }
+{
+    !matches!(
+        (within, kind),
+        (Within::Nothing, _)
+            | (Within::Open(StringKind::Bytes, _), TitleKind::Bytes)
+            | (Within::Open(StringKind::Text, _), TitleKind::Text)
+    )
+}
+
+/// Whether so many bytes may end a text that has come to this state.
+fn may_end(state: State, left: usize) -> bool
+    ensures { result ≡ may_end state left }
+{
+    match state {
+        State::Between => true,
+        State::OneDue => left >= 1,
+        State::TwoDue | State::BehindE0 | State::BehindEd => left >= 2,
+        State::ThreeDue | State::BehindF0 | State::BehindF4 => left >= 3,
+        State::Damaged => false,
+    }
+}
+
+/// Copies elements of CBOR whose bytes come in pieces, each in its shortest spelling.
+///
+/// An element is a header that begins no string, or a whole string (RFC 7049, 2.1 and 2.2). A copier takes no memory,
+/// and reads and writes nothing by itself: what came is given to [`Copier::feed`], which writes into memory of the
+/// caller.
+#[derive(Drop)]
+pub struct Copier {
+    phase: Phase,
+    front: Few,
+    within: Within,
+    left: usize,
+    place: usize,
+    offset: usize,
+    pending: Pending,
+    ghost some: { has_left phase ≡ true },
+    ghost room: { length front ≤ most_front phase front },
+    ghost counted: { open_count within ≤ offset },
+}
+
+impl Copier {
+    ghost use Rattle.std.specs.Prelude.{ℕ, ◌-◌, ◌++◌, ◌∷◌, List, take, drop, false};
+    ghost use Rattle.ciborium_ll_text.specs.States.{after_byte};
+    ghost use Rattle.cbor_copy.specs.Copying.{IsCopied, spot_of};
+    ghost use Rattle.cbor_copy.specs.Spots.{Spot, body_due, element_done, element_entered, elements_due, entered};
+    ghost use Rattle.cbor_copy.specs.Spots.{string_closed, string_done, string_entered, string_open, within_entered};
+    ghost use Rattle.cbor_copy.specs.Spots.{piece_entered, refused};
+    ghost use Rattle.cbor_copy.specs.Fronts.{most_cut};
+    ghost use Rattle.cbor_copy.specs.Steps.{Step, TitleStep, byte_put, text_left, title_place, with_byte, with_char};
+    ghost use Rattle.cbor_copy.specs.Telling.{IsAnswer, IsMore, IsRoom, Tells, is_due, progress_of};
+    ghost use Rattle.cbor_copy.specs.declared.phase.Phase.TheVariants as p;
+    ghost use Rattle.cbor_copy.specs.declared.phase.StringKind.TheVariants as k;
+
+    /// A copier of so many elements, to which nothing came.
+    pub fn new(count: usize) -> Copier
+        ensures { IsCopied count [] [] result }
+    {
+        let mut copier = Copier {
+            phase: Phase::Title,
+            front: Few::new(),
+            within: Within::Nothing,
+            left: count,
+            place: 0,
+            offset: 0,
+            pending: Pending::new(),
+        };
+        copier.elements_due(count);
+        copier
+    }
+
+    /// So many elements are left.
+    fn elements_due(&mut self, left: usize)
+        requires { self.old.front ≡ [] }
+        ensures { spot_of self.new ≡ elements_due left (spot_of self.old) }
+    {
+        self.within = Within::Nothing;
+        self.left = left;
+        self.phase = if left == 0 {
+            Phase::Ended
+        } else {
+            Phase::Title
+        };
+    }
+
+    /// A whole element has come.
+    fn element_done(&mut self)
+        requires { self.old.front ≡ [] }
+        ensures { spot_of self.new ≡ element_done (spot_of self.old) }
+    {
+        self.elements_due(self.left.saturating_sub(1));
+    }
+
+    /// A whole string of a definite length has come: an element, or a piece of an open string.
+    fn string_done(&mut self)
+        requires { self.old.front ≡ [] }
+        ensures { spot_of self.new ≡ string_done self.old.within (spot_of self.old) }
+    {
+        match self.within {
+            Within::Nothing => self.element_done(),
+            Within::Open(_, _) => self.phase = Phase::Title,
+        }
+    }
+
+    /// The title of a string of this kind and length has come, or so many bytes of a byte string are left.
+    fn body_due(&mut self, kind: StringKind, len: usize)
+        requires { self.old.front ≡ [] }
+        ensures { spot_of self.new ≡ body_due kind len (spot_of self.old) }
+    {
+        if len == 0 {
+            self.string_done();
+            return;
+        }
+        self.phase = match kind {
+            StringKind::Bytes => Phase::Bytes(len),
+            StringKind::Text => Phase::Text(len, State::Between),
+        };
+    }
+
+    /// Strings are open, and a piece of them or a break is due.
+    fn string_open(&mut self, kind: StringKind, more: usize)
+        requires clear { self.old.front ≡ [] }
+        requires open { more < self.old.offset }
+        ensures { spot_of self.new ≡ string_open kind more (spot_of self.old) }
+    {
+        self.within = Within::Open(kind, more);
+        self.phase = Phase::Title;
+    }
+
+    /// The title of a string that is an element has come.
+    fn enter_string(&mut self, kind: StringKind, header: Header, len: Option<usize>)
+        requires clear { self.old.front ≡ [] }
+        requires some { 1 ≤ self.old.offset }
+        ensures { spot_of self.new ≡ string_entered kind header len (spot_of self.old) }
+    {
+        match len {
+            Some(len) => {
+                self.place = self.offset.saturating_sub(header.title_len());
+                self.body_due(kind, len);
+            }
+            None => self.string_open(kind, 0),
+        }
+    }
+
+    /// The title of this header has come where an element is due.
+    fn enter_element(&mut self, header: Header)
+        requires clear { self.old.front ≡ [] }
+        requires some { 1 ≤ self.old.offset }
+        ensures { spot_of self.new ≡ element_entered header (spot_of self.old) }
+    {
+        self.pending.set(Few::title(header));
+        match header {
+            Header::Bytes(len) => self.enter_string(StringKind::Bytes, header, len),
+            Header::Text(len) => self.enter_string(StringKind::Text, header, len),
+            _ => self.element_done(),
+        }
+    }
+
+    /// A break has come within a string, of which so many more are open around it.
+    fn string_closed(&mut self, kind: StringKind, more: usize)
+        requires clear { self.old.front ≡ [] }
+        requires open { more ≤ self.old.offset }
+        ensures { spot_of self.new ≡ string_closed kind more (spot_of self.old) }
+    {
+        if more == 0 {
+            self.pending.set(Few::title(Header::Break));
+            self.element_done();
+        } else {
+            self.string_open(kind, more - 1);
+        }
+    }
+
+    /// What has come may not stand there.
+    fn refuse(&mut self)
+        ensures { spot_of self.new ≡ refused (spot_of self.old) }
+    {
+        self.phase = Phase::Faulted(self.place);
+    }
+
+    /// The title of a string has come within a string of its kind, of which so many more are open around it.
+    fn enter_piece(&mut self, kind: StringKind, more: usize, header: Header, len: Option<usize>)
+        requires clear { self.old.front ≡ [] }
+        requires open { more + 2 ≤ self.old.offset }
+        ensures { spot_of self.new ≡ piece_entered kind more header len (spot_of self.old) }
+    {
+        match len {
+            Some(len) => {
+                self.pending.set(Few::title(header));
+                self.body_due(kind, len);
+            }
+            None => self.string_open(kind, more + 1),
+        }
+    }
+
+    /// The title of this header has come within a string, of which so many more are open around it.
+    fn enter_within(&mut self, kind: StringKind, more: usize, header: Header)
+        requires clear { self.old.front ≡ [] }
+        requires open { more + 2 ≤ self.old.offset }
+        ensures { spot_of self.new ≡ within_entered kind more header (spot_of self.old) }
+    {
+        match (kind, header) {
+            (StringKind::Bytes, Header::Bytes(len)) | (StringKind::Text, Header::Text(len)) => {
+                self.enter_piece(kind, more, header, len);
+            }
+            (_, Header::Break) => self.string_closed(kind, more),
+            _ => self.refuse(),
+        }
+    }
+
+    /// The title of this header has come.
+    fn enter(&mut self, header: Header)
+        requires clear { self.old.front ≡ [] }
+        requires open { open_count self.old.within < self.old.offset }
+        ensures { spot_of self.new ≡ entered self.old.within header (spot_of self.old) }
+    {
+        match self.within {
+            Within::Nothing => self.enter_element(header),
+            Within::Open(kind, more) => self.enter_within(kind, more, header),
+        }
+    }
+
+    /// Where the title began of which the next byte is one.
+    fn title_place(&self) -> usize
+        ensures { result ≡ title_place self.now.front (spot_of self.now) }
+    {
+        if self.front.len() == 0 {
+            self.offset
+        } else {
+            self.place
+        }
+    }
+
+    /// A byte of a title.
+    #[tactic(auto, using(crate::proofs::BlockedLaws::affix_most))]
+    fn title_step(&mut self, byte: u8)
+        requires room { self.old.offset < usize.MAX }
+        requires due { self.old.phase ≡ p.Title }
+        requires given { self.old.pending ≡ [] }
+        ensures { TitleStep (with_byte byte (spot_of self.old)) (spot_of self.new) }
+    {
+        self.place = self.title_place();
+        self.front.push(byte);
+        self.offset += 1;
+        let bytes = self.front.bytes();
+        let row = row_of(bytes[0]);
+        if bytes.len() <= affix_len(row.affix) {
+            if is_blocked(self.within, row.kind) {
+                self.refuse();
+            }
+            return;
+        }
+        let header = header_of(bytes);
+        self.front.clear();
+        match header {
+            Some(header) => self.enter(header),
+            None => self.refuse(),
+        }
+    }
+
+    /// A byte of the body of a byte string, of which so many were left.
+    fn bytes_step(&mut self, left: usize, byte: u8)
+        requires room { self.old.offset < usize.MAX }
+        requires clear { self.old.front ≡ [] }
+        ensures { spot_of self.new ≡ body_due k.Bytes (left - 1) (byte_put byte (spot_of self.old)) }
+    {
+        self.offset += 1;
+        self.pending.set(Few::one(byte));
+        self.body_due(StringKind::Bytes, left.saturating_sub(1));
+    }
+
+    /// A byte of the body of a text, of which so many were left.
+    #[tactic(auto, using(crate::proofs::FrontLaws::text_room))]
+    fn text_step(&mut self, left: usize, state: State, byte: u8)
+        requires room { self.old.offset < usize.MAX }
+        requires front { length self.old.front ≤ most_cut state }
+        requires given { self.old.pending ≡ [] }
+        ensures { let next = after_byte state byte in spot_of self.new
+            ≡ text_left (may_end next (left - 1)) (left - 1) next (with_char byte (spot_of self.old)) }
+    {
+        let mut front = self.front.take();
+        front.push(byte);
+        self.offset += 1;
+        let state = state.step(byte);
+        let left = left.saturating_sub(1);
+        if !may_end(state, left) {
+            self.refuse();
+        } else if let State::Between = state {
+            self.pending.set(front);
+            self.body_due(StringKind::Text, left);
+        } else {
+            self.front = front;
+            self.phase = Phase::Text(left, state);
+        }
+    }
+
+    /// One byte more, where some is due and all that was put out is given.
+    fn step(&mut self, byte: u8)
+        requires room { self.old.offset < usize.MAX }
+        requires due { is_due self.old.phase ≡ true }
+        requires given { self.old.pending ≡ [] }
+        ensures { Step (spot_of self.old) byte (spot_of self.new) }
+    {
+        match self.phase {
+            Phase::Title => self.title_step(byte),
+            Phase::Bytes(left) => self.bytes_step(left, byte),
+            Phase::Text(left, state) => self.text_step(left, state, byte),
+            Phase::Ended | Phase::Faulted(_) => {}
+        }
+    }
+
+    /// How far the copy has come.
+    fn progress(&self) -> Progress
+        ensures { result ≡ progress_of self.now.pending self.now.phase }
+    {
+        if !self.pending.is_empty() {
+            return Progress::Room;
+        }
+        match self.phase {
+            Phase::Ended => Progress::Ended,
+            Phase::Faulted(place) => Progress::Syntax(place),
+            Phase::Title | Phase::Bytes(_) | Phase::Text(_, _) => Progress::More,
+        }
+    }
+
+    /// Takes a piece of the elements' bytes, of any length, and writes their shortest spelling in front of `out`. How
+    /// the input is cut into pieces, and how long the outputs are, changes nothing of what is written in all.
+    ///
+    /// Every title becomes the shortest one of its header. The bodies of a string of indefinite length stay the
+    /// segments that they were, in one string: strings within it lose their opens and breaks. Of a text whole
+    /// characters are written.
+    ///
+    /// `More` says that all of the piece was taken, and all that can be written of the bytes so far is. `Room` says
+    /// that `out` is full, and there is more to write: the rest of the piece is to be given again. `Ended` says that
+    /// so many elements came, and they are written; what follows in the piece is not taken. `Syntax` says that no such
+    /// elements begin as the bytes so far do; it comes with the first byte of which that is so, and what is written is
+    /// the spelling of what came before. A later call takes and writes nothing, and answers the same. `TooLong` says
+    /// that `usize::MAX` bytes came, and the elements go on; none of the others is taken.
+    pub fn feed(&mut self, bytes: &[u8], out: &mut [u8]) -> Copied
+        ensures taken { result.taken ≤ length bytes.now }
+        ensures written { result.written ≤ length out.old }
+        ensures kept { drop result.written out.new ≡ drop result.written out.old }
+        ensures copied { (count : ℕ) (fed given : List ℕ) → IsCopied count fed given self.old
+            → IsCopied count (fed ++ take result.taken bytes.now) (given ++ take result.written out.new) self.new }
+        ensures tells { (count : ℕ) (fed given : List ℕ) → IsCopied count fed given self.old
+            → Tells count (fed ++ take result.taken bytes.now) (given ++ take result.written out.new) result.progress }
+        ensures answers { IsAnswer result.progress self.new.pending self.new.phase }
+        ensures all { IsMore result.progress → result.taken ≡ length bytes.now }
+        ensures full { IsRoom result.progress → result.written ≡ length out.old }
+        ensures stays { is_due self.old.phase ≡ false → self.old.pending ≡ []
+            → (result.taken ≡ 0) × (result.written ≡ 0) × (spot_of self.new ≡ spot_of self.old) }
+    {
+        let mut written = self.pending.give(out, 0);
+        for (at, byte) in bytes.iter().enumerate() {
+            match self.progress() {
+                Progress::More => {}
+                progress => {
+                    return Copied {
+                        taken: at,
+                        written,
+                        progress,
+                    };
+                }
+            }
+            if self.offset == usize::MAX {
+                return Copied {
+                    taken: at,
+                    written,
+                    progress: Progress::TooLong,
+                };
+            }
+            self.step(*byte);
+            written = self.pending.give(out, written);
+        }
+        Copied {
+            taken: bytes.len(),
+            written,
+            progress: self.progress(),
+        }
+    }
+}

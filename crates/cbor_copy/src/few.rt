@@ -1,0 +1,129 @@
+//! A few bytes: of a title, or of a character.
+
+ghost use Rattle.std.specs.Prelude.{◌≡◌, ◌+◌, ◌<◌, ◌≤◌, ◌++◌, [], ◌∷◌, length};
+ghost use Rattle.ciborium_ll_grammar.specs.Parts.{IsMinor, minor_affix};
+ghost use Rattle.ciborium_ll_grammar.specs.Title.{IsInRange, shortest_title};
+
+use ciborium_ll_grammar::hdr::{Header, Minor, shortest};
+use std::marker::Model;
+
+/// The longest title: a first byte and eight behind it.
+pub(crate) const LONGEST: usize = 9;
+
+/// At most as many bytes as the longest title has.
+#[derive(Drop)]
+pub(crate) struct Few {
+    bytes: [u8; LONGEST],
+    len: usize,
+}
+
+impl Model for Few {
+    ghost use Rattle.std.specs.Prelude.{ℕ, ◌≤◌, List, take};
+
+    ghost Value = { List ℕ };
+
+    ghost view = { λ a. take a.len a.bytes };
+
+    ghost invariant = { λ a. a.len ≤ 9 };
+}
+
+impl Few {
+    /// No bytes.
+    pub(crate) fn new() -> Few
+        ensures { result ≡ [] }
+    {
+        Few {
+            bytes: [0; LONGEST],
+            len: 0,
+        }
+    }
+
+    /// One byte.
+    pub(crate) fn one(byte: u8) -> Few
+        ensures { result ≡ byte ∷ [] }
+    {
+        let mut bytes = Few::new();
+        bytes.push(byte);
+        bytes
+    }
+
+    /// How many bytes there are.
+    pub(crate) fn len(&self) -> usize
+        ensures { result ≡ length self.now }
+    {
+        self.len
+    }
+
+    /// Gives the bytes up.
+    pub(crate) fn clear(&mut self)
+        ensures { self.new ≡ [] }
+    {
+        self.len = 0;
+    }
+
+    /// Hands the bytes out, and keeps none.
+    pub(crate) fn take(&mut self) -> Few
+        ensures taken { result ≡ self.old }
+        ensures none { self.new ≡ [] }
+    {
+        let taken = Few {
+            bytes: self.bytes,
+            len: self.len,
+        };
+        self.len = 0;
+        taken
+    }
+
+    /// Takes one byte more.
+    pub(crate) fn push(&mut self, byte: u8)
+        requires { length self.old < 9 }
+        ensures { self.new ≡ self.old ++ byte ∷ [] }
+    {
+        self.bytes[self.len] = byte;
+        self.len += 1;
+    }
+
+    /// Takes more bytes.
+    fn put(&mut self, bytes: &[u8])
+        requires { length self.old + length bytes.now ≤ 9 }
+        ensures { self.new ≡ self.old ++ bytes.now }
+    {
+        let end = self.len + bytes.len();
+        self.bytes[self.len..end].copy_from_slice(bytes);
+        self.len = end;
+    }
+
+    /// Takes the bytes behind a first byte.
+    fn put_affix(&mut self, minor: Minor)
+        requires minor { IsMinor minor }
+        requires room { length self.old ≤ 1 }
+        ensures { self.new ≡ self.old ++ minor_affix minor }
+    {
+        match minor {
+            Minor::Small(_) | Minor::Open => {}
+            Minor::One(n) => self.push(n as u8),
+            Minor::Two(n) => self.put(&(n as u16).to_be_bytes()),
+            Minor::Four(n) => self.put(&(n as u32).to_be_bytes()),
+            Minor::Eight(n) => self.put(&n.to_be_bytes()),
+        }
+    }
+
+    /// The shortest title of a header.
+    pub(crate) fn title(header: Header) -> Few
+        ensures title { result ≡ shortest_title header }
+        ensures range { IsInRange header }
+    {
+        let title = shortest(header);
+        let mut bytes = Few::new();
+        bytes.push(title.first_byte());
+        bytes.put_affix(title.minor);
+        bytes
+    }
+
+    /// The bytes.
+    pub(crate) fn bytes(&self) -> &[u8]
+        ensures { result.now ≡ self.now }
+    {
+        &self.bytes[..self.len]
+    }
+}

@@ -1,0 +1,14 @@
+//! Elements of CBOR (RFC 7049, 2.1 and 2.2) copied to their shortest spelling as their bytes come, in pieces of any
+//! length. No call takes memory, and none waits for a reader or a writer.
+#![tactic(auto)]
+
+mod copier;
+mod few;
+pub mod laws;
+mod pending;
+mod phase;
+mod progress;
+mod title;
+
+pub use self::copier::Copier;
+pub use self::progress::{Copied, Progress};

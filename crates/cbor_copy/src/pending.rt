@@ -1,0 +1,82 @@
+//! Bytes that are to be written.
+
+ghost use Rattle.std.specs.Prelude.{◌≡◌, ◌≢◌, ◌≤◌, ◌⊎◌, ◌++◌, [], length, take, drop, true, false};
+
+use crate::few::Few;
+use std::marker::Model;
+
+/// The bytes that one byte of the input puts out, less those that were given.
+#[derive(Drop)]
+pub(crate) struct Pending {
+    few: Few,
+    given: usize,
+}
+
+impl Model for Pending {
+    ghost use Rattle.std.specs.Prelude.{ℕ, ◌≤◌, List, drop, length};
+
+    ghost Value = { List ℕ };
+
+    ghost view = { λ a. drop a.given a.few };
+
+    ghost invariant = { λ a. a.given ≤ length a.few };
+}
+
+impl Pending {
+    /// No bytes.
+    pub(crate) fn new() -> Pending
+        ensures { result ≡ [] }
+    {
+        Pending {
+            few: Few::new(),
+            given: 0,
+        }
+    }
+
+    /// Whether there are none.
+    pub(crate) fn is_empty(&self) -> bool
+        ensures yes { result ≡ true → self.now ≡ [] }
+        ensures no { result ≡ false → self.now ≢ [] }
+    {
+        self.given == self.few.len()
+    }
+
+    /// Puts bytes in place of these.
+    pub(crate) fn set(&mut self, few: Few)
+        ensures { self.new ≡ few }
+    {
+        self.few = few;
+        self.given = 0;
+    }
+
+    /// The bytes.
+    fn bytes(&self) -> &[u8]
+        ensures { result.now ≡ self.now }
+    {
+        &self.few.bytes()[self.given..]
+    }
+
+    /// Takes so many of them off.
+    fn skip(&mut self, count: usize)
+        requires { count ≤ length self.old }
+        ensures { self.new ≡ drop count self.old }
+    {
+        let _most = self.few.len(); // What is given stays below it.
+        self.given += count;
+    }
+
+    /// Gives as many bytes as there is room for behind the first `at` of `out`, and says where they end.
+    pub(crate) fn give(&mut self, out: &mut [u8], at: usize) -> usize
+        requires { at ≤ length out.old }
+        ensures within { (at ≤ result) × (result ≤ length out.old) }
+        ensures given { take result out.new ++ self.new ≡ take at out.old ++ self.old }
+        ensures rest { drop result out.new ≡ drop result out.old }
+        ensures all { (self.new ≡ []) ⊎ (result ≡ length out.old) }
+    {
+        let bytes = self.bytes();
+        let count = bytes.len().min(out.len() - at);
+        out[at..at + count].copy_from_slice(&bytes[..count]);
+        self.skip(count);
+        at + count
+    }
+}

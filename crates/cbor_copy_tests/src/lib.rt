@@ -1,0 +1,9 @@
+//! Tests of the copier that is fed, from outside: each cut of samples, beside `recode` over the whole.
+#![tactic(auto)]
+
+#[cfg(test)]
+mod answers;
+#[cfg(test)]
+mod cuts;
+#[cfg(test)]
+mod rows;
