@@ -44,6 +44,9 @@ static uint64_t below(uint64_t bound) { return any() % bound; }
 
 enum { MOST = 1 << 13, TALLEST = 16 };
 
+/* Whether items are made in their shortest spelling. */
+static int shortest;
+
 /* An item: its bytes, how many bytes are due in front of each of them, and how many levels it has. */
 struct item {
     uint8_t data[MOST];
@@ -74,8 +77,8 @@ static void title(struct item *item, unsigned major, uint64_t value, unsigned wi
 static void number(struct item *item, unsigned major, uint64_t value)
 {
     static const unsigned widths[] = {0, 1, 2, 4, 8};
-    size_t shortest = value < 24 ? 0 : value < 0x100 ? 1 : value < 0x10000 ? 2 : value < 0x100000000u ? 3 : 4;
-    title(item, major, value, widths[below(3) > 0 ? shortest : shortest + below(5 - shortest)]);
+    const size_t least = value < 24 ? 0 : value < 0x100 ? 1 : value < 0x10000 ? 2 : value < 0x100000000u ? 3 : 4;
+    title(item, major, value, widths[shortest || below(3) > 0 ? least : least + below(5 - least)]);
 }
 
 /* A character of each length, as it stands in UTF-8. */
@@ -104,7 +107,7 @@ static void body(struct item *item, int is_text, size_t room)
         byte(item, bytes[at], len - at);
 }
 
-/* A string in pieces. An open may stand within another one. */
+/* A string in pieces. An open may stand within another one, but not in the shortest spelling. */
 static void string(struct item *item, int is_text, size_t room)
 {
     unsigned opens = 1;
@@ -113,7 +116,7 @@ static void string(struct item *item, int is_text, size_t room)
         const uint64_t choice = below(8);
         if (choice < 3) {
             body(item, is_text, room / 8);
-        } else if (choice < 4 && opens < 5) {
+        } else if (choice < 4 && opens < 5 && !shortest) {
             byte(item, is_text ? 0x7f : 0x5f, 1);
             opens++;
         } else {
@@ -126,7 +129,7 @@ static void string(struct item *item, int is_text, size_t room)
 /* A number, a simple value, a float or a string. */
 static void leaf(struct item *item, size_t room)
 {
-    switch (below(8)) {
+    switch (below(9)) {
     case 0:
     case 1:
         number(item, (unsigned)below(2), any() >> below(64));
@@ -135,10 +138,13 @@ static void leaf(struct item *item, size_t room)
         title(item, 7, below(24), 0);
         break;
     case 3:
-        title(item, 7, any(), 1u << below(4));
+        title(item, 7, any() | 0x20, 1u << below(4));
         break;
     case 4:
+        title(item, 7, shortest ? 32 : below(32), 1);
+        break;
     case 5:
+    case 6:
         body(item, (int)below(2), room);
         break;
     default:

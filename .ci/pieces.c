@@ -1,11 +1,11 @@
 /*
- * Feeds a checker random items, whole and damaged, random bytes, and all lists of one and of two bytes: each front of
- * them at once and then the rest, byte by byte, and in random pieces. Each piece ends at a guard page, and so does the
- * checker, or it begins behind one.
+ * Feeds a checker, and a strict one, random items, whole and damaged, random bytes, and all lists of one and of two
+ * bytes: each front of them at once and then the rest, byte by byte, and in random pieces. Each piece ends at a guard
+ * page, and so does the checker, or it begins behind one.
  *
- * What has to be answered comes from calls over the whole front, cll_skip and cll_recode, whose answers are proved.
- * Where a skip says that the bytes end too early, more is due just where some bytes behind them make an item: so such
- * bytes are looked for, and skipped. How many bytes are due at least is known of an item by how it was made.
+ * What has to be answered comes from calls over the whole front, cll_skip, cll_strict and cll_recode, whose answers are
+ * proved. Where they say that the bytes end too early, more is due just where some bytes behind them make an item: so
+ * such bytes are looked for, and skipped. How many bytes are due at least is known of an item by how it was made.
  *
  * usage: pieces [ITEMS [SEED]]
  *
@@ -15,7 +15,7 @@
 #define _DEFAULT_SOURCE
 #include "items.h"
 
-enum { ITEMS = 4000, PLENTY = 4096, MORE = 1024, ROUNDS = 3 };
+enum { ITEMS = 3000, PLENTY = 4096, MORE = 1024, ROUNDS = 3 };
 
 /* What is found of a front: the answer, how many bytes are taken, and the place. */
 struct finding { uint32_t answer; uint64_t taken, place; };
@@ -27,6 +27,9 @@ static struct guarded input, output, checkers, reports;
 static cll_checker *checker;
 static cll_report *report;
 static unsigned long answers[CLL_ARGUMENT + 1], completed, fronts;
+
+/* Whether the checker is a strict one. */
+static int strict;
 
 /* A copy of bytes that ends right at the guard page. Of no bytes it is the page's first address. */
 static const uint8_t *at_end(const struct guarded *memory, const uint8_t *data, size_t len)
@@ -43,7 +46,7 @@ static void move(void)
 
 static void begin(uint32_t depth)
 {
-    if (cll_checker_init(checker, depth) != CLL_OK)
+    if ((strict ? cll_checker_init_strict(checker, depth) : cll_checker_init(checker, depth)) != CLL_OK)
         exit(2);
 }
 
@@ -78,17 +81,43 @@ static int ends(const struct finding *found, size_t len)
         && report->place == (want == CLL_OK ? 0 : found->place);
 }
 
+/* What a skip finds of a front: the length of its item, or the fault, or that it ends too early. */
+static struct finding skipped(const uint8_t *data, size_t len, uint32_t depth)
+{
+    struct finding found;
+    found.answer = cll_skip(at_end(&input, data, len), len, depth, report);
+    found.taken = report->consumed;
+    found.place = found.answer == CLL_OK ? found.taken : report->place;
+    return found;
+}
+
+/* The same of an item in its shortest spelling: of two faults the one in front is found. */
+static struct finding skipped_strictly(const uint8_t *data, size_t len, uint32_t depth)
+{
+    struct finding found = skipped(data, len, depth);
+    if (found.answer == CLL_OK)
+        len = (size_t)found.taken;
+    const uint32_t answer = cll_strict(at_end(&input, data, len), len, UINT64_MAX, report);
+    if (answer == CLL_SYNTAX && (found.answer == CLL_SHORT || found.answer == CLL_OK || report->place < found.place)) {
+        found.answer = CLL_SYNTAX;
+        found.place = report->place;
+    } else if (found.answer == CLL_OK && (answer != CLL_SHORT || report->whole != len)) {
+        found.answer = CLL_ARGUMENT;
+    }
+    return found;
+}
+
 /* Whether a skip of the front says the same, or that it ends too early. */
 static int skips(const struct finding *found, const uint8_t *data, size_t len, uint32_t depth)
 {
-    const uint32_t answer = cll_skip(at_end(&input, data, len), len, depth, report);
-    switch (answer) {
+    const struct finding want = strict ? skipped_strictly(data, len, depth) : skipped(data, len, depth);
+    switch (want.answer) {
     case CLL_OK:
-        return found->answer == CLL_OK && found->place == report->consumed && found->taken == report->consumed;
+        return same(found, &want);
     case CLL_SHORT:
         return found->answer != CLL_OK;
     default:
-        return found->answer == answer && found->place == report->place && found->taken <= len;
+        return found->answer == want.answer && found->place == want.place && found->taken <= len;
     }
 }
 
@@ -100,7 +129,7 @@ static int copies(const struct finding *found, const uint8_t *data, size_t len, 
 {
     uint8_t *out = output.end - len;
     uint32_t answer;
-    if (found->answer != CLL_OK && found->answer != CLL_SYNTAX)
+    if (strict || (found->answer != CLL_OK && found->answer != CLL_SYNTAX))
         return 1;
     if (found->answer == CLL_OK) {
         len = (size_t)found->place;
@@ -109,7 +138,7 @@ static int copies(const struct finding *found, const uint8_t *data, size_t len, 
     answer = cll_recode(at_end(&input, data, len), len, UINT64_MAX, out, len, report);
     if (found->answer == CLL_SYNTAX)
         return answer == CLL_SHORT || (answer == CLL_SYNTAX && report->place == found->place);
-    if (answer != CLL_SHORT || report->consumed != len)
+    if (answer != CLL_SHORT || report->consumed != len || report->whole != len)
         return 0;
     const uint64_t written = report->written;
     const struct finding again = at_once(out, (size_t)written, depth), want = {CLL_OK, written, written};
@@ -177,8 +206,8 @@ static int completes(const uint8_t *data, size_t len, uint32_t depth)
             return 0;
     }
     completed++;
-    return cll_skip(at_end(&input, front.data, front.len), front.len, depth, report) == CLL_OK
-        && report->consumed == front.len;
+    const struct finding found = {CLL_OK, front.len, front.len};
+    return skips(&found, front.data, front.len, depth);
 }
 
 /* Whether pieces of random lengths lead to what is found of each front. The checker moves between them. */
@@ -278,19 +307,22 @@ static void damage(struct item *item)
 /* Says which bytes went wrong. */
 static int fails(const uint8_t *data, size_t len, uint32_t depth)
 {
-    fprintf(stderr, "pieces: to a depth of %lu: ", (unsigned long)depth);
+    fprintf(stderr, "pieces: %sto a depth of %lu: ", strict ? "strictly, " : "", (unsigned long)depth);
     for (size_t at = 0; at < len; at++)
         fprintf(stderr, "%02x", data[at]);
     fprintf(stderr, "\n");
     return 1;
 }
 
-/* A random item: as it is, with a level too few, with another item behind it, and damaged. */
+/* A random item: as it is, with a level too few, and damaged, with another item behind it. */
 static int tries_item(struct item *item)
 {
     static struct item next;
+    shortest = strict && below(4) > 0;
     make(item);
-    if (!tells_due(item) || !holds(item->data, item->len, item->levels))
+    if ((shortest || !strict) && !tells_due(item))
+        return fails(item->data, item->len, item->levels);
+    if (!holds(item->data, item->len, item->levels))
         return fails(item->data, item->len, item->levels);
     if (item->levels > 0 && !holds(item->data, item->len, item->levels - 1))
         return fails(item->data, item->len, item->levels - 1);
@@ -342,11 +374,13 @@ int main(int argc, char **argv)
     reports = guard(sizeof *report);
     checker = (cll_checker *)checkers.start;
     report = (cll_report *)(reports.end - sizeof *report);
-    if (argc < 2 && tries_lists() != 0)
-        return 1;
-    for (unsigned long left = items; left > 0; left--) {
-        if (tries_item(&item) != 0 || tries_bytes() != 0)
+    for (strict = 0; strict < 2; strict++) {
+        if (argc < 2 && tries_lists() != 0)
             return 1;
+        for (unsigned long left = items; left > 0; left--) {
+            if (tries_item(&item) != 0 || tries_bytes() != 0)
+                return 1;
+        }
     }
     printf("%lu fronts: %lu ended, %lu short, of which %lu were completed, %lu syntax, %lu break, %lu deep\n", fronts,
         answers[CLL_OK], answers[CLL_SHORT], completed, answers[CLL_SYNTAX], answers[CLL_BREAK_DUE],

@@ -33,6 +33,7 @@ static void skip(void) { answer = cll_skip(data, len, depth, &report); }
 static void utf8(void) { answer = cll_utf8(data + TITLE, len - TITLE, &report); }
 
 static void checker_init(void) { answer = cll_checker_init(&checker, DEEPEST); }
+static void checker_init_strict(void) { answer = cll_checker_init_strict(&checker, DEEPEST); }
 static void checker_feed(void) { answer = cll_checker_feed(&checker, data, len, &report); }
 static void checker_end(void) { answer = cll_checker_end(&checker, &report); }
 
@@ -92,6 +93,7 @@ int main(void)
         {"cll_recode", recode}, {"cll_strict", strict}, {"cll_utf8/text", utf8},
         {"cll_utf8/damage", no_utf8},
         {"cll_checker_init", checker_init}, {"cll_checker_feed", checker_feed}, {"cll_checker_end", checker_end},
+        {"cll_checker_init_strict", checker_init_strict}, {"cll_checker_feed/strict", checker_feed},
     };
     static const unsigned depths[] = {1, 16, 64, 128, DEEPEST};
     const size_t plain = used(nothing);
