@@ -11,10 +11,10 @@
  * Nothing is kept between calls, but for what a cll_checker keeps in the caller's own memory. So calls may run in
  * several threads at once, where none writes what another one uses.
  *
- * Of the stack, as measured on x86-64, cll_pull, cll_push, cll_push_wide and cll_utf8 take less than 128 bytes,
- * cll_recode and cll_strict less than 2 KiB. cll_skip takes less than 2 KiB and 328 bytes for each level that it goes
- * down: 8 KiB at 16 levels, 23 KiB at 64, and 84 KiB at 256. cll_checker_init and cll_checker_init_strict take less
- * than 12 KiB, cll_checker_feed less than 20 KiB and cll_checker_end less than 4 KiB.
+ * Of the stack, as measured on x86-64, cll_pull, cll_push, cll_push_wide, cll_utf8, cll_checker_init,
+ * cll_checker_init_strict and cll_checker_end take less than 128 bytes, cll_recode and cll_strict less than 2 KiB, and
+ * cll_checker_feed less than 6 KiB. cll_skip takes less than 2 KiB and 328 bytes for each level that it goes down: 8 KiB
+ * at 16 levels, 23 KiB at 64, and 84 KiB at 256.
  */
 #ifndef CIBORIUM_LL_H
 #define CIBORIUM_LL_H
