@@ -1,6 +1,6 @@
 ghost use Rattle.std.specs.Prelude.{◌≤◌, length};
 
-use cbor_copy::{Copier, Progress};
+use cbor_copy::{Copied, Copier, Progress};
 use ciborium_ll::io::{SliceReader, SliceWriter};
 use ciborium_ll::recode::{RecodeError, recode};
 use ciborium_ll::{Decoder, Encoder, Error};
@@ -18,45 +18,64 @@ pub struct Answer {
     pub out: [u8; MOST],
 }
 
+// Feeds a piece from so many bytes on, with room up to there. Of numbers that no copier gives nothing is fed.
+fn feed(
+    copier: &mut Copier,
+    piece: &[u8],
+    taken: usize,
+    out: &mut [u8],
+    from: usize,
+    to: usize,
+) -> Copied {
+    if taken > piece.len() || from > to || to > out.len() {
+        return Copied {
+            taken: 0,
+            written: 0,
+            progress: Progress::TooLong,
+        };
+    }
+    copier.feed(&piece[taken..], &mut out[from..to])
+}
+
+// Whether more is to be done, where so many bytes of all were taken.
+fn goes_on(progress: Progress, taken: usize, len: usize) -> bool {
+    match progress {
+        Progress::Room => true,
+        Progress::More => taken < len,
+        _ => false,
+    }
+}
+
 // Copies bytes that come in two pieces, cut there, with room for so many bytes behind no room in turn.
 pub fn copied(count: usize, bytes: &[u8], cut: usize, room: usize) -> Answer
     requires { cut ≤ length bytes.now }
 {
     let mut copier = Copier::new(count);
-    let mut answer = Answer {
-        taken: 0,
-        written: 0,
-        progress: Progress::More,
-        out: [0; MOST],
-    };
+    let mut out = [0; MOST];
+    let mut taken: usize = 0;
+    let mut written: usize = 0;
+    let mut progress = Progress::More;
     for turn in 0..4 * MOST {
-        let first = answer.taken < cut;
-        let end = if first { cut } else { bytes.len() };
-        if answer.taken > end || answer.written > MOST {
-            return answer;
-        }
+        let piece = if taken < cut { &bytes[..cut] } else { bytes };
         let until = if turn % 2 == 0 {
-            answer.written
+            written
         } else {
-            answer.written.saturating_add(room).min(MOST)
+            written.saturating_add(room).min(MOST)
         };
-        let fed = copier.feed(
-            &bytes[answer.taken..end],
-            &mut answer.out[answer.written..until],
-        );
-        answer.taken += fed.taken;
-        answer.written += fed.written;
-        answer.progress = fed.progress;
-        let goes_on = match fed.progress {
-            Progress::Room => true,
-            Progress::More => answer.taken < bytes.len(),
-            _ => false,
-        };
-        if !goes_on {
-            return answer;
+        let fed = feed(&mut copier, piece, taken, &mut out, written, until);
+        taken = taken.saturating_add(fed.taken);
+        written = written.saturating_add(fed.written);
+        progress = fed.progress;
+        if !goes_on(progress, taken, bytes.len()) {
+            break;
         }
     }
-    answer
+    Answer {
+        taken,
+        written,
+        progress,
+        out,
+    }
 }
 
 // What a copy of the whole by `recode` answers. Bytes that end too early are due.

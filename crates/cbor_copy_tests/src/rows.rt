@@ -1,5 +1,6 @@
 use crate::answers::copied;
 use cbor_copy::{Copier, Progress};
+use std::mem::size_of;
 use std::process::Abort;
 use std::test::Fail;
 
@@ -47,6 +48,12 @@ fn each_row(rt: HostRuntime) -> Result<(), Fail> {
         row(&rt, *count, &bytes, &out, *progress);
     }
     Ok(())
+}
+
+// It has room for a title, a character and a few numbers.
+#[test]
+fn small(rt: HostRuntime) {
+    assert!(&rt; size_of::<Copier>() <= 192, "{}", size_of::<Copier>());
 }
 
 // A string whose bytes come in two pieces, into rooms for two bytes each.
