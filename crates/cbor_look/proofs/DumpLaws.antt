@@ -1,9 +1,8 @@
 -- The lines of a dump, one behind the other.
 use Rattle.std.proofs.Common.{◌≡◌, ℕ, ◌+◌, List, [], ◌∷◌, ◌++◌, length, Option, Some, None, refl, sym, ap, subst, ◌∙◌}
-use Rattle.std.proofs.Common.{arith, append_assoc, append-nil, length-append}
+use Rattle.std.proofs.Common.{append_assoc, append-nil}
 use Rattle.ciborium_ll.specs.Types.Read.{Ghosts}
 use Rattle.ciborium_ll.specs.Types.Decoder.{Decoder}
-use Rattle.cbor_look.specs.declared.rows.Meaning.{Meaning}
 use Rattle.cbor_look.specs.Levels.{Line, bytes_of, Stands, AllStand}
 use Rattle.cbor_look.specs.Takings.{Takes}
 use Rattle.cbor_look.specs.Dumps.{Draws, Lines, Shows, ShowsBehind}

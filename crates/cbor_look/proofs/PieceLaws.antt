@@ -1,18 +1,18 @@
 -- The lines of a string of indefinite length, behind its open.
-use Rattle.std.proofs.Common.{◌≡◌, ℕ, zero, suc, ◌+◌, ◌-◌, ◌≤◌, List, [], ◌∷◌, ◌++◌, length, Option, Some, None, refl, sym}
+use Rattle.std.proofs.Common.{◌≡◌, ℕ, zero, suc, ◌+◌, ◌-◌, List, [], ◌∷◌, ◌++◌, length, Option, Some, None, refl, sym}
 use Rattle.std.proofs.Common.{ap, subst, ◌∙◌, arith, append-nil, append_assoc, length-append, inl}
 use Rattle.ciborium_ll.specs.Types.Read.{Ghosts}
 use Rattle.ciborium_ll.specs.Types.Header.{Header}
 use Rattle.ciborium_ll.specs.Types.Header.TheVariants as h
 use Rattle.ciborium_ll.specs.Types.Decoder.{Decoder}
 use Rattle.ciborium_ll.specs.Title.{IsTitle}
-use Rattle.ciborium_ll.specs.Strings.{Kind, kind_header, IsString, definite, IsWritable}
+use Rattle.ciborium_ll.specs.Strings.{Kind, kind_header, definite, IsWritable}
 use Rattle.ciborium_ll.specs.Elements.{AreWritable}
 use Rattle.ciborium_ll.proofs.ElementLaws.{AreWritable-append}
 use Rattle.cbor_look.specs.declared.rows.Meaning.TheVariants as m
 use Rattle.cbor_look.specs.Takings.{Takes}
 use Rattle.cbor_look.specs.Levels.{Line, Nest, StandsWithin, AreOpen, none, TitleDue, title_level}
-use Rattle.cbor_look.specs.Dumps.{Draws, fault_lines, Lines, Shows}
+use Rattle.cbor_look.specs.Dumps.{Draws, fault_lines, Shows}
 use Rattle.cbor_look.specs.StringRows.{EndsString}
 use Rattle.cbor_look.proofs.DumpLaws.{shows_none, shows_then}
 use Rattle.cbor_look.proofs.TitleLaws.{title_line, string_level, break_bytes}
@@ -164,8 +164,7 @@ module _ {R E : Type 0} (source : Ghosts R E) where
         × EndsString kind (so_far.bytes ++ row)
     within_ends then_drawn row offset new q takes at p last drawn_line =
         let level = so_far.level in
-        let one : so_far.opens ≡ zero = omega (arith, level, last) in
-        (
+        let one : so_far.opens ≡ zero = omega (arith, level, last) in (
           within_title then_drawn row h.Break offset (inner - 1) new takes at p (ap (λ (n : ℕ). n - 1) level)
               drawn_line,
           subst (λ (z : List ℕ). EndsString kind (so_far.bytes ++ z)) (sym (break_bytes row p))

@@ -1,23 +1,21 @@
 -- The lines of a string, behind its title.
-use Rattle.std.proofs.Common.{◌≡◌, ℕ, zero, suc, ◌+◌, ◌-◌, ◌≤◌, List, [], ◌∷◌, ◌++◌, length, Option, Some, None, Result}
-use Rattle.std.proofs.Common.{inr, Ok, Err, refl, sym, ap, subst, ◌∙◌, arith, append-nil, append_assoc, length-append}
+use Rattle.std.proofs.Common.{◌≡◌, ℕ, zero, suc, ◌+◌, ◌-◌, ◌≤◌, List, [], ◌∷◌, ◌++◌, length, Option, Some, None}
+use Rattle.std.proofs.Common.{inr, refl, sym, ap, subst, ◌∙◌, arith, append-nil, append_assoc, length-append}
 use Rattle.ciborium_ll.specs.Types.Read.{Ghosts}
-use Rattle.ciborium_ll.specs.Types.Header.{Header}
-use Rattle.ciborium_ll.specs.Types.Header.TheVariants as h
 use Rattle.ciborium_ll.specs.Types.Decoder.{Decoder}
 use Rattle.ciborium_ll.specs.Title.{IsTitle}
-use Rattle.ciborium_ll.specs.Strings.{Kind, Bytes, Text, kind_header, IsString, definite, indefinite, AreStrings, IsWritable}
+use Rattle.ciborium_ll.specs.Strings.{Kind, Bytes, Text, kind_header, IsString, indefinite, AreStrings, IsWritable}
 use Rattle.ciborium_ll.specs.Strings.AreStrings.{none as no_strings, more as more_strings}
 use Rattle.ciborium_ll.specs.Elements.{AreWritable}
 use Rattle.ciborium_ll.proofs.TextLaws.{IsCharacters-append}
 use Rattle.ciborium_ll.proofs.TitleLaws.{one_title}
-use Rattle.ciborium_ll.proofs.ElementLaws.{AreStrings-append, AreWritable-append}
+use Rattle.ciborium_ll.proofs.ElementLaws.{AreStrings-append}
 use Rattle.cbor_look.specs.declared.rows.Meaning.{Meaning}
 use Rattle.cbor_look.specs.declared.rows.Meaning.TheVariants as m
 use Rattle.cbor_look.specs.declared.strings.Kind.{Kind as CodeKind}
 use Rattle.cbor_look.specs.declared.strings.Kind.TheVariants as k
 use Rattle.cbor_look.specs.Takings.{Takes, Keeps}
-use Rattle.cbor_look.specs.Levels.{Line, Nest, StandsWithin, AreOpen, none, more, TitleDue, HasBody, Stands}
+use Rattle.cbor_look.specs.Levels.{Line, Nest, AreOpen, none, more, TitleDue, HasBody, Stands}
 use Rattle.cbor_look.specs.Dumps.{Draws, fault_lines, Lines, Shows}
 use Rattle.cbor_look.specs.StringRows.{EndsString, kind_of, meaning_of}
 use Rattle.cbor_look.proofs.DumpLaws.{lines_one, shows_then}
@@ -116,8 +114,11 @@ module _ {R E : Type 0} (source : Ghosts R E) where
         lines = lines_fault depth start middle then_drawn ((outer ++ title) ++ so_far.front) level offset bytes
             drawn_fault
             (here ∙ next_offset depth start drawn middle (outer ++ title) so_far.front old between so_far.shows begun)
-            (inr (kind, body_here depth opens nests outer title kind len level at so_far.front bytes
-            (omega (arith, counted, few)) offset m.Fault));
+            (inr (
+              kind,
+              body_here depth opens nests outer title kind len level at so_far.front bytes
+                  (omega (arith, counted, few)) offset m.Fault,
+            ));
         takes = takes;
       })
 
@@ -138,13 +139,13 @@ module _ {R E : Type 0} (source : Ghosts R E) where
         front = so_far.front ++ bytes;
         shows = shows_then source depth start drawn middle then_drawn (outer ++ title) so_far.front bytes old between
             new so_far.shows (record {
-          lines = lines_one depth start middle then_drawn ((outer ++ title) ++ so_far.front) _ drawn_line
-              (here ∙ next_offset depth start drawn middle (outer ++ title) so_far.front old between so_far.shows begun)
-              (part_stands kind depth ((outer ++ title) ++ so_far.front) _
-              (body_here depth opens nests outer title (kind_of kind) len level at so_far.front bytes fits offset
-              (meaning_of kind)) written);
-          takes = takes;
-        });
+              lines = lines_one depth start middle then_drawn ((outer ++ title) ++ so_far.front) _ drawn_line
+                  (here ∙ next_offset depth start drawn middle (outer ++ title) so_far.front old between so_far.shows begun)
+                  (part_stands kind depth ((outer ++ title) ++ so_far.front) _
+                  (body_here depth opens nests outer title (kind_of kind) len level at so_far.front bytes fits offset
+                  (meaning_of kind)) written);
+              takes = takes;
+            });
         counted = omega (arith, counted, few, length-append so_far.front bytes);
         written = writable_then (kind_of kind) so_far.front bytes so_far.written written;
       }

@@ -1,9 +1,8 @@
 -- The bytes of a row, read by read.
-use Rattle.std.proofs.Common.{◌≡◌, ℕ, ◌+◌, ◌%◌, List, [], ◌∷◌, ◌++◌, length, Result, Ok, Err, refl, sym, ap, subst, ◌∙◌}
+use Rattle.std.proofs.Common.{◌≡◌, ℕ, ◌+◌, ◌%◌, List, [], ◌∷◌, ◌++◌, length, Err, refl, sym, ap, subst, ◌∙◌}
 use Rattle.std.proofs.Common.{arith, append_assoc, append-nil, length-append}
 use Rattle.std.proofs.Common.{◌≤◌, take, take_all, get_or, ◌-◌, min}
 use Rattle.std.proofs.lemmas.List.{take-append-le, length-take}
-use Rattle.std.specs.Io.KnownBytes.{Consumes}
 use Rattle.std.proofs.KnownBytes.{Consumes-nil, Consumes-trans}
 use Rattle.ciborium_ll.specs.Types.Read.{Ghosts}
 use Rattle.ciborium_ll.specs.Types.Header.{Header}
@@ -15,7 +14,7 @@ use Rattle.ciborium_ll.specs.Decoding.{view, IsSteady, ReadsAll, ReadsBytes, Rea
 use Rattle.ciborium_ll.proofs.AffixLaws.{announced}
 use Rattle.cbor_look.proofs.ItemRows.{nothing}
 use Rattle.cbor_look.specs.Fronts.{IsInFront}
-use Rattle.cbor_look.specs.Takings.{IsIdle, Takes, Keeps}
+use Rattle.cbor_look.specs.Takings.{Takes, Keeps}
 
 -- what stands behind a front leaves it
 pub same_front : (n : ℕ) (xs ys : List ℕ) → n ≤ length xs → take n (take n xs ++ ys) ≡ take n xs

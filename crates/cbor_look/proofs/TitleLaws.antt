@@ -1,6 +1,6 @@
 -- The lines of titles, and what is due behind them.
-use Rattle.std.proofs.Common.{◌≡◌, ℕ, suc, ◌+◌, ◌-◌, ◌≤◌, List, [], ◌∷◌, ◌++◌, length, Option, Some, None, refl, sym}
-use Rattle.std.proofs.Common.{ap, subst, ◌∙◌, arith, append-nil, append_assoc, length-append, Bool, Result, inl}
+use Rattle.std.proofs.Common.{◌≡◌, ℕ, ◌+◌, ◌-◌, ◌≤◌, List, [], ◌∷◌, ◌++◌, length, Option, Some, None, refl, sym}
+use Rattle.std.proofs.Common.{ap, subst, ◌∙◌, arith, append-nil, length-append, Bool, false, Result, inl}
 use Rattle.ciborium_ll.specs.Types.Read.{Ghosts}
 use Rattle.ciborium_ll.specs.Types.Decoder.{Decoder}
 use Rattle.ciborium_ll.specs.Types.Header.{Header}
@@ -18,7 +18,7 @@ use Rattle.cbor_look.specs.Takings.{Takes}
 use Rattle.cbor_look.specs.Levels.{Line, Nest, StandsWithin, outside, inside, none, TitleDue, title_level}
 use Rattle.cbor_look.specs.Dumps.{Draws, fault_lines, Lines, Shows, ShowsBehind}
 use Rattle.cbor_look.specs.Sequences.{IsSequence}
-use Rattle.cbor_look.specs.StringRows.{EndsString, IsRest}
+use Rattle.cbor_look.specs.StringRows.{IsRest}
 use Rattle.cbor_look.specs.declared.dump.DumpError.{DumpError}
 use Rattle.cbor_look.specs.TitleRows.{DrawsTitle, ShowsTitle}
 use Rattle.cbor_look.specs.Walks.{IsValue, IsDue, IsBehindItem, Breaks}
@@ -98,7 +98,7 @@ break_line depth start old new before title level place closed walk breaks p sam
 
 -- an item where one was due
 pub behind_item : (depth : ℕ) (walk : Walk) (before item : List ℕ) → IsDue depth walk before → walk.used ≤ walk.depth
-    → ((levels : ℕ) → IsItem levels item) → IsBehindItem depth walk (before ++ item)
+    → ((levels : ℕ) → IsItem false levels item) → IsBehindItem depth walk (before ++ item)
 behind_item depth walk before item due within is_item =
     let used = due.keeps.used in
     let same = due.keeps.same_depth in
@@ -112,29 +112,29 @@ behind_item depth walk before item due within is_item =
       is = refl;
     }
 
-value_completes : (x : Header) → IsValue x → (levels : ℕ) → Completes levels x []
+value_completes : (x : Header) → IsValue x → (levels : ℕ) → Completes false levels x []
 value_completes (h.Positive n) value levels = positive
 value_completes (h.Negative n) value levels = negative
 value_completes (h.Float n) value levels = float
 value_completes (h.Simple n) value levels = simple
 value_completes x value levels = absurd value
 
-pub value_item : (x : Header) (title : List ℕ) → IsValue x → IsTitle title x → (levels : ℕ) → IsItem levels title
+pub value_item : (x : Header) (title : List ℕ) → IsValue x → IsTitle title x → (levels : ℕ) → IsItem false levels title
 value_item x title value p levels =
-    subst (λ (z : List ℕ). IsItem levels z) (append-nil title)
+    subst (λ (z : List ℕ). IsItem false levels z) (append-nil title)
     (item_of levels title [] x p (value_completes x value levels))
 
 rest_completes : (k : Kind) (len : Option ℕ) (bytes : List ℕ) → IsRest k len bytes → (levels : ℕ)
-    → Completes levels (kind_header k len) bytes
+    → Completes false levels (kind_header k len) bytes
 rest_completes Bytes (Some n) bytes rest levels = byte_string rest.0
 rest_completes Text (Some n) bytes rest levels = text_string rest.0 rest.1
 rest_completes Bytes None bytes rest levels =
-    subst (λ (z : List ℕ). Completes levels (h.Bytes None) z) (sym rest.is) (open_bytes rest.are_strings)
+    subst (λ (z : List ℕ). Completes false levels (h.Bytes None) z) (sym rest.is) (open_bytes rest.are_strings tt)
 rest_completes Text None bytes rest levels =
-    subst (λ (z : List ℕ). Completes levels (h.Text None) z) (sym rest.is) (open_text rest.are_strings rest.sound)
+    subst (λ (z : List ℕ). Completes false levels (h.Text None) z) (sym rest.is) (open_text rest.are_strings tt rest.sound)
 
 pub string_item : (k : Kind) (len : Option ℕ) (title bytes : List ℕ) → IsTitle title (kind_header k len)
-    → IsRest k len bytes → (levels : ℕ) → IsItem levels (title ++ bytes)
+    → IsRest k len bytes → (levels : ℕ) → IsItem false levels (title ++ bytes)
 string_item k len title bytes p rest levels =
     item_of levels title bytes (kind_header k len) p (rest_completes k len bytes rest levels)
 
@@ -223,11 +223,11 @@ module _ {R E : Type 0} (source : Ghosts R E) where
         lines = lines_fault depth old.offset middle then_drawn up.bytes level place row drawn_fault
             (omega (arith, at, moved))
             (inl (record {
-          nests = up.due.nests;
-          opens = 0;
-          due = due_here depth up.due.nests up.bytes up.due.within;
-          level = omega (arith, same, used);
-        }));
+              nests = up.due.nests;
+              opens = 0;
+              due = due_here depth up.due.nests up.bytes up.due.within;
+              level = omega (arith, same, used);
+            }));
         takes = takes;
       })
 

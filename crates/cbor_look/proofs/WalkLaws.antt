@@ -9,7 +9,7 @@ use Rattle.ciborium_ll.specs.Title.{IsTitle}
 use Rattle.ciborium_ll.specs.Items.{Completes, tag, array, pairs, open_array, open_pairs, AreItems, no_items, IsItem}
 use Rattle.cbor_skip.specs.declared.remaining.Remaining.{Remaining}
 use Rattle.cbor_skip.specs.declared.remaining.Remaining.TheVariants as r
-use Rattle.cbor_skip.specs.Due.{TakesMore, may_close}
+use Rattle.cbor_skip.specs.Due.{TakesMore}
 use Rattle.cbor_skip.specs.Remaining.{IsRemaining, is_done, closes}
 use Rattle.cbor_skip.proofs.RemainingLaws.{takes_more}
 use Rattle.cbor_skip.proofs.ItemSteps.{item_of, items_item}
@@ -21,13 +21,13 @@ use Rattle.cbor_look.specs.Walks.{remaining_at, AreKept, KeepsNests, IsDue, IsBe
 
 -- all items were read, by what remains
 all_read : (x : Header) (d count : ℕ) (items : List ℕ) (remaining : Remaining) → IsRemaining x count remaining
-    → is_done remaining ≡ true → AreItems d count items → Completes (suc d) x items
+    → is_done remaining ≡ true → AreItems false d count items → Completes false (suc d) x items
 all_read (h.Tag n) d count items (r.Items zero) is done i =
-    let one : count ≡ 1 = omega (arith, is) in tag (subst (λ (m : ℕ). AreItems d m items) one i)
+    let one : count ≡ 1 = omega (arith, is) in tag (subst (λ (m : ℕ). AreItems false d m items) one i)
 all_read (h.Array (Some n)) d count items (r.Items zero) is done i =
-    let all : count ≡ n = omega (arith, is) in array (subst (λ (m : ℕ). AreItems d m items) all i)
+    let all : count ≡ n = omega (arith, is) in array (subst (λ (m : ℕ). AreItems false d m items) all i)
 all_read (h.Map (Some n)) d count items (r.Pairs zero) is done i =
-    let all : count ≡ 2 * n = omega (arith, is) in pairs (subst (λ (m : ℕ). AreItems d m items) all i)
+    let all : count ≡ 2 * n = omega (arith, is) in pairs (subst (λ (m : ℕ). AreItems false d m items) all i)
 all_read (h.Tag n) d count items (r.Items (suc m)) is done i = absurd cc
 all_read (h.Array (Some n)) d count items (r.Items (suc m)) is done i = absurd cc
 all_read (h.Map (Some n)) d count items (r.Pairs (suc m)) is done i = absurd cc
@@ -39,10 +39,10 @@ all_read x d count items remaining is done i = absurd is
 
 -- a break ended them, by what remains
 all_closed : (x : Header) (d count : ℕ) (items : List ℕ) (remaining : Remaining) → IsRemaining x count remaining
-    → closes remaining ≡ true → AreItems d count items → Completes (suc d) x (items ++ 0xff ∷ [])
+    → closes remaining ≡ true → AreItems false d count items → Completes false (suc d) x (items ++ 0xff ∷ [])
 all_closed (h.Array None) d count items r.OpenItems is may i = open_array i
 all_closed (h.Map None) d count items r.OpenPairs is may i =
-    open_pairs is.0 (subst (λ (m : ℕ). AreItems d m items) is.1 i)
+    open_pairs is.0 (subst (λ (m : ℕ). AreItems false d m items) is.1 i)
 all_closed (h.Tag n) d count items (r.Items m) is may i = absurd cc
 all_closed (h.Array (Some n)) d count items (r.Items m) is may i = absurd cc
 all_closed (h.Map (Some n)) d count items (r.Pairs m) is may i = absurd cc
@@ -59,8 +59,7 @@ kept_below levels [] at x few kept = tt
 kept_below levels (nest ∷ nests) at x few kept =
     let other : length nests ≢ at = omega (arith, few) in
     let same : remaining_at (set levels at x) (length nests) ≡ remaining_at levels (length nests) =
-    get_or-set_other levels at (length nests) x (r.Items 0) other in
-    (
+    get_or-set_other levels at (length nests) x (r.Items 0) other in (
       subst (λ (y : Remaining). IsRemaining nest.header nest.count y) (sym same) kept.0,
       ap is_done same ∙ kept.1,
       kept_below levels nests at x (omega (arith, few)) kept.2,
@@ -72,8 +71,7 @@ kept_more : (levels : List Remaining) (nests : List Nest) (nest : Nest) (at : �
     → AreKept (set levels at x) (nest ∷ nests)
 kept_more levels nests nest at x end room is some kept =
     let same : remaining_at (set levels at x) (length nests) ≡ x =
-    subst (λ (k : ℕ). get_or (set levels at x) k (r.Items 0) ≡ x) end (get_or-set_same levels at x (r.Items 0) room) in
-    (
+    subst (λ (k : ℕ). get_or (set levels at x) k (r.Items 0) ≡ x) end (get_or-set_same levels at x (r.Items 0) room) in (
       subst (λ (y : Remaining). IsRemaining nest.header nest.count y) (sym same) is,
       ap is_done same ∙ some,
       kept_below levels nests at x (omega (arith, end)) kept,
@@ -91,28 +89,28 @@ record Inner (depth : ℕ) (nest : Nest) (outer : List Nest) (bytes : List ℕ) 
   level : length outer + suc levels ≡ depth
   is_title : IsTitle title nest.header
   takes_more : TakesMore nest.header nest.count
-  are_items : AreItems levels nest.count items
+  are_items : AreItems false levels nest.count items
   is : bytes ≡ before ++ (title ++ items)
 
 inner_of : (depth : ℕ) (nest : Nest) (outer : List Nest) (bytes : List ℕ) → StandsWithin depth (nest ∷ outer) bytes
     → Inner depth nest outer bytes
 inner_of depth nest outer bytes
     (inside {levels = l} {before = b} {title = t} {items = i} w e p more are) = record {
-  before = b;
-  title = t;
-  items = i;
-  levels = l;
-  within = w;
-  level = e;
-  is_title = p;
-  takes_more = more;
-  are_items = are;
-  is = refl;
-}
+      before = b;
+      title = t;
+      items = i;
+      levels = l;
+      within = w;
+      level = e;
+      is_title = p;
+      takes_more = more;
+      are_items = are;
+      is = refl;
+    }
 
 -- no item ends a nest of which more is due: it is the same with one more
 goes_on : (depth levels : ℕ) (nest : Nest) (outer : List Nest) (bytes item : List ℕ)
-    → Inner depth nest outer bytes → suc (length outer) + levels ≡ depth → IsItem levels item
+    → Inner depth nest outer bytes → suc (length outer) + levels ≡ depth → IsItem false levels item
     → TakesMore nest.header (suc nest.count)
     → StandsWithin depth (record { header = nest.header; count = suc nest.count } ∷ outer) (bytes ++ item)
 goes_on depth levels nest outer bytes item inner level is_item more =
@@ -120,7 +118,7 @@ goes_on depth levels nest outer bytes item inner level is_item more =
     let whole : inner.before ++ (inner.title ++ (inner.items ++ item)) ≡ bytes ++ item =
     sym (ap (λ (z : List ℕ). z ++ item) inner.is ∙ (append_assoc inner.before (inner.title ++ inner.items) item
     ∙ ap (λ (z : List ℕ). inner.before ++ z) (append_assoc inner.title inner.items item))) in
-    let item' = subst (λ (n : ℕ). IsItem n item) same is_item in
+    let item' = subst (λ (n : ℕ). IsItem false n item) same is_item in
     subst (λ (z : List ℕ). StandsWithin depth (record { header = nest.header; count = suc nest.count } ∷ outer) z) whole
     (inside inner.within inner.level inner.is_title more
     (items_item inner.levels nest.count inner.items item inner.are_items item'))
@@ -128,7 +126,7 @@ goes_on depth levels nest outer bytes item inner level is_item more =
 -- what completes the nest ends an item a level further out
 ends_nest : (depth : ℕ) (nest : Nest) (outer : List Nest) (bytes more rest : List ℕ) (walk : Walk)
     (inner : Inner depth nest outer bytes) → rest ≡ inner.items ++ more
-    → Completes (suc inner.levels) nest.header rest → KeepsNests depth walk outer
+    → Completes false (suc inner.levels) nest.header rest → KeepsNests depth walk outer
     → IsBehindItem depth walk (bytes ++ more)
 ends_nest depth nest outer bytes more rest walk inner e completes keeps = record {
   before = inner.before;
@@ -167,7 +165,7 @@ enters_empty depth walk before title header x due p within room is done =
       levels = suc levels;
       due = due;
       left = omega (arith, used, same, within, room);
-      is_item = subst (λ (z : List ℕ). IsItem (suc levels) z) (append-nil title)
+      is_item = subst (λ (z : List ℕ). IsItem false (suc levels) z) (append-nil title)
           (item_of (suc levels) title [] header p (all_read header levels 0 [] x is done no_items));
       is = refl;
     }
@@ -286,9 +284,9 @@ break_closes depth walk new before due some may same less deep =
 
 -- outside of all nests
 outside_more : (depth levels : ℕ) (nests : List Nest) (before item : List ℕ) → StandsWithin depth nests before
-    → length nests ≡ 0 → levels ≡ depth → IsItem levels item → StandsWithin depth [] (before ++ item)
+    → length nests ≡ 0 → levels ≡ depth → IsItem false levels item → StandsWithin depth [] (before ++ item)
 outside_more depth levels nests before item (outside {count = n} i) none same is_item =
-    outside (items_item depth n before item i (subst (λ (k : ℕ). IsItem k item) same is_item))
+    outside (items_item depth n before item i (subst (λ (k : ℕ). IsItem false k item) same is_item))
 outside_more depth levels nests before item (inside w e p more are) none same is_item = absurd (omega (arith, none))
 
 pub end_outside : (depth : ℕ) (walk : Walk) (bytes : List ℕ) → IsBehindItem depth walk bytes → walk.used ≡ 0
@@ -335,7 +333,7 @@ pub record Steps (walk new : Walk) (after : Remaining) : Type 0 where
   pub deep : new.depth ≡ walk.depth
 
 more_due : (depth : ℕ) (walk new : Walk) (after : Remaining) → Steps walk new after → (nests : List Nest) (before item : List ℕ) (levels : ℕ) → StandsWithin depth nests before
-    → KeepsNests depth walk nests → length nests + levels ≡ depth → IsItem levels item
+    → KeepsNests depth walk nests → length nests + levels ≡ depth → IsItem false levels item
     → is_done after ≡ false → new.used ≡ walk.used → IsDue depth new (before ++ item)
 more_due depth walk new after s [] before item levels stands keeps left is_item rest same = absurd (s.some keeps.used)
 more_due depth walk new after s (nest ∷ nests) before item levels stands keeps left is_item rest same =
@@ -373,7 +371,7 @@ end_goes_on depth walk new after s bytes behind rest same =
     same)
 
 level_ends : (depth : ℕ) (walk new : Walk) (after : Remaining) → Steps walk new after → (nests : List Nest) (before item : List ℕ) (levels : ℕ) → StandsWithin depth nests before
-    → KeepsNests depth walk nests → length nests + levels ≡ depth → IsItem levels item
+    → KeepsNests depth walk nests → length nests + levels ≡ depth → IsItem false levels item
     → is_done after ≡ true → new.used ≡ walk.used - 1 → IsBehindItem depth new (before ++ item)
 level_ends depth walk new after s [] before item levels stands keeps left is_item done less = absurd (s.some keeps.used)
 level_ends depth walk new after s (nest ∷ nests) before item levels stands keeps left is_item done less =
@@ -388,7 +386,7 @@ level_ends depth walk new after s (nest ∷ nests) before item levels stands kee
     let inner = inner_of depth nest nests before stands in
     let level = inner.level in
     let same : levels ≡ inner.levels = omega (arith, level, left) in
-    let item' = subst (λ (n : ℕ). IsItem n item) same is_item in
+    let item' = subst (λ (n : ℕ). IsItem false n item) same is_item in
     let all = items_item inner.levels count inner.items item inner.are_items item' in
     let completes = all_read nest.header inner.levels (suc count) (inner.items ++ item) after is done all in
     ends_nest depth nest nests before item (inner.items ++ item) new inner refl completes (record {

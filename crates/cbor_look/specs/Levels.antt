@@ -22,10 +22,10 @@ pub record Nest : Type 0 where
 -- within just these nests, the innermost first: whole items, and then for each nest its title and items of it, of which
 -- more are due (RFC 7049, 2.1 to 2.4)
 pub data StandsWithin (depth : ℕ) : List Nest → List ℕ → Type 0 where
-  outside : {count : ℕ} {items : List ℕ} → AreItems depth count items → StandsWithin depth [] items
+  outside : {count : ℕ} {items : List ℕ} → AreItems false depth count items → StandsWithin depth [] items
   inside : {levels count : ℕ} {nests : List Nest} {before title items : List ℕ} {header : Header}
       → StandsWithin depth nests before → length nests + suc levels ≡ depth → IsTitle title header
-      → TakesMore header count → AreItems levels count items
+      → TakesMore header count → AreItems false levels count items
       → StandsWithin depth (record { header = header; count = count } ∷ nests) (before ++ (title ++ items))
 
 -- `AreOpen kind opens bytes bodies`: the bytes are so many opens of the kind, each with strings behind it, and none

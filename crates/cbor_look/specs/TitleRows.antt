@@ -1,11 +1,10 @@
 -- What the rows of a title show, and of the string that it begins.
-use Rattle.std.specs.Prelude.{◌≡◌, ℕ, List, [], ◌++◌, Option, Result, OnOk}
+use Rattle.std.specs.Prelude.{ℕ, List, [], ◌++◌, Option, Result, OnOk}
 use Rattle.ciborium_ll.specs.Types.Read.{Ghosts}
 use Rattle.ciborium_ll.specs.Types.Decoder.{Decoder}
 use Rattle.cbor_look.specs.declared.dump.DumpError.{DumpError}
 use Rattle.cbor_look.specs.declared.walk.Walk.{Walk}
 use Rattle.cbor_look.specs.Levels.{Line}
-use Rattle.cbor_look.specs.Takings.{Takes}
 use Rattle.cbor_look.specs.Dumps.{Lines, Shows, ShowsBehind}
 use Rattle.cbor_look.specs.Walks.{IsDue}
 use Rattle.cbor_look.specs.Sequences.{IsSequence}

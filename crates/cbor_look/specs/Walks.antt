@@ -1,5 +1,5 @@
 -- How a walk keeps which tags, arrays and maps aren't closed, and what is due within each.
-use Rattle.std.specs.Prelude.{◌≡◌, ℕ, suc, ◌+◌, Bool, true, false, List, [], ◌∷◌, ◌++◌, length, slice_index_or}
+use Rattle.std.specs.Prelude.{◌≡◌, ℕ, ◌+◌, Bool, true, false, List, [], ◌∷◌, ◌++◌, length, slice_index_or}
 use Rattle.ciborium_ll.specs.Types.Header.{Header}
 use Rattle.ciborium_ll.specs.Types.Header.TheVariants as h
 use Rattle.ciborium_ll.specs.Items.{IsItem}
@@ -49,7 +49,7 @@ pub record IsBehindItem (depth : ℕ) (walk : Walk) (bytes : List ℕ) : Type 0 
   pub levels : ℕ
   pub due : IsDue depth walk before
   pub left : length due.nests + levels ≡ depth
-  pub is_item : IsItem levels item
+  pub is_item : IsItem false levels item
   pub is : bytes ≡ before ++ item
 
 -- what came of the title of a nest behind the bytes

@@ -128,7 +128,7 @@ where
         → IsTitle (taken_bytes taken.now) header → place ≡ start + length before
         → offset_of decoder.old ≡ place + length (taken_bytes taken.now) → AreTaken result
         → ShowsTitle R.Read depth start (S.drawn rows.old) (S.drawn rows.new) before (taken_bytes taken.now) walk.new
-            result decoder.old decoder.new }
+        result decoder.old decoder.new }
 {
     match header {
         Header::Bytes(len) => {
@@ -235,7 +235,7 @@ where
         → IsTitle (taken_bytes taken.now) (kind_header (kind_of kind) len) → place ≡ start + length before
         → offset_of decoder.old ≡ place + length (taken_bytes taken.now) → AreTaken result
         → ShowsTitle R.Read depth start (S.drawn rows.old) (S.drawn rows.new) before (taken_bytes taken.now) walk.new
-            result decoder.old decoder.new }
+        result decoder.old decoder.new }
 {
     let header = kind.header(len);
     let level = walk.level();
@@ -266,7 +266,7 @@ where
         → IsTitle title (kind_header (kind_of kind) len) → level ≡ length nests
         → offset_of decoder.old ≡ start + length (items ++ title) → AreTaken result
         → ShowsRest R.Read depth start (S.drawn rows.old) (S.drawn rows.new) (items ++ title) (kind_of kind) len
-            result decoder.old decoder.new }
+        result decoder.old decoder.new }
 {
     match len {
         Some(len) => {

@@ -52,8 +52,11 @@ pub trait Rows {
     /// Takes the next row.
     fn row(&mut self, row: Row<'_>) -> Result<(), Self::Error>
         ensures line { OnOk result (Draws (drawn self.old) (drawn self.new) (record {
-            level = row.entry.level; offset = row.entry.offset; bytes = row.entry.bytes.now;
-            meaning = row.entry.meaning } ∷ [])) };
+          level = row.entry.level;
+          offset = row.entry.offset;
+          bytes = row.entry.bytes.now;
+          meaning = row.entry.meaning;
+        } ∷ [])) };
 }
 
 /// Writes so many spaces.

@@ -61,7 +61,7 @@ where
         → IsTitle title (kind_header (kind_of kind) (Some len)) → level ≡ length nests + opens + 1
         → offset_of decoder.old ≡ start + length (outer ++ title) → AreTaken result
         → ShowsRest R.Read depth start (S.drawn rows.old) (S.drawn rows.new) (outer ++ title) (kind_of kind) (Some len)
-            result decoder.old decoder.new }
+        result decoder.old decoder.new }
     ensures rises { offset_of decoder.old ≤ offset_of decoder.new }
 {
     let mut left = len;
@@ -151,7 +151,7 @@ where
         → IsTitle title (kind_header (kind_of kind) None) → level ≡ length nests
         → offset_of decoder.old ≡ start + length (items ++ title) → AreTaken result
         → ShowsRest R.Read depth start (S.drawn rows.old) (S.drawn rows.new) (items ++ title) (kind_of kind) None
-            result decoder.old decoder.new }
+        result decoder.old decoder.new }
 {
     let mut inner = level + 1;
     // It ends: each title takes a byte, and no offset is greater than `usize::MAX`.

@@ -1,4 +1,4 @@
-use Rattle.std.proofs.Common.{◌≡◌, ◌+◌, ◌<◌, ◌≤◌, ◌∙◌, ◌++◌, length, sym, arith}
+use Rattle.std.proofs.Common.{◌∙◌, ◌++◌, sym, arith}
 use Rattle.ciborium_ll.specs.Title.{IsTitle}
 use Rattle.ciborium_ll.proofs.NestLaws.{title_some}
 use Rattle.cbor_look.specs.Takings.{taken_bytes}
@@ -30,8 +30,9 @@ returns-in-Err-Io g c = record {
       let up = c.titles.invariant in
       record {
         bytes = up.bytes;
-        shows = up_ends g.R.Read c.args.depth _ _ c.titles.walk row _ _ _ up takes ?;
-        whole = walk_ended c.args.depth c.titles.walk up.bytes up.due ?;
+        shows = up_ends g.R.Read c.args.depth _ _ c.titles.walk row _ _ _ up takes (sym c.len.ensures.value ∙ c.if-len-eq0.true);
+        whole = walk_ended c.args.depth c.titles.walk up.bytes up.due
+            (sym c.level-level.ensures.value ∙ c.if-level-eq0.true);
       };
 }
 
@@ -62,7 +63,7 @@ returns-in-Err-title g c = record {
       let place = c.offset-place.ensures.value in
       let titled : IsTitle row c.in-Ok.header = rw c.in-Ok.is at c.read_title.ensures.title in
       let title = c.in-Err-title.ensures.shows c.args.depth c.args.decoder.now.offset up.bytes up.due titled
-          (omega (arith, place, begun)) (omega (arith, place, moved)) all in
+      (omega (arith, place, begun)) (omega (arith, place, moved)) all in
       record {
         bytes = up.bytes ++ (row ++ title.bytes);
         shows = up_title g.R.Read c.args.depth _ _ _ up.bytes _ row _ _ _ _ _ up.shows takes title;
@@ -82,7 +83,7 @@ titles-smaller g c =
     let titled : IsTitle row c.in-Ok.header = rw c.in-Ok.is at c.read_title.ensures.title in
     let some = title_some row c.in-Ok.header titled in
     let title = (rw c.in_default.is at c.title.ensures.shows) c.args.depth c.args.decoder.now.offset up.bytes up.due titled
-        (omega (arith, place, begun)) (omega (arith, place, moved)) tt in
+    (omega (arith, place, begun)) (omega (arith, place, moved)) tt in
     let behind = title.shows.takes.offset in
     omega (arith, moved, some, behind)
 
@@ -97,7 +98,7 @@ titles-preserved g c =
     let place = c.offset-place.ensures.value in
     let titled : IsTitle row c.in-Ok.header = rw c.in-Ok.is at c.read_title.ensures.title in
     let title = (rw c.in_default.is at c.title.ensures.shows) c.args.depth c.args.decoder.now.offset up.bytes up.due titled
-        (omega (arith, place, begun)) (omega (arith, place, moved)) tt in
+    (omega (arith, place, begun)) (omega (arith, place, moved)) tt in
     record {
       bytes = up.bytes ++ (row ++ title.bytes);
       shows = up_title g.R.Read c.args.depth _ _ _ up.bytes _ row _ _ _ _ _ up.shows takes title;

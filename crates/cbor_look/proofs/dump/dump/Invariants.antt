@@ -1,6 +1,4 @@
-use Rattle.std.proofs.Common.{ℕ, ◌-◌, ◌^◌, ◌≤◌, List, [], ◌≡◌}
-use Rattle.cbor_look.specs.Dumps.{Shows}
-use Rattle.cbor_look.specs.Walks.{IsDue}
+use Rattle.std.proofs.Common.{◌-◌, ◌^◌}
 use Rattle.cbor_look.proofs.TitleLaws.{UpTo}
 use Rattle.cbor_look.proofs.dump.dump.Given as goal
 

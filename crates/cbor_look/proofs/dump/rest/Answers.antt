@@ -1,7 +1,4 @@
-use Rattle.std.proofs.Common.{Option, ℕ, arith, subst, sym}
-use Rattle.ciborium_ll.specs.Title.{IsTitle}
-use Rattle.ciborium_ll.specs.Strings.{kind_header}
-use Rattle.cbor_look.specs.StringRows.{ShowsRest, kind_of}
+use Rattle.std.proofs.Common.{arith}
 use Rattle.cbor_look.proofs.TitleLaws.{due_here}
 use Rattle.cbor_look.proofs.dump.rest.Goals as goal
 

@@ -1,4 +1,4 @@
-use Rattle.std.proofs.Common.{◌≡◌, ◌+◌, ℕ, List, [], ◌++◌, length, arith, length-append, append_assoc, sym, ◌∙◌}
+use Rattle.std.proofs.Common.{[], ◌++◌, arith, length-append, ◌∙◌}
 use Rattle.cbor_look.specs.Takings.{taken_bytes}
 use Rattle.cbor_look.specs.StringRows.{kind_of}
 use Rattle.ciborium_ll.specs.Strings.{kind_header}
@@ -32,9 +32,9 @@ returns-in-Err-rest g c = record {
       let drawn = rw c.header-header.ensures at ((rw c.in_default.is at c.shown.ensures) tt) in
       let used = due.keeps.used in
       let line = walk_line depth start _ _ before row (kind_header k c.args.len) c.level-level.result c.args.place
-          c.args.walk.now due p (string_level k c.args.len due.nests 0) c.level-level.ensures.value place drawn in
+      c.args.walk.now due p (string_level k c.args.len due.nests 0) c.level-level.ensures.value place drawn in
       let rest = c.in-Err-rest.ensures.shows depth start due.nests before row due.within p
-          (c.level-level.ensures.value ∙ used) (omega (arith, place, offset, length-append before row)) all in
+      (c.level-level.ensures.value ∙ used) (omega (arith, place, offset, length-append before row)) all in
       record {
         bytes = rest.bytes;
         shows = title_then g.R.Read depth start _ _ _ before row rest.bytes _ _ line rest.shows;
@@ -50,9 +50,9 @@ returns g c = record {
       let drawn = rw c.header-header.ensures at ((rw c.in_default.is at c.shown.ensures) tt) in
       let used = due.keeps.used in
       let line = walk_line depth start _ _ before row (kind_header k c.args.len) c.level-level.result c.args.place
-          c.args.walk.now due p (string_level k c.args.len due.nests 0) c.level-level.ensures.value place drawn in
+      c.args.walk.now due p (string_level k c.args.len due.nests 0) c.level-level.ensures.value place drawn in
       let rest = (rw c.in_default-rest.is at c.rest.ensures.shows) depth start due.nests before row due.within p
-          (c.level-level.ensures.value ∙ used) (omega (arith, place, offset, length-append before row)) tt in
+      (c.level-level.ensures.value ∙ used) (omega (arith, place, offset, length-append before row)) tt in
       record {
         bytes = rest.bytes;
         shows = title_then g.R.Read depth start _ _ _ before row rest.bytes _ _ line rest.shows;

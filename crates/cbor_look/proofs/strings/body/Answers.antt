@@ -1,4 +1,4 @@
-use Rattle.std.proofs.Common.{◌≡◌, [], ◌++◌, length, arith}
+use Rattle.std.proofs.Common.{[], ◌++◌, arith}
 use Rattle.cbor_look.specs.Takings.{taken_bytes}
 use Rattle.cbor_look.specs.StringRows.{kind_of}
 use Rattle.cbor_look.proofs.DumpLaws.{shows_none}
@@ -46,9 +46,9 @@ returns-in-Err-shown g c = record {
       let takes = taken_all g.R.Read _ row _ _ c.new-taken.ensures keeps in
       let ok = rw c.in_default.is at c.read_part.ensures.written in
       let shown = part_shown g.R.Read depth start opens nests outer title c.args.kind c.args.len c.rows.left c.args.level
-          c.offset-offset.result _ _ _ row _ _ _ (record { due = due; is_title = p; below = level }) at so_far takes
-          c.read_part.ensures.most c.offset-offset.ensures.value ok
-          (rw c.meaning.ensures at (c.in-Err-shown.ensures all)) in
+      c.offset-offset.result _ _ _ row _ _ _ (record { due = due; is_title = p; below = level }) at so_far takes
+      c.read_part.ensures.most c.offset-offset.ensures.value ok
+      (rw c.meaning.ensures at (c.in-Err-shown.ensures all)) in
       record { bytes = shown.front; shows = shown.shows; whole = tt };
   rises =
       let keeps = rw c.offset-offset.ensures.same at c.read_part.ensures.keeps in
@@ -66,9 +66,9 @@ rows-preserved g c = record {
       let takes = taken_all g.R.Read _ row _ _ c.new-taken.ensures keeps in
       let ok = rw c.in_default.is at c.read_part.ensures.written in
       let shown = part_shown g.R.Read depth start opens nests outer title c.args.kind c.args.len c.rows.left c.args.level
-          c.offset-offset.result _ _ _ row _ _ _ (record { due = due; is_title = p; below = level }) at so_far takes
-          c.read_part.ensures.most c.offset-offset.ensures.value ok
-          (rw c.meaning.ensures at ((rw c.in_default-shown.is at c.shown.ensures) tt)) in
+      c.offset-offset.result _ _ _ row _ _ _ (record { due = due; is_title = p; below = level }) at so_far takes
+      c.read_part.ensures.most c.offset-offset.ensures.value ok
+      (rw c.meaning.ensures at ((rw c.in_default-shown.is at c.shown.ensures) tt)) in
       rw c.len-left.ensures.value shown;
   rises =
       let keeps = rw c.offset-offset.ensures.same at c.read_part.ensures.keeps in

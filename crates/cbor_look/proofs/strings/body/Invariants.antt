@@ -1,7 +1,6 @@
 use Rattle.std.proofs.Common.{◌≡◌, ◌≤◌, ◌+◌, ℕ, List, ◌++◌, length, Some}
 use Rattle.ciborium_ll.specs.Title.{IsTitle}
-use Rattle.ciborium_ll.specs.Strings.{IsWritable, kind_header}
-use Rattle.cbor_look.specs.Dumps.{Shows}
+use Rattle.ciborium_ll.specs.Strings.{kind_header}
 use Rattle.cbor_look.specs.Levels.{Nest, TitleDue}
 use Rattle.cbor_look.specs.StringRows.{kind_of}
 use Rattle.cbor_look.proofs.StringLaws.{SoFar}
@@ -13,7 +12,7 @@ invariant-rows g l = record {
       → IsTitle title (kind_header (kind_of l.kind) (Some l.len)) → l.level ≡ length nests + opens + 1
       → l.fn.decoder.offset ≡ start + length (outer ++ title)
       → SoFar g.R.Read depth start (g.S.Rows.drawn l.fn.rows) (g.S.Rows.drawn l.rows) (outer ++ title) (kind_of l.kind)
-          l.len l.left l.fn.decoder l.decoder;
+      l.len l.left l.fn.decoder l.decoder;
   rises : l.fn.decoder.offset ≤ l.decoder.offset;
 }
 

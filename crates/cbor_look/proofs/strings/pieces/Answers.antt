@@ -1,4 +1,4 @@
-use Rattle.std.proofs.Common.{◌≡◌, ◌+◌, ◌≤◌, ℕ, List, ◌++◌, length, refl, subst, sym, ap, suc, ◌-◌, Some, None, ◌∙◌, arith}
+use Rattle.std.proofs.Common.{◌≡◌, ℕ, ◌++◌, subst, sym, ap, suc, ◌-◌, Some, None, ◌∙◌, arith}
 use Rattle.ciborium_ll.specs.Types.Header.{Header}
 use Rattle.ciborium_ll.specs.Title.{IsTitle}
 use Rattle.ciborium_ll.proofs.NestLaws.{title_some}
@@ -48,7 +48,6 @@ returns-in-Other g c = record {
       };
 }
 
-
 pub returns-in-Err-shown : goal.returns-in-Err-shown
 returns-in-Err-shown g c = record {
   shows = λ depth start nests items title stands p level at all.
@@ -81,7 +80,7 @@ returns-then-inner-level g c = record {
       let is = c.in-Break.ensures in
       let title_row = subst (λ (x : Header). IsTitle row x) is titled in
       let ends = within_ends g.R.Read depth start _ _ nests items title (kind_of c.args.kind) c.parts.inner _ _ stands so_far at _ row c.offset-place.result _ p takes place title_row
-          (c.if-inner-level.true ∙ level) (rw is at ((rw c.in_default.is at c.shown.ensures) tt)) in
+      (c.if-inner-level.true ∙ level) (rw is at ((rw c.in_default.is at c.shown.ensures) tt)) in
       record { bytes = so_far.bytes ++ row; shows = ends.0; whole = ends.1 };
 }
 
@@ -148,7 +147,7 @@ returns-in-Err-body g c = record {
       let inner = so_far.level in
       let due = piece_due g.R.Read depth start _ _ nests items title (kind_of c.args.kind) c.parts.inner _ _ stands so_far at in
       let rest = c.in-Err-body.ensures.shows depth start (suc so_far.opens) nests (items ++ so_far.parts) row due
-          title_row (omega (arith, inner)) (piece_offset g.R.Read depth start _ _ nests items title (kind_of c.args.kind) c.parts.inner _ _ stands so_far at row _ takes) all in
+      title_row (omega (arith, inner)) (piece_offset g.R.Read depth start _ _ nests items title (kind_of c.args.kind) c.parts.inner _ _ stands so_far at row _ takes) all in
       record {
         bytes = so_far.bytes ++ (row ++ rest.bytes);
         shows = within_piece g.R.Read depth start _ _ nests items title (kind_of c.args.kind) c.parts.inner _ _ stands so_far at _ _ row rest.bytes c.in-Piece.len c.offset-place.result _ _ takes place
@@ -182,9 +181,9 @@ parts-preserved-in_default-body g c = record {
       let inner = so_far.level in
       let due = piece_due g.R.Read depth start _ _ nests items title (kind_of c.args.kind) c.parts.inner _ _ stands so_far at in
       let rest = (rw c.in_default-body.is at c.body.ensures.shows) depth start (suc so_far.opens) nests
-          (items ++ so_far.parts) row due title_row (omega (arith, inner)) (piece_offset g.R.Read depth start _ _ nests items title (kind_of c.args.kind) c.parts.inner _ _ stands so_far at row _ takes) tt in
+      (items ++ so_far.parts) row due title_row (omega (arith, inner)) (piece_offset g.R.Read depth start _ _ nests items title (kind_of c.args.kind) c.parts.inner _ _ stands so_far at row _ takes) tt in
       let shows = within_piece g.R.Read depth start _ _ nests items title (kind_of c.args.kind) c.parts.inner _ _ stands so_far at _ _ row rest.bytes c.in-Piece.len c.offset-place.result _ _ takes place
-          title_row (rw is at ((rw c.in_default-shown.is at c.shown-in-Piece.ensures) tt)) rest.shows in
+      title_row (rw is at ((rw c.in_default-shown.is at c.shown-in-Piece.ensures) tt)) rest.shows in
       within_whole g.R.Read depth start _ _ nests items title (kind_of c.args.kind) c.parts.inner _ _ stands so_far at _ row rest.bytes c.in-Piece.len _ title_row rest.whole.0 rest.whole.1 shows;
   above = c.parts.invariant.above;
   below =

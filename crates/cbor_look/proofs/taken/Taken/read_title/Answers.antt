@@ -1,5 +1,4 @@
-use Rattle.std.proofs.Common.{◌≡◌, ℕ, List, length, sym, ap, ◌∙◌, subst, arith}
-use Rattle.ciborium_ll.specs.Title.{affix_len}
+use Rattle.std.proofs.Common.{◌≡◌, ℕ, List, length, ap, subst, arith}
 use Rattle.cbor_look.specs.Fronts.{IsInFront}
 use Rattle.cbor_look.specs.Takings.{taken_bytes}
 use Rattle.cbor_look.proofs.TakingLaws.{keeps_then, title_taken}

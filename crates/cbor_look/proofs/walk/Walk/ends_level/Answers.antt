@@ -1,5 +1,5 @@
 use Rattle.std.proofs.Common.{refl, sym, ◌∙◌, arith}
-use Rattle.cbor_look.proofs.WalkLaws.{Steps, end_outside, end_remains, end_goes_on, end_of_level}
+use Rattle.cbor_look.proofs.WalkLaws.{end_outside, end_goes_on, end_of_level}
 use Rattle.cbor_look.proofs.walk.Walk.ends_level.Goals as goal
 
 pub returns-then-self-eq0-clause-ends : goal.returns-then-self-eq0-clause-ends
