@@ -48,7 +48,10 @@ module _ {R E : Type 0} (source : Ghosts R E) where
     shows = shows_none source depth start drawn (items ++ title) decoder;
   }
 
-  module _ (depth start : ℕ) (drawn middle : Option (List Line)) (nests : List Nest) (items title : List ℕ) (kind : Kind) (inner : ℕ) (old between : Decoder R) (stands : StandsWithin depth nests items) (so_far : Within depth start drawn middle nests items title kind inner old between) (begun : old.offset ≡ start + length (items ++ title)) where
+  module _ (depth start : ℕ) (drawn middle : Option (List Line)) (nests : List Nest) (items title : List ℕ)
+      (kind : Kind) (inner : ℕ) (old between : Decoder R) (stands : StandsWithin depth nests items)
+      (so_far : Within depth start drawn middle nests items title kind inner old between)
+      (begun : old.offset ≡ start + length (items ++ title)) where
     -- what is before, as it is cut
     before_is : (items ++ title) ++ so_far.bytes ≡ items ++ so_far.parts
     before_is = append_assoc items title so_far.bytes ∙ ap (λ (z : List ℕ). items ++ z) so_far.is
@@ -70,7 +73,8 @@ module _ {R E : Type 0} (source : Ghosts R E) where
 
     -- what was read before a fault
     pub within_fails : (then_drawn : Option (List Line)) (row : List ℕ) (offset : ℕ) (new : Decoder R)
-        → Takes source between row new → offset ≡ between.offset → Draws middle then_drawn (fault_lines inner offset row)
+        → Takes source between row new → offset ≡ between.offset
+        → Draws middle then_drawn (fault_lines inner offset row)
         → Shows source depth start drawn then_drawn (items ++ title) (so_far.bytes ++ row) old new
     within_fails then_drawn row offset new takes at drawn_fault =
         shows_then source depth start drawn middle then_drawn (items ++ title) so_far.bytes row old between new

@@ -129,7 +129,8 @@ module _ {R E : Type 0} (source : Ghosts R E) where
       → (so_far : SoFar depth start drawn middle (outer ++ title) (kind_of kind) len left old between)
       → Takes source between bytes new → length bytes ≤ left → offset ≡ between.offset
       → IsWritable (kind_of kind) bytes
-      → Draws middle then_drawn (record { level = level; offset = offset; bytes = bytes; meaning = meaning_of kind } ∷ [])
+      → Draws middle then_drawn (record { level = level; offset = offset; bytes = bytes; meaning = meaning_of kind } ∷
+      [])
       → SoFar depth start drawn then_drawn (outer ++ title) (kind_of kind) len (left - length bytes) old new
   part_shown depth start opens nests outer title kind len left level offset drawn middle then_drawn bytes old between
       new at begun so_far takes few here written drawn_line =
@@ -140,7 +141,8 @@ module _ {R E : Type 0} (source : Ghosts R E) where
         shows = shows_then source depth start drawn middle then_drawn (outer ++ title) so_far.front bytes old between
             new so_far.shows (record {
               lines = lines_one depth start middle then_drawn ((outer ++ title) ++ so_far.front) _ drawn_line
-                  (here ∙ next_offset depth start drawn middle (outer ++ title) so_far.front old between so_far.shows begun)
+                  (here ∙ next_offset depth start drawn middle (outer ++ title) so_far.front old between so_far.shows
+                  begun)
                   (part_stands kind depth ((outer ++ title) ++ so_far.front) _
                   (body_here depth opens nests outer title (kind_of kind) len level at so_far.front bytes fits offset
                   (meaning_of kind)) written);

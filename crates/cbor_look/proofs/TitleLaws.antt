@@ -29,7 +29,8 @@ use Rattle.cbor_look.proofs.DumpLaws.{lines_one, lines_then, shows_none, shows_t
 
 -- ---- levels
 
-pub nest_level : (x : Header) (nests : List Nest) (opens : ℕ) → IsNest x → title_level x nests opens ≡ length nests + opens
+pub nest_level : (x : Header) (nests : List Nest) (opens : ℕ) → IsNest x
+    → title_level x nests opens ≡ length nests + opens
 nest_level (h.Tag n) nests opens nest = refl
 nest_level (h.Array n) nests opens nest = refl
 nest_level (h.Map n) nests opens nest = refl
@@ -131,7 +132,8 @@ rest_completes Text (Some n) bytes rest levels = text_string rest.0 rest.1
 rest_completes Bytes None bytes rest levels =
     subst (λ (z : List ℕ). Completes false levels (h.Bytes None) z) (sym rest.is) (open_bytes rest.are_strings tt)
 rest_completes Text None bytes rest levels =
-    subst (λ (z : List ℕ). Completes false levels (h.Text None) z) (sym rest.is) (open_text rest.are_strings tt rest.sound)
+    subst (λ (z : List ℕ). Completes false levels (h.Text None) z) (sym rest.is)
+    (open_text rest.are_strings tt rest.sound)
 
 pub string_item : (k : Kind) (len : Option ℕ) (title bytes : List ℕ) → IsTitle title (kind_header k len)
     → IsRest k len bytes → (levels : ℕ) → IsItem false levels (title ++ bytes)

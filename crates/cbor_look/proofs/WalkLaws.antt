@@ -71,7 +71,8 @@ kept_more : (levels : List Remaining) (nests : List Nest) (nest : Nest) (at : �
     → AreKept (set levels at x) (nest ∷ nests)
 kept_more levels nests nest at x end room is some kept =
     let same : remaining_at (set levels at x) (length nests) ≡ x =
-    subst (λ (k : ℕ). get_or (set levels at x) k (r.Items 0) ≡ x) end (get_or-set_same levels at x (r.Items 0) room) in (
+    subst (λ (k : ℕ). get_or (set levels at x) k (r.Items 0) ≡ x) end (get_or-set_same levels at x (r.Items 0) room)
+    in (
       subst (λ (y : Remaining). IsRemaining nest.header nest.count y) (sym same) is,
       ap is_done same ∙ some,
       kept_below levels nests at x (omega (arith, end)) kept,
@@ -332,7 +333,8 @@ pub record Steps (walk new : Walk) (after : Remaining) : Type 0 where
   pub written : new.levels ≡ set walk.levels (walk.used - 1) after
   pub deep : new.depth ≡ walk.depth
 
-more_due : (depth : ℕ) (walk new : Walk) (after : Remaining) → Steps walk new after → (nests : List Nest) (before item : List ℕ) (levels : ℕ) → StandsWithin depth nests before
+more_due : (depth : ℕ) (walk new : Walk) (after : Remaining) → Steps walk new after
+    → (nests : List Nest) (before item : List ℕ) (levels : ℕ) → StandsWithin depth nests before
     → KeepsNests depth walk nests → length nests + levels ≡ depth → IsItem false levels item
     → is_done after ≡ false → new.used ≡ walk.used → IsDue depth new (before ++ item)
 more_due depth walk new after s [] before item levels stands keeps left is_item rest same = absurd (s.some keeps.used)
@@ -362,15 +364,18 @@ more_due depth walk new after s (nest ∷ nests) before item levels stands keeps
       };
     }
 
-pub end_goes_on : (depth : ℕ) (walk new : Walk) (after : Remaining) → Steps walk new after → (bytes : List ℕ) → IsBehindItem depth walk bytes → is_done after ≡ false → new.used ≡ walk.used
+pub end_goes_on : (depth : ℕ) (walk new : Walk) (after : Remaining) → Steps walk new after → (bytes : List ℕ)
+    → IsBehindItem depth walk bytes → is_done after ≡ false → new.used ≡ walk.used
     → IsDue depth new bytes
 end_goes_on depth walk new after s bytes behind rest same =
     let due = behind.due in
     subst (λ (z : List ℕ). IsDue depth new z) (sym behind.is)
-    (more_due depth walk new after s due.nests behind.before behind.item behind.levels due.within due.keeps behind.left behind.is_item rest
+    (more_due depth walk new after s due.nests behind.before behind.item behind.levels due.within due.keeps
+    behind.left behind.is_item rest
     same)
 
-level_ends : (depth : ℕ) (walk new : Walk) (after : Remaining) → Steps walk new after → (nests : List Nest) (before item : List ℕ) (levels : ℕ) → StandsWithin depth nests before
+level_ends : (depth : ℕ) (walk new : Walk) (after : Remaining) → Steps walk new after
+    → (nests : List Nest) (before item : List ℕ) (levels : ℕ) → StandsWithin depth nests before
     → KeepsNests depth walk nests → length nests + levels ≡ depth → IsItem false levels item
     → is_done after ≡ true → new.used ≡ walk.used - 1 → IsBehindItem depth new (before ++ item)
 level_ends depth walk new after s [] before item levels stands keeps left is_item done less = absurd (s.some keeps.used)
@@ -397,10 +402,12 @@ level_ends depth walk new after s (nest ∷ nests) before item levels stands kee
       room = ap length s.written ∙ (length-set walk.levels (walk.used - 1) after ∙ keeps.room);
     })
 
-pub end_of_level : (depth : ℕ) (walk new : Walk) (after : Remaining) → Steps walk new after → (bytes : List ℕ) → IsBehindItem depth walk bytes → is_done after ≡ true
+pub end_of_level : (depth : ℕ) (walk new : Walk) (after : Remaining) → Steps walk new after → (bytes : List ℕ)
+    → IsBehindItem depth walk bytes → is_done after ≡ true
     → new.used ≡ walk.used - 1 → IsBehindItem depth new bytes
 end_of_level depth walk new after s bytes behind done less =
     let due = behind.due in
     subst (λ (z : List ℕ). IsBehindItem depth new z) (sym behind.is)
-    (level_ends depth walk new after s due.nests behind.before behind.item behind.levels due.within due.keeps behind.left behind.is_item
+    (level_ends depth walk new after s due.nests behind.before behind.item behind.levels due.within due.keeps
+    behind.left behind.is_item
     done less)

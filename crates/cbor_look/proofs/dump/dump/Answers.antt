@@ -30,7 +30,8 @@ returns-in-Err-Io g c = record {
       let up = c.titles.invariant in
       record {
         bytes = up.bytes;
-        shows = up_ends g.R.Read c.args.depth _ _ c.titles.walk row _ _ _ up takes (sym c.len.ensures.value ∙ c.if-len-eq0.true);
+        shows = up_ends g.R.Read c.args.depth _ _ c.titles.walk row _ _ _ up takes
+            (sym c.len.ensures.value ∙ c.if-len-eq0.true);
         whole = walk_ended c.args.depth c.titles.walk up.bytes up.due
             (sym c.level-level.ensures.value ∙ c.if-level-eq0.true);
       };
@@ -82,7 +83,8 @@ titles-smaller g c =
     let place = c.offset-place.ensures.value in
     let titled : IsTitle row c.in-Ok.header = rw c.in-Ok.is at c.read_title.ensures.title in
     let some = title_some row c.in-Ok.header titled in
-    let title = (rw c.in_default.is at c.title.ensures.shows) c.args.depth c.args.decoder.now.offset up.bytes up.due titled
+    let title = (rw c.in_default.is at c.title.ensures.shows) c.args.depth c.args.decoder.now.offset up.bytes up.due
+    titled
     (omega (arith, place, begun)) (omega (arith, place, moved)) tt in
     let behind = title.shows.takes.offset in
     omega (arith, moved, some, behind)
@@ -97,7 +99,8 @@ titles-preserved g c =
     let begun = up.shows.takes.offset in
     let place = c.offset-place.ensures.value in
     let titled : IsTitle row c.in-Ok.header = rw c.in-Ok.is at c.read_title.ensures.title in
-    let title = (rw c.in_default.is at c.title.ensures.shows) c.args.depth c.args.decoder.now.offset up.bytes up.due titled
+    let title = (rw c.in_default.is at c.title.ensures.shows) c.args.depth c.args.decoder.now.offset up.bytes up.due
+    titled
     (omega (arith, place, begun)) (omega (arith, place, moved)) tt in
     record {
       bytes = up.bytes ++ (row ++ title.bytes);

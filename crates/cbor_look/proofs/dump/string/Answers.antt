@@ -56,7 +56,8 @@ returns g c = record {
       record {
         bytes = rest.bytes;
         shows = title_then g.R.Read depth start _ _ _ before row rest.bytes _ _ line rest.shows;
-        due = c.item_done.ensures depth _ (behind_item depth c.args.walk.now before (row ++ rest.bytes) due (omega arith)
+        due = c.item_done.ensures depth _ (behind_item depth c.args.walk.now before (row ++ rest.bytes) due
+            (omega arith)
             (string_item k c.args.len row rest.bytes p rest.whole));
       };
 }

@@ -45,7 +45,8 @@ returns-in-Err-shown g c = record {
       let keeps = rw c.offset-offset.ensures.same at c.read_part.ensures.keeps in
       let takes = taken_all g.R.Read _ row _ _ c.new-taken.ensures keeps in
       let ok = rw c.in_default.is at c.read_part.ensures.written in
-      let shown = part_shown g.R.Read depth start opens nests outer title c.args.kind c.args.len c.rows.left c.args.level
+      let shown = part_shown g.R.Read depth start opens nests outer title c.args.kind c.args.len c.rows.left
+      c.args.level
       c.offset-offset.result _ _ _ row _ _ _ (record { due = due; is_title = p; below = level }) at so_far takes
       c.read_part.ensures.most c.offset-offset.ensures.value ok
       (rw c.meaning.ensures at (c.in-Err-shown.ensures all)) in
@@ -65,7 +66,8 @@ rows-preserved g c = record {
       let keeps = rw c.offset-offset.ensures.same at c.read_part.ensures.keeps in
       let takes = taken_all g.R.Read _ row _ _ c.new-taken.ensures keeps in
       let ok = rw c.in_default.is at c.read_part.ensures.written in
-      let shown = part_shown g.R.Read depth start opens nests outer title c.args.kind c.args.len c.rows.left c.args.level
+      let shown = part_shown g.R.Read depth start opens nests outer title c.args.kind c.args.len c.rows.left
+      c.args.level
       c.offset-offset.result _ _ _ row _ _ _ (record { due = due; is_title = p; below = level }) at so_far takes
       c.read_part.ensures.most c.offset-offset.ensures.value ok
       (rw c.meaning.ensures at ((rw c.in_default-shown.is at c.shown.ensures) tt)) in

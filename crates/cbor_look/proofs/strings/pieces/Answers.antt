@@ -28,7 +28,8 @@ returns-in-Err g c = record {
       let place = c.offset-place.ensures.value in
       record {
         bytes = so_far.bytes ++ row;
-        shows = within_fails g.R.Read depth start _ _ nests items title (kind_of c.args.kind) c.parts.inner _ _ stands so_far at _ row c.offset-place.result _ takes place (c.fault.ensures all);
+        shows = within_fails g.R.Read depth start _ _ nests items title (kind_of c.args.kind) c.parts.inner _ _ stands
+            so_far at _ row c.offset-place.result _ takes place (c.fault.ensures all);
         whole = tt;
       };
 }
@@ -43,7 +44,8 @@ returns-in-Other g c = record {
       let place = c.offset-place.ensures.value in
       record {
         bytes = so_far.bytes ++ row;
-        shows = within_fails g.R.Read depth start _ _ nests items title (kind_of c.args.kind) c.parts.inner _ _ stands so_far at _ row c.offset-place.result _ takes place (c.fault-in-Other.ensures all);
+        shows = within_fails g.R.Read depth start _ _ nests items title (kind_of c.args.kind) c.parts.inner _ _ stands
+            so_far at _ row c.offset-place.result _ takes place (c.fault-in-Other.ensures all);
         whole = tt;
       };
 }
@@ -62,7 +64,8 @@ returns-in-Err-shown g c = record {
       let inner = so_far.level in
       record {
         bytes = so_far.bytes ++ row;
-        shows = within_title g.R.Read depth start _ _ nests items title (kind_of c.args.kind) c.parts.inner _ _ stands so_far at _ row _ c.offset-place.result (c.parts.inner - 1) _ takes place title_row
+        shows = within_title g.R.Read depth start _ _ nests items title (kind_of c.args.kind) c.parts.inner _ _ stands
+            so_far at _ row _ c.offset-place.result (c.parts.inner - 1) _ takes place title_row
             (ap (λ (n : ℕ). n - 1) inner) (rw is at (c.in-Err-shown.ensures all));
         whole = tt;
       };
@@ -79,7 +82,8 @@ returns-then-inner-level g c = record {
       let titled : IsTitle row c.in-Ok.header = rw c.in-Ok.is at c.read_title.ensures.title in
       let is = c.in-Break.ensures in
       let title_row = subst (λ (x : Header). IsTitle row x) is titled in
-      let ends = within_ends g.R.Read depth start _ _ nests items title (kind_of c.args.kind) c.parts.inner _ _ stands so_far at _ row c.offset-place.result _ p takes place title_row
+      let ends = within_ends g.R.Read depth start _ _ nests items title (kind_of c.args.kind) c.parts.inner _ _ stands
+      so_far at _ row c.offset-place.result _ p takes place title_row
       (c.if-inner-level.true ∙ level) (rw is at ((rw c.in_default.is at c.shown.ensures) tt)) in
       record { bytes = so_far.bytes ++ row; shows = ends.0; whole = ends.1 };
 }
@@ -95,7 +99,8 @@ parts-preserved-else-inner-level g c = record {
       let titled : IsTitle row c.in-Ok.header = rw c.in-Ok.is at c.read_title.ensures.title in
       let is = c.in-Break.ensures in
       let title_row = subst (λ (x : Header). IsTitle row x) is titled in
-      within_break g.R.Read depth start _ _ nests items title (kind_of c.args.kind) c.parts.inner _ _ stands so_far at _ row c.offset-place.result _ takes place title_row
+      within_break g.R.Read depth start _ _ nests items title (kind_of c.args.kind) c.parts.inner _ _ stands so_far at
+      _ row c.offset-place.result _ takes place title_row
       (λ e. c.if-inner-level.false (e ∙ sym level)) (rw is at ((rw c.in_default.is at c.shown.ensures) tt));
   above =
       let inner = c.parts.invariant.above in
@@ -126,7 +131,8 @@ returns-in-Err-shown-2 g c = record {
       let inner = so_far.level in
       record {
         bytes = so_far.bytes ++ row;
-        shows = within_title g.R.Read depth start _ _ nests items title (kind_of c.args.kind) c.parts.inner _ _ stands so_far at _ row _ c.offset-place.result c.parts.inner _ takes place title_row
+        shows = within_title g.R.Read depth start _ _ nests items title (kind_of c.args.kind) c.parts.inner _ _ stands
+            so_far at _ row _ c.offset-place.result c.parts.inner _ takes place title_row
             (inner ∙ sym (string_level (kind_of c.args.kind) (Some c.in-Piece.len) nests (suc so_far.opens)))
             (rw is at (c.in-Err-shown-2.ensures all));
         whole = tt;
@@ -145,12 +151,15 @@ returns-in-Err-body g c = record {
       let is = c.in-Piece.ensures in
       let title_row = subst (λ (x : Header). IsTitle row x) is titled in
       let inner = so_far.level in
-      let due = piece_due g.R.Read depth start _ _ nests items title (kind_of c.args.kind) c.parts.inner _ _ stands so_far at in
+      let due = piece_due g.R.Read depth start _ _ nests items title (kind_of c.args.kind) c.parts.inner _ _ stands
+      so_far at in
       let rest = c.in-Err-body.ensures.shows depth start (suc so_far.opens) nests (items ++ so_far.parts) row due
-      title_row (omega (arith, inner)) (piece_offset g.R.Read depth start _ _ nests items title (kind_of c.args.kind) c.parts.inner _ _ stands so_far at row _ takes) all in
+      title_row (omega (arith, inner)) (piece_offset g.R.Read depth start _ _ nests items title (kind_of c.args.kind)
+      c.parts.inner _ _ stands so_far at row _ takes) all in
       record {
         bytes = so_far.bytes ++ (row ++ rest.bytes);
-        shows = within_piece g.R.Read depth start _ _ nests items title (kind_of c.args.kind) c.parts.inner _ _ stands so_far at _ _ row rest.bytes c.in-Piece.len c.offset-place.result _ _ takes place
+        shows = within_piece g.R.Read depth start _ _ nests items title (kind_of c.args.kind) c.parts.inner _ _ stands
+            so_far at _ _ row rest.bytes c.in-Piece.len c.offset-place.result _ _ takes place
             title_row (rw is at ((rw c.in_default-shown.is at c.shown-in-Piece.ensures) tt)) rest.shows;
         whole = tt;
       };
@@ -179,12 +188,16 @@ parts-preserved-in_default-body g c = record {
       let is = c.in-Piece.ensures in
       let title_row = subst (λ (x : Header). IsTitle row x) is titled in
       let inner = so_far.level in
-      let due = piece_due g.R.Read depth start _ _ nests items title (kind_of c.args.kind) c.parts.inner _ _ stands so_far at in
+      let due = piece_due g.R.Read depth start _ _ nests items title (kind_of c.args.kind) c.parts.inner _ _ stands
+      so_far at in
       let rest = (rw c.in_default-body.is at c.body.ensures.shows) depth start (suc so_far.opens) nests
-      (items ++ so_far.parts) row due title_row (omega (arith, inner)) (piece_offset g.R.Read depth start _ _ nests items title (kind_of c.args.kind) c.parts.inner _ _ stands so_far at row _ takes) tt in
-      let shows = within_piece g.R.Read depth start _ _ nests items title (kind_of c.args.kind) c.parts.inner _ _ stands so_far at _ _ row rest.bytes c.in-Piece.len c.offset-place.result _ _ takes place
+      (items ++ so_far.parts) row due title_row (omega (arith, inner)) (piece_offset g.R.Read depth start _ _ nests
+      items title (kind_of c.args.kind) c.parts.inner _ _ stands so_far at row _ takes) tt in
+      let shows = within_piece g.R.Read depth start _ _ nests items title (kind_of c.args.kind) c.parts.inner _ _
+      stands so_far at _ _ row rest.bytes c.in-Piece.len c.offset-place.result _ _ takes place
       title_row (rw is at ((rw c.in_default-shown.is at c.shown-in-Piece.ensures) tt)) rest.shows in
-      within_whole g.R.Read depth start _ _ nests items title (kind_of c.args.kind) c.parts.inner _ _ stands so_far at _ row rest.bytes c.in-Piece.len _ title_row rest.whole.0 rest.whole.1 shows;
+      within_whole g.R.Read depth start _ _ nests items title (kind_of c.args.kind) c.parts.inner _ _ stands so_far at
+      _ row rest.bytes c.in-Piece.len _ title_row rest.whole.0 rest.whole.1 shows;
   above = c.parts.invariant.above;
   below =
       let row = taken_bytes c.read_title.new.self in
@@ -212,7 +225,8 @@ returns-in-Err-shown-3 g c = record {
       let inner = so_far.level in
       record {
         bytes = so_far.bytes ++ row;
-        shows = within_title g.R.Read depth start _ _ nests items title (kind_of c.args.kind) c.parts.inner _ _ stands so_far at _ row _ c.offset-place.result c.parts.inner _ takes place title_row
+        shows = within_title g.R.Read depth start _ _ nests items title (kind_of c.args.kind) c.parts.inner _ _ stands
+            so_far at _ row _ c.offset-place.result c.parts.inner _ takes place title_row
             (inner ∙ sym (string_level (kind_of c.args.kind) None nests (suc so_far.opens)))
             (rw is at (c.in-Err-shown-3.ensures all));
         whole = tt;
@@ -230,7 +244,8 @@ parts-preserved g c = record {
       let titled : IsTitle row c.in-Ok.header = rw c.in-Ok.is at c.read_title.ensures.title in
       let is = c.in-Open.ensures in
       let title_row = subst (λ (x : Header). IsTitle row x) is titled in
-      within_open g.R.Read depth start _ _ nests items title (kind_of c.args.kind) c.parts.inner _ _ stands so_far at _ row c.offset-place.result _ takes place title_row
+      within_open g.R.Read depth start _ _ nests items title (kind_of c.args.kind) c.parts.inner _ _ stands so_far at
+      _ row c.offset-place.result _ takes place title_row
       (rw is at ((rw c.in_default-shown-2.is at c.shown-in-Open.ensures) tt));
   above = let inner = c.parts.invariant.above in omega (arith, inner);
   below =
