@@ -1,57 +1,97 @@
--- The rows of a dump, one behind the other.
-use Rattle.std.proofs.Common.{◌≡◌, ℕ, List, [], ◌++◌, Option, subst}
-use Rattle.std.specs.Io.KnownBytes.{Appends}
-use Rattle.std.proofs.KnownBytes.{Appends-nil, Appends-trans, Consumes-nil, Consumes-trans}
+-- The lines of a dump, one behind the other.
+use Rattle.std.proofs.Common.{◌≡◌, ℕ, ◌+◌, List, [], ◌∷◌, ◌++◌, length, Option, Some, None, refl, sym, ap, subst, ◌∙◌}
+use Rattle.std.proofs.Common.{append_assoc, append-nil}
 use Rattle.ciborium_ll.specs.Types.Read.{Ghosts}
 use Rattle.ciborium_ll.specs.Types.Decoder.{Decoder}
-use Rattle.ciborium_ll.specs.Decoding.{view}
-use Rattle.cbor_look.specs.Takings.{IsIdle, Keeps}
-use Rattle.cbor_look.specs.Dumps.{Shows, ShowsBehind}
+use Rattle.cbor_look.specs.Levels.{Line, bytes_of, Stands, AllStand}
+use Rattle.cbor_look.specs.Takings.{Takes}
+use Rattle.cbor_look.specs.Dumps.{Draws, Lines, Shows, ShowsBehind}
+use Rattle.cbor_look.proofs.TakingLaws.{takes_none, takes_then}
+
+-- ---- lines
+
+draws_none : (old : Option (List Line)) → Draws old old []
+draws_none None = tt
+draws_none (Some lines) = sym (append-nil lines)
+
+draws_then : (old middle new : Option (List Line)) (first second : List Line) → Draws old middle first
+    → Draws middle new second → Draws old new (first ++ second)
+draws_then None middle new first second a b = tt
+draws_then (Some x) None new first second a b = absurd a
+draws_then (Some x) (Some y) None first second a b = absurd b
+draws_then (Some x) (Some y) (Some z) first second a b =
+    b ∙ (ap (λ (w : List Line). w ++ second) a ∙ append_assoc x first second)
+
+bytes_then : (first second : List Line) → bytes_of (first ++ second) ≡ bytes_of first ++ bytes_of second
+bytes_then [] second = refl
+bytes_then (line ∷ first) second =
+    ap (λ (z : List ℕ). line.bytes ++ z) (bytes_then first second)
+    ∙ sym (append_assoc line.bytes (bytes_of first) (bytes_of second))
+
+stand_then : (depth start : ℕ) (before : List ℕ) (first second : List Line) → AllStand depth start before first
+    → AllStand depth start (before ++ bytes_of first) second → AllStand depth start before (first ++ second)
+stand_then depth start before [] second a b =
+    subst (λ (z : List ℕ). AllStand depth start z second) (append-nil before) b
+stand_then depth start before (line ∷ first) second a b = (
+  a.0,
+  a.1,
+  stand_then depth start (before ++ line.bytes) first second a.2
+      (subst (λ (z : List ℕ). AllStand depth start z second)
+      (sym (append_assoc before line.bytes (bytes_of first))) b),
+)
+
+-- no line
+pub lines_none : (depth start : ℕ) (drawn : Option (List Line)) (before : List ℕ)
+    → Lines depth start drawn drawn before []
+lines_none depth start drawn before =
+    record { lines = []; drawn = draws_none drawn; stand = tt; joined = refl }
+
+-- lines behind others
+pub lines_then : (depth start : ℕ) (old middle new : Option (List Line)) (before first second : List ℕ)
+    → Lines depth start old middle before first → Lines depth start middle new (before ++ first) second
+    → Lines depth start old new before (first ++ second)
+lines_then depth start old middle new before first second a b = record {
+  lines = a.lines ++ b.lines;
+  drawn = draws_then old middle new a.lines b.lines a.drawn b.drawn;
+  stand = stand_then depth start before a.lines b.lines a.stand
+      (subst (λ (z : List ℕ). AllStand depth start (before ++ z) b.lines) (sym a.joined) b.stand);
+  joined = bytes_then a.lines b.lines ∙ (ap (λ (z : List ℕ). z ++ bytes_of b.lines) a.joined
+      ∙ ap (λ (z : List ℕ). first ++ z) b.joined);
+}
+
+-- one line
+pub lines_one : (depth start : ℕ) (old new : Option (List Line)) (before : List ℕ) (line : Line)
+    → Draws old new (line ∷ []) → line.offset ≡ start + length before → Stands depth before line.meaning line
+    → Lines depth start old new before line.bytes
+lines_one depth start old new before line drawn offset stands = record {
+  lines = line ∷ [];
+  drawn = drawn;
+  stand = (offset, stands, tt);
+  joined = append-nil line.bytes;
+}
 
 module _ {R E : Type 0} (source : Ghosts R E) where
-  -- no row
-  pub shows_none : (rows : Option (List ℕ)) (decoder : Decoder R) → IsIdle source decoder
-      → Shows source rows rows decoder decoder
-  shows_none rows decoder idle = record {
-    bytes = [];
-    appended = Appends-nil rows;
-    consumed = Consumes-nil (view source decoder);
-    idle = idle;
+  pub shows_none : (depth start : ℕ) (drawn : Option (List Line)) (before : List ℕ) (decoder : Decoder R)
+      → Shows source depth start drawn drawn before [] decoder decoder
+  shows_none depth start drawn before decoder =
+      record { lines = lines_none depth start drawn before; takes = takes_none source decoder }
+
+  pub shows_then : (depth start : ℕ) (drawn middle then_drawn : Option (List Line)) (before first second : List ℕ)
+      (old between new : Decoder R)
+      → Shows source depth start drawn middle before first old between
+      → Shows source depth start middle then_drawn (before ++ first) second between new
+      → Shows source depth start drawn then_drawn before (first ++ second) old new
+  shows_then depth start drawn middle then_drawn before first second old between new a b = record {
+    lines = lines_then depth start drawn middle then_drawn before first second a.lines b.lines;
+    takes = takes_then source old between new first second a.takes b.takes;
   }
 
-  -- rows behind others
-  pub shows_then : (before between after : Option (List ℕ)) (old middle new : Decoder R)
-      → Shows source before between old middle
-      → Shows source between after middle new → Shows source before after old new
-  shows_then before between after old middle new first second = record {
-    bytes = first.bytes ++ second.bytes;
-    appended = Appends-trans before between after first.bytes second.bytes first.appended second.appended;
-    consumed = Consumes-trans _ _ _ first.bytes second.bytes first.consumed second.consumed;
-    idle = second.idle;
+  -- bytes that were read, and what was shown of them and behind them
+  pub shows_read : (depth start : ℕ) (drawn then_drawn : Option (List Line)) (before row bytes : List ℕ)
+      (old between new : Decoder R) → Takes source old row between
+      → ShowsBehind source depth start drawn then_drawn before row bytes between new
+      → Shows source depth start drawn then_drawn before (row ++ bytes) old new
+  shows_read depth start drawn then_drawn before row bytes old between new takes behind = record {
+    lines = behind.lines;
+    takes = takes_then source old between new row bytes takes behind.takes;
   }
-
-  -- one row, of what was read for it
-  pub shows_row : (before after : Option (List ℕ)) (none row : List ℕ) (old new : Decoder R) → none ≡ []
-      → Keeps source none row old new → Appends before after row → Shows source before after old new
-  shows_row before after none row old new empty keeps appends =
-      let same : row ≡ keeps.bytes = subst (λ (z : List ℕ). row ≡ z ++ keeps.bytes) empty keeps.appended in
-      record {
-        bytes = keeps.bytes;
-        appended = subst (λ (z : List ℕ). Appends before after z) same appends;
-        consumed = keeps.consumed;
-        idle = keeps.idle;
-      }
-
-  -- the row of a title, and what is behind it
-  pub shows_title : (before after : Option (List ℕ)) (none row : List ℕ) (old middle new : Decoder R) → none ≡ []
-      → Keeps source none row old middle → ShowsBehind source row before after middle new
-      → Shows source before after old new
-  shows_title before after none row old middle new empty keeps behind =
-      shows_then before behind.between after old middle new
-      (shows_row before behind.between none row old middle empty keeps behind.first) behind.rest
-
-  -- a title alone
-  pub behind_none : (row : List ℕ) (before after : Option (List ℕ)) (decoder : Decoder R) → IsIdle source decoder
-      → Appends before after row → ShowsBehind source row before after decoder decoder
-  behind_none row before after decoder idle appends =
-      record { between = after; first = appends; rest = shows_none after decoder idle }

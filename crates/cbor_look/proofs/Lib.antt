@@ -3,3 +3,7 @@ pub mod SequenceLaws
 pub mod SingleLaws
 pub mod TakingLaws
 pub mod DumpLaws
+pub mod WalkLaws
+pub mod TitleLaws
+pub mod StringLaws
+pub mod PieceLaws

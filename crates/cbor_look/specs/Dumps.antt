@@ -1,29 +1,52 @@
--- What `dump` and its parts do with the rows: their bytes, joined, are those that were consumed.
-use Rattle.std.specs.Prelude.{List, ℕ, Option, Result, Ok, Err}
-use Rattle.std.specs.Io.KnownBytes.{Appends, Consumes}
+-- What `dump` and its parts do with the lines: their bytes, joined, are those that were consumed, and each stands at
+-- its level.
+use Rattle.std.specs.Prelude.{◌≡◌, ℕ, List, [], ◌∷◌, ◌++◌, Option, Some, None, Result, Ok, Err}
 use Rattle.ciborium_ll.specs.Types.Read.{Ghosts}
 use Rattle.ciborium_ll.specs.Types.Decoder.{Decoder}
-use Rattle.ciborium_ll.specs.Decoding.{view}
 use Rattle.cbor_look.specs.declared.dump.DumpError.{DumpError}
 use Rattle.cbor_look.specs.declared.dump.DumpError.TheVariants as d
-use Rattle.cbor_look.specs.Takings.{IsIdle}
+use Rattle.cbor_look.specs.declared.rows.Meaning.TheVariants as m
+use Rattle.cbor_look.specs.Takings.{Takes}
+use Rattle.cbor_look.specs.Levels.{Line, bytes_of, AllStand}
 
--- each row was taken, whatever else was answered
+-- each line was taken, though a fault stands behind them
+abbrev pub IsTaken : {E W : Type 0} → DumpError E W → Type 0
+IsTaken (d.Item error) = Unit {0}
+IsTaken (d.Rows fault) = ⊥
+
+-- each line was taken, whatever else was answered
 abbrev pub AreTaken : {A E W : Type 0} → Result A (DumpError E W) → Type 0
 AreTaken (Ok value) = Unit {0}
-AreTaken (Err (d.Item error)) = Unit {0}
-AreTaken (Err (d.Rows fault)) = ⊥
+AreTaken (Err error) = IsTaken error
+
+-- the lines so far, where they are told, grow by these
+abbrev pub Draws : Option (List Line) → Option (List Line) → List Line → Type 0
+Draws None new lines = Unit {0}
+Draws (Some old) None lines = ⊥
+Draws (Some old) (Some new) lines = new ≡ old ++ lines
+
+-- what was read before a fault: a line, where there is some
+abbrev pub fault_lines : ℕ → ℕ → List ℕ → List Line
+fault_lines level offset [] = []
+fault_lines level offset (byte ∷ bytes) =
+    record { level = level; offset = offset; bytes = byte ∷ bytes; meaning = m.Fault } ∷ []
+
+-- behind the bytes before, which begin at the start, lines of these bytes were drawn, each of which stands at its level
+pub record Lines (depth start : ℕ) (old new : Option (List Line)) (before bytes : List ℕ) : Type 0 where
+  pub lines : List Line
+  pub drawn : Draws old new lines
+  pub stand : AllStand depth start before lines
+  pub joined : bytes_of lines ≡ bytes
 
 module _ {R E : Type 0} (source : Ghosts R E) where
-  -- the bytes of the rows since are those that were consumed
-  pub record Shows (before after : Option (List ℕ)) (old new : Decoder R) : Type 0 where
-    pub bytes : List ℕ
-    pub appended : Appends before after bytes
-    pub consumed : Consumes (view source old) (view source new) bytes
-    pub idle : IsIdle source new
+  -- lines were drawn of just the bytes that were consumed
+  pub record Shows (depth start : ℕ) (drawn then_drawn : Option (List Line)) (before bytes : List ℕ)
+      (old new : Decoder R) : Type 0 where
+    pub lines : Lines depth start drawn then_drawn before bytes
+    pub takes : Takes source old bytes new
 
-  -- a row of these bytes, and then that
-  pub record ShowsBehind (row : List ℕ) (before after : Option (List ℕ)) (old new : Decoder R) : Type 0 where
-    pub between : Option (List ℕ)
-    pub first : Appends before between row
-    pub rest : Shows between after old new
+  -- the bytes consumed before were drawn, and then that
+  pub record ShowsBehind (depth start : ℕ) (drawn then_drawn : Option (List Line)) (before row bytes : List ℕ)
+      (old new : Decoder R) : Type 0 where
+    pub lines : Lines depth start drawn then_drawn before (row ++ bytes)
+    pub takes : Takes source old bytes new

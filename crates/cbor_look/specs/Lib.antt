@@ -1,4 +1,9 @@
 pub mod Sequences
 pub mod Singles
+pub mod Levels
 pub mod Dumps
+pub mod Fronts
+pub mod StringRows
 pub mod Takings
+pub mod TitleRows
+pub mod Walks

@@ -1,5 +1,5 @@
 -- The bytes of a row: just those that were consumed for it.
-use Rattle.std.specs.Prelude.{◌≡◌, ℕ, List, ◌++◌, take, None}
+use Rattle.std.specs.Prelude.{◌≡◌, ℕ, ◌+◌, List, ◌++◌, length, take, None}
 use Rattle.std.specs.Io.KnownBytes.{Consumes}
 use Rattle.ciborium_ll.specs.Types.Read.{Ghosts}
 use Rattle.ciborium_ll.specs.Types.Decoder.{Decoder}
@@ -16,9 +16,13 @@ module _ {R E : Type 0} (source : Ghosts R E) where
     pub steady : IsSteady source decoder
     pub none_waits : decoder.waiting ≡ None
 
-  -- what was consumed is what came behind the bytes before
+  -- these bytes were read
+  pub record Takes (old : Decoder R) (bytes : List ℕ) (new : Decoder R) : Type 0 where
+    pub offset : new.offset ≡ old.offset + length bytes
+    pub consumed : IsIdle old → Consumes (view source old) (view source new) bytes × IsIdle new
+
+  -- those came behind the bytes before
   pub record Keeps (before after : List ℕ) (old new : Decoder R) : Type 0 where
     pub bytes : List ℕ
     pub appended : after ≡ before ++ bytes
-    pub consumed : Consumes (view source old) (view source new) bytes
-    pub idle : IsIdle new
+    pub takes : Takes old bytes new

@@ -1,9 +1,16 @@
 //! A dump: each title of a sequence of items on a line, and bodies of strings below theirs.
 
-ghost use Rattle.std.specs.Prelude.{◌≤◌};
-ghost use Rattle.std.specs.Io.KnownBytes.{Appends};
-ghost use Rattle.cbor_look.specs.Dumps.{AreTaken, Shows, ShowsBehind};
-ghost use Rattle.cbor_look.specs.Takings.{IsIdle, taken_bytes};
+ghost use Rattle.std.specs.Prelude.{◌≡◌, ℕ, ◌+◌, ◌<◌, ◌≤◌, List, [], ◌∷◌, ◌++◌, length};
+ghost use Rattle.ciborium_ll.specs.Title.{IsTitle};
+ghost use Rattle.ciborium_ll.specs.Decoding.{offset_of};
+ghost use Rattle.cbor_skip.specs.Due.{IsNest};
+ghost use Rattle.cbor_look.specs.Dumps.{AreTaken, Draws, IsTaken, fault_lines};
+ghost use Rattle.cbor_look.specs.Takings.{taken_bytes};
+ghost use Rattle.ciborium_ll.specs.Strings.{kind_header};
+ghost use Rattle.cbor_look.specs.Levels.{Nest, StandsWithin};
+ghost use Rattle.cbor_look.specs.StringRows.{ShowsRest, kind_of};
+ghost use Rattle.cbor_look.specs.TitleRows.{DrawsTitle, ShowsAll, ShowsTitle};
+ghost use Rattle.cbor_look.specs.Walks.{IsDue, IsValue};
 
 use crate::rows::{Meaning, Row, Rows};
 use crate::strings::{Kind, body, pieces};
@@ -36,37 +43,36 @@ pub fn dump<R: Read, S: Rows>(
 where
     R::Error: Drop,
     requires { depth ≤ 256 }
-    ensures shows { IsIdle R.Read decoder.old → AreTaken result
-        → Shows R.Read (S.shown rows.old) (S.shown rows.new) decoder.old decoder.new }
+    ensures shows { AreTaken result
+        → ShowsAll R.Read depth (S.drawn rows.old) (S.drawn rows.new) result decoder.old decoder.new }
 {
     let mut walk = Walk::new(depth);
-    'titles: for _ in 0..u64::MAX {
+    // It ends: each title takes a byte, and no offset is greater than `usize::MAX`.
+    'titles: loop {
         let place = decoder.offset();
+        let level = walk.level();
         let mut taken = Taken::new();
         let header = match taken.read_title(decoder, strict, place) {
             Ok(header) => header,
-            Err(Error::Io(end)) if walk.level() == 0 && taken.len() == 0 => return Ok(end),
-            Err(error) => {
-                let level = walk.level();
-                return failed(&taken, error, place, level, rows);
-            }
+            Err(Error::Io(end)) if level == 0 && taken.len() == 0 => return Ok(end),
+            Err(error) => return Err(fault(&taken, error, place, level, rows)),
         };
         if let Err(error) = title(decoder, &mut walk, header, &taken, strict, place, rows) {
             return Err(error);
         }
     }
-    Err(DumpError::Item(SkipError::Read(Error::TooLong)))
 }
 
-/// Shows what was read before a read failed, and hands its error on.
-fn failed<A, E: Drop, S: Rows>(
+/// Shows what was read before a read failed, and tells the error of the dump.
+pub(crate) fn fault<E: Drop, S: Rows>(
     taken: &Taken,
     error: Error<E>,
     offset: usize,
     level: usize,
     rows: &mut S,
-) -> Result<A, DumpError<E, S::Error>>
-    ensures { AreTaken result → Appends (S.shown rows.old) (S.shown rows.new) (taken_bytes taken.now) }
+) -> DumpError<E, S::Error>
+    ensures { IsTaken result
+        → Draws (S.drawn rows.old) (S.drawn rows.new) (fault_lines level offset (taken_bytes taken.now)) }
 {
     if taken.len() > 0 {
         let row = Row {
@@ -76,10 +82,33 @@ fn failed<A, E: Drop, S: Rows>(
             meaning: Meaning::Fault,
         };
         if let Err(fault) = rows.row(row) {
-            return Err(DumpError::Rows(fault));
+            return DumpError::Rows(fault);
         }
     }
-    Err(DumpError::Item(SkipError::Read(error)))
+    DumpError::Item(SkipError::Read(error))
+}
+
+/// Shows what was read for a row.
+pub(crate) fn shown<E, S: Rows>(
+    taken: &Taken,
+    meaning: Meaning,
+    offset: usize,
+    level: usize,
+    rows: &mut S,
+) -> Result<(), DumpError<E, S::Error>>
+    ensures { AreTaken result → Draws (S.drawn rows.old) (S.drawn rows.new)
+        (record { level = level; offset = offset; bytes = taken_bytes taken.now; meaning = meaning } ∷ []) }
+{
+    let row = Row {
+        level,
+        offset,
+        bytes: taken.bytes(),
+        meaning,
+    };
+    match rows.row(row) {
+        Ok(()) => Ok(()),
+        Err(fault) => Err(DumpError::Rows(fault)),
+    }
 }
 
 /// Shows a title that was read at this offset, and the rest of the string that it begins.
@@ -94,43 +123,136 @@ fn title<R: Read, S: Rows>(
 ) -> Result<(), DumpError<R::Error, S::Error>>
 where
     R::Error: Drop,
-    ensures shows { IsIdle R.Read decoder.old → AreTaken result
-        → ShowsBehind R.Read (taken_bytes taken.now) (S.shown rows.old) (S.shown rows.new) decoder.old decoder.new }
+    requires behind { walk.old.used < offset_of decoder.old }
+    ensures shows { (depth start : ℕ) (before : List ℕ) → IsDue depth walk.old before
+        → IsTitle (taken_bytes taken.now) header → place ≡ start + length before
+        → offset_of decoder.old ≡ place + length (taken_bytes taken.now) → AreTaken result
+        → ShowsTitle R.Read depth start (S.drawn rows.old) (S.drawn rows.new) before (taken_bytes taken.now) walk.new
+        result decoder.old decoder.new }
 {
-    let before = walk.level();
-    let closed = matches!(header, Header::Break) && walk.close();
-    let level = if closed { walk.level() } else { before };
-    if let Err(error) = shown(taken, Ok(()), Meaning::Header(header), place, level, rows) {
-        return Err(error);
-    }
     match header {
         Header::Bytes(len) => {
-            if let Err(error) = string(decoder, Kind::Bytes, header, len, strict, level, rows) {
-                return Err(error);
-            }
+            string(decoder, walk, Kind::Bytes, len, taken, strict, place, rows)
         }
-        Header::Text(len) => {
-            if let Err(error) = string(decoder, Kind::Text, header, len, strict, level, rows) {
-                return Err(error);
-            }
+        Header::Text(len) => string(decoder, walk, Kind::Text, len, taken, strict, place, rows),
+        Header::Break => break_title(walk, taken, place, rows),
+        Header::Tag(_) | Header::Array(_) | Header::Map(_) => {
+            nest(walk, header, taken, place, rows)
         }
-        Header::Break if !closed => return Err(DumpError::Item(SkipError::Break(place))),
-        Header::Tag(_) | Header::Array(_) | Header::Map(_) => match walk.enter(header) {
-            Entered::Deep => return Err(DumpError::Item(SkipError::Deep(place))),
-            Entered::Within => return Ok(()),
-            Entered::Empty => {}
-        },
-        _ => {}
+        Header::Positive(_) | Header::Negative(_) | Header::Float(_) | Header::Simple(_) => {
+            value(walk, header, taken, place, rows)
+        }
+    }
+}
+
+/// Shows an item that is a title alone.
+fn value<E, S: Rows>(
+    walk: &mut Walk,
+    header: Header,
+    taken: &Taken,
+    place: usize,
+    rows: &mut S,
+) -> Result<(), DumpError<E, S::Error>>
+    requires value { IsValue header }
+    ensures draws { (depth start : ℕ) (before : List ℕ) → IsDue depth walk.old before
+        → IsTitle (taken_bytes taken.now) header → place ≡ start + length before → AreTaken result
+        → DrawsTitle depth start (S.drawn rows.old) (S.drawn rows.new) before (taken_bytes taken.now) walk.new result }
+{
+    let level = walk.level();
+    if let Err(error) = shown(taken, Meaning::Header(header), place, level, rows) {
+        return Err(error);
+    }
+    walk.item_done();
+    Ok(())
+}
+
+/// Shows a break.
+fn break_title<E, S: Rows>(
+    walk: &mut Walk,
+    taken: &Taken,
+    place: usize,
+    rows: &mut S,
+) -> Result<(), DumpError<E, S::Error>>
+    ensures draws { (depth start : ℕ) (before : List ℕ) → IsDue depth walk.old before
+        → IsTitle (taken_bytes taken.now) Header.Break → place ≡ start + length before → AreTaken result
+        → DrawsTitle depth start (S.drawn rows.old) (S.drawn rows.new) before (taken_bytes taken.now) walk.new result }
+{
+    let closed = walk.close();
+    let level = walk.level();
+    let meaning = Meaning::Header(Header::Break);
+    if let Err(error) = shown(taken, meaning, place, level, rows) {
+        return Err(error);
+    }
+    if !closed {
+        return Err(DumpError::Item(SkipError::Break(place)));
+    }
+    walk.item_done();
+    Ok(())
+}
+
+/// Shows the title of a tag, an array or a map.
+fn nest<E, S: Rows>(
+    walk: &mut Walk,
+    header: Header,
+    taken: &Taken,
+    place: usize,
+    rows: &mut S,
+) -> Result<(), DumpError<E, S::Error>>
+    requires nest { IsNest header }
+    ensures draws { (depth start : ℕ) (before : List ℕ) → IsDue depth walk.old before
+        → IsTitle (taken_bytes taken.now) header → place ≡ start + length before → AreTaken result
+        → DrawsTitle depth start (S.drawn rows.old) (S.drawn rows.new) before (taken_bytes taken.now) walk.new result }
+{
+    let level = walk.level();
+    if let Err(error) = shown(taken, Meaning::Header(header), place, level, rows) {
+        return Err(error);
+    }
+    match walk.enter(header) {
+        Entered::Deep => Err(DumpError::Item(SkipError::Deep(place))),
+        Entered::Within => Ok(()),
+        Entered::Empty => {
+            walk.item_done();
+            Ok(())
+        }
+    }
+}
+
+/// Shows a string, behind its title.
+fn string<R: Read, S: Rows>(
+    decoder: &mut Decoder<R>,
+    walk: &mut Walk,
+    kind: Kind,
+    len: Option<usize>,
+    taken: &Taken,
+    strict: bool,
+    place: usize,
+    rows: &mut S,
+) -> Result<(), DumpError<R::Error, S::Error>>
+where
+    R::Error: Drop,
+    requires behind { walk.old.used < offset_of decoder.old }
+    ensures shows { (depth start : ℕ) (before : List ℕ) → IsDue depth walk.old before
+        → IsTitle (taken_bytes taken.now) (kind_header (kind_of kind) len) → place ≡ start + length before
+        → offset_of decoder.old ≡ place + length (taken_bytes taken.now) → AreTaken result
+        → ShowsTitle R.Read depth start (S.drawn rows.old) (S.drawn rows.new) before (taken_bytes taken.now) walk.new
+        result decoder.old decoder.new }
+{
+    let header = kind.header(len);
+    let level = walk.level();
+    if let Err(error) = shown(taken, Meaning::Header(header), place, level, rows) {
+        return Err(error);
+    }
+    if let Err(error) = rest(decoder, kind, len, strict, level, rows) {
+        return Err(error);
     }
     walk.item_done();
     Ok(())
 }
 
 /// Shows the rest of a string, behind its title.
-fn string<R: Read, S: Rows>(
+fn rest<R: Read, S: Rows>(
     decoder: &mut Decoder<R>,
     kind: Kind,
-    header: Header,
     len: Option<usize>,
     strict: bool,
     level: usize,
@@ -138,40 +260,21 @@ fn string<R: Read, S: Rows>(
 ) -> Result<(), DumpError<R::Error, S::Error>>
 where
     R::Error: Drop,
-    ensures shows { IsIdle R.Read decoder.old → AreTaken result
-        → Shows R.Read (S.shown rows.old) (S.shown rows.new) decoder.old decoder.new }
+    requires few { level ≤ 256 }
+    requires behind { level < offset_of decoder.old }
+    ensures shows { (depth start : ℕ) (nests : List Nest) (items title : List ℕ) → StandsWithin depth nests items
+        → IsTitle title (kind_header (kind_of kind) len) → level ≡ length nests
+        → offset_of decoder.old ≡ start + length (items ++ title) → AreTaken result
+        → ShowsRest R.Read depth start (S.drawn rows.old) (S.drawn rows.new) (items ++ title) (kind_of kind) len
+        result decoder.old decoder.new }
 {
     match len {
         Some(len) => {
-            let place = decoder.offset().saturating_sub(header.title_len());
-            body(decoder, kind, len, place, level.saturating_add(1), rows)
+            let place = decoder
+                .offset()
+                .saturating_sub(kind.header(Some(len)).title_len());
+            body(decoder, kind, len, place, level + 1, rows)
         }
         None => pieces(decoder, kind, strict, level, rows),
-    }
-}
-
-/// Shows what was read for a row, and hands the error of the read on.
-pub(crate) fn shown<E: Drop, S: Rows>(
-    taken: &Taken,
-    outcome: Result<(), Error<E>>,
-    meaning: Meaning,
-    offset: usize,
-    level: usize,
-    rows: &mut S,
-) -> Result<(), DumpError<E, S::Error>>
-    ensures { AreTaken result → Appends (S.shown rows.old) (S.shown rows.new) (taken_bytes taken.now) }
-{
-    if let Err(error) = outcome {
-        return failed(taken, error, offset, level, rows);
-    }
-    let row = Row {
-        level,
-        offset,
-        bytes: taken.bytes(),
-        meaning,
-    };
-    match rows.row(row) {
-        Ok(()) => Ok(()),
-        Err(fault) => Err(DumpError::Rows(fault)),
     }
 }

@@ -1,8 +1,9 @@
 //! The rows of a dump: what stands on each line.
 
-ghost use Rattle.std.specs.Prelude.{ℕ, List, OnOk};
+ghost use Rattle.std.specs.Prelude.{List, OnOk, [], ◌∷◌};
 ghost use Rattle.std.specs.declared.option.Option.{Option};
-ghost use Rattle.std.specs.Io.KnownBytes.{Appends};
+ghost use Rattle.cbor_look.specs.Levels.{Line};
+ghost use Rattle.cbor_look.specs.Dumps.{Draws};
 
 use ciborium_ll::{Float, Header};
 use std::fmt;
@@ -29,7 +30,8 @@ pub enum Meaning {
 /// One line of a dump.
 #[derive(Debug, Clone, Copy)]
 pub struct Row<'a> {
-    /// How many tags, arrays, maps, strings and opens it stands within.
+    /// How many tags, arrays, maps and opens a title stands within; the break that closes one has the level of its
+    /// title, and a part of a body one level more than its string's title.
     pub level: usize,
     /// The offset of its first byte.
     pub offset: usize,
@@ -44,12 +46,17 @@ pub trait Rows {
     /// Why a row was not taken.
     type Error;
 
-    /// The bytes of all rows so far, joined, where they are told.
-    ghost shown: { Self → Option (List ℕ) };
+    /// All rows so far, where they are told.
+    ghost drawn: { Self → Option (List Line) };
 
     /// Takes the next row.
     fn row(&mut self, row: Row<'_>) -> Result<(), Self::Error>
-        ensures bytes { OnOk result (Appends (shown self.old) (shown self.new) row.entry.bytes.now) };
+        ensures line { OnOk result (Draws (drawn self.old) (drawn self.new) (record {
+          level = row.entry.level;
+          offset = row.entry.offset;
+          bytes = row.entry.bytes.now;
+          meaning = row.entry.meaning;
+        } ∷ [])) };
 }
 
 /// Writes so many spaces.

@@ -1,12 +1,17 @@
 //! The rows of a string, behind its title.
 
-ghost use Rattle.cbor_look.specs.Dumps.{AreTaken, Shows};
-ghost use Rattle.cbor_look.specs.Takings.{IsIdle, Keeps, taken_bytes};
+ghost use Rattle.std.specs.Prelude.{◌≡◌, ℕ, ◌+◌, ◌<◌, ◌≤◌, List, [], ◌++◌, length, IfOk, None, Some};
+ghost use Rattle.ciborium_ll.specs.Title.{IsTitle};
+ghost use Rattle.ciborium_ll.specs.Strings.{IsWritable, kind_header};
+ghost use Rattle.ciborium_ll.specs.Decoding.{offset_of};
+ghost use Rattle.cbor_look.specs.Dumps.{AreTaken};
+ghost use Rattle.cbor_look.specs.Levels.{Nest, StandsWithin, TitleDue};
+ghost use Rattle.cbor_look.specs.Takings.{Keeps, taken_bytes};
+ghost use Rattle.cbor_look.specs.StringRows.{IsPart, ShowsRest, kind_of, meaning_of};
 
-use crate::dump::{DumpError, shown};
+use crate::dump::{DumpError, fault, shown};
 use crate::rows::{Meaning, Rows};
 use crate::taken::{MOST_BYTES, Taken};
-use cbor_skip::SkipError;
 use ciborium_ll::io::Read;
 use ciborium_ll::{Decoder, Error, Header};
 
@@ -17,6 +22,28 @@ pub(crate) enum Kind {
     Bytes,
     /// A text string.
     Text,
+}
+
+impl Kind {
+    /// The header of a string of this kind and length.
+    pub(crate) fn header(self, len: Option<usize>) -> Header
+        ensures { result ≡ kind_header (kind_of self) len }
+    {
+        match self {
+            Kind::Bytes => Header::Bytes(len),
+            Kind::Text => Header::Text(len),
+        }
+    }
+
+    /// What a part of a body is.
+    fn meaning(self) -> Meaning
+        ensures { result ≡ meaning_of self }
+    {
+        match self {
+            Kind::Bytes => Meaning::Bytes,
+            Kind::Text => Meaning::Text,
+        }
+    }
 }
 
 /// Shows a body of so many bytes. The fault of one that is no text has this offset.
@@ -30,25 +57,24 @@ pub(crate) fn body<R: Read, S: Rows>(
 ) -> Result<(), DumpError<R::Error, S::Error>>
 where
     R::Error: Drop,
-    ensures shows { IsIdle R.Read decoder.old → AreTaken result
-        → Shows R.Read (S.shown rows.old) (S.shown rows.new) decoder.old decoder.new }
+    ensures shows { (depth start opens : ℕ) (nests : List Nest) (outer title : List ℕ)
+        → TitleDue depth nests opens outer → IsTitle title (kind_header (kind_of kind) (Some len)) → level ≡ length nests + opens + 1
+        → offset_of decoder.old ≡ start + length (outer ++ title) → AreTaken result
+        → ShowsRest R.Read depth start (S.drawn rows.old) (S.drawn rows.new) (outer ++ title) (kind_of kind) (Some len)
+        result decoder.old decoder.new }
+    ensures rises { offset_of decoder.old ≤ offset_of decoder.new }
 {
     let mut left = len;
-    'rows: for _ in 0..u64::MAX {
-        if left == 0 {
-            break;
-        }
+    'rows: while left > 0 {
         let offset = decoder.offset();
         let mut taken = Taken::new();
-        let outcome = read_part(&mut taken, decoder, kind, left, place);
-        let meaning = match kind {
-            Kind::Bytes => Meaning::Bytes,
-            Kind::Text => Meaning::Text,
-        };
-        if let Err(error) = shown(&taken, outcome, meaning, offset, level, rows) {
+        if let Err(error) = read_part(&mut taken, decoder, kind, left, place) {
+            return Err(fault(&taken, error, offset, level, rows));
+        }
+        if let Err(error) = shown(&taken, kind.meaning(), offset, level, rows) {
             return Err(error);
         }
-        left = left.saturating_sub(taken.len());
+        left -= taken.len();
     }
     Ok(())
 }
@@ -61,8 +87,11 @@ fn read_part<R: Read>(
     left: usize,
     place: usize,
 ) -> Result<(), Error<R::Error>>
-    ensures keeps { IsIdle R.Read decoder.old
-        → Keeps R.Read (taken_bytes taken.old) (taken_bytes taken.new) decoder.old decoder.new }
+    requires none { taken_bytes taken.old ≡ [] }
+    ensures keeps { Keeps R.Read (taken_bytes taken.old) (taken_bytes taken.new) decoder.old decoder.new }
+    ensures most { length (taken_bytes taken.new) ≤ left }
+    ensures some { IfOk result (λ _. 0 < left → 0 < length (taken_bytes taken.new)) }
+    ensures written { IfOk result (λ _. IsWritable (kind_of kind) (taken_bytes taken.new)) }
 {
     match kind {
         Kind::Bytes => taken.read(decoder, left.min(MOST_BYTES)),
@@ -90,7 +119,9 @@ enum Part {
 }
 
 /// What a header is within a string of indefinite length of this kind.
-fn part_of(header: Header, kind: Kind, strict: bool) -> Part {
+fn part_of(header: Header, kind: Kind, strict: bool) -> Part
+    ensures { IsPart (kind_of kind) header result }
+{
     let len = match (header, kind) {
         (Header::Break, _) => return Part::Break,
         (Header::Bytes(len), Kind::Bytes) => len,
@@ -114,38 +145,49 @@ pub(crate) fn pieces<R: Read, S: Rows>(
 ) -> Result<(), DumpError<R::Error, S::Error>>
 where
     R::Error: Drop,
-    ensures shows { IsIdle R.Read decoder.old → AreTaken result
-        → Shows R.Read (S.shown rows.old) (S.shown rows.new) decoder.old decoder.new }
+    requires few { level ≤ 256 }
+    requires behind { level < offset_of decoder.old }
+    ensures shows { (depth start : ℕ) (nests : List Nest) (items title : List ℕ) → StandsWithin depth nests items
+        → IsTitle title (kind_header (kind_of kind) None) → level ≡ length nests
+        → offset_of decoder.old ≡ start + length (items ++ title) → AreTaken result
+        → ShowsRest R.Read depth start (S.drawn rows.old) (S.drawn rows.new) (items ++ title) (kind_of kind) None
+        result decoder.old decoder.new }
 {
-    let mut inner = level.saturating_add(1);
-    'parts: for _ in 0..u64::MAX {
+    let mut inner = level + 1;
+    // It ends: each title takes a byte, and no offset is greater than `usize::MAX`.
+    'parts: loop {
         let place = decoder.offset();
         let mut taken = Taken::new();
         let header = match taken.read_title(decoder, strict, place) {
             Ok(header) => header,
-            Err(error) => return shown(&taken, Err(error), Meaning::Fault, place, inner, rows),
+            Err(error) => return Err(fault(&taken, error, place, inner, rows)),
         };
-        let part = part_of(header, kind, strict);
-        let (at, outcome) = match part {
-            Part::Break => (inner.saturating_sub(1), Ok(())),
-            Part::Other => (inner, Err(Error::Syntax(place))),
-            Part::Piece(_) | Part::Open => (inner, Ok(())),
-        };
-        if let Err(error) = shown(&taken, outcome, Meaning::Header(header), place, at, rows) {
-            return Err(error);
-        }
-        match part {
-            Part::Break if at <= level => return Ok(()),
-            Part::Break => inner = at,
+        let meaning = Meaning::Header(header);
+        match part_of(header, kind, strict) {
+            Part::Break => {
+                inner -= 1;
+                if let Err(error) = shown(&taken, meaning, place, inner, rows) {
+                    return Err(error);
+                }
+                if inner == level {
+                    return Ok(());
+                }
+            }
             Part::Piece(len) => {
-                let below = inner.saturating_add(1);
-                if let Err(error) = body(decoder, kind, len, place, below, rows) {
+                if let Err(error) = shown(&taken, meaning, place, inner, rows) {
+                    return Err(error);
+                }
+                if let Err(error) = body(decoder, kind, len, place, inner + 1, rows) {
                     return Err(error);
                 }
             }
-            Part::Open => inner = inner.saturating_add(1),
-            Part::Other => {}
+            Part::Open => {
+                if let Err(error) = shown(&taken, meaning, place, inner, rows) {
+                    return Err(error);
+                }
+                inner += 1;
+            }
+            Part::Other => return Err(fault(&taken, Error::Syntax(place), place, inner, rows)),
         }
     }
-    Err(DumpError::Item(SkipError::Read(Error::TooLong)))
 }

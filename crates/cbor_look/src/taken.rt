@@ -1,9 +1,13 @@
 //! Bytes that were read for one row.
 
-ghost use Rattle.std.specs.Prelude.{◌≡◌, ◌+◌, ◌≤◌, []};
+ghost use Rattle.std.specs.Prelude.{◌≡◌, ◌+◌, ◌-◌, ◌%◌, ◌<◌, ◌≤◌, [], length, min, IfErr, IfOk, IfSome, IsTrue};
+ghost use Rattle.ciborium_ll.specs.Title.{affix_len};
+ghost use Rattle.ciborium_ll_text.specs.Text.{IsCharacters};
+ghost use Rattle.cbor_look.specs.Fronts.{IsInFront};
 
 use ciborium_ll::io::{Read, SliceReader};
 use ciborium_ll::{Decoder, Error, Header};
+use ciborium_ll_text::state::{State, text_front};
 
 /// How many bytes a row has at most.
 pub(crate) const MOST_BYTES: usize = 16;
@@ -17,7 +21,9 @@ pub(crate) struct Taken {
 }
 
 impl Taken {
-    ghost use Rattle.cbor_look.specs.Takings.{IsIdle, Keeps, taken_bytes};
+    ghost use Rattle.ciborium_ll.specs.Title.{IsTitle};
+    ghost use Rattle.ciborium_ll_text.specs.Text.{IsCharacters};
+    ghost use Rattle.cbor_look.specs.Takings.{Keeps, taken_bytes};
 
     /// None.
     pub(crate) fn new() -> Taken
@@ -39,7 +45,7 @@ impl Taken {
     /// How many were read.
     pub(crate) fn len(&self) -> usize
         ensures most { result ≤ 16 }
-        ensures empty { result ≡ 0 → taken_bytes self.now ≡ [] }
+        ensures value { result ≡ length (taken_bytes self.now) }
     {
         self.len
     }
@@ -50,8 +56,10 @@ impl Taken {
         decoder: &mut Decoder<R>,
         count: usize,
     ) -> Result<(), Error<R::Error>>
-        ensures keeps { IsIdle R.Read decoder.old
-            → Keeps R.Read (taken_bytes self.old) (taken_bytes self.new) decoder.old decoder.new }
+        ensures keeps { Keeps R.Read (taken_bytes self.old) (taken_bytes self.new) decoder.old decoder.new }
+        ensures all { IfOk result (λ _. length (taken_bytes self.new)
+            ≡ length (taken_bytes self.old) + min count (16 - length (taken_bytes self.old))) }
+        ensures none { IfErr result (λ _. taken_bytes self.new ≡ taken_bytes self.old) }
     {
         let end = self.len + count.min(MOST_BYTES - self.len);
         decoder.read_exact(&mut self.bytes[self.len..end])?;
@@ -66,11 +74,12 @@ impl Taken {
         strict: bool,
         place: usize,
     ) -> Result<Header, Error<R::Error>>
-        ensures keeps { IsIdle R.Read decoder.old
-            → Keeps R.Read (taken_bytes self.old) (taken_bytes self.new) decoder.old decoder.new }
+        requires none { taken_bytes self.old ≡ [] }
+        ensures keeps { Keeps R.Read (taken_bytes self.old) (taken_bytes self.new) decoder.old decoder.new }
+        ensures title { IfOk result (λ header. IsTitle (taken_bytes self.new) header) }
     {
         self.read(decoder, 1)?;
-        self.read(decoder, affix_len(self.bytes[0]))?;
+        self.read(decoder, affix_len(self.bytes()[0]))?;
         match header_of(self.bytes(), strict) {
             Some(header) => Ok(header),
             None => Err(Error::Syntax(place)),
@@ -83,8 +92,11 @@ impl Taken {
         decoder: &mut Decoder<R>,
         left: usize,
     ) -> Result<bool, Error<R::Error>>
-        ensures keeps { IsIdle R.Read decoder.old
-            → Keeps R.Read (taken_bytes self.old) (taken_bytes self.new) decoder.old decoder.new }
+        requires none { taken_bytes self.old ≡ [] }
+        ensures keeps { Keeps R.Read (taken_bytes self.old) (taken_bytes self.new) decoder.old decoder.new }
+        ensures most { length (taken_bytes self.new) ≤ left }
+        ensures some { IfOk result (λ _. 0 < left → 0 < length (taken_bytes self.new)) }
+        ensures text { IfOk result (λ whole. IsTrue whole → IsCharacters (taken_bytes self.new)) }
     {
         self.read(decoder, left.min(MOST_BYTES - 3))?;
         'more: for _ in 0..3 {
@@ -93,13 +105,14 @@ impl Taken {
             }
             self.read(decoder, 1)?;
         }
-        Ok(str::from_utf8(self.bytes()).is_ok())
+        Ok(is_text(self.bytes()))
     }
 }
 
 /// How many bytes follow a first byte (RFC 7049, 2.1).
 fn affix_len(first: u8) -> usize
-    ensures { result ≤ 8 }
+    ensures few { result ≤ 8 }
+    ensures value { result ≡ affix_len (first % 32) }
 {
     match first % 32 {
         24 => 1,
@@ -110,8 +123,10 @@ fn affix_len(first: u8) -> usize
     }
 }
 
-/// The header of a title.
-fn header_of(title: &[u8], strict: bool) -> Option<Header> {
+/// The header of a title that stands in front of the bytes.
+fn header_of(title: &[u8], strict: bool) -> Option<Header>
+    ensures { IfSome result (λ header. IsInFront header title.now) }
+{
     let reader = SliceReader::new(title);
     let mut decoder = if strict {
         Decoder::strict(reader)
@@ -121,10 +136,16 @@ fn header_of(title: &[u8], strict: bool) -> Option<Header> {
     decoder.pull().ok()
 }
 
+/// Whether the bytes are characters.
+fn is_text(bytes: &[u8]) -> bool
+    ensures { IsTrue result → IsCharacters bytes.now }
+{
+    let (front, _) = text_front(bytes, 0, State::Between);
+    front.len() == bytes.len()
+}
+
 /// Whether the bytes are characters and a beginning of one more.
 fn is_cut(bytes: &[u8]) -> bool {
-    match str::from_utf8(bytes) {
-        Ok(_) => false,
-        Err(error) => error.error_len().is_none(),
-    }
+    let (front, state) = text_front(bytes, 0, State::Between);
+    front.len() < bytes.len() && !matches!(state, State::Damaged)
 }

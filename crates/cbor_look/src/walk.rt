@@ -1,64 +1,12 @@
 //! Which tags, arrays and maps a title stands within.
 
-ghost use Rattle.std.specs.Prelude.{◌≤◌};
+ghost use Rattle.std.specs.Prelude.{◌≡◌, ◌≤◌, ◌<◌, ◌++◌, [], ℕ, List, IsTrue};
 
+use cbor_skip::Remaining;
 use ciborium_ll::Header;
 
 /// How many levels there are at most.
 pub(crate) const MOST_LEVELS: usize = 256;
-
-/// What is due yet within a tag, an array or a map.
-#[derive(Clone, Copy)]
-pub(crate) enum Due {
-    /// So many items.
-    Items(usize),
-    /// So many pairs.
-    Pairs(usize),
-    /// The value of a pair, and then so many pairs.
-    Value(usize),
-    /// Items up to a break.
-    OpenItems,
-    /// Pairs up to a break.
-    OpenPairs,
-    /// The value of a pair, and then pairs up to a break.
-    OpenValue,
-}
-
-impl Due {
-    /// What the header of a tag, an array or a map announces. Behind another one nothing is due.
-    fn behind(header: Header) -> Due {
-        match header {
-            Header::Tag(_) => Due::Items(1),
-            Header::Array(Some(count)) => Due::Items(count),
-            Header::Array(None) => Due::OpenItems,
-            Header::Map(Some(count)) => Due::Pairs(count),
-            Header::Map(None) => Due::OpenPairs,
-            _ => Due::Items(0),
-        }
-    }
-
-    /// Whether nothing is due.
-    fn is_done(self) -> bool {
-        matches!(self, Due::Items(0) | Due::Pairs(0))
-    }
-
-    /// Whether a break may come next.
-    fn closes(self) -> bool {
-        matches!(self, Due::OpenItems | Due::OpenPairs)
-    }
-
-    /// What is due behind the next item.
-    fn after_item(self) -> Due {
-        match self {
-            Due::Items(count) => Due::Items(count.saturating_sub(1)),
-            Due::Pairs(count) => Due::Value(count.saturating_sub(1)),
-            Due::Value(count) => Due::Pairs(count),
-            Due::OpenItems => Due::OpenItems,
-            Due::OpenPairs => Due::OpenValue,
-            Due::OpenValue => Due::OpenPairs,
-        }
-    }
-}
 
 /// What came of a title that begins a level.
 pub(crate) enum Entered {
@@ -73,7 +21,7 @@ pub(crate) enum Entered {
 /// The tags, arrays and maps that are not closed, and what is due within each.
 #[derive(Drop)]
 pub(crate) struct Walk {
-    levels: [Due; MOST_LEVELS],
+    levels: [Remaining; MOST_LEVELS],
     used: usize,
     depth: usize,
     ghost shallow: { depth ≤ 256 },
@@ -81,12 +29,17 @@ pub(crate) struct Walk {
 }
 
 impl Walk {
+    ghost use Rattle.ciborium_ll.specs.Title.{IsTitle};
+    ghost use Rattle.cbor_skip.specs.Due.{IsNest};
+    ghost use Rattle.cbor_look.specs.Walks.{Breaks, Ends, Enters, IsBehindItem, IsDue};
+
     /// None yet, of at most so many levels.
     pub(crate) fn new(depth: usize) -> Walk
         requires { depth ≤ 256 }
+        ensures { IsDue depth result [] }
     {
         Walk {
-            levels: [Due::Items(0); MOST_LEVELS],
+            levels: [Remaining::Items(0); MOST_LEVELS],
             used: 0,
             depth,
         }
@@ -94,28 +47,38 @@ impl Walk {
 
     /// How many aren't closed.
     pub(crate) fn level(&self) -> usize
-        ensures { result ≤ 256 }
+        ensures few { result ≤ 256 }
+        ensures value { result ≡ self.now.used }
     {
         self.used
     }
 
     /// The title of a tag, an array or a map came.
-    pub(crate) fn enter(&mut self, header: Header) -> Entered {
+    pub(crate) fn enter(&mut self, header: Header) -> Entered
+        requires nest { IsNest header }
+        ensures { (depth : ℕ) (before title : List ℕ) → IsDue depth self.old before → IsTitle title header
+            → Enters depth result self.new before title }
+    {
         if self.used == self.depth {
             return Entered::Deep;
         }
-        let due = Due::behind(header);
-        if due.is_done() {
+        let remaining = Remaining::behind(header);
+        if remaining.is_done() {
             return Entered::Empty;
         }
-        self.levels[self.used] = due;
+        self.levels[self.used] = remaining;
         self.used += 1;
         Entered::Within
     }
 
     /// A break came. It tells whether it may stand there, and then the last level is closed.
-    pub(crate) fn close(&mut self) -> bool {
-        if self.used == 0 || !self.levels[self.used - 1].closes() {
+    pub(crate) fn close(&mut self) -> bool
+        ensures { (depth : ℕ) (before : List ℕ) → IsDue depth self.old before → Breaks depth result self.new before }
+    {
+        if self.used == 0 {
+            return false;
+        }
+        if !self.levels[self.used - 1].closes() {
             return false;
         }
         self.used -= 1;
@@ -123,14 +86,32 @@ impl Walk {
     }
 
     /// An item has ended, and each level that it ends.
-    pub(crate) fn item_done(&mut self) {
-        'levels: while self.used > 0 {
-            let at = self.used - 1;
-            self.levels[at] = self.levels[at].after_item();
-            if !self.levels[at].is_done() {
-                break;
-            }
-            self.used = at;
+    pub(crate) fn item_done(&mut self)
+        ensures { (depth : ℕ) (bytes : List ℕ) → IsBehindItem depth self.old bytes → IsDue depth self.new bytes }
+    {
+        'levels: while self.ends_level() {}
+    }
+
+    /// An item has ended. It tells whether it ends the last level, which is then closed.
+    fn ends_level(&mut self) -> bool
+        ensures ends { (depth : ℕ) (bytes : List ℕ) → IsBehindItem depth self.old bytes
+            → Ends depth result self.new bytes }
+        ensures fewer { IsTrue result → self.new.used < self.old.used }
+    {
+        if self.used == 0 {
+            return false;
         }
+        let at = self.used - 1;
+        let remaining = self.levels[at];
+        if remaining.is_done() {
+            return false;
+        }
+        let after = remaining.after_item();
+        self.levels[at] = after;
+        if !after.is_done() {
+            return false;
+        }
+        self.used = at;
+        true
     }
 }

@@ -23,6 +23,17 @@ pub enum View {
     Notation,
 }
 
+/// When a dump has colors.
+#[derive(Debug, Clone, Copy, PartialEq, Eq)]
+pub enum Colors {
+    /// Where standard output is a terminal, and the environment names no `NO_COLOR`.
+    Auto,
+    /// Always.
+    Always,
+    /// Never.
+    Never,
+}
+
 /// How it is done.
 #[derive(Debug, Clone, Copy, PartialEq, Eq)]
 pub struct Options {
@@ -34,6 +45,8 @@ pub struct Options {
     pub hex: bool,
     /// Whether each line of a dump has its offset.
     pub offsets: bool,
+    /// When a dump has colors.
+    pub colors: Colors,
     /// How items in diagnostic notation are laid out.
     pub layout: Layout,
     /// How many levels deep tags, arrays and maps may be nested.
@@ -49,6 +62,7 @@ impl Options {
             one: false,
             hex: false,
             offsets: false,
+            colors: Colors::Auto,
             layout: Layout::OneLine,
             depth: 256,
         }
@@ -67,6 +81,9 @@ impl Options {
             ("--one", Word::Check) => self.one = true,
             ("--hex", _) => self.hex = true,
             ("--offsets", Word::Show(View::Titles)) => self.offsets = true,
+            ("--color=auto", Word::Show(View::Titles)) => self.colors = Colors::Auto,
+            ("--color=always", Word::Show(View::Titles)) => self.colors = Colors::Always,
+            ("--color=never", Word::Show(View::Titles)) => self.colors = Colors::Never,
             ("--pretty", Word::Show(View::Notation)) => self.layout = Layout::Indented,
             _ => return None,
         }

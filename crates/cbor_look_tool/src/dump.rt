@@ -1,13 +1,13 @@
 //! The word `dump`.
 
-ghost use Rattle.std.specs.Prelude.{◌≡◌};
+ghost use Rattle.std.specs.Prelude.{◌≡◌, ◌≤◌, length};
 ghost use Rattle.cbor_look_tool.specs.Checking.{dump_said};
 
 use crate::arguments::Options;
 use crate::check::{ROOM, end_verdict, failed_or, fault_of};
 use crate::verdict::Verdict;
 use cbor_look::dump::{DumpError, dump};
-use cbor_look::rows::{Row, Rows};
+use cbor_look::rows::{Meaning, Row, Rows};
 use ciborium_ll::Decoder;
 use ciborium_ll::io::{BufferedReader, ReadFault};
 use std::alloc::{AllocError, Global};
@@ -20,7 +20,17 @@ struct Printer<W> {
     line: String,
     writer: W,
     offsets: bool,
+    colors: bool,
 }
+
+/// The escape sequence in front of what a title or a part of a text means.
+const MEANING: &[u8] = b"\x1b[36m";
+
+/// The one in front of bytes at fault, and of what is said of them.
+const FAULT: &[u8] = b"\x1b[31m";
+
+/// The one behind either.
+const PLAIN: &[u8] = b"\x1b[0m";
 
 impl<W: io::Write> Printer<W> {
     /// Makes the line of a row.
@@ -29,14 +39,33 @@ impl<W: io::Write> Printer<W> {
         if self.offsets {
             write!(self.line, "{:6}  ", row.offset)?;
         }
-        writeln!(self.line, "{row}")
+        write!(self.line, "{row}")
+    }
+
+    /// Prints the line. Where colors are wanted, what stands from the first `#` on is in one, or all of a fault.
+    fn put(&mut self, is_fault: bool) -> io::Result<()> {
+        let line = self.line.as_bytes();
+        let (at, color) = if is_fault {
+            (0, FAULT)
+        } else {
+            (first_hash(line), MEANING)
+        };
+        if self.colors && at < line.len() {
+            self.writer.write_all(&line[..at])?;
+            self.writer.write_all(color)?;
+            self.writer.write_all(&line[at..])?;
+            self.writer.write_all(PLAIN)?;
+        } else {
+            self.writer.write_all(line)?;
+        }
+        self.writer.write_all(b"\n")
     }
 
     /// Prints what is found at the end, behind the rows.
     fn end(&mut self, verdict: &Verdict) -> io::Result<()> {
         self.line.clear();
-        match writeln!(self.line, "# {verdict}") {
-            Ok(()) => self.writer.write_all(self.line.as_bytes()),
+        match write!(self.line, "# {verdict}") {
+            Ok(()) => self.put(true),
             Err(_) => Err(io::Error::from(io::ErrorKind::OutOfMemory)),
         }
     }
@@ -47,28 +76,43 @@ impl<W: io::Write> Rows for Printer<W> {
 
     type Error = io::Error;
 
-    ghost shown = { λ _. None };
+    ghost drawn = { λ _. None };
 
     /// The error is that of the writer, or says that there is no memory for the line.
     fn row(&mut self, row: Row<'_>) -> io::Result<()> {
         match self.set_line(row) {
-            Ok(()) => self.writer.write_all(self.line.as_bytes()),
+            Ok(()) => self.put(matches!(row.meaning, Meaning::Fault)),
             Err(_) => Err(io::Error::from(io::ErrorKind::OutOfMemory)),
         }
     }
 }
 
-/// Dumps what a reader gives, up to its end. Behind a fault a line says what it is.
+/// Where the first `#` stands, or the length of the line where none does.
+fn first_hash(line: &[u8]) -> usize
+    ensures { result ≤ length line.now }
+{
+    for (at, byte) in line.iter().enumerate() {
+        if *byte == b'#' {
+            return at;
+        }
+    }
+    line.len()
+}
+
+/// Dumps what a reader gives, up to its end. Behind a fault a line says what it is. Colors change no byte of the lines:
+/// they are escape sequences between them.
 pub fn dump_input<R: io::Read + Drop, W: io::Write + Drop>(
     alloc: Global,
     reader: R,
     writer: W,
     options: Options,
+    colors: bool,
 ) -> Result<(), Verdict> {
     let mut printer = Printer {
         line: String::new(alloc),
         writer,
         offsets: options.offsets,
+        colors,
     };
     let outcome = dumped(reader, &mut printer, options);
     let ended = match &outcome {

@@ -9,24 +9,27 @@ mod check;
 mod diag;
 mod digits;
 mod dump;
+mod progress;
 #[cfg(test)]
 mod tests;
 mod verdict;
 
-use crate::arguments::{Asked, Options, View, Word, asked_by};
+use crate::arguments::{Asked, Colors, Options, View, Word, asked_by};
 use crate::check::check_input;
 use crate::diag::diag_input;
 use crate::digits::Digits;
 use crate::dump::dump_input;
+use crate::progress::Watched;
 use crate::verdict::{Status, Verdict};
+use std::env::VarError;
 use std::fs::File;
-use std::io::BufWriter;
+use std::io::{BufWriter, IsTerminal};
 use std::process::ExitCode;
 use std::{env, io};
 
 /// What the program says to other arguments.
 const USAGE: &str = "usage: cbor check [--strict] [--depth N] [--one] [--hex] [FILE..]
-       cbor dump [--strict] [--depth N] [--offsets] [--hex] [FILE..]
+       cbor dump [--strict] [--depth N] [--offsets] [--color=WHEN] [--hex] [FILE..]
        cbor diag [--strict] [--depth N] [--pretty] [--hex] [FILE..]";
 
 fn main(rt: HostRuntime) -> ExitCode {
@@ -78,11 +81,38 @@ fn answered_for(rt: &HostRuntime, asked: &Asked, file: &str, several: bool) -> S
 /// Checks a file, or standard input for `-`.
 fn checked(rt: &HostRuntime, options: Options, file: &str) -> Verdict {
     if file == "-" {
-        return checked_bytes(rt.reader(), options);
+        return watched(rt, rt.reader(), options);
     }
     match File::open(rt, file) {
-        Ok(file) => checked_bytes(file, options),
+        Ok(file) => watched(rt, file, options),
         Err(error) => Verdict::Failed(error),
+    }
+}
+
+/// Checks what a reader gives, and says meanwhile on standard error how far it is, where that is a terminal.
+fn watched<R: io::Read + Drop>(rt: &HostRuntime, reader: R, options: Options) -> Verdict {
+    let is_on = rt.stderr().is_terminal() && !is_set(rt, "NO_COLOR") && !is_set(rt, "CI");
+    let mut reader = Watched::new(reader, rt, is_on);
+    let verdict = checked_bytes(&mut reader, options);
+    reader.clear();
+    verdict
+}
+
+/// Whether the environment has a variable of this name that is not empty.
+fn is_set(rt: &HostRuntime, name: &str) -> bool {
+    match env::var(rt, name) {
+        Ok(value) => !value.is_empty(),
+        Err(VarError::NotPresent) => false,
+        Err(_) => true,
+    }
+}
+
+/// Whether a dump has colors.
+fn has_colors(rt: &HostRuntime, colors: Colors) -> bool {
+    match colors {
+        Colors::Auto => rt.stdout().is_terminal() && !is_set(rt, "NO_COLOR"),
+        Colors::Always => true,
+        Colors::Never => false,
     }
 }
 
@@ -150,7 +180,10 @@ fn written_view<R: io::Read + Drop>(
     match view {
         View::Notation => diag_input(reader, io::writer(rt), options),
         View::Titles => match BufWriter::new(rt.alloc(), io::writer(rt)) {
-            Ok(writer) => dump_input(rt.alloc(), reader, writer, options),
+            Ok(writer) => {
+                let colors = has_colors(rt, options.colors);
+                dump_input(rt.alloc(), reader, writer, options, colors)
+            }
             Err(error) => Err(Verdict::Output(error)),
         },
     }

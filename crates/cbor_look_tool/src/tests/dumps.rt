@@ -20,7 +20,13 @@ struct Dump {
 // The dump of the bytes that some digits say.
 fn dumped(alloc: Global, digits: &str, options: Options) -> Dump {
     let mut text = Vec::new(alloc);
-    let outcome = dump_input(alloc, Digits::new(digits.as_bytes()), &mut text, options);
+    let outcome = dump_input(
+        alloc,
+        Digits::new(digits.as_bytes()),
+        &mut text,
+        options,
+        false,
+    );
     Dump { text, outcome }
 }
 
@@ -157,14 +163,59 @@ fn texts_of_dumps(rt: HostRuntime) -> Result<(), Fail> {
     Ok(())
 }
 
+// The dump of the bytes that some digits say, with colors.
+fn colored(alloc: Global, digits: &str) -> Vec<u8> {
+    let mut text = Vec::new(alloc);
+    let reader = Digits::new(digits.as_bytes());
+    let _ = dump_input(alloc, reader, &mut text, Options::new(), true);
+    text
+}
+
+// A text without its escape sequences, each of which ends with `m`.
+fn plain(alloc: Global, text: &[u8]) -> Result<Vec<u8>, Fail> {
+    let mut left = Vec::new(alloc);
+    let mut is_within = false;
+    for byte in text {
+        if *byte == 0x1b {
+            is_within = true;
+        }
+        if !is_within {
+            left.push(*byte)?;
+        }
+        if *byte == b'm' {
+            is_within = false;
+        }
+    }
+    Ok(left)
+}
+
+#[test]
+fn colors_of_dumps(rt: HostRuntime) -> Result<(), Fail> {
+    let want = "81                                  \u{1b}[36m# array 1\u{1b}[0m
+\u{1b}[31m   1c\u{1b}[0m
+\u{1b}[31m# syntax 1\u{1b}[0m
+";
+    assert!(rt; colored(rt.alloc(), "811c").as_slice() == want.as_bytes());
+    for (digits, want) in DUMPS.iter() {
+        let text = colored(rt.alloc(), digits);
+        let left = plain(rt.alloc(), text.as_slice())?;
+        assert!(rt; left.as_slice() == want.as_bytes(), "{digits}");
+    }
+    for row in EXAMPLES.iter() {
+        let text = dumped(rt.alloc(), row, Options::new()).text;
+        assert!(rt; !text.as_slice().contains(&0x1b), "{row}");
+    }
+    Ok(())
+}
+
 // What is found where a read fails, and where a write fails.
 fn fails(alloc: Global, call: usize) -> Result<bool, Fail> {
     let bytes = b"\x82\x19\x03\xe8\x61a";
     let reader = PartReader::new(bytes, 1).failing_at(call, io::ErrorKind::TimedOut);
     let mut text = Vec::new(alloc);
-    let read = dump_input(alloc, reader, &mut text, Options::new());
+    let read = dump_input(alloc, reader, &mut text, Options::new(), false);
     let mut writer = PartWriter::new(alloc, 20).failing_at(call, None);
-    let written = dump_input(alloc, bytes.as_slice(), &mut writer, Options::new());
+    let written = dump_input(alloc, bytes.as_slice(), &mut writer, Options::new(), false);
     Ok(matches!(read, Err(Verdict::Failed(_))) && matches!(written, Err(Verdict::Output(_))))
 }
 

@@ -1,7 +1,11 @@
-use Rattle.cbor_look.specs.Takings.{IsIdle}
-use Rattle.cbor_look.specs.Dumps.{Shows}
+use Rattle.std.proofs.Common.{◌-◌, ◌^◌}
+use Rattle.cbor_look.proofs.TitleLaws.{UpTo}
 use Rattle.cbor_look.proofs.dump.dump.Given as goal
 
 abbrev pub invariant-titles : goal.invariant-titles
-invariant-titles g l = IsIdle g.R.Read l.fn.decoder
-    → Shows g.R.Read (g.S.Rows.shown l.fn.rows) (g.S.Rows.shown l.rows) l.fn.decoder l.decoder
+invariant-titles g l =
+    UpTo g.R.Read l.depth (g.S.Rows.drawn l.fn.rows) (g.S.Rows.drawn l.rows) l.walk l.fn.decoder l.decoder
+
+-- each title takes a byte
+abbrev pub decreases-titles : goal.decreases-titles
+decreases-titles g l = 2 ^ 64 - l.decoder.offset

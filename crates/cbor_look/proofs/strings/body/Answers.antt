@@ -1,18 +1,89 @@
-use Rattle.cbor_look.proofs.DumpLaws.{shows_row, shows_then}
+use Rattle.std.proofs.Common.{[], ◌++◌, arith}
+use Rattle.cbor_look.specs.Takings.{taken_bytes}
+use Rattle.cbor_look.specs.StringRows.{kind_of}
+use Rattle.cbor_look.proofs.DumpLaws.{shows_none}
+use Rattle.cbor_look.proofs.StringLaws.{taken_all, part_fails, part_shown, writable_none}
 use Rattle.cbor_look.proofs.strings.body.Goals as goal
+
+pub rows-init : goal.rows-init
+rows-init g c = record {
+  so_far = λ depth start opens nests outer title due p level at. record {
+    front = [];
+    shows = shows_none g.R.Read depth start _ (outer ++ title) _;
+    counted = omega arith;
+    written = writable_none (kind_of c.args.kind);
+  };
+  rises = omega arith;
+}
 
 pub returns-in-Err : goal.returns-in-Err
 returns-in-Err g c = record {
-  shows = λ idle all.
-      let so_far = c.rows.invariant idle in
-      let keeps = (rw c.offset-offset.ensures.same at c.read_part-outcome.ensures.keeps) so_far.idle in
-      let appends = (rw c.in-Err.is at c.shown.ensures) all in
-      shows_then g.R.Read _ _ _ _ _ _ so_far (shows_row g.R.Read _ _ _ _ _ _ c.new-taken.ensures keeps appends);
+  shows = λ depth start opens nests outer title due p level at all.
+      let so_far = c.rows.invariant.so_far depth start opens nests outer title due p level at in
+      let row = taken_bytes c.read_part.new.taken in
+      let keeps = rw c.offset-offset.ensures.same at c.read_part.ensures.keeps in
+      let takes = taken_all g.R.Read _ row _ _ c.new-taken.ensures keeps in
+      record {
+        bytes = so_far.front ++ row;
+        shows = part_fails g.R.Read depth start opens nests outer title (kind_of c.args.kind) c.args.len c.rows.left
+            c.args.level c.offset-offset.result _ _ _ row _ _ _ (record { due = due; is_title = p; below = level }) at
+            so_far takes c.read_part.ensures.most c.offset-offset.ensures.value (c.fault.ensures all);
+        whole = tt;
+      };
+  rises =
+      let keeps = rw c.offset-offset.ensures.same at c.read_part.ensures.keeps in
+      let moved = keeps.takes.offset in
+      let so_far = c.rows.invariant.rises in
+      omega (arith, moved, so_far);
+}
+
+pub returns-in-Err-shown : goal.returns-in-Err-shown
+returns-in-Err-shown g c = record {
+  shows = λ depth start opens nests outer title due p level at all.
+      let so_far = c.rows.invariant.so_far depth start opens nests outer title due p level at in
+      let row = taken_bytes c.read_part.new.taken in
+      let keeps = rw c.offset-offset.ensures.same at c.read_part.ensures.keeps in
+      let takes = taken_all g.R.Read _ row _ _ c.new-taken.ensures keeps in
+      let ok = rw c.in_default.is at c.read_part.ensures.written in
+      let shown = part_shown g.R.Read depth start opens nests outer title c.args.kind c.args.len c.rows.left
+      c.args.level
+      c.offset-offset.result _ _ _ row _ _ _ (record { due = due; is_title = p; below = level }) at so_far takes
+      c.read_part.ensures.most c.offset-offset.ensures.value ok
+      (rw c.meaning.ensures at (c.in-Err-shown.ensures all)) in
+      record { bytes = shown.front; shows = shown.shows; whole = tt };
+  rises =
+      let keeps = rw c.offset-offset.ensures.same at c.read_part.ensures.keeps in
+      let moved = keeps.takes.offset in
+      let so_far = c.rows.invariant.rises in
+      omega (arith, moved, so_far);
 }
 
 pub rows-preserved : goal.rows-preserved
-rows-preserved g c = λ idle.
-    let so_far = c.rows.invariant idle in
-    let keeps = (rw c.offset-offset.ensures.same at c.read_part-outcome.ensures.keeps) so_far.idle in
-    let appends = (rw c.in_default.is at c.shown.ensures) tt in
-    shows_then g.R.Read _ _ _ _ _ _ so_far (shows_row g.R.Read _ _ _ _ _ _ c.new-taken.ensures keeps appends)
+rows-preserved g c = record {
+  so_far = λ depth start opens nests outer title due p level at.
+      let so_far = c.rows.invariant.so_far depth start opens nests outer title due p level at in
+      let row = taken_bytes c.read_part.new.taken in
+      let keeps = rw c.offset-offset.ensures.same at c.read_part.ensures.keeps in
+      let takes = taken_all g.R.Read _ row _ _ c.new-taken.ensures keeps in
+      let ok = rw c.in_default.is at c.read_part.ensures.written in
+      let shown = part_shown g.R.Read depth start opens nests outer title c.args.kind c.args.len c.rows.left
+      c.args.level
+      c.offset-offset.result _ _ _ row _ _ _ (record { due = due; is_title = p; below = level }) at so_far takes
+      c.read_part.ensures.most c.offset-offset.ensures.value ok
+      (rw c.meaning.ensures at ((rw c.in_default-shown.is at c.shown.ensures) tt)) in
+      rw c.len-left.ensures.value shown;
+  rises =
+      let keeps = rw c.offset-offset.ensures.same at c.read_part.ensures.keeps in
+      let moved = keeps.takes.offset in
+      let so_far = c.rows.invariant.rises in
+      omega (arith, moved, so_far);
+}
+
+pub returns : goal.returns
+returns g c = record {
+  shows = λ depth start opens nests outer title due p level at all.
+      let so_far = c.rows.invariant.so_far depth start opens nests outer title due p level at in
+      let counted = so_far.counted in
+      record { bytes = so_far.front; shows = so_far.shows; whole = (omega (arith, counted), so_far.written) };
+  rises = c.rows.invariant.rises;
+}

@@ -1,58 +1,260 @@
-use Rattle.cbor_look.proofs.DumpLaws.{shows_row, shows_then}
-use Rattle.cbor_look.proofs.strings.pieces.Goals.{in-Break-2, in-Piece-part+in_default-body, in-Open, in-Other-part}
+use Rattle.std.proofs.Common.{◌≡◌, ℕ, ◌++◌, subst, sym, ap, suc, ◌-◌, Some, None, ◌∙◌, arith}
+use Rattle.ciborium_ll.specs.Types.Header.{Header}
+use Rattle.ciborium_ll.specs.Title.{IsTitle}
+use Rattle.ciborium_ll.proofs.NestLaws.{title_some}
+use Rattle.cbor_look.specs.Takings.{taken_bytes}
+use Rattle.cbor_look.specs.StringRows.{kind_of}
+use Rattle.cbor_look.proofs.StringLaws.{taken_all}
+use Rattle.cbor_look.proofs.PieceLaws.{within_first, within_fails, within_open, within_break, within_ends, within_title}
+use Rattle.cbor_look.proofs.PieceLaws.{within_piece, within_whole, piece_due, piece_offset}
+use Rattle.cbor_look.proofs.TitleLaws.{string_level}
 use Rattle.cbor_look.proofs.strings.pieces.Goals as goal
+
+pub parts-init : goal.parts-init
+parts-init g c = record {
+  within = λ depth start nests items title stands p level at.
+      within_first g.R.Read depth start _ nests items title (kind_of c.args.kind) _ _ p (omega (arith, level));
+  above = omega arith;
+  below = let behind = c.requires.behind in omega (arith, behind);
+}
 
 pub returns-in-Err : goal.returns-in-Err
 returns-in-Err g c = record {
-  shows = λ idle all.
-      let so_far = c.parts.invariant idle in
-      let keeps = (rw c.offset-place.ensures.same at c.read_title.ensures.keeps) so_far.idle in
-      shows_then g.R.Read _ _ _ _ _ _ so_far
-      (shows_row g.R.Read _ _ _ _ _ _ c.new-taken.ensures keeps (c.shown.ensures all));
+  shows = λ depth start nests items title stands p level at all.
+      let so_far = c.parts.invariant.within depth start nests items title stands p level at in
+      let row = taken_bytes c.read_title.new.self in
+      let keeps = rw c.offset-place.ensures.same at c.read_title.ensures.keeps in
+      let takes = taken_all g.R.Read _ row _ _ c.new-taken.ensures keeps in
+      let place = c.offset-place.ensures.value in
+      record {
+        bytes = so_far.bytes ++ row;
+        shows = within_fails g.R.Read depth start _ _ nests items title (kind_of c.args.kind) c.parts.inner _ _ stands
+            so_far at _ row c.offset-place.result _ takes place (c.fault.ensures all);
+        whole = tt;
+      };
+}
+
+pub returns-in-Other : goal.returns-in-Other
+returns-in-Other g c = record {
+  shows = λ depth start nests items title stands p level at all.
+      let so_far = c.parts.invariant.within depth start nests items title stands p level at in
+      let row = taken_bytes c.read_title.new.self in
+      let keeps = rw c.offset-place.ensures.same at c.read_title.ensures.keeps in
+      let takes = taken_all g.R.Read _ row _ _ c.new-taken.ensures keeps in
+      let place = c.offset-place.ensures.value in
+      record {
+        bytes = so_far.bytes ++ row;
+        shows = within_fails g.R.Read depth start _ _ nests items title (kind_of c.args.kind) c.parts.inner _ _ stands
+            so_far at _ row c.offset-place.result _ takes place (c.fault-in-Other.ensures all);
+        whole = tt;
+      };
 }
 
 pub returns-in-Err-shown : goal.returns-in-Err-shown
 returns-in-Err-shown g c = record {
-  shows = λ idle all.
-      let so_far = c.parts.invariant idle in
-      let keeps = (rw c.offset-place.ensures.same at c.read_title.ensures.keeps) so_far.idle in
-      let appends = (rw c.in-Err-shown.is at c.shown-in-parts.ensures) all in
-      shows_then g.R.Read _ _ _ _ _ _ so_far (shows_row g.R.Read _ _ _ _ _ _ c.new-taken.ensures keeps appends);
+  shows = λ depth start nests items title stands p level at all.
+      let so_far = c.parts.invariant.within depth start nests items title stands p level at in
+      let row = taken_bytes c.read_title.new.self in
+      let keeps = rw c.offset-place.ensures.same at c.read_title.ensures.keeps in
+      let takes = taken_all g.R.Read _ row _ _ c.new-taken.ensures keeps in
+      let place = c.offset-place.ensures.value in
+      let titled : IsTitle row c.in-Ok.header = rw c.in-Ok.is at c.read_title.ensures.title in
+      let is = c.in-Break.ensures in
+      let title_row = subst (λ (x : Header). IsTitle row x) is titled in
+      let inner = so_far.level in
+      record {
+        bytes = so_far.bytes ++ row;
+        shows = within_title g.R.Read depth start _ _ nests items title (kind_of c.args.kind) c.parts.inner _ _ stands
+            so_far at _ row _ c.offset-place.result (c.parts.inner - 1) _ takes place title_row
+            (ap (λ (n : ℕ). n - 1) inner) (rw is at (c.in-Err-shown.ensures all));
+        whole = tt;
+      };
 }
 
-pub returns-in-Break-part : goal.returns-in-Break-part
-returns-in-Break-part g c = record {
-  shows = λ idle all.
-      let so_far = c.parts.invariant idle in
-      let keeps = (rw c.offset-place.ensures.same at c.read_title.ensures.keeps) so_far.idle in
-      let appends = (rw c.in_default.is at c.shown-in-parts.ensures) tt in
-      shows_then g.R.Read _ _ _ _ _ _ so_far (shows_row g.R.Read _ _ _ _ _ _ c.new-taken.ensures keeps appends);
+pub returns-then-inner-level : goal.returns-then-inner-level
+returns-then-inner-level g c = record {
+  shows = λ depth start nests items title stands p level at all.
+      let so_far = c.parts.invariant.within depth start nests items title stands p level at in
+      let row = taken_bytes c.read_title.new.self in
+      let keeps = rw c.offset-place.ensures.same at c.read_title.ensures.keeps in
+      let takes = taken_all g.R.Read _ row _ _ c.new-taken.ensures keeps in
+      let place = c.offset-place.ensures.value in
+      let titled : IsTitle row c.in-Ok.header = rw c.in-Ok.is at c.read_title.ensures.title in
+      let is = c.in-Break.ensures in
+      let title_row = subst (λ (x : Header). IsTitle row x) is titled in
+      let ends = within_ends g.R.Read depth start _ _ nests items title (kind_of c.args.kind) c.parts.inner _ _ stands
+      so_far at _ row c.offset-place.result _ p takes place title_row
+      (c.if-inner-level.true ∙ level) (rw is at ((rw c.in_default.is at c.shown.ensures) tt)) in
+      record { bytes = so_far.bytes ++ row; shows = ends.0; whole = ends.1 };
+}
+
+pub parts-preserved-else-inner-level : goal.parts-preserved-else-inner-level
+parts-preserved-else-inner-level g c = record {
+  within = λ depth start nests items title stands p level at.
+      let so_far = c.parts.invariant.within depth start nests items title stands p level at in
+      let row = taken_bytes c.read_title.new.self in
+      let keeps = rw c.offset-place.ensures.same at c.read_title.ensures.keeps in
+      let takes = taken_all g.R.Read _ row _ _ c.new-taken.ensures keeps in
+      let place = c.offset-place.ensures.value in
+      let titled : IsTitle row c.in-Ok.header = rw c.in-Ok.is at c.read_title.ensures.title in
+      let is = c.in-Break.ensures in
+      let title_row = subst (λ (x : Header). IsTitle row x) is titled in
+      within_break g.R.Read depth start _ _ nests items title (kind_of c.args.kind) c.parts.inner _ _ stands so_far at
+      _ row c.offset-place.result _ takes place title_row
+      (λ e. c.if-inner-level.false (e ∙ sym level)) (rw is at ((rw c.in_default.is at c.shown.ensures) tt));
+  above =
+      let inner = c.parts.invariant.above in
+      let other : c.parts.inner - 1 ≡ c.args.level → ⊥ = c.if-inner-level.false in
+      omega (arith, inner, other);
+  below =
+      let row = taken_bytes c.read_title.new.self in
+      let keeps = rw c.offset-place.ensures.same at c.read_title.ensures.keeps in
+      let takes = taken_all g.R.Read _ row _ _ c.new-taken.ensures keeps in
+      let moved = takes.offset in
+      let titled : IsTitle row c.in-Ok.header = rw c.in-Ok.is at c.read_title.ensures.title in
+      let some = title_some row c.in-Ok.header titled in
+      let inner = c.parts.invariant.below in
+      omega (arith, inner, moved);
+}
+
+pub returns-in-Err-shown-2 : goal.returns-in-Err-shown-2
+returns-in-Err-shown-2 g c = record {
+  shows = λ depth start nests items title stands p level at all.
+      let so_far = c.parts.invariant.within depth start nests items title stands p level at in
+      let row = taken_bytes c.read_title.new.self in
+      let keeps = rw c.offset-place.ensures.same at c.read_title.ensures.keeps in
+      let takes = taken_all g.R.Read _ row _ _ c.new-taken.ensures keeps in
+      let place = c.offset-place.ensures.value in
+      let titled : IsTitle row c.in-Ok.header = rw c.in-Ok.is at c.read_title.ensures.title in
+      let is = c.in-Piece.ensures in
+      let title_row = subst (λ (x : Header). IsTitle row x) is titled in
+      let inner = so_far.level in
+      record {
+        bytes = so_far.bytes ++ row;
+        shows = within_title g.R.Read depth start _ _ nests items title (kind_of c.args.kind) c.parts.inner _ _ stands
+            so_far at _ row _ c.offset-place.result c.parts.inner _ takes place title_row
+            (inner ∙ sym (string_level (kind_of c.args.kind) (Some c.in-Piece.len) nests (suc so_far.opens)))
+            (rw is at (c.in-Err-shown-2.ensures all));
+        whole = tt;
+      };
 }
 
 pub returns-in-Err-body : goal.returns-in-Err-body
 returns-in-Err-body g c = record {
-  shows = λ idle all.
-      let so_far = c.parts.invariant idle in
-      let keeps = (rw c.offset-place.ensures.same at c.read_title.ensures.keeps) so_far.idle in
-      let appends = (rw c.in_default.is at c.shown-in-parts.ensures) tt in
-      let behind = (rw c.in-Err-body.is at c.body.ensures.shows) keeps.idle all in
-      let row = shows_row g.R.Read _ _ _ _ _ _ c.new-taken.ensures keeps appends in
-      shows_then g.R.Read _ _ _ _ _ _ (shows_then g.R.Read _ _ _ _ _ _ so_far row) behind;
+  shows = λ depth start nests items title stands p level at all.
+      let so_far = c.parts.invariant.within depth start nests items title stands p level at in
+      let row = taken_bytes c.read_title.new.self in
+      let keeps = rw c.offset-place.ensures.same at c.read_title.ensures.keeps in
+      let takes = taken_all g.R.Read _ row _ _ c.new-taken.ensures keeps in
+      let place = c.offset-place.ensures.value in
+      let titled : IsTitle row c.in-Ok.header = rw c.in-Ok.is at c.read_title.ensures.title in
+      let is = c.in-Piece.ensures in
+      let title_row = subst (λ (x : Header). IsTitle row x) is titled in
+      let inner = so_far.level in
+      let due = piece_due g.R.Read depth start _ _ nests items title (kind_of c.args.kind) c.parts.inner _ _ stands
+      so_far at in
+      let rest = c.in-Err-body.ensures.shows depth start (suc so_far.opens) nests (items ++ so_far.parts) row due
+      title_row (omega (arith, inner)) (piece_offset g.R.Read depth start _ _ nests items title (kind_of c.args.kind)
+      c.parts.inner _ _ stands so_far at row _ takes) all in
+      record {
+        bytes = so_far.bytes ++ (row ++ rest.bytes);
+        shows = within_piece g.R.Read depth start _ _ nests items title (kind_of c.args.kind) c.parts.inner _ _ stands
+            so_far at _ _ row rest.bytes c.in-Piece.len c.offset-place.result _ _ takes place
+            title_row (rw is at ((rw c.in_default-shown.is at c.shown-in-Piece.ensures) tt)) rest.shows;
+        whole = tt;
+      };
+}
+
+pub parts-smaller-in_default-body : goal.parts-smaller-in_default-body
+parts-smaller-in_default-body g c =
+    let row = taken_bytes c.read_title.new.self in
+    let keeps = rw c.offset-place.ensures.same at c.read_title.ensures.keeps in
+    let takes = taken_all g.R.Read _ row _ _ c.new-taken.ensures keeps in
+    let moved = takes.offset in
+    let titled : IsTitle row c.in-Ok.header = rw c.in-Ok.is at c.read_title.ensures.title in
+    let some = title_some row c.in-Ok.header titled in
+    let rises = c.body.ensures.rises in
+    omega (arith, moved, some, rises)
+
+pub parts-preserved-in_default-body : goal.parts-preserved-in_default-body
+parts-preserved-in_default-body g c = record {
+  within = λ depth start nests items title stands p level at.
+      let so_far = c.parts.invariant.within depth start nests items title stands p level at in
+      let row = taken_bytes c.read_title.new.self in
+      let keeps = rw c.offset-place.ensures.same at c.read_title.ensures.keeps in
+      let takes = taken_all g.R.Read _ row _ _ c.new-taken.ensures keeps in
+      let place = c.offset-place.ensures.value in
+      let titled : IsTitle row c.in-Ok.header = rw c.in-Ok.is at c.read_title.ensures.title in
+      let is = c.in-Piece.ensures in
+      let title_row = subst (λ (x : Header). IsTitle row x) is titled in
+      let inner = so_far.level in
+      let due = piece_due g.R.Read depth start _ _ nests items title (kind_of c.args.kind) c.parts.inner _ _ stands
+      so_far at in
+      let rest = (rw c.in_default-body.is at c.body.ensures.shows) depth start (suc so_far.opens) nests
+      (items ++ so_far.parts) row due title_row (omega (arith, inner)) (piece_offset g.R.Read depth start _ _ nests
+      items title (kind_of c.args.kind) c.parts.inner _ _ stands so_far at row _ takes) tt in
+      let shows = within_piece g.R.Read depth start _ _ nests items title (kind_of c.args.kind) c.parts.inner _ _
+      stands so_far at _ _ row rest.bytes c.in-Piece.len c.offset-place.result _ _ takes place
+      title_row (rw is at ((rw c.in_default-shown.is at c.shown-in-Piece.ensures) tt)) rest.shows in
+      within_whole g.R.Read depth start _ _ nests items title (kind_of c.args.kind) c.parts.inner _ _ stands so_far at
+      _ row rest.bytes c.in-Piece.len _ title_row rest.whole.0 rest.whole.1 shows;
+  above = c.parts.invariant.above;
+  below =
+      let row = taken_bytes c.read_title.new.self in
+      let keeps = rw c.offset-place.ensures.same at c.read_title.ensures.keeps in
+      let takes = taken_all g.R.Read _ row _ _ c.new-taken.ensures keeps in
+      let moved = takes.offset in
+      let titled : IsTitle row c.in-Ok.header = rw c.in-Ok.is at c.read_title.ensures.title in
+      let some = title_some row c.in-Ok.header titled in
+      let rises = c.body.ensures.rises in
+      let inner = c.parts.invariant.below in
+      omega (arith, inner, moved, rises);
+}
+
+pub returns-in-Err-shown-3 : goal.returns-in-Err-shown-3
+returns-in-Err-shown-3 g c = record {
+  shows = λ depth start nests items title stands p level at all.
+      let so_far = c.parts.invariant.within depth start nests items title stands p level at in
+      let row = taken_bytes c.read_title.new.self in
+      let keeps = rw c.offset-place.ensures.same at c.read_title.ensures.keeps in
+      let takes = taken_all g.R.Read _ row _ _ c.new-taken.ensures keeps in
+      let place = c.offset-place.ensures.value in
+      let titled : IsTitle row c.in-Ok.header = rw c.in-Ok.is at c.read_title.ensures.title in
+      let is = c.in-Open.ensures in
+      let title_row = subst (λ (x : Header). IsTitle row x) is titled in
+      let inner = so_far.level in
+      record {
+        bytes = so_far.bytes ++ row;
+        shows = within_title g.R.Read depth start _ _ nests items title (kind_of c.args.kind) c.parts.inner _ _ stands
+            so_far at _ row _ c.offset-place.result c.parts.inner _ takes place title_row
+            (inner ∙ sym (string_level (kind_of c.args.kind) None nests (suc so_far.opens)))
+            (rw is at (c.in-Err-shown-3.ensures all));
+        whole = tt;
+      };
 }
 
 pub parts-preserved : goal.parts-preserved
-parts-preserved g c = λ idle.
-    let so_far = c.parts.invariant idle in
-    let keeps = (rw c.offset-place.ensures.same at c.read_title.ensures.keeps) so_far.idle in
-    let appends = (rw c.in_default.is at c.shown-in-parts.ensures) tt in
-    let row = shows_row g.R.Read _ _ _ _ _ _ c.new-taken.ensures keeps appends in
-    let now = shows_then g.R.Read _ _ _ _ _ _ so_far row in
-    elim c.match-part-2.branch [
-      | in-Break-2 w ↦ rw (w.decoder-is, w.rows-is) now
-      | in-Piece-part+in_default-body w ↦ (
-          let behind = (rw w.in_default-body.is at w.body.ensures.shows) keeps.idle tt in
-          rw (w.decoder-is, w.rows-is) (shows_then g.R.Read _ _ _ _ _ _ now behind)
-          )
-      | in-Open w ↦ rw (w.decoder-is, w.rows-is) now
-      | in-Other-part w ↦ rw (w.decoder-is, w.rows-is) now
-    ]
+parts-preserved g c = record {
+  within = λ depth start nests items title stands p level at.
+      let so_far = c.parts.invariant.within depth start nests items title stands p level at in
+      let row = taken_bytes c.read_title.new.self in
+      let keeps = rw c.offset-place.ensures.same at c.read_title.ensures.keeps in
+      let takes = taken_all g.R.Read _ row _ _ c.new-taken.ensures keeps in
+      let place = c.offset-place.ensures.value in
+      let titled : IsTitle row c.in-Ok.header = rw c.in-Ok.is at c.read_title.ensures.title in
+      let is = c.in-Open.ensures in
+      let title_row = subst (λ (x : Header). IsTitle row x) is titled in
+      within_open g.R.Read depth start _ _ nests items title (kind_of c.args.kind) c.parts.inner _ _ stands so_far at
+      _ row c.offset-place.result _ takes place title_row
+      (rw is at ((rw c.in_default-shown-2.is at c.shown-in-Open.ensures) tt));
+  above = let inner = c.parts.invariant.above in omega (arith, inner);
+  below =
+      let row = taken_bytes c.read_title.new.self in
+      let keeps = rw c.offset-place.ensures.same at c.read_title.ensures.keeps in
+      let takes = taken_all g.R.Read _ row _ _ c.new-taken.ensures keeps in
+      let moved = takes.offset in
+      let titled : IsTitle row c.in-Ok.header = rw c.in-Ok.is at c.read_title.ensures.title in
+      let some = title_some row c.in-Ok.header titled in
+      let inner = c.parts.invariant.below in
+      omega (arith, inner, moved, some);
+}

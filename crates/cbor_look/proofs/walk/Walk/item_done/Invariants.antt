@@ -1,5 +1,10 @@
+use Rattle.std.proofs.Common.{ℕ, List}
+use Rattle.cbor_look.specs.Walks.{IsBehindItem}
 use Rattle.cbor_look.proofs.walk.Walk.item_done.Given as goal
 
--- the level that is looked at is the one before
+abbrev pub invariant-levels : goal.invariant-levels
+invariant-levels l = (depth : ℕ) (bytes : List ℕ) → IsBehindItem depth l.fn.self bytes → IsBehindItem depth l.self bytes
+
+-- each level that ends is one less
 abbrev pub decreases-levels : goal.decreases-levels
 decreases-levels l = l.self.used

@@ -1,0 +1,238 @@
+-- The lines of a string of indefinite length, behind its open.
+use Rattle.std.proofs.Common.{◌≡◌, ℕ, zero, suc, ◌+◌, ◌-◌, List, [], ◌∷◌, ◌++◌, length, Option, Some, None, refl, sym}
+use Rattle.std.proofs.Common.{ap, subst, ◌∙◌, arith, append-nil, append_assoc, length-append, inl}
+use Rattle.ciborium_ll.specs.Types.Read.{Ghosts}
+use Rattle.ciborium_ll.specs.Types.Header.{Header}
+use Rattle.ciborium_ll.specs.Types.Header.TheVariants as h
+use Rattle.ciborium_ll.specs.Types.Decoder.{Decoder}
+use Rattle.ciborium_ll.specs.Title.{IsTitle}
+use Rattle.ciborium_ll.specs.Strings.{Kind, kind_header, definite, IsWritable}
+use Rattle.ciborium_ll.specs.Elements.{AreWritable}
+use Rattle.ciborium_ll.proofs.ElementLaws.{AreWritable-append}
+use Rattle.cbor_look.specs.declared.rows.Meaning.TheVariants as m
+use Rattle.cbor_look.specs.Takings.{Takes}
+use Rattle.cbor_look.specs.Levels.{Line, Nest, StandsWithin, AreOpen, none, TitleDue, title_level}
+use Rattle.cbor_look.specs.Dumps.{Draws, fault_lines, Shows}
+use Rattle.cbor_look.specs.StringRows.{EndsString}
+use Rattle.cbor_look.proofs.DumpLaws.{shows_none, shows_then}
+use Rattle.cbor_look.proofs.TitleLaws.{title_line, string_level, break_bytes}
+use Rattle.cbor_look.proofs.StringLaws.{lines_fault, next_offset, add_string, add_open, close_inner, close_last}
+
+module _ {R E : Type 0} (source : Ghosts R E) where
+  -- within a string, of which so many opens aren't closed, all up to here was shown
+  pub record Within (depth start : ℕ) (drawn then_drawn : Option (List Line)) (nests : List Nest)
+      (items title : List ℕ) (kind : Kind) (inner : ℕ) (old new : Decoder R) : Type 0 where
+    pub opens : ℕ
+    pub parts : List ℕ
+    pub bodies : List (List ℕ)
+    pub bytes : List ℕ
+    pub are_open : AreOpen kind (suc opens) parts bodies
+    pub sound : AreWritable kind bodies
+    pub level : inner ≡ length nests + suc opens
+    pub is : title ++ bytes ≡ parts
+    pub shows : Shows source depth start drawn then_drawn (items ++ title) bytes old new
+
+  pub within_first : (depth start : ℕ) (drawn : Option (List Line)) (nests : List Nest) (items title : List ℕ)
+      (kind : Kind) (inner : ℕ) (decoder : Decoder R) → IsTitle title (kind_header kind None)
+      → inner ≡ length nests + 1
+      → Within depth start drawn drawn nests items title kind inner decoder decoder
+  within_first depth start drawn nests items title kind inner decoder p level = record {
+    opens = zero;
+    parts = title;
+    bodies = [];
+    bytes = [];
+    are_open = add_open kind zero [] title [] none p;
+    sound = tt;
+    level = level;
+    is = append-nil title;
+    shows = shows_none source depth start drawn (items ++ title) decoder;
+  }
+
+  module _ (depth start : ℕ) (drawn middle : Option (List Line)) (nests : List Nest) (items title : List ℕ)
+      (kind : Kind) (inner : ℕ) (old between : Decoder R) (stands : StandsWithin depth nests items)
+      (so_far : Within depth start drawn middle nests items title kind inner old between)
+      (begun : old.offset ≡ start + length (items ++ title)) where
+    -- what is before, as it is cut
+    before_is : (items ++ title) ++ so_far.bytes ≡ items ++ so_far.parts
+    before_is = append_assoc items title so_far.bytes ∙ ap (λ (z : List ℕ). items ++ z) so_far.is
+
+    here : between.offset ≡ start + length ((items ++ title) ++ so_far.bytes)
+    here = next_offset source depth start drawn middle (items ++ title) so_far.bytes old between so_far.shows begun
+
+    due_within : TitleDue depth nests (suc so_far.opens) ((items ++ title) ++ so_far.bytes)
+    due_within = record {
+      items = items;
+      kind = kind;
+      parts = so_far.parts;
+      bodies = so_far.bodies;
+      within = stands;
+      are_open = so_far.are_open;
+      sound = so_far.sound;
+      is = before_is;
+    }
+
+    -- what was read before a fault
+    pub within_fails : (then_drawn : Option (List Line)) (row : List ℕ) (offset : ℕ) (new : Decoder R)
+        → Takes source between row new → offset ≡ between.offset
+        → Draws middle then_drawn (fault_lines inner offset row)
+        → Shows source depth start drawn then_drawn (items ++ title) (so_far.bytes ++ row) old new
+    within_fails then_drawn row offset new takes at drawn_fault =
+        shows_then source depth start drawn middle then_drawn (items ++ title) so_far.bytes row old between new
+        so_far.shows (record {
+          lines = lines_fault depth start middle then_drawn ((items ++ title) ++ so_far.bytes) inner offset row
+              drawn_fault (at ∙ here)
+              (inl (record { nests = nests; opens = suc so_far.opens; due = due_within; level = so_far.level }));
+          takes = takes;
+        })
+
+    -- a title
+    pub within_title : (then_drawn : Option (List Line)) (row : List ℕ) (x : Header) (offset level : ℕ)
+        (new : Decoder R) → Takes source between row new → offset ≡ between.offset → IsTitle row x
+        → level ≡ title_level x nests (suc so_far.opens)
+        → Draws middle then_drawn (record { level = level; offset = offset; bytes = row; meaning = m.Header x } ∷ [])
+        → Shows source depth start drawn then_drawn (items ++ title) (so_far.bytes ++ row) old new
+    within_title then_drawn row x offset level new takes at p same drawn_line =
+        shows_then source depth start drawn middle then_drawn (items ++ title) so_far.bytes row old between new
+        so_far.shows (record {
+          lines = title_line depth start middle then_drawn ((items ++ title) ++ so_far.bytes) row x level offset nests
+              (suc so_far.opens) due_within p same (at ∙ here) drawn_line;
+          takes = takes;
+        })
+
+    parts_then : (row : List ℕ) → title ++ (so_far.bytes ++ row) ≡ so_far.parts ++ row
+    parts_then row = sym (append_assoc title so_far.bytes row) ∙ ap (λ (z : List ℕ). z ++ row) so_far.is
+
+    -- a further open
+    pub within_open : (then_drawn : Option (List Line)) (row : List ℕ) (offset : ℕ) (new : Decoder R)
+        → Takes source between row new → offset ≡ between.offset → IsTitle row (kind_header kind None)
+        → Draws middle then_drawn
+        (record { level = inner; offset = offset; bytes = row; meaning = m.Header (kind_header kind None) } ∷ [])
+        → Within depth start drawn then_drawn nests items title kind (inner + 1) old new
+    within_open then_drawn row offset new takes at p drawn_line =
+        let level = so_far.level in
+        record {
+          opens = suc so_far.opens;
+          parts = so_far.parts ++ row;
+          bodies = so_far.bodies;
+          bytes = so_far.bytes ++ row;
+          are_open = add_open kind (suc so_far.opens) so_far.parts row so_far.bodies so_far.are_open p;
+          sound = so_far.sound;
+          level = omega (arith, level);
+          is = parts_then row;
+          shows = within_title then_drawn row (kind_header kind None) offset inner new takes at p
+              (level ∙ sym (string_level kind None nests (suc so_far.opens))) drawn_line;
+        }
+
+    -- a break that closes one of several
+    inner_break : (opens : ℕ) → so_far.opens ≡ suc opens → (then_drawn : Option (List Line)) (row : List ℕ)
+        (offset : ℕ) (new : Decoder R)
+        → Takes source between row new → offset ≡ between.offset → IsTitle row h.Break
+        → Draws middle then_drawn
+        (record { level = inner - 1; offset = offset; bytes = row; meaning = m.Header h.Break } ∷ [])
+        → Within depth start drawn then_drawn nests items title kind (inner - 1) old new
+    inner_break opens e then_drawn row offset new takes at p drawn_line =
+        let level = so_far.level in
+        record {
+          opens = opens;
+          parts = so_far.parts ++ row;
+          bodies = so_far.bodies;
+          bytes = so_far.bytes ++ row;
+          are_open = subst (λ (z : List ℕ). AreOpen kind (suc opens) (so_far.parts ++ z) so_far.bodies)
+              (sym (break_bytes row p)) (close_inner kind opens so_far.parts so_far.bodies
+              (subst (λ (n : ℕ). AreOpen kind (suc n) so_far.parts so_far.bodies) e so_far.are_open));
+          sound = so_far.sound;
+          level = omega (arith, level, e);
+          is = parts_then row;
+          shows = within_title then_drawn row h.Break offset (inner - 1) new takes at p
+              (ap (λ (n : ℕ). n - 1) level) drawn_line;
+        }
+
+    pub within_break : (then_drawn : Option (List Line)) (row : List ℕ) (offset : ℕ) (new : Decoder R)
+        → Takes source between row new → offset ≡ between.offset → IsTitle row h.Break
+        → (inner - 1 ≡ length nests → ⊥)
+        → Draws middle then_drawn
+        (record { level = inner - 1; offset = offset; bytes = row; meaning = m.Header h.Break } ∷ [])
+        → Within depth start drawn then_drawn nests items title kind (inner - 1) old new
+    within_break then_drawn row offset new takes at p further drawn_line =
+        let level = so_far.level in
+        let less : so_far.opens ≡ suc (so_far.opens - 1) = omega (arith, level, further) in
+        inner_break (so_far.opens - 1) less then_drawn row offset new takes at p drawn_line
+
+    -- the break that ends the string
+    pub within_ends : (then_drawn : Option (List Line)) (row : List ℕ) (offset : ℕ) (new : Decoder R)
+        → IsTitle title (kind_header kind None) → Takes source between row new → offset ≡ between.offset
+        → IsTitle row h.Break → inner - 1 ≡ length nests
+        → Draws middle then_drawn
+        (record { level = inner - 1; offset = offset; bytes = row; meaning = m.Header h.Break } ∷ [])
+        → Shows source depth start drawn then_drawn (items ++ title) (so_far.bytes ++ row) old new
+        × EndsString kind (so_far.bytes ++ row)
+    within_ends then_drawn row offset new q takes at p last drawn_line =
+        let level = so_far.level in
+        let one : so_far.opens ≡ zero = omega (arith, level, last) in (
+          within_title then_drawn row h.Break offset (inner - 1) new takes at p (ap (λ (n : ℕ). n - 1) level)
+              drawn_line,
+          subst (λ (z : List ℕ). EndsString kind (so_far.bytes ++ z)) (sym (break_bytes row p))
+              (close_last kind title so_far.bytes so_far.parts so_far.bodies
+              (subst (λ (n : ℕ). AreOpen kind (suc n) so_far.parts so_far.bodies) one so_far.are_open) q so_far.is
+              so_far.sound),
+        )
+
+    -- a piece: its title, and then its body
+    pub within_piece : (titled_drawn then_drawn : Option (List Line)) (row body : List ℕ) (len offset : ℕ)
+        (titled new : Decoder R)
+        → Takes source between row titled → offset ≡ between.offset → IsTitle row (kind_header kind (Some len))
+        → Draws middle titled_drawn
+        (record { level = inner; offset = offset; bytes = row; meaning = m.Header (kind_header kind (Some len)) } ∷ [])
+        → Shows source depth start titled_drawn then_drawn ((items ++ so_far.parts) ++ row) body titled new
+        → Shows source depth start drawn then_drawn (items ++ title) (so_far.bytes ++ (row ++ body)) old new
+    within_piece titled_drawn then_drawn row body len offset titled new takes at p drawn_line shows =
+        let level = so_far.level in
+        let first = within_title titled_drawn row (kind_header kind (Some len)) offset inner titled takes at p
+        (level ∙ sym (string_level kind (Some len) nests (suc so_far.opens))) drawn_line in
+        let same : (items ++ so_far.parts) ++ row ≡ (items ++ title) ++ (so_far.bytes ++ row) =
+        ap (λ (z : List ℕ). z ++ row) (sym before_is) ∙ append_assoc (items ++ title) so_far.bytes row in
+        let second = subst (λ (z : List ℕ). Shows source depth start titled_drawn then_drawn z body titled new) same
+        shows in
+        subst (λ (z : List ℕ). Shows source depth start drawn then_drawn (items ++ title) z old new)
+        (append_assoc so_far.bytes row body)
+        (shows_then source depth start drawn titled_drawn then_drawn (items ++ title) (so_far.bytes ++ row) body old
+        titled new first second)
+
+    pub within_whole : (then_drawn : Option (List Line)) (row body : List ℕ) (len : ℕ) (new : Decoder R)
+        → IsTitle row (kind_header kind (Some len)) → length body ≡ len → IsWritable kind body
+        → Shows source depth start drawn then_drawn (items ++ title) (so_far.bytes ++ (row ++ body)) old new
+        → Within depth start drawn then_drawn nests items title kind inner old new
+    within_whole then_drawn row body len new p long written shows =
+        let p' = subst (λ (n : ℕ). IsTitle row (kind_header kind (Some n))) (sym long) p in
+        record {
+          opens = so_far.opens;
+          parts = so_far.parts ++ (row ++ body);
+          bodies = so_far.bodies ++ (body ∷ []);
+          bytes = so_far.bytes ++ (row ++ body);
+          are_open = add_string kind so_far.opens so_far.parts (row ++ body) so_far.bodies (body ∷ []) so_far.are_open
+              (definite p');
+          sound = AreWritable-append kind so_far.bodies (body ∷ []) so_far.sound (written, tt);
+          level = so_far.level;
+          is = parts_then (row ++ body);
+          shows = shows;
+        }
+
+    -- a piece's body stands a level deeper
+    pub piece_due : TitleDue depth nests (suc so_far.opens) (items ++ so_far.parts)
+    piece_due = record {
+      items = items;
+      kind = kind;
+      parts = so_far.parts;
+      bodies = so_far.bodies;
+      within = stands;
+      are_open = so_far.are_open;
+      sound = so_far.sound;
+      is = refl;
+    }
+
+    pub piece_offset : (row : List ℕ) (new : Decoder R) → Takes source between row new
+        → new.offset ≡ start + length ((items ++ so_far.parts) ++ row)
+    piece_offset row new takes =
+        let moved = takes.offset in
+        let cut = ap length before_is in
+        omega (arith, moved, here, cut, length-append (items ++ so_far.parts) row)

@@ -1,0 +1,204 @@
+-- The lines of a string, behind its title.
+use Rattle.std.proofs.Common.{◌≡◌, ℕ, zero, suc, ◌+◌, ◌-◌, ◌≤◌, List, [], ◌∷◌, ◌++◌, length, Option, Some, None}
+use Rattle.std.proofs.Common.{inr, refl, sym, ap, subst, ◌∙◌, arith, append-nil, append_assoc, length-append}
+use Rattle.ciborium_ll.specs.Types.Read.{Ghosts}
+use Rattle.ciborium_ll.specs.Types.Decoder.{Decoder}
+use Rattle.ciborium_ll.specs.Title.{IsTitle}
+use Rattle.ciborium_ll.specs.Strings.{Kind, Bytes, Text, kind_header, IsString, indefinite, AreStrings, IsWritable}
+use Rattle.ciborium_ll.specs.Strings.AreStrings.{none as no_strings, more as more_strings}
+use Rattle.ciborium_ll.specs.Elements.{AreWritable}
+use Rattle.ciborium_ll.proofs.TextLaws.{IsCharacters-append}
+use Rattle.ciborium_ll.proofs.TitleLaws.{one_title}
+use Rattle.ciborium_ll.proofs.ElementLaws.{AreStrings-append}
+use Rattle.cbor_look.specs.declared.rows.Meaning.{Meaning}
+use Rattle.cbor_look.specs.declared.rows.Meaning.TheVariants as m
+use Rattle.cbor_look.specs.declared.strings.Kind.{Kind as CodeKind}
+use Rattle.cbor_look.specs.declared.strings.Kind.TheVariants as k
+use Rattle.cbor_look.specs.Takings.{Takes, Keeps}
+use Rattle.cbor_look.specs.Levels.{Line, Nest, AreOpen, none, more, TitleDue, HasBody, Stands}
+use Rattle.cbor_look.specs.Dumps.{Draws, fault_lines, Lines, Shows}
+use Rattle.cbor_look.specs.StringRows.{EndsString, kind_of, meaning_of}
+use Rattle.cbor_look.proofs.DumpLaws.{lines_one, shows_then}
+
+-- ---- what was read before a fault
+
+pub lines_fault : (depth start : ℕ) (old new : Option (List Line)) (before : List ℕ) (level offset : ℕ)
+    (bytes : List ℕ) → Draws old new (fault_lines level offset bytes) → offset ≡ start + length before
+    → Stands depth before m.Fault (record { level = level; offset = offset; bytes = bytes; meaning = m.Fault })
+    → Lines depth start old new before bytes
+lines_fault depth start old new before level offset [] drawn at stands =
+    record { lines = []; drawn = drawn; stand = tt; joined = refl }
+lines_fault depth start old new before level offset (byte ∷ bytes) drawn at stands =
+    lines_one depth start old new before _ drawn at stands
+
+-- ---- bodies
+
+writable_then : (kind : Kind) (front behind : List ℕ) → IsWritable kind front → IsWritable kind behind
+    → IsWritable kind (front ++ behind)
+writable_then Bytes front behind a b = tt
+writable_then Text front behind a b = IsCharacters-append front behind a b
+
+pub writable_none : (kind : Kind) → IsWritable kind []
+writable_none Bytes = tt
+writable_none Text = record { characters = []; each = tt; whole = refl }
+
+-- the title of a string stands behind some bytes, and parts of its body stand at this level
+pub record AtBody (depth opens : ℕ) (nests : List Nest) (outer title : List ℕ) (kind : Kind) (len level : ℕ)
+    : Type 0 where
+  pub due : TitleDue depth nests opens outer
+  pub is_title : IsTitle title (kind_header kind (Some len))
+  pub below : level ≡ length nests + opens + 1
+
+body_here : (depth opens : ℕ) (nests : List Nest) (outer title : List ℕ) (kind : Kind) (len level : ℕ)
+    → AtBody depth opens nests outer title kind len level → (front bytes : List ℕ)
+    → length front + length bytes ≤ len → (offset : ℕ) (meaning : Meaning)
+    → HasBody depth ((outer ++ title) ++ front) kind
+    (record { level = level; offset = offset; bytes = bytes; meaning = meaning })
+body_here depth opens nests outer title kind len level at front bytes fits offset meaning = record {
+  nests = nests;
+  opens = opens;
+  outer = outer;
+  title = title;
+  front = front;
+  len = len;
+  due = at.due;
+  is_title = at.is_title;
+  is = append_assoc outer title front;
+  fits = fits;
+  level = let e = at.below in omega (arith, e);
+}
+
+part_stands : (kind : CodeKind) (depth : ℕ) (before : List ℕ) (line : Line)
+    → HasBody depth before (kind_of kind) line → IsWritable (kind_of kind) line.bytes
+    → Stands depth before (meaning_of kind) line
+part_stands k.Bytes depth before line body written = body
+part_stands k.Text depth before line body written = (body, written)
+
+module _ {R E : Type 0} (source : Ghosts R E) where
+  -- all that was taken for a row was read for it
+  pub taken_all : (nothing row : List ℕ) (old new : Decoder R) → nothing ≡ [] → Keeps source nothing row old new
+      → Takes source old row new
+  taken_all nothing row old new empty keeps =
+      let same : row ≡ keeps.bytes = subst (λ (z : List ℕ). row ≡ z ++ keeps.bytes) empty keeps.appended in
+      subst (λ (z : List ℕ). Takes source old z new) (sym same) keeps.takes
+
+  -- a front of a body was shown, and so much is left
+  pub record SoFar (depth start : ℕ) (drawn then_drawn : Option (List Line)) (before : List ℕ) (kind : Kind)
+      (len left : ℕ) (old new : Decoder R) : Type 0 where
+    pub front : List ℕ
+    pub shows : Shows source depth start drawn then_drawn before front old new
+    pub counted : length front + left ≡ len
+    pub written : IsWritable kind front
+
+  -- where the next line begins
+  pub next_offset : (depth start : ℕ) (drawn then_drawn : Option (List Line)) (before bytes : List ℕ)
+      (old new : Decoder R) → Shows source depth start drawn then_drawn before bytes old new
+      → old.offset ≡ start + length before → new.offset ≡ start + length (before ++ bytes)
+  next_offset depth start drawn then_drawn before bytes old new shows at =
+      let moved = shows.takes.offset in omega (arith, moved, at, length-append before bytes)
+
+  -- what was read of a body, behind what was shown of it
+  pub part_fails : (depth start opens : ℕ) (nests : List Nest) (outer title : List ℕ) (kind : Kind)
+      (len left level offset : ℕ) (drawn middle then_drawn : Option (List Line)) (bytes : List ℕ)
+      (old between new : Decoder R) → AtBody depth opens nests outer title kind len level
+      → old.offset ≡ start + length (outer ++ title)
+      → (so_far : SoFar depth start drawn middle (outer ++ title) kind len left old between)
+      → Takes source between bytes new → length bytes ≤ left → offset ≡ between.offset
+      → Draws middle then_drawn (fault_lines level offset bytes)
+      → Shows source depth start drawn then_drawn (outer ++ title) (so_far.front ++ bytes) old new
+  part_fails depth start opens nests outer title kind len left level offset drawn middle then_drawn bytes old between
+      new at begun so_far takes few here drawn_fault =
+      let counted = so_far.counted in
+      shows_then source depth start drawn middle then_drawn (outer ++ title) so_far.front bytes old between new
+      so_far.shows (record {
+        lines = lines_fault depth start middle then_drawn ((outer ++ title) ++ so_far.front) level offset bytes
+            drawn_fault
+            (here ∙ next_offset depth start drawn middle (outer ++ title) so_far.front old between so_far.shows begun)
+            (inr (
+              kind,
+              body_here depth opens nests outer title kind len level at so_far.front bytes
+                  (omega (arith, counted, few)) offset m.Fault,
+            ));
+        takes = takes;
+      })
+
+  pub part_shown : (depth start opens : ℕ) (nests : List Nest) (outer title : List ℕ) (kind : CodeKind)
+      (len left level offset : ℕ) (drawn middle then_drawn : Option (List Line)) (bytes : List ℕ)
+      (old between new : Decoder R) → AtBody depth opens nests outer title (kind_of kind) len level
+      → old.offset ≡ start + length (outer ++ title)
+      → (so_far : SoFar depth start drawn middle (outer ++ title) (kind_of kind) len left old between)
+      → Takes source between bytes new → length bytes ≤ left → offset ≡ between.offset
+      → IsWritable (kind_of kind) bytes
+      → Draws middle then_drawn (record { level = level; offset = offset; bytes = bytes; meaning = meaning_of kind } ∷
+      [])
+      → SoFar depth start drawn then_drawn (outer ++ title) (kind_of kind) len (left - length bytes) old new
+  part_shown depth start opens nests outer title kind len left level offset drawn middle then_drawn bytes old between
+      new at begun so_far takes few here written drawn_line =
+      let counted = so_far.counted in
+      let fits : length so_far.front + length bytes ≤ len = omega (arith, counted, few) in
+      record {
+        front = so_far.front ++ bytes;
+        shows = shows_then source depth start drawn middle then_drawn (outer ++ title) so_far.front bytes old between
+            new so_far.shows (record {
+              lines = lines_one depth start middle then_drawn ((outer ++ title) ++ so_far.front) _ drawn_line
+                  (here ∙ next_offset depth start drawn middle (outer ++ title) so_far.front old between so_far.shows
+                  begun)
+                  (part_stands kind depth ((outer ++ title) ++ so_far.front) _
+                  (body_here depth opens nests outer title (kind_of kind) len level at so_far.front bytes fits offset
+                  (meaning_of kind)) written);
+              takes = takes;
+            });
+        counted = omega (arith, counted, few, length-append so_far.front bytes);
+        written = writable_then (kind_of kind) so_far.front bytes so_far.written written;
+      }
+
+-- ---- opens
+
+-- a string within an open
+pub add_string : (kind : Kind) (opens : ℕ) (parts string : List ℕ) (bodies others : List (List ℕ))
+    → AreOpen kind (suc opens) parts bodies → IsString kind string others
+    → AreOpen kind (suc opens) (parts ++ string) (bodies ++ others)
+add_string kind opens parts string bodies others
+    (more {outer = x} {title = t} {strings = s} {bodies = b} {others = c} o p are) is =
+    let strings' : AreStrings kind (s ++ (string ++ [])) (c ++ (others ++ [])) =
+    AreStrings-append kind s c are (string ++ []) (others ++ []) (more_strings is no_strings) in
+    let strings : AreStrings kind (s ++ string) (c ++ others) =
+    rw (append-nil string, append-nil others) at strings' in
+    rw (append_assoc x (t ++ s) string, append_assoc t s string, append_assoc b c others) (more o p strings)
+
+-- an open within others
+pub add_open : (kind : Kind) (opens : ℕ) (parts title : List ℕ) (bodies : List (List ℕ))
+    → AreOpen kind opens parts bodies → IsTitle title (kind_header kind None)
+    → AreOpen kind (suc opens) (parts ++ title) bodies
+add_open kind opens parts title bodies o p =
+    let added : AreOpen kind (suc opens) (parts ++ (title ++ [])) (bodies ++ []) = more o p no_strings in
+    rw (append-nil title, append-nil bodies) at added
+
+-- a break within further opens
+pub close_inner : (kind : Kind) (opens : ℕ) (parts : List ℕ) (bodies : List (List ℕ))
+    → AreOpen kind (suc (suc opens)) parts bodies → AreOpen kind (suc opens) (parts ++ 0xff ∷ []) bodies
+close_inner kind opens parts bodies (more {outer = x} {title = t} {strings = s} {bodies = b} {others = c} o p are) =
+    rw (append_assoc x (t ++ s) (0xff ∷ []), append_assoc t s (0xff ∷ []))
+    (add_string kind opens x (t ++ (s ++ 0xff ∷ [])) b c o (indefinite p are))
+
+-- the last one
+not_open : (kind : Kind) (opens : ℕ) (parts : List ℕ) (bodies : List (List ℕ)) → AreOpen kind opens parts bodies
+    → opens ≡ 0 → (parts ≡ []) × (bodies ≡ [])
+not_open kind opens parts bodies none e = (refl, refl)
+not_open kind opens parts bodies (more o p are) e = absurd cc
+
+pub close_last : (kind : Kind) (title bytes parts : List ℕ) (bodies : List (List ℕ))
+    → AreOpen kind (suc zero) parts bodies → IsTitle title (kind_header kind None) → title ++ bytes ≡ parts
+    → AreWritable kind bodies → EndsString kind (bytes ++ 0xff ∷ [])
+close_last kind title bytes parts bodies
+    (more {outer = x} {title = t} {strings = s} {bodies = b} {others = c} o p are) q e sound =
+    let empty = not_open kind zero x b o refl in
+    let same : title ++ bytes ≡ t ++ s = e ∙ ap (λ (z : List ℕ). z ++ (t ++ s)) empty.0 in
+    let both = one_title title t bytes s (kind_header kind None) (kind_header kind None) q p same in
+    record {
+      strings = s;
+      bodies = c;
+      are_strings = are;
+      sound = subst (λ (z : List (List ℕ)). AreWritable kind z) (ap (λ (z : List (List ℕ)). z ++ c) empty.1) sound;
+      is = ap (λ (z : List ℕ). z ++ 0xff ∷ []) both.2;
+    }

@@ -1,0 +1,245 @@
+-- The lines of titles, and what is due behind them.
+use Rattle.std.proofs.Common.{◌≡◌, ℕ, ◌+◌, ◌-◌, ◌≤◌, List, [], ◌∷◌, ◌++◌, length, Option, Some, None, refl, sym}
+use Rattle.std.proofs.Common.{ap, subst, ◌∙◌, arith, append-nil, length-append, Bool, false, Result, inl}
+use Rattle.ciborium_ll.specs.Types.Read.{Ghosts}
+use Rattle.ciborium_ll.specs.Types.Decoder.{Decoder}
+use Rattle.ciborium_ll.specs.Types.Header.{Header}
+use Rattle.ciborium_ll.specs.Types.Header.TheVariants as h
+use Rattle.ciborium_ll.specs.Title.{IsTitle}
+use Rattle.ciborium_ll.specs.Strings.{Kind, Bytes, Text, kind_header}
+use Rattle.ciborium_ll.specs.Items.{Completes, positive, negative, float, simple, byte_string, text_string, open_bytes}
+use Rattle.ciborium_ll.specs.Items.{open_text, IsItem}
+use Rattle.ciborium_ll.proofs.NestLaws.{alone_bytes, title_some}
+use Rattle.cbor_skip.specs.Due.{IsNest}
+use Rattle.cbor_skip.proofs.ItemSteps.{item_of}
+use Rattle.cbor_look.specs.declared.rows.Meaning.TheVariants as m
+use Rattle.cbor_look.specs.declared.walk.Walk.{Walk}
+use Rattle.cbor_look.specs.Takings.{Takes}
+use Rattle.cbor_look.specs.Levels.{Line, Nest, StandsWithin, outside, inside, none, TitleDue, title_level}
+use Rattle.cbor_look.specs.Dumps.{Draws, fault_lines, Lines, Shows, ShowsBehind}
+use Rattle.cbor_look.specs.Sequences.{IsSequence}
+use Rattle.cbor_look.specs.StringRows.{IsRest}
+use Rattle.cbor_look.specs.declared.dump.DumpError.{DumpError}
+use Rattle.cbor_look.specs.TitleRows.{DrawsTitle, ShowsTitle}
+use Rattle.cbor_look.specs.Walks.{IsValue, IsDue, IsBehindItem, Breaks}
+use Rattle.cbor_look.proofs.ItemRows.{nothing}
+use Rattle.cbor_look.proofs.TakingLaws.{takes_then}
+use Rattle.cbor_look.proofs.StringLaws.{lines_fault}
+use Rattle.cbor_look.proofs.DumpLaws.{lines_one, lines_then, shows_none, shows_then, shows_read}
+
+-- ---- levels
+
+pub nest_level : (x : Header) (nests : List Nest) (opens : ℕ) → IsNest x
+    → title_level x nests opens ≡ length nests + opens
+nest_level (h.Tag n) nests opens nest = refl
+nest_level (h.Array n) nests opens nest = refl
+nest_level (h.Map n) nests opens nest = refl
+nest_level x nests opens nest = absurd nest
+
+pub value_level : (x : Header) (nests : List Nest) (opens : ℕ) → IsValue x
+    → title_level x nests opens ≡ length nests + opens
+value_level (h.Positive n) nests opens value = refl
+value_level (h.Negative n) nests opens value = refl
+value_level (h.Float n) nests opens value = refl
+value_level (h.Simple n) nests opens value = refl
+value_level x nests opens value = absurd value
+
+pub string_level : (k : Kind) (len : Option ℕ) (nests : List Nest) (opens : ℕ)
+    → title_level (kind_header k len) nests opens ≡ length nests + opens
+string_level Bytes len nests opens = refl
+string_level Text len nests opens = refl
+
+-- ---- lines
+
+-- outside of strings
+pub due_here : (depth : ℕ) (nests : List Nest) (before : List ℕ) → StandsWithin depth nests before
+    → TitleDue depth nests 0 before
+due_here depth nests before within = record {
+  items = before;
+  kind = Bytes;
+  parts = [];
+  bodies = [];
+  within = within;
+  are_open = none;
+  sound = tt;
+  is = sym (append-nil before);
+}
+
+pub title_line : (depth start : ℕ) (old new : Option (List Line)) (before title : List ℕ) (x : Header)
+    (level place : ℕ) (nests : List Nest) (opens : ℕ) → TitleDue depth nests opens before → IsTitle title x
+    → level ≡ title_level x nests opens → place ≡ start + length before
+    → Draws old new (record { level = level; offset = place; bytes = title; meaning = m.Header x } ∷ [])
+    → Lines depth start old new before title
+title_line depth start old new before title x level place nests opens due p same at drawn =
+    lines_one depth start old new before _ drawn at
+    (record { nests = nests; opens = opens; due = due; is_title = p; level = same })
+
+-- outside of strings, where the level is that of the walk
+pub walk_line : (depth start : ℕ) (old new : Option (List Line)) (before title : List ℕ) (x : Header)
+    (level place : ℕ) (walk : Walk) (due : IsDue depth walk before) → IsTitle title x
+    → title_level x due.nests 0 ≡ length due.nests + 0 → level ≡ walk.used → place ≡ start + length before
+    → Draws old new (record { level = level; offset = place; bytes = title; meaning = m.Header x } ∷ [])
+    → Lines depth start old new before title
+walk_line depth start old new before title x level place walk due p plain same at drawn =
+    let used = due.keeps.used in
+    let counted : length due.nests ≡ length due.nests + 0 = omega arith in
+    title_line depth start old new before title x level place due.nests 0 (due_here depth due.nests before due.within)
+    p (same ∙ (used ∙ (counted ∙ sym plain))) at drawn
+
+pub break_line : (depth start : ℕ) (old new : Option (List Line)) (before title : List ℕ) (level place : ℕ)
+    (closed : Bool) (walk : Walk) → Breaks depth closed walk before → IsTitle title h.Break → level ≡ walk.used
+    → place ≡ start + length before
+    → Draws old new (record { level = level; offset = place; bytes = title; meaning = m.Header h.Break } ∷ [])
+    → Lines depth start old new before title
+break_line depth start old new before title level place closed walk breaks p same at drawn =
+    title_line depth start old new before title h.Break level place breaks.nests 0
+    (due_here depth breaks.nests before breaks.within) p (same ∙ breaks.level) at drawn
+
+-- ---- items
+
+-- an item where one was due
+pub behind_item : (depth : ℕ) (walk : Walk) (before item : List ℕ) → IsDue depth walk before → walk.used ≤ walk.depth
+    → ((levels : ℕ) → IsItem false levels item) → IsBehindItem depth walk (before ++ item)
+behind_item depth walk before item due within is_item =
+    let used = due.keeps.used in
+    let same = due.keeps.same_depth in
+    record {
+      before = before;
+      item = item;
+      levels = depth - length due.nests;
+      due = due;
+      left = omega (arith, used, same, within);
+      is_item = is_item (depth - length due.nests);
+      is = refl;
+    }
+
+value_completes : (x : Header) → IsValue x → (levels : ℕ) → Completes false levels x []
+value_completes (h.Positive n) value levels = positive
+value_completes (h.Negative n) value levels = negative
+value_completes (h.Float n) value levels = float
+value_completes (h.Simple n) value levels = simple
+value_completes x value levels = absurd value
+
+pub value_item : (x : Header) (title : List ℕ) → IsValue x → IsTitle title x → (levels : ℕ) → IsItem false levels title
+value_item x title value p levels =
+    subst (λ (z : List ℕ). IsItem false levels z) (append-nil title)
+    (item_of levels title [] x p (value_completes x value levels))
+
+rest_completes : (k : Kind) (len : Option ℕ) (bytes : List ℕ) → IsRest k len bytes → (levels : ℕ)
+    → Completes false levels (kind_header k len) bytes
+rest_completes Bytes (Some n) bytes rest levels = byte_string rest.0
+rest_completes Text (Some n) bytes rest levels = text_string rest.0 rest.1
+rest_completes Bytes None bytes rest levels =
+    subst (λ (z : List ℕ). Completes false levels (h.Bytes None) z) (sym rest.is) (open_bytes rest.are_strings tt)
+rest_completes Text None bytes rest levels =
+    subst (λ (z : List ℕ). Completes false levels (h.Text None) z) (sym rest.is)
+    (open_text rest.are_strings tt rest.sound)
+
+pub string_item : (k : Kind) (len : Option ℕ) (title bytes : List ℕ) → IsTitle title (kind_header k len)
+    → IsRest k len bytes → (levels : ℕ) → IsItem false levels (title ++ bytes)
+string_item k len title bytes p rest levels =
+    item_of levels title bytes (kind_header k len) p (rest_completes k len bytes rest levels)
+
+-- a break has one title
+pub break_bytes : (title : List ℕ) → IsTitle title h.Break → title ≡ 0xff ∷ []
+break_bytes title p = alone_bytes title h.Break p refl
+
+-- outside of all nests the bytes are items
+outside_items : (depth : ℕ) (nests : List Nest) (before : List ℕ) → StandsWithin depth nests before
+    → length nests ≡ 0 → IsSequence depth before
+outside_items depth nests before (outside {count = n} i) empty = (n, i)
+outside_items depth nests before (inside w e p more are) empty = absurd (omega (arith, empty))
+
+pub walk_ended : (depth : ℕ) (walk : Walk) (before : List ℕ) → IsDue depth walk before → walk.used ≡ 0
+    → IsSequence depth before
+walk_ended depth walk before due empty =
+    outside_items depth due.nests before due.within (sym due.keeps.used ∙ empty)
+
+-- each nest has a title
+pub nests_few : (depth : ℕ) (nests : List Nest) (before : List ℕ) → StandsWithin depth nests before
+    → length nests ≤ length before
+nests_few depth nests before (outside i) = omega arith
+nests_few depth nests before (inside {nests = outer} {before = b} {title = t} {items = i} {header = x} w e p more are) =
+    let few = nests_few depth outer b w in
+    let some = title_some t x p in
+    omega (arith, few, some, length-append b (t ++ i), length-append t i)
+
+module _ {R E : Type 0} (source : Ghosts R E) where
+  -- all up to here was shown, and an item is due
+  pub record UpTo (depth : ℕ) (drawn then_drawn : Option (List Line)) (walk : Walk) (old new : Decoder R)
+      : Type 0 where
+    pub bytes : List ℕ
+    pub shows : Shows source depth old.offset drawn then_drawn [] bytes old new
+    pub due : IsDue depth walk bytes
+
+  pub title_then : (depth start : ℕ) (drawn middle then_drawn : Option (List Line)) (before title bytes : List ℕ)
+      (old new : Decoder R) → Lines depth start drawn middle before title
+      → Shows source depth start middle then_drawn (before ++ title) bytes old new
+      → ShowsBehind source depth start drawn then_drawn before title bytes old new
+  title_then depth start drawn middle then_drawn before title bytes old new first rest = record {
+    lines = lines_then depth start drawn middle then_drawn before title bytes first rest.lines;
+    takes = rest.takes;
+  }
+
+  pub title_only : (depth start : ℕ) (drawn then_drawn : Option (List Line)) (before title : List ℕ)
+      (decoder : Decoder R) → Lines depth start drawn then_drawn before title
+      → ShowsBehind source depth start drawn then_drawn before title [] decoder decoder
+  title_only depth start drawn then_drawn before title decoder first =
+      title_then depth start drawn then_drawn then_drawn before title [] decoder decoder first
+      (shows_none source depth start then_drawn (before ++ title) decoder)
+
+  pub title_alone : {W : Type 0} (depth start : ℕ) (drawn then_drawn : Option (List Line)) (before title : List ℕ)
+      (walk : Walk) (result : Result (Unit {0}) (DumpError E W)) (decoder : Decoder R)
+      → DrawsTitle depth start drawn then_drawn before title walk result
+      → ShowsTitle source depth start drawn then_drawn before title walk result decoder decoder
+  title_alone depth start drawn then_drawn before title walk result decoder draws = record {
+    bytes = [];
+    shows = title_only depth start drawn then_drawn before title decoder draws.lines;
+    due = rw (append-nil title) draws.due;
+  }
+
+  -- no byte of a title came
+  pub up_ends : (depth : ℕ) (drawn then_drawn : Option (List Line)) (walk : Walk) (row : List ℕ)
+      (old between new : Decoder R) → (up : UpTo depth drawn then_drawn walk old between)
+      → Takes source between row new → length row ≡ 0
+      → Shows source depth old.offset drawn then_drawn [] up.bytes old new
+  up_ends depth drawn then_drawn walk row old between new up takes empty =
+      let same : up.bytes ++ row ≡ up.bytes =
+      ap (λ (z : List ℕ). up.bytes ++ z) (nothing row empty) ∙ append-nil up.bytes in
+      record {
+        lines = up.shows.lines;
+        takes = subst (λ (z : List ℕ). Takes source old z new) same
+            (takes_then source old between new up.bytes row up.shows.takes takes);
+      }
+
+  -- what was read of a title before a fault
+  pub up_fails : (depth : ℕ) (drawn middle then_drawn : Option (List Line)) (walk : Walk) (row : List ℕ)
+      (place level : ℕ) (old between new : Decoder R) → (up : UpTo depth drawn middle walk old between)
+      → Takes source between row new → place ≡ between.offset → level ≡ walk.used
+      → Draws middle then_drawn (fault_lines level place row)
+      → Shows source depth old.offset drawn then_drawn [] (up.bytes ++ row) old new
+  up_fails depth drawn middle then_drawn walk row place level old between new up takes at same drawn_fault =
+      let used = up.due.keeps.used in
+      let moved = up.shows.takes.offset in
+      shows_then source depth old.offset drawn middle then_drawn [] up.bytes row old between new up.shows (record {
+        lines = lines_fault depth old.offset middle then_drawn up.bytes level place row drawn_fault
+            (omega (arith, at, moved))
+            (inl (record {
+              nests = up.due.nests;
+              opens = 0;
+              due = due_here depth up.due.nests up.bytes up.due.within;
+              level = omega (arith, same, used);
+            }));
+        takes = takes;
+      })
+
+  -- a title that was read, and what is shown of it and behind it
+  pub up_title : {W : Type 0} (depth : ℕ) (drawn middle then_drawn : Option (List Line)) (before : List ℕ)
+      (walk : Walk) (row : List ℕ) (result : Result (Unit {0}) (DumpError E W)) (old between titled new : Decoder R)
+      → Shows source depth old.offset drawn middle [] before old between → Takes source between row titled
+      → (title : ShowsTitle source depth old.offset middle then_drawn before row walk result titled new)
+      → Shows source depth old.offset drawn then_drawn [] (before ++ (row ++ title.bytes)) old new
+  up_title depth drawn middle then_drawn before walk row result old between titled new shows takes title =
+      shows_then source depth old.offset drawn middle then_drawn [] before (row ++ title.bytes) old between new shows
+      (shows_read source depth old.offset middle then_drawn before row title.bytes between titled new takes
+      title.shows)

@@ -1,0 +1,413 @@
+-- The steps of a walk: what it keeps of the nests within which an item is due.
+use Rattle.std.proofs.Common.{◌≡◌, ◌≢◌, ℕ, zero, suc, ◌+◌, ◌-◌, ◌*◌, ◌<◌, ◌≤◌, Bool, true, false, List, [], ◌∷◌, ◌++◌}
+use Rattle.std.proofs.Common.{length, set, get_or, Some, None, refl, sym, ap, subst, ◌∙◌, arith, append_assoc}
+use Rattle.std.proofs.Common.{append-nil, cond}
+use Rattle.std.proofs.lemmas.List.{get_or-set_same, get_or-set_other, length-set}
+use Rattle.ciborium_ll.specs.Types.Header.{Header}
+use Rattle.ciborium_ll.specs.Types.Header.TheVariants as h
+use Rattle.ciborium_ll.specs.Title.{IsTitle}
+use Rattle.ciborium_ll.specs.Items.{Completes, tag, array, pairs, open_array, open_pairs, AreItems, no_items, IsItem}
+use Rattle.cbor_skip.specs.declared.remaining.Remaining.{Remaining}
+use Rattle.cbor_skip.specs.declared.remaining.Remaining.TheVariants as r
+use Rattle.cbor_skip.specs.Due.{TakesMore}
+use Rattle.cbor_skip.specs.Remaining.{IsRemaining, is_done, closes}
+use Rattle.cbor_skip.proofs.RemainingLaws.{takes_more}
+use Rattle.cbor_skip.proofs.ItemSteps.{item_of, items_item}
+use Rattle.cbor_look.specs.declared.walk.Walk.{Walk}
+use Rattle.cbor_look.specs.Levels.{Nest, StandsWithin, outside, inside, closes_one, title_level}
+use Rattle.cbor_look.specs.Walks.{remaining_at, AreKept, KeepsNests, IsDue, IsBehindItem, Breaks}
+
+-- ---- all items of a nest
+
+-- all items were read, by what remains
+all_read : (x : Header) (d count : ℕ) (items : List ℕ) (remaining : Remaining) → IsRemaining x count remaining
+    → is_done remaining ≡ true → AreItems false d count items → Completes false (suc d) x items
+all_read (h.Tag n) d count items (r.Items zero) is done i =
+    let one : count ≡ 1 = omega (arith, is) in tag (subst (λ (m : ℕ). AreItems false d m items) one i)
+all_read (h.Array (Some n)) d count items (r.Items zero) is done i =
+    let all : count ≡ n = omega (arith, is) in array (subst (λ (m : ℕ). AreItems false d m items) all i)
+all_read (h.Map (Some n)) d count items (r.Pairs zero) is done i =
+    let all : count ≡ 2 * n = omega (arith, is) in pairs (subst (λ (m : ℕ). AreItems false d m items) all i)
+all_read (h.Tag n) d count items (r.Items (suc m)) is done i = absurd cc
+all_read (h.Array (Some n)) d count items (r.Items (suc m)) is done i = absurd cc
+all_read (h.Map (Some n)) d count items (r.Pairs (suc m)) is done i = absurd cc
+all_read (h.Map (Some n)) d count items (r.Value m) is done i = absurd cc
+all_read (h.Array None) d count items r.OpenItems is done i = absurd cc
+all_read (h.Map None) d count items r.OpenPairs is done i = absurd cc
+all_read (h.Map None) d count items r.OpenValue is done i = absurd cc
+all_read x d count items remaining is done i = absurd is
+
+-- a break ended them, by what remains
+all_closed : (x : Header) (d count : ℕ) (items : List ℕ) (remaining : Remaining) → IsRemaining x count remaining
+    → closes remaining ≡ true → AreItems false d count items → Completes false (suc d) x (items ++ 0xff ∷ [])
+all_closed (h.Array None) d count items r.OpenItems is may i = open_array i
+all_closed (h.Map None) d count items r.OpenPairs is may i =
+    open_pairs is.0 (subst (λ (m : ℕ). AreItems false d m items) is.1 i)
+all_closed (h.Tag n) d count items (r.Items m) is may i = absurd cc
+all_closed (h.Array (Some n)) d count items (r.Items m) is may i = absurd cc
+all_closed (h.Map (Some n)) d count items (r.Pairs m) is may i = absurd cc
+all_closed (h.Map (Some n)) d count items (r.Value m) is may i = absurd cc
+all_closed (h.Map None) d count items r.OpenValue is may i = absurd cc
+all_closed x d count items remaining is may i = absurd is
+
+-- ---- what is kept
+
+-- a write above the nests leaves them
+kept_below : (levels : List Remaining) (nests : List Nest) (at : ℕ) (x : Remaining) → length nests ≤ at
+    → AreKept levels nests → AreKept (set levels at x) nests
+kept_below levels [] at x few kept = tt
+kept_below levels (nest ∷ nests) at x few kept =
+    let other : length nests ≢ at = omega (arith, few) in
+    let same : remaining_at (set levels at x) (length nests) ≡ remaining_at levels (length nests) =
+    get_or-set_other levels at (length nests) x (r.Items 0) other in (
+      subst (λ (y : Remaining). IsRemaining nest.header nest.count y) (sym same) kept.0,
+      ap is_done same ∙ kept.1,
+      kept_below levels nests at x (omega (arith, few)) kept.2,
+    )
+
+-- a write at their end keeps one more
+kept_more : (levels : List Remaining) (nests : List Nest) (nest : Nest) (at : ℕ) (x : Remaining) → at ≡ length nests
+    → at < length levels → IsRemaining nest.header nest.count x → is_done x ≡ false → AreKept levels nests
+    → AreKept (set levels at x) (nest ∷ nests)
+kept_more levels nests nest at x end room is some kept =
+    let same : remaining_at (set levels at x) (length nests) ≡ x =
+    subst (λ (k : ℕ). get_or (set levels at x) k (r.Items 0) ≡ x) end (get_or-set_same levels at x (r.Items 0) room)
+    in (
+      subst (λ (y : Remaining). IsRemaining nest.header nest.count y) (sym same) is,
+      ap is_done same ∙ some,
+      kept_below levels nests at x (omega (arith, end)) kept,
+    )
+
+-- ---- the innermost nest
+
+-- its title and its items behind what is before it
+record Inner (depth : ℕ) (nest : Nest) (outer : List Nest) (bytes : List ℕ) : Type 0 where
+  before : List ℕ
+  title : List ℕ
+  items : List ℕ
+  levels : ℕ
+  within : StandsWithin depth outer before
+  level : length outer + suc levels ≡ depth
+  is_title : IsTitle title nest.header
+  takes_more : TakesMore nest.header nest.count
+  are_items : AreItems false levels nest.count items
+  is : bytes ≡ before ++ (title ++ items)
+
+inner_of : (depth : ℕ) (nest : Nest) (outer : List Nest) (bytes : List ℕ) → StandsWithin depth (nest ∷ outer) bytes
+    → Inner depth nest outer bytes
+inner_of depth nest outer bytes
+    (inside {levels = l} {before = b} {title = t} {items = i} w e p more are) = record {
+      before = b;
+      title = t;
+      items = i;
+      levels = l;
+      within = w;
+      level = e;
+      is_title = p;
+      takes_more = more;
+      are_items = are;
+      is = refl;
+    }
+
+-- no item ends a nest of which more is due: it is the same with one more
+goes_on : (depth levels : ℕ) (nest : Nest) (outer : List Nest) (bytes item : List ℕ)
+    → Inner depth nest outer bytes → suc (length outer) + levels ≡ depth → IsItem false levels item
+    → TakesMore nest.header (suc nest.count)
+    → StandsWithin depth (record { header = nest.header; count = suc nest.count } ∷ outer) (bytes ++ item)
+goes_on depth levels nest outer bytes item inner level is_item more =
+    let same : levels ≡ inner.levels = let e = inner.level in omega (arith, e, level) in
+    let whole : inner.before ++ (inner.title ++ (inner.items ++ item)) ≡ bytes ++ item =
+    sym (ap (λ (z : List ℕ). z ++ item) inner.is ∙ (append_assoc inner.before (inner.title ++ inner.items) item
+    ∙ ap (λ (z : List ℕ). inner.before ++ z) (append_assoc inner.title inner.items item))) in
+    let item' = subst (λ (n : ℕ). IsItem false n item) same is_item in
+    subst (λ (z : List ℕ). StandsWithin depth (record { header = nest.header; count = suc nest.count } ∷ outer) z) whole
+    (inside inner.within inner.level inner.is_title more
+    (items_item inner.levels nest.count inner.items item inner.are_items item'))
+
+-- what completes the nest ends an item a level further out
+ends_nest : (depth : ℕ) (nest : Nest) (outer : List Nest) (bytes more rest : List ℕ) (walk : Walk)
+    (inner : Inner depth nest outer bytes) → rest ≡ inner.items ++ more
+    → Completes false (suc inner.levels) nest.header rest → KeepsNests depth walk outer
+    → IsBehindItem depth walk (bytes ++ more)
+ends_nest depth nest outer bytes more rest walk inner e completes keeps = record {
+  before = inner.before;
+  item = inner.title ++ rest;
+  levels = suc inner.levels;
+  due = record { nests = outer; within = inner.within; keeps = keeps };
+  left = inner.level;
+  is_item = item_of (suc inner.levels) inner.title rest nest.header inner.is_title completes;
+  is =
+      ap (λ (z : List ℕ). z ++ more) inner.is ∙ (append_assoc inner.before (inner.title ++ inner.items) more
+      ∙ (ap (λ (z : List ℕ). inner.before ++ z) (append_assoc inner.title inner.items more)
+      ∙ ap (λ (z : List ℕ). inner.before ++ (inner.title ++ z)) (sym e)));
+}
+
+-- ---- the walk
+
+pub due_first : (depth : ℕ) (walk : Walk) → walk.used ≡ 0 → walk.depth ≡ depth → length walk.levels ≡ 256
+    → IsDue depth walk []
+due_first depth walk used same room = record {
+  nests = [];
+  within = outside no_items;
+  keeps = record { kept = tt; used = used; same_depth = same; room = room };
+}
+
+-- a nest with nothing in it is an item
+pub enters_empty : (depth : ℕ) (walk : Walk) (before title : List ℕ) (header : Header) (x : Remaining)
+    → IsDue depth walk before → IsTitle title header → walk.used ≤ walk.depth → (walk.used ≡ walk.depth → ⊥)
+    → IsRemaining header 0 x → is_done x ≡ true → IsBehindItem depth walk (before ++ title)
+enters_empty depth walk before title header x due p within room is done =
+    let levels = depth - suc (length due.nests) in
+    let used = due.keeps.used in
+    let same = due.keeps.same_depth in
+    record {
+      before = before;
+      item = title;
+      levels = suc levels;
+      due = due;
+      left = omega (arith, used, same, within, room);
+      is_item = subst (λ (z : List ℕ). IsItem false (suc levels) z) (append-nil title)
+          (item_of (suc levels) title [] header p (all_read header levels 0 [] x is done no_items));
+      is = refl;
+    }
+
+-- a nest in which something is due is one more
+pub enters_within : (depth : ℕ) (walk new : Walk) (before title : List ℕ) (header : Header) (x : Remaining)
+    → IsDue depth walk before → IsTitle title header → walk.used ≤ walk.depth → walk.depth ≤ 256
+    → (walk.used ≡ walk.depth → ⊥) → IsRemaining header 0 x → is_done x ≡ false
+    → new.levels ≡ set walk.levels walk.used x → new.used ≡ walk.used + 1 → new.depth ≡ walk.depth
+    → IsDue depth new (before ++ title)
+enters_within depth walk new before title header x due p within shallow room is some written one deep =
+    let levels = depth - suc (length due.nests) in
+    let used = due.keeps.used in
+    let same = due.keeps.same_depth in
+    let long = due.keeps.room in
+    let nest : Nest = record { header = header; count = 0 } in
+    let all : before ++ (title ++ []) ≡ before ++ title = ap (λ (z : List ℕ). before ++ z) (append-nil title) in
+    let more = takes_more header 0 x is some in
+    let level : length due.nests + suc levels ≡ depth = omega (arith, used, same, within, room) in
+    let fits : walk.used < length walk.levels = omega (arith, used, same, within, room, shallow, long) in
+    record {
+      nests = nest ∷ due.nests;
+      within = subst (λ (z : List ℕ). StandsWithin depth (nest ∷ due.nests) z) all
+          (inside due.within level p more.0 no_items);
+      keeps = record {
+        kept = subst (λ (z : List Remaining). AreKept z (nest ∷ due.nests)) (sym written)
+            (kept_more walk.levels due.nests nest walk.used x used fits is some due.keeps.kept);
+        used = omega (arith, one, used);
+        same_depth = deep ∙ same;
+        room = ap length written ∙ (length-set walk.levels walk.used x ∙ long);
+      };
+    }
+
+-- ---- a break
+
+level_open : (nests : List Nest) → closes_one nests 0 ≡ false → title_level h.Break nests 0 ≡ length nests
+level_open nests e =
+    ap (λ (b : Bool). cond b ((length nests + 0) - 1) (length nests + 0)) e ∙ omega arith
+
+level_closed : (nests : List Nest) → closes_one nests 0 ≡ true → title_level h.Break nests 0 ≡ length nests - 1
+level_closed nests e =
+    ap (λ (b : Bool). cond b ((length nests + 0) - 1) (length nests + 0)) e ∙ omega arith
+
+breaks_not : (depth : ℕ) (walk : Walk) (before : List ℕ) (due : IsDue depth walk before)
+    → closes_one due.nests 0 ≡ false → Breaks depth false walk before
+breaks_not depth walk before due none = record {
+  nests = due.nests;
+  within = due.within;
+  level = due.keeps.used ∙ sym (level_open due.nests none);
+  may = none;
+  behind = λ e. absurd cc;
+}
+
+-- no break may stand where no nest is rest
+outside_no_break : (nests : List Nest) → length nests ≡ 0 → closes_one nests 0 ≡ false
+outside_no_break [] e = refl
+outside_no_break (nest ∷ nests) e = absurd (omega (arith, e))
+
+pub break_outside : (depth : ℕ) (walk : Walk) (before : List ℕ) → IsDue depth walk before → walk.used ≡ 0
+    → Breaks depth false walk before
+break_outside depth walk before due none =
+    breaks_not depth walk before due (outside_no_break due.nests (sym due.keeps.used ∙ none))
+
+-- whether one may is whether the innermost nest takes it
+closes_as_kept : (depth : ℕ) (walk : Walk) (nests : List Nest) → KeepsNests depth walk nests → (walk.used ≡ 0 → ⊥)
+    → closes_one nests 0 ≡ closes (remaining_at walk.levels (walk.used - 1))
+closes_as_kept depth walk [] keeps some = absurd (some keeps.used)
+closes_as_kept depth walk (nest ∷ nests) keeps some =
+    let used = keeps.used in
+    let at : length nests ≡ walk.used - 1 = omega (arith, used) in
+    let kept = keeps.kept in
+    let same = takes_more nest.header nest.count (remaining_at walk.levels (length nests)) kept.0 kept.1 in
+    same.1 ∙ ap (λ (k : ℕ). closes (remaining_at walk.levels k)) at
+
+pub break_refused : (depth : ℕ) (walk : Walk) (before : List ℕ) → IsDue depth walk before → (walk.used ≡ 0 → ⊥)
+    → closes (remaining_at walk.levels (walk.used - 1)) ≡ false → Breaks depth false walk before
+break_refused depth walk before due some refused =
+    breaks_not depth walk before due (closes_as_kept depth walk due.nests due.keeps some ∙ refused)
+
+closed_behind : (depth : ℕ) (walk new : Walk) (before : List ℕ) (nests : List Nest) → StandsWithin depth nests before
+    → KeepsNests depth walk nests → (walk.used ≡ 0 → ⊥) → closes (remaining_at walk.levels (walk.used - 1)) ≡ true
+    → new.levels ≡ walk.levels → new.used ≡ walk.used - 1 → new.depth ≡ walk.depth
+    → IsBehindItem depth new (before ++ 0xff ∷ [])
+closed_behind depth walk new before [] within keeps some may same less deep = absurd (some keeps.used)
+closed_behind depth walk new before (nest ∷ nests) within keeps some may same less deep =
+    let used = keeps.used in
+    let kept = keeps.kept in
+    let at : walk.used - 1 ≡ length nests = omega (arith, used) in
+    let remaining = remaining_at walk.levels (length nests) in
+    let closing : closes remaining ≡ true = subst (λ (k : ℕ). closes (remaining_at walk.levels k) ≡ true) at may in
+    let inner = inner_of depth nest nests before within in
+    let completes =
+    all_closed nest.header inner.levels nest.count inner.items remaining kept.0 closing inner.are_items in
+    ends_nest depth nest nests before (0xff ∷ []) (inner.items ++ 0xff ∷ []) new inner refl completes (record {
+      kept = subst (λ (z : List Remaining). AreKept z nests) (sym same) kept.2;
+      used = less ∙ at;
+      same_depth = deep ∙ keeps.same_depth;
+      room = ap length same ∙ keeps.room;
+    })
+
+pub break_closes : (depth : ℕ) (walk new : Walk) (before : List ℕ) → IsDue depth walk before → (walk.used ≡ 0 → ⊥)
+    → closes (remaining_at walk.levels (walk.used - 1)) ≡ true
+    → new.levels ≡ walk.levels → new.used ≡ walk.used - 1 → new.depth ≡ walk.depth → Breaks depth true new before
+break_closes depth walk new before due some may same less deep =
+    let closing = closes_as_kept depth walk due.nests due.keeps some ∙ may in
+    let used = due.keeps.used in
+    record {
+      nests = due.nests;
+      within = due.within;
+      level = less ∙ (ap (λ (k : ℕ). k - 1) used ∙ sym (level_closed due.nests closing));
+      may = closing;
+      behind = λ e. closed_behind depth walk new before due.nests due.within due.keeps some may same less deep;
+    }
+
+-- ---- the end of an item
+
+-- outside of all nests
+outside_more : (depth levels : ℕ) (nests : List Nest) (before item : List ℕ) → StandsWithin depth nests before
+    → length nests ≡ 0 → levels ≡ depth → IsItem false levels item → StandsWithin depth [] (before ++ item)
+outside_more depth levels nests before item (outside {count = n} i) none same is_item =
+    outside (items_item depth n before item i (subst (λ (k : ℕ). IsItem false k item) same is_item))
+outside_more depth levels nests before item (inside w e p more are) none same is_item = absurd (omega (arith, none))
+
+pub end_outside : (depth : ℕ) (walk : Walk) (bytes : List ℕ) → IsBehindItem depth walk bytes → walk.used ≡ 0
+    → IsDue depth walk bytes
+end_outside depth walk bytes behind none =
+    let due = behind.due in
+    let used = due.keeps.used in
+    let left = behind.left in
+    let empty : length due.nests ≡ 0 = omega (arith, used, none) in
+    let same : behind.levels ≡ depth = omega (arith, left, empty) in
+    record {
+      nests = [];
+      within = subst (λ (z : List ℕ). StandsWithin depth [] z) (sym behind.is)
+          (outside_more depth behind.levels due.nests behind.before behind.item due.within empty same behind.is_item);
+      keeps = record {
+        kept = tt;
+        used = none;
+        same_depth = due.keeps.same_depth;
+        room = due.keeps.room;
+      };
+    }
+
+-- where a nest is open, something remains of the innermost one
+some_remains : (depth : ℕ) (walk : Walk) (nests : List Nest) → KeepsNests depth walk nests → (walk.used ≡ 0 → ⊥)
+    → is_done (remaining_at walk.levels (walk.used - 1)) ≡ false
+some_remains depth walk [] keeps some = absurd (some keeps.used)
+some_remains depth walk (nest ∷ nests) keeps some =
+    let used = keeps.used in
+    let at : length nests ≡ walk.used - 1 = omega (arith, used) in
+    let kept = keeps.kept in
+    subst (λ (k : ℕ). is_done (remaining_at walk.levels k) ≡ false) at kept.1
+
+pub end_remains : (depth : ℕ) (walk : Walk) (bytes : List ℕ) → IsBehindItem depth walk bytes → (walk.used ≡ 0 → ⊥)
+    → is_done (remaining_at walk.levels (walk.used - 1)) ≡ false
+end_remains depth walk bytes behind some = some_remains depth walk behind.due.nests behind.due.keeps some
+
+-- what the end of an item changes: what remains of the innermost nest
+pub record Steps (walk new : Walk) (after : Remaining) : Type 0 where
+  pub counts : (x : Header) (count : ℕ) → IsRemaining x count (remaining_at walk.levels (walk.used - 1))
+      → IsRemaining x (suc count) after
+  pub some : walk.used ≡ 0 → ⊥
+  pub within : walk.used ≤ 256
+  pub written : new.levels ≡ set walk.levels (walk.used - 1) after
+  pub deep : new.depth ≡ walk.depth
+
+more_due : (depth : ℕ) (walk new : Walk) (after : Remaining) → Steps walk new after
+    → (nests : List Nest) (before item : List ℕ) (levels : ℕ) → StandsWithin depth nests before
+    → KeepsNests depth walk nests → length nests + levels ≡ depth → IsItem false levels item
+    → is_done after ≡ false → new.used ≡ walk.used → IsDue depth new (before ++ item)
+more_due depth walk new after s [] before item levels stands keeps left is_item rest same = absurd (s.some keeps.used)
+more_due depth walk new after s (nest ∷ nests) before item levels stands keeps left is_item rest same =
+    let used = keeps.used in
+    let few = s.within in
+    let at : walk.used - 1 ≡ length nests = omega (arith, used) in
+    let kept = keeps.kept in
+    let long = keeps.room in
+    let count = nest.count in
+    let is : IsRemaining nest.header (suc count) after =
+    s.counts nest.header count
+    (subst (λ (k : ℕ). IsRemaining nest.header count (remaining_at walk.levels k)) (sym at) kept.0) in
+    let next : Nest = record { header = nest.header; count = suc count } in
+    let inner = inner_of depth nest nests before stands in
+    let more = takes_more nest.header (suc count) after is rest in
+    record {
+      nests = next ∷ nests;
+      within = goes_on depth levels nest nests before item inner left is_item more.0;
+      keeps = record {
+        kept = subst (λ (z : List Remaining). AreKept z (next ∷ nests)) (sym s.written)
+            (kept_more walk.levels nests next (walk.used - 1) after at (omega (arith, used, long, few)) is rest
+            kept.2);
+        used = same ∙ used;
+        same_depth = s.deep ∙ keeps.same_depth;
+        room = ap length s.written ∙ (length-set walk.levels (walk.used - 1) after ∙ long);
+      };
+    }
+
+pub end_goes_on : (depth : ℕ) (walk new : Walk) (after : Remaining) → Steps walk new after → (bytes : List ℕ)
+    → IsBehindItem depth walk bytes → is_done after ≡ false → new.used ≡ walk.used
+    → IsDue depth new bytes
+end_goes_on depth walk new after s bytes behind rest same =
+    let due = behind.due in
+    subst (λ (z : List ℕ). IsDue depth new z) (sym behind.is)
+    (more_due depth walk new after s due.nests behind.before behind.item behind.levels due.within due.keeps
+    behind.left behind.is_item rest
+    same)
+
+level_ends : (depth : ℕ) (walk new : Walk) (after : Remaining) → Steps walk new after
+    → (nests : List Nest) (before item : List ℕ) (levels : ℕ) → StandsWithin depth nests before
+    → KeepsNests depth walk nests → length nests + levels ≡ depth → IsItem false levels item
+    → is_done after ≡ true → new.used ≡ walk.used - 1 → IsBehindItem depth new (before ++ item)
+level_ends depth walk new after s [] before item levels stands keeps left is_item done less = absurd (s.some keeps.used)
+level_ends depth walk new after s (nest ∷ nests) before item levels stands keeps left is_item done less =
+    let used = keeps.used in
+    let few = s.within in
+    let at : walk.used - 1 ≡ length nests = omega (arith, used) in
+    let kept = keeps.kept in
+    let count = nest.count in
+    let is : IsRemaining nest.header (suc count) after =
+    s.counts nest.header count
+    (subst (λ (k : ℕ). IsRemaining nest.header count (remaining_at walk.levels k)) (sym at) kept.0) in
+    let inner = inner_of depth nest nests before stands in
+    let level = inner.level in
+    let same : levels ≡ inner.levels = omega (arith, level, left) in
+    let item' = subst (λ (n : ℕ). IsItem false n item) same is_item in
+    let all = items_item inner.levels count inner.items item inner.are_items item' in
+    let completes = all_read nest.header inner.levels (suc count) (inner.items ++ item) after is done all in
+    ends_nest depth nest nests before item (inner.items ++ item) new inner refl completes (record {
+      kept = subst (λ (z : List Remaining). AreKept z nests) (sym s.written)
+          (kept_below walk.levels nests (walk.used - 1) after (omega (arith, at)) kept.2);
+      used = less ∙ at;
+      same_depth = s.deep ∙ keeps.same_depth;
+      room = ap length s.written ∙ (length-set walk.levels (walk.used - 1) after ∙ keeps.room);
+    })
+
+pub end_of_level : (depth : ℕ) (walk new : Walk) (after : Remaining) → Steps walk new after → (bytes : List ℕ)
+    → IsBehindItem depth walk bytes → is_done after ≡ true
+    → new.used ≡ walk.used - 1 → IsBehindItem depth new bytes
+end_of_level depth walk new after s bytes behind done less =
+    let due = behind.due in
+    subst (λ (z : List ℕ). IsBehindItem depth new z) (sym behind.is)
+    (level_ends depth walk new after s due.nests behind.before behind.item behind.levels due.within due.keeps
+    behind.left behind.is_item
+    done less)

@@ -1,0 +1,117 @@
+-- At which level each line of a dump stands: within how many tags, arrays, maps and opens.
+use Rattle.std.specs.Prelude.{◌≡◌, ℕ, zero, suc, ◌+◌, ◌-◌, ◌≤◌, ◌⊎◌, Bool, true, false, List, [], ◌∷◌, ◌++◌, length}
+use Rattle.std.specs.Prelude.{Some, None, if◌then◌else◌}
+use Rattle.ciborium_ll.specs.Types.Header.{Header}
+use Rattle.ciborium_ll.specs.Types.Header.TheVariants as h
+use Rattle.ciborium_ll.specs.Title.{IsTitle}
+use Rattle.ciborium_ll.specs.Strings.{Kind, Bytes, Text, kind_header, AreStrings, IsWritable}
+use Rattle.ciborium_ll.specs.Elements.{AreWritable}
+use Rattle.ciborium_ll.specs.Items.{AreItems}
+use Rattle.cbor_skip.specs.Due.{TakesMore, may_close}
+use Rattle.cbor_look.specs.declared.rows.Meaning.{Meaning}
+use Rattle.cbor_look.specs.declared.rows.Meaning.TheVariants as m
+
+-- ---- within what a title stands
+
+-- a tag, an array or a map, by its header, and how many of its items stand before
+pub record Nest : Type 0 where
+  pub header : Header
+  pub count : ℕ
+
+-- `StandsWithin depth nests bytes`: the bytes begin a sequence of items to the depth, and behind them an item is due
+-- within just these nests, the innermost first: whole items, and then for each nest its title and items of it, of which
+-- more are due (RFC 7049, 2.1 to 2.4)
+pub data StandsWithin (depth : ℕ) : List Nest → List ℕ → Type 0 where
+  outside : {count : ℕ} {items : List ℕ} → AreItems false depth count items → StandsWithin depth [] items
+  inside : {levels count : ℕ} {nests : List Nest} {before title items : List ℕ} {header : Header}
+      → StandsWithin depth nests before → length nests + suc levels ≡ depth → IsTitle title header
+      → TakesMore header count → AreItems false levels count items
+      → StandsWithin depth (record { header = header; count = count } ∷ nests) (before ++ (title ++ items))
+
+-- `AreOpen kind opens bytes bodies`: the bytes are so many opens of the kind, each with strings behind it, and none
+-- closed. The bodies are those so far (RFC 7049, 2.2.2)
+pub data AreOpen (kind : Kind) : ℕ → List ℕ → List (List ℕ) → Type 0 where
+  none : AreOpen kind zero [] []
+  more : {opens : ℕ} {outer title strings : List ℕ} {bodies others : List (List ℕ)} → AreOpen kind opens outer bodies
+      → IsTitle title (kind_header kind None) → AreStrings kind strings others
+      → AreOpen kind (suc opens) (outer ++ (title ++ strings)) (bodies ++ others)
+
+-- behind the bytes a title is due: within these nests, and of a string within so many opens
+pub record TitleDue (depth : ℕ) (nests : List Nest) (opens : ℕ) (bytes : List ℕ) : Type 0 where
+  pub items : List ℕ
+  pub kind : Kind
+  pub parts : List ℕ
+  pub bodies : List (List ℕ)
+  pub within : StandsWithin depth nests items
+  pub are_open : AreOpen kind opens parts bodies
+  pub sound : AreWritable kind bodies
+  pub is : bytes ≡ items ++ parts
+
+-- a break may stand there: it closes the last open, or else the innermost nest
+abbrev pub closes_one : List Nest → ℕ → Bool
+closes_one nests (suc opens) = true
+closes_one [] zero = false
+closes_one (nest ∷ nests) zero = may_close nest.header nest.count
+
+-- the level of a title is how many nests and opens it stands within, and that of a break which closes one is the level
+-- of that one's title
+abbrev pub title_level : Header → List Nest → ℕ → ℕ
+title_level h.Break nests opens =
+    if closes_one nests opens then (length nests + opens) - 1 else length nests + opens
+title_level header nests opens = length nests + opens
+
+-- ---- lines
+
+-- a line of a dump
+pub record Line : Type 0 where
+  pub level : ℕ
+  pub offset : ℕ
+  pub bytes : List ℕ
+  pub meaning : Meaning
+
+-- the bytes of lines, joined
+abbrev pub bytes_of : List Line → List ℕ
+bytes_of [] = []
+bytes_of (line ∷ lines) = line.bytes ++ bytes_of lines
+
+-- behind these bytes the line has a title of the header, at its level
+pub record HasTitle (depth : ℕ) (before : List ℕ) (header : Header) (line : Line) : Type 0 where
+  pub nests : List Nest
+  pub opens : ℕ
+  pub due : TitleDue depth nests opens before
+  pub is_title : IsTitle line.bytes header
+  pub level : line.level ≡ title_level header nests opens
+
+-- behind these bytes the line has a part of a string's body, a level deeper than the string's title
+pub record HasBody (depth : ℕ) (before : List ℕ) (kind : Kind) (line : Line) : Type 0 where
+  pub nests : List Nest
+  pub opens : ℕ
+  pub outer : List ℕ
+  pub title : List ℕ
+  pub front : List ℕ
+  pub len : ℕ
+  pub due : TitleDue depth nests opens outer
+  pub is_title : IsTitle title (kind_header kind (Some len))
+  pub is : before ≡ outer ++ (title ++ front)
+  pub fits : length front + length line.bytes ≤ len
+  pub level : line.level ≡ suc (length nests + opens)
+
+-- behind these bytes the line has what was read of a title at fault, at the level of one that is due
+pub record HasNoTitle (depth : ℕ) (before : List ℕ) (line : Line) : Type 0 where
+  pub nests : List Nest
+  pub opens : ℕ
+  pub due : TitleDue depth nests opens before
+  pub level : line.level ≡ length nests + opens
+
+-- behind these bytes the line has what it says that it has, at its level
+abbrev pub Stands : ℕ → List ℕ → Meaning → Line → Type 0
+Stands depth before (m.Header header) line = HasTitle depth before header line
+Stands depth before m.Bytes line = HasBody depth before Bytes line
+Stands depth before m.Text line = HasBody depth before Text line × IsWritable Text line.bytes
+Stands depth before m.Fault line = HasNoTitle depth before line ⊎ ((kind : Kind) × HasBody depth before kind line)
+
+-- each of the lines does, and has the offset of its first byte, where the bytes before begin at the start
+abbrev pub AllStand : ℕ → ℕ → List ℕ → List Line → Type 0
+AllStand depth start before [] = Unit {0}
+AllStand depth start before (line ∷ lines) = (line.offset ≡ start + length before)
+    × Stands depth before line.meaning line × AllStand depth start (before ++ line.bytes) lines

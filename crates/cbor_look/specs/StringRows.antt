@@ -1,0 +1,56 @@
+-- What the rows of a string show of it.
+use Rattle.std.specs.Prelude.{◌≡◌, ℕ, List, [], ◌∷◌, ◌++◌, length, Option, Some, None, Result, OnOk}
+use Rattle.ciborium_ll.specs.Types.Read.{Ghosts}
+use Rattle.ciborium_ll.specs.Types.Decoder.{Decoder}
+use Rattle.ciborium_ll.specs.Types.Header.{Header}
+use Rattle.ciborium_ll.specs.Types.Header.TheVariants as h
+use Rattle.ciborium_ll.specs.Strings.{Kind, Bytes, Text, kind_header, AreStrings, IsWritable}
+use Rattle.ciborium_ll.specs.Elements.{AreWritable}
+use Rattle.cbor_look.specs.declared.dump.DumpError.{DumpError}
+use Rattle.cbor_look.specs.declared.strings.Kind.{Kind as CodeKind}
+use Rattle.cbor_look.specs.declared.strings.Kind.TheVariants as k
+use Rattle.cbor_look.specs.declared.strings.Part.{Part}
+use Rattle.cbor_look.specs.declared.strings.Part.TheVariants as p
+use Rattle.cbor_look.specs.declared.rows.Meaning.{Meaning}
+use Rattle.cbor_look.specs.declared.rows.Meaning.TheVariants as m
+use Rattle.cbor_look.specs.Levels.{Line}
+use Rattle.cbor_look.specs.Dumps.{Shows}
+
+-- a kind of string in the code, as the grammar has it
+abbrev pub kind_of : CodeKind → Kind
+kind_of k.Bytes = Bytes
+kind_of k.Text = Text
+
+-- what a part of a body is
+abbrev pub meaning_of : CodeKind → Meaning
+meaning_of k.Bytes = m.Bytes
+meaning_of k.Text = m.Text
+
+-- what a header is within an open of the kind; a strict read takes it for a fault more often
+abbrev pub IsPart : Kind → Header → Part → Type 0
+IsPart kind header p.Break = header ≡ h.Break
+IsPart kind header (p.Piece len) = header ≡ kind_header kind (Some len)
+IsPart kind header p.Open = header ≡ kind_header kind None
+IsPart kind header p.Other = Unit {0}
+
+-- the bytes are strings of the kind, each body text where it has to be, and the break behind them (RFC 7049, 2.2.2)
+pub record EndsString (kind : Kind) (bytes : List ℕ) : Type 0 where
+  pub strings : List ℕ
+  pub bodies : List (List ℕ)
+  pub are_strings : AreStrings kind strings bodies
+  pub sound : AreWritable kind bodies
+  pub is : bytes ≡ strings ++ 0xff ∷ []
+
+-- what follows the title of a string of this length
+abbrev pub IsRest : Kind → Option ℕ → List ℕ → Type 0
+IsRest kind (Some len) bytes = (length bytes ≡ len) × IsWritable kind bytes
+IsRest kind None bytes = EndsString kind bytes
+
+module _ {R E W : Type 0} (source : Ghosts R E) where
+  -- What follows a string's title was shown, or a beginning of it: of a definite length the body, which is text where
+  -- it has to be, and else strings and a break
+  pub record ShowsRest (depth start : ℕ) (drawn then_drawn : Option (List Line)) (before : List ℕ) (kind : Kind)
+      (len : Option ℕ) (result : Result (Unit {0}) (DumpError E W)) (old new : Decoder R) : Type 0 where
+    pub bytes : List ℕ
+    pub shows : Shows source depth start drawn then_drawn before bytes old new
+    pub whole : OnOk result (IsRest kind len bytes)

@@ -1,0 +1,72 @@
+-- How a walk keeps which tags, arrays and maps aren't closed, and what is due within each.
+use Rattle.std.specs.Prelude.{◌≡◌, ℕ, ◌+◌, Bool, true, false, List, [], ◌∷◌, ◌++◌, length, slice_index_or}
+use Rattle.ciborium_ll.specs.Types.Header.{Header}
+use Rattle.ciborium_ll.specs.Types.Header.TheVariants as h
+use Rattle.ciborium_ll.specs.Items.{IsItem}
+use Rattle.cbor_skip.specs.declared.remaining.Remaining.{Remaining}
+use Rattle.cbor_skip.specs.declared.remaining.Remaining.TheVariants as r
+use Rattle.cbor_skip.specs.Remaining.{IsRemaining, is_done}
+use Rattle.cbor_look.specs.declared.walk.Walk.{Walk}
+use Rattle.cbor_look.specs.declared.walk.Entered.{Entered}
+use Rattle.cbor_look.specs.declared.walk.Entered.TheVariants as w
+use Rattle.cbor_look.specs.Levels.{Nest, StandsWithin, closes_one, title_level}
+
+-- a header that is an item by itself (RFC 7049, 2.1 and 2.3)
+abbrev pub IsValue : Header → Type 0
+IsValue (h.Positive number) = Unit {0}
+IsValue (h.Negative number) = Unit {0}
+IsValue (h.Float value) = Unit {0}
+IsValue (h.Simple number) = Unit {0}
+IsValue header = ⊥
+
+-- what remains of the level of this number
+abbrev pub remaining_at : List Remaining → ℕ → Remaining
+remaining_at levels at = slice_index_or levels at (r.Items 0)
+
+-- of each nest something remains, as is kept at its level
+abbrev pub AreKept : List Remaining → List Nest → Type 0
+AreKept levels [] = Unit {0}
+AreKept levels (nest ∷ nests) = IsRemaining nest.header nest.count (remaining_at levels (length nests))
+    × (is_done (remaining_at levels (length nests)) ≡ false) × AreKept levels nests
+
+-- the walk keeps just these nests
+pub record KeepsNests (depth : ℕ) (walk : Walk) (nests : List Nest) : Type 0 where
+  pub kept : AreKept walk.levels nests
+  pub used : walk.used ≡ length nests
+  pub same_depth : walk.depth ≡ depth
+  pub room : length walk.levels ≡ 256
+
+-- behind the bytes an item is due within the nests that the walk keeps
+pub record IsDue (depth : ℕ) (walk : Walk) (bytes : List ℕ) : Type 0 where
+  pub nests : List Nest
+  pub within : StandsWithin depth nests bytes
+  pub keeps : KeepsNests depth walk nests
+
+-- behind the bytes an item ends that was due so
+pub record IsBehindItem (depth : ℕ) (walk : Walk) (bytes : List ℕ) : Type 0 where
+  pub before : List ℕ
+  pub item : List ℕ
+  pub levels : ℕ
+  pub due : IsDue depth walk before
+  pub left : length due.nests + levels ≡ depth
+  pub is_item : IsItem false levels item
+  pub is : bytes ≡ before ++ item
+
+-- what came of the title of a nest behind the bytes
+abbrev pub Enters : ℕ → Entered → Walk → List ℕ → List ℕ → Type 0
+Enters depth w.Deep walk before title = walk.used ≡ depth
+Enters depth w.Empty walk before title = IsBehindItem depth walk (before ++ title)
+Enters depth w.Within walk before title = IsDue depth walk (before ++ title)
+
+-- what came of a break behind the bytes, and at which level it stands
+pub record Breaks (depth : ℕ) (closed : Bool) (walk : Walk) (before : List ℕ) : Type 0 where
+  pub nests : List Nest
+  pub within : StandsWithin depth nests before
+  pub level : walk.used ≡ title_level h.Break nests 0
+  pub may : closes_one nests 0 ≡ closed
+  pub behind : closed ≡ true → IsBehindItem depth walk (before ++ 0xff ∷ [])
+
+-- what came of the end of an item: its level goes on, or ends too
+abbrev pub Ends : ℕ → Bool → Walk → List ℕ → Type 0
+Ends depth true walk bytes = IsBehindItem depth walk bytes
+Ends depth false walk bytes = IsDue depth walk bytes

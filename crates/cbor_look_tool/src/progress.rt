@@ -1,0 +1,58 @@
+//! How far a long input is, said on a terminal.
+
+use std::io;
+
+/// So many bytes are read before it is said, and before it is said again: 32 MiB.
+const STEP: u64 = 1 << 25;
+
+/// A reader that says in a line how many bytes were read, each time in the place of the line before.
+#[derive(Drop)]
+pub struct Watched<'p, R, P> {
+    source: R,
+    to: &'p P,
+    is_on: bool,
+    is_said: bool,
+    bytes: u64,
+    next: u64,
+}
+
+impl<'p, R: io::Read, P: io::Eprint> Watched<'p, R, P> {
+    /// Nothing was read. Where it isn't on, nothing is said.
+    pub fn new(source: R, to: &'p P, is_on: bool) -> Watched<'p, R, P> {
+        Watched {
+            source,
+            to,
+            is_on,
+            is_said: false,
+            bytes: 0,
+            next: STEP,
+        }
+    }
+
+    /// Takes the line away, where there is one.
+    pub fn clear(&mut self) {
+        if self.is_said {
+            self.is_said = false;
+            let _ = eprint!(self.to; "\r\u{1b}[K");
+        }
+    }
+
+    /// Counts what was read.
+    fn count(&mut self, more: usize) {
+        self.bytes = self.bytes.saturating_add(more as u64);
+        if self.is_on && self.bytes >= self.next {
+            self.next = self.bytes.saturating_add(STEP);
+            self.is_said = true;
+            let megabytes = self.bytes / 1_000_000;
+            let _ = eprint!(self.to; "\r{megabytes} MB");
+        }
+    }
+}
+
+impl<R: io::Read, P: io::Eprint> io::Read for Watched<'_, R, P> {
+    fn read(&mut self, buf: &mut [u8]) -> io::Result<usize> {
+        let count = self.source.read(buf)?;
+        self.count(count);
+        Ok(count)
+    }
+}
