@@ -58,7 +58,8 @@ pub(crate) fn body<R: Read, S: Rows>(
 where
     R::Error: Drop,
     ensures shows { (depth start opens : ℕ) (nests : List Nest) (outer title : List ℕ)
-        → TitleDue depth nests opens outer → IsTitle title (kind_header (kind_of kind) (Some len)) → level ≡ length nests + opens + 1
+        → TitleDue depth nests opens outer → IsTitle title (kind_header (kind_of kind) (Some len))
+        → level ≡ length nests + opens + 1
         → offset_of decoder.old ≡ start + length (outer ++ title) → AreTaken result
         → ShowsRest R.Read depth start (S.drawn rows.old) (S.drawn rows.new) (outer ++ title) (kind_of kind) (Some len)
         result decoder.old decoder.new }
