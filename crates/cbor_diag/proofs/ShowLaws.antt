@@ -1,16 +1,18 @@
 -- What is said of a read, by the answer of a show.
-use Rattle.std.proofs.Common.{◌≡◌, ◌∙◌, ℕ, Option, Result, Ok, Err, IfErr, OnOk, arith}
+use Rattle.std.proofs.Common.{◌≡◌, ◌∙◌, ℕ, Option, Result, Ok, Err, IfErr, OnOk, arith, refl, subst}
 use Rattle.ciborium_ll.specs.Types.Read.{Ghosts}
 use Rattle.ciborium_ll.specs.Types.Decoder.{Decoder}
 use Rattle.ciborium_ll.specs.Types.Error.{Error}
 use Rattle.ciborium_ll.specs.Strings.{Kind}
-use Rattle.ciborium_ll.specs.Decoding.{MovesOn, refusals_of}
+use Rattle.ciborium_ll.specs.Types.Write.{Ghosts as Sink}
+use Rattle.ciborium_ll.specs.Decoding.{MovesOn, PullsHeader, refusals_of}
 use Rattle.ciborium_ll.specs.Skipping.{SkipsWhole}
+use Rattle.ciborium_ll.proofs.DecodingLaws.{MovesOn-then}
 use Rattle.cbor_skip.specs.declared.SkipError.{SkipError}
 use Rattle.cbor_skip.specs.declared.SkipError.TheVariants as s
 use Rattle.cbor_diag.specs.declared.DiagError.{DiagError}
 use Rattle.cbor_diag.specs.declared.DiagError.TheVariants as d
-use Rattle.cbor_diag.specs.Showing.{IsWriting, OnReading, OnString}
+use Rattle.cbor_diag.specs.Showing.{IsWriting, OnReading, OnString, ShowsFirst, nothing}
 
 module _ {E F : Type 0} where
   -- where the writer failed, anything holds of the read
@@ -77,3 +79,17 @@ module _ {R E : Type 0} (source : Ghosts R E) where
     refusals = moves.refusals ∙ same;
     rises = omega (arith, whole.passed.offset);
   }
+
+  -- a decoder that moved on, and where the answer is Ok once more
+  pub moved_then : {T F : Type 0} (old mid new : Decoder R) (result : Result T F) → MovesOn source old mid
+      → OnOk result (MovesOn source mid new) → OnOk result (MovesOn source old new)
+  moved_then old mid new (Ok done) first then = MovesOn-then source old mid new first then
+  moved_then old mid new (Err error) first then = tt
+
+module _ {R E W F : Type 0} (source : Ghosts R E) (sink : Sink W F) where
+  -- where no header was pulled, nothing was written
+  pub shows_nothing : (before old new : Decoder R) (error : Error E) (writer : W) → before ≡ old
+      → PullsHeader source before (Err error) new
+      → ShowsFirst source sink old writer (Err (d.Read (s.Read error))) writer
+  shows_nothing before old new error writer same fails =
+      nothing error new (subst (λ (first : Decoder R). PullsHeader source first (Err error) new) same fails) refl refl

@@ -1,5 +1,9 @@
 -- The diagnostic notation of what a header says by itself (RFC 8949, section 8).
 use Rattle.std.specs.Prelude.{ℕ, ◌+◌, ◌/◌, ◌%◌, ◌==◌, nat_lt, List, [], ◌∷◌, ◌++◌, codes, decimal, if◌then◌else◌}
+use Rattle.std.specs.Prelude.{Option, Some, None, negsuc}
+use Rattle.std.specs.Fmt.{signed_decimal}
+use Rattle.ciborium_ll.specs.Types.Header.{Header}
+use Rattle.ciborium_ll.specs.Types.Header.TheVariants as h
 use Rattle.cbor_diag.specs.declared.strings.quotes.Quotes.{Quotes}
 use Rattle.cbor_diag.specs.declared.strings.quotes.Quotes.TheVariants as q
 
@@ -11,6 +15,14 @@ simple_text number =
     else (if number == 22 then codes "null"
     else (if number == 23 then codes "undefined"
     else (codes "simple(" ++ decimal number) ++ codes ")")))
+
+-- the text of a header that is an integer or a simple value, which is the whole item: an integer by its digits in base
+-- 10, where a negative one is -1 - n (RFC 7049, 2.1)
+abbrev pub header_text : Header → Option (List ℕ)
+header_text (h.Positive number) = Some (decimal number)
+header_text (h.Negative number) = Some (signed_decimal (negsuc number))
+header_text (h.Simple number) = Some (simple_text number)
+header_text header = None
 
 -- the hexadecimal digit of a number below 16, in lower case
 abbrev pub hex_digit : ℕ → ℕ

@@ -1,19 +1,29 @@
--- What a show of an item does to its decoder, as long as the writer does not fail.
-use Rattle.std.specs.Prelude.{ℕ, Bool, Result, Ok, Err}
+-- What a show of an item does to its decoder, as long as the writer does not fail, and what it writes of a header.
+use Rattle.std.specs.Prelude.{◌≡◌, ℕ, Bool, List, Option, Some, None, Result, Ok, Err}
 use Rattle.ciborium_ll.specs.Types.Read.{Ghosts}
+use Rattle.ciborium_ll.specs.Types.Write.{Ghosts as Sink}
+use Rattle.ciborium_ll.specs.Types.Header.{Header}
 use Rattle.ciborium_ll.specs.Types.Decoder.{Decoder}
 use Rattle.ciborium_ll.specs.Types.Error.{Error}
+use Rattle.ciborium_ll.specs.Decoding.{PullsHeader, PullsTitle}
+use Rattle.ciborium_ll.specs.Encoding.{WritesBytes}
 use Rattle.cbor_skip.specs.declared.SkipError.{SkipError}
 use Rattle.cbor_skip.specs.declared.SkipError.TheVariants as s
 use Rattle.cbor_skip.specs.Skipping.{ReadsItem, StopsItem}
 use Rattle.cbor_diag.specs.declared.DiagError.{DiagError}
 use Rattle.cbor_diag.specs.declared.DiagError.TheVariants as d
+use Rattle.cbor_diag.specs.Notation.{header_text}
 
 module _ {E F : Type 0} where
   -- it is the writer that failed
   abbrev pub IsWriting : DiagError E F → Type 0
   IsWriting (d.Read error) = ⊥
   IsWriting (d.Write fault) = Unit {0}
+
+  -- what a write answered, as the answer of a show
+  abbrev pub said_of : {T : Type 0} → Result T F → Result T (DiagError E F)
+  said_of (Ok done) = Ok done
+  said_of (Err fault) = Err (d.Write fault)
 
   -- Of the read this holds, by its answer. Where the writer failed, the read has none
   abbrev pub OnReading : {T : Type 0} → (Result (Unit {0}) (SkipError E) → Type 0) → Result T (DiagError E F) → Type 0
@@ -34,3 +44,21 @@ module _ {R E : Type 0} (source : Ghosts R E) where
   abbrev pub ReadsFrom : Bool → ℕ → ℕ → Decoder R → Result (Unit {0}) (SkipError E) → Decoder R → Type 0
   ReadsFrom outer depth room old (Ok done) new = ReadsItem source depth old new
   ReadsFrom outer depth room old (Err error) new = StopsItem source outer depth room old error new
+
+module _ {E W F : Type 0} (sink : Sink W F) where
+  -- the text was written, where there is one: all of it, or a beginning where the writer failed
+  abbrev pub ShowsText : Option (List ℕ) → W → Result (Unit {0}) (DiagError E F) → W → Type 0
+  ShowsText None old result new = Unit {0}
+  ShowsText (Some text) old (Ok done) new = WritesBytes sink {T = Unit {0}} old (Ok done) text new
+  ShowsText (Some text) old (Err (d.Write fault)) new = WritesBytes sink {T = Unit {0}} old (Err fault) text new
+  ShowsText (Some text) old (Err (d.Read error)) new = ⊥
+
+module _ {R E W F : Type 0} (source : Ghosts R E) (sink : Sink W F) where
+  -- What `diagnose` writes of the title in front: where a header was pulled that has a text, just that. Where none was
+  -- pulled, nothing was written
+  pub data ShowsFirst (old : Decoder R) (before : W) (result : Result (Unit {0}) (DiagError E F)) (after : W)
+      : Type 0 where
+    nothing : (error : Error E) (new : Decoder R) → PullsHeader source old (Err error) new
+        → result ≡ Err (d.Read (s.Read error)) → after ≡ before → ShowsFirst old before result after
+    first : (header : Header) (titled : Decoder R) → PullsTitle source old header titled
+        → ShowsText sink (header_text header) before result after → ShowsFirst old before result after

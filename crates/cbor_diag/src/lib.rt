@@ -4,7 +4,7 @@
 ghost use Rattle.std.specs.Prelude.{◌≤◌, OnOk};
 ghost use Rattle.ciborium_ll.specs.Decoding.{MovesOn};
 ghost use Rattle.cbor_skip.specs.Skipping.{SkipsItem};
-ghost use Rattle.cbor_diag.specs.Showing.{OnReading};
+ghost use Rattle.cbor_diag.specs.Showing.{OnReading, ShowsFirst};
 
 mod layout;
 mod messages;
@@ -15,7 +15,7 @@ mod strings;
 
 pub use self::layout::Layout;
 use self::layout::Line;
-use self::nests::show_within;
+use self::nests::show_item;
 use cbor_skip::SkipError;
 use ciborium_ll::io::{Read, Write};
 use ciborium_ll::{Decoder, Header};
@@ -36,6 +36,8 @@ pub enum DiagError<E, F> {
 /// was there, and the decoder is behind it; `Read` carries the error that `skip_item` answers, and the decoder is where
 /// that leaves it. What stands before the fault was written. `Write` carries the writer's error.
 ///
+/// Of an integer or a simple value just its text is written: the digits in base 10, or the name, or `simple(N)`.
+///
 /// Floats have the indicator of their width, `_2` or `_3`, where a shorter one holds the same value. No other indicator
 /// is written but that of the indefinite forms: how long the titles of integers, lengths and tags are is not shown.
 pub fn diagnose<R: Read, W: Write>(
@@ -46,12 +48,17 @@ pub fn diagnose<R: Read, W: Write>(
 ) -> Result<(), DiagError<R::Error, W::Error>>
     requires shallow { depth ≤ 256 }
     ensures reads { OnReading (λ answer. SkipsItem R.Read depth 64 decoder.old answer decoder.new) result }
+    ensures text { ShowsFirst R.Read W.Write decoder.old writer.old result writer.new }
     ensures moves_on { OnOk result (MovesOn R.Read decoder.old decoder.new) }
 {
-    let line = Line { layout, level: 0 };
-    // What a tag contains is one item.
-    match show_within(decoder, writer, Header::Tag(0), depth, line) {
-        Ok(_) => Ok(()),
-        Err(error) => Err(error),
+    let place = decoder.offset();
+    let header = match decoder.pull() {
+        Ok(header) => header,
+        Err(error) => return Err(DiagError::Read(SkipError::Read(error))),
+    };
+    if let Header::Break = header {
+        return Err(DiagError::Read(SkipError::Break(place)));
     }
+    let line = Line { layout, level: 0 };
+    show_item(decoder, writer, header, place, depth, line)
 }

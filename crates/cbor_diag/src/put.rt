@@ -2,7 +2,7 @@
 
 ghost use Rattle.std.specs.Prelude.{◌≡◌, ◌++◌, IfErr};
 ghost use Rattle.ciborium_ll.specs.Encoding.{WritesBytes};
-ghost use Rattle.cbor_diag.specs.Showing.{IsWriting};
+ghost use Rattle.cbor_diag.specs.Showing.{IsWriting, said_of};
 
 use crate::DiagError;
 use ciborium_ll::io::Write;
@@ -44,7 +44,8 @@ pub(crate) fn say<E, W: Write>(writer: &mut W, text: &[u8]) -> Result<(), DiagEr
 
 /// What a write answered, as the answer of a show.
 pub(crate) fn said<E, F>(answer: Result<(), F>) -> Result<(), DiagError<E, F>>
-    ensures { IfErr result IsWriting }
+    ensures writing { IfErr result IsWriting }
+    ensures same { result ≡ said_of answer }
 {
     match answer {
         Ok(()) => Ok(()),

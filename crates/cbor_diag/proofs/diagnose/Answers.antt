@@ -1,18 +1,40 @@
-use Rattle.std.proofs.Common.{Bool, Result, Err}
+use Rattle.std.proofs.Common.{refl, false}
 use Rattle.ciborium_ll.specs.Types.Header.TheVariants as h
-use Rattle.cbor_skip.specs.declared.SkipError.{SkipError}
-use Rattle.cbor_skip.specs.Skipping.{SkipsItem, SkipsWithin}
-use Rattle.cbor_skip.proofs.ItemSteps.{only_item}
-use Rattle.cbor_diag.proofs.ShowLaws.{reading_stops}
+use Rattle.cbor_skip.proofs.ItemSteps.{pull_stops, stops_here}
+use Rattle.cbor_diag.specs.Showing.{first}
+use Rattle.cbor_diag.proofs.ShowLaws.{moved_then, shows_nothing}
 use Rattle.cbor_diag.proofs.diagnose.Goals as goal
 
 pub returns-in-Err-clause-reads : goal.returns-in-Err-clause-reads
-returns-in-Err-clause-reads g c =
-    let old = c.args.decoder.now in
-    let new = c.show_within.new.decoder in
-    let One : Result (Unit {0}) (SkipError g.row.R-Error.Denot) → Type 0 =
-    λ answer. SkipsWithin g.R.Read (h.Tag 0) c.args.depth 64 old answer new in
-    let Other : Result (Unit {0}) (SkipError g.row.R-Error.Denot) → Type 0 =
-    λ answer. SkipsItem g.R.Read c.args.depth 64 old answer new in
-    reading_stops Bool (Unit {0}) One Other c.in-Err.error
-    (λ stop stops. only_item g.R.Read 0 c.args.depth 64 old (Err stop) new stops) c.in-Err.ensures.reads
+returns-in-Err-clause-reads g c = pull_stops g.R.Read c.offset-place.ensures.same c.in-Err.ensures.header
+
+pub returns-in-Err-clause-text : goal.returns-in-Err-clause-text
+returns-in-Err-clause-text g c =
+    shows_nothing g.R.Read g.W.Write _ c.args.decoder.now _ c.in-Err.error c.args.writer.now c.offset-place.ensures.same
+    c.in-Err.ensures.header
+
+pub returns-in-Break-clause-reads : goal.returns-in-Break-clause-reads
+returns-in-Break-clause-reads g c = stops_here g.R.Read (record {
+  not_closable = refl;
+  place = c.offset-place.ensures.value;
+  pulled = rw (c.offset-place.ensures.same, c.in-Break.is) at c.in-Ok.ensures.header;
+})
+
+pub returns-in-Break-clause-text : goal.returns-in-Break-clause-text
+returns-in-Break-clause-text g c =
+    first h.Break _ (rw (c.offset-place.ensures.same, c.in-Break.is) at c.in-Ok.ensures.header) tt
+
+pub returns-clause-reads : goal.returns-clause-reads
+returns-clause-reads g c =
+    let pulled = rw c.offset-place.ensures.same at c.in-Ok.ensures.header in
+    let steady = rw c.offset-place.ensures.same at c.in-Ok.ensures.moves_on.steady in
+    c.show_item.ensures.reads c.args.decoder.now false c.offset-place.ensures.value pulled steady
+
+pub returns-clause-text : goal.returns-clause-text
+returns-clause-text g c =
+    first _ _ (rw c.offset-place.ensures.same at c.in-Ok.ensures.header) c.show_item.ensures.text
+
+pub returns-clause-moves_on : goal.returns-clause-moves_on
+returns-clause-moves_on g c =
+    moved_then g.R.Read c.args.decoder.now _ _ c.show_item.result
+    (rw c.offset-place.ensures.same at c.in-Ok.ensures.moves_on) c.show_item.ensures.moves_on

@@ -22,28 +22,28 @@ show_item-returns-in-Positive-clause-reads g t c = λ before outer at pulled ste
     let completes = subst (λ (x : Header). Completes false c.args.depth x []) (sym c.in-Positive.is) positive in
     scalar_read g.R.Read outer c.args.depth before c.args.decoder.now steady c.args.header c.said.result completes
     pulled
-    c.said.ensures
+    c.said.ensures.writing
 
 pub show_item-returns-in-Negative-clause-reads : goal.show_item-returns-in-Negative-clause-reads
 show_item-returns-in-Negative-clause-reads g t c = λ before outer at pulled steady.
     let completes = subst (λ (x : Header). Completes false c.args.depth x []) (sym c.in-Negative.is) negative in
     scalar_read g.R.Read outer c.args.depth before c.args.decoder.now steady c.args.header c.said-in-Negative.result
     completes pulled
-    c.said-in-Negative.ensures
+    c.said-in-Negative.ensures.writing
 
 pub show_item-returns-in-Float-clause-reads : goal.show_item-returns-in-Float-clause-reads
 show_item-returns-in-Float-clause-reads g t c = λ before outer at pulled steady.
     let completes = subst (λ (x : Header). Completes false c.args.depth x []) (sym c.in-Float.is) float in
     scalar_read g.R.Read outer c.args.depth before c.args.decoder.now steady c.args.header c.said-in-Float.result
     completes pulled
-    c.said-in-Float.ensures
+    c.said-in-Float.ensures.writing
 
 pub show_item-returns-in-Simple-clause-reads : goal.show_item-returns-in-Simple-clause-reads
 show_item-returns-in-Simple-clause-reads g t c = λ before outer at pulled steady.
     let completes = subst (λ (x : Header). Completes false c.args.depth x []) (sym c.in-Simple.is) simple in
     scalar_read g.R.Read outer c.args.depth before c.args.decoder.now steady c.args.header c.said-in-Simple.result
     completes pulled
-    c.said-in-Simple.ensures
+    c.said-in-Simple.ensures.writing
 
 pub show_item-returns-in-Bytes-clause-reads : goal.show_item-returns-in-Bytes-clause-reads
 show_item-returns-in-Bytes-clause-reads g t c = λ before outer at pulled steady.
