@@ -24,9 +24,3 @@ pub fn spelled_run()
     ensures no_longer { (count : ℕ) (run : List ℕ) (marks : List Mark) → IsRun count run marks
         → length (spelling marks) ≤ length run }
 {}
-
-/// A run that is no longer than the spelling of its marks is that spelling.
-pub fn tight_run()
-    ensures { (count : ℕ) (run : List ℕ) (marks : List Mark) → IsRun count run marks
-        → length run ≤ length (spelling marks) → run ≡ spelling marks }
-{}
