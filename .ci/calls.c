@@ -24,7 +24,8 @@ static int takes_null(void)
 {
     static const uint8_t one[] = {0x05};
     cll_header header = {5, CLL_POSITIVE, 0};
-    return told(cll_pull(NULL, 0, &header, &report), CLL_SHORT, 0, 0, 0) && header.value == 5
+    size_t consumed = 7;
+    return cll_pull(NULL, 0, &header, &consumed) == CLL_SHORT && consumed == 0 && header.value == 5
         && told(cll_push(&header, NULL, 0, &report), CLL_ROOM, 0, 0, 0)
         && told(cll_push_wide(&header, 0, NULL, 0, &report), CLL_ROOM, 0, 0, 0)
         && told(cll_recode(NULL, 0, 0, NULL, 0, &report), CLL_OK, 0, 0, 0)
@@ -221,13 +222,14 @@ static int writes_widths(void)
     for (size_t i = 0; i < sizeof headers / sizeof *headers; i++) {
         for (uint32_t width = 0; width < 10; width++) {
             cll_header again = {99, 99, 99};
+            size_t consumed = 99;
             const uint32_t answer = cll_push_wide(&headers[i], width, space, SPACE, &report);
             if ((widths[i] >> width & 1) == 0) {
                 if (!told(answer, CLL_ARGUMENT, 0, 0, 0))
                     return 0;
             } else if (!told(answer, CLL_OK, 0, width + 1, 0)
                 || !told(cll_push_wide(&headers[i], width, space, width, &report), CLL_ROOM, 0, 0, 0)
-                || !told(cll_pull(space, width + 1, &again, &report), CLL_OK, width + 1, 0, 0)
+                || cll_pull(space, width + 1, &again, &consumed) != CLL_OK || consumed != width + 1
                 || again.value != headers[i].value || again.kind != headers[i].kind
                 || again.indefinite != headers[i].indefinite)
                 return 0;

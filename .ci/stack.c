@@ -21,10 +21,11 @@ static uint32_t depth;
 static uint32_t answer;
 static cll_header header;
 static cll_report report;
+static size_t consumed;
 static cll_checker checker;
 
 static void nothing(void) { answer = CLL_OK; }
-static void pull(void) { answer = cll_pull(data, len, &header, &report); }
+static void pull(void) { answer = cll_pull(data, len, &header, &consumed); }
 static void push(void) { answer = cll_push(&header, out, sizeof out, &report); }
 static void push_wide(void) { answer = cll_push_wide(&header, 8, out, sizeof out, &report); }
 static void recode(void) { answer = cll_recode(data, len, 1, out, sizeof out, &report); }

@@ -105,14 +105,13 @@ static int reads(const struct row *row)
     uint8_t title[SPACE];
     const size_t len = bytes_of(row->title, title);
     cll_header header = {99, 99, 99};
-    cll_report report = {99, 99, 99, 99, 99};
+    size_t consumed = 99;
     for (size_t cut = 0; cut < len; cut++) {
-        if (cll_pull(title, cut, &header, &report) != CLL_SHORT || report.consumed != (cut > 0) || header.kind != 99)
+        if (cll_pull(title, cut, &header, &consumed) != CLL_SHORT || consumed != (cut > 0) || header.kind != 99)
             return 0;
     }
-    return cll_pull(title, len, &header, &report) == CLL_OK && report.consumed == len && report.written == 0
-        && report.place == 0 && header.kind == row->kind && header.indefinite == row->indefinite
-        && header.value == row->value;
+    return cll_pull(title, len, &header, &consumed) == CLL_OK && consumed == len && header.kind == row->kind
+        && header.indefinite == row->indefinite && header.value == row->value;
 }
 
 static int writes(const struct row *row)

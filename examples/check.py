@@ -24,7 +24,7 @@ def library(name):
     """The library, with the types of its calls."""
     calls = ctypes.CDLL(name)
     size, report = ctypes.c_size_t, ctypes.POINTER(Report)
-    calls.cll_pull.argtypes = [ctypes.c_char_p, size, ctypes.POINTER(Header), report]
+    calls.cll_pull.argtypes = [ctypes.c_char_p, size, ctypes.POINTER(Header), ctypes.POINTER(size)]
     calls.cll_push.argtypes = [ctypes.POINTER(Header), ctypes.c_char_p, size, report]
     calls.cll_recode.argtypes = [ctypes.c_char_p, size, ctypes.c_uint64, ctypes.c_char_p, size, report]
     calls.cll_strict.argtypes = [ctypes.c_char_p, size, ctypes.c_uint64, report]
@@ -40,8 +40,8 @@ def main():
         return 2
     calls = library(sys.argv[1])
     data = bytes.fromhex(sys.argv[2])
-    header, report = Header(), Report()
-    answer = calls.cll_pull(data, len(data), ctypes.byref(header), ctypes.byref(report))
+    header, consumed, report = Header(), ctypes.c_size_t(), Report()
+    answer = calls.cll_pull(data, len(data), ctypes.byref(header), ctypes.byref(consumed))
     value = "*" if header.indefinite else header.value
     if answer != 0:
         print("title", ANSWERS[answer])

@@ -6,9 +6,9 @@ int main(void)
 {
     const uint8_t data[] = {0x19, 0x03, 0xe8};
     cll_header header;
-    cll_report report;
-    if (cll_pull(data, sizeof data, &header, &report) != CLL_OK || header.kind != CLL_POSITIVE)
+    size_t consumed;
+    if (cll_pull(data, sizeof data, &header, &consumed) != CLL_OK || header.kind != CLL_POSITIVE)
         return 1;
-    printf("%llu in %llu bytes\n", (unsigned long long)header.value, (unsigned long long)report.consumed);
+    printf("%llu in %zu bytes\n", (unsigned long long)header.value, consumed);
     return 0;
 }

@@ -2,11 +2,12 @@
  * CBOR (RFC 7049, 2.1 to 2.4) out of memory and into memory. C99, and C++.
  *
  * No call takes memory but for its stack, and none calls anything outside of this library but memcpy, memmove and
- * memset. Each call returns an answer, one of the numbers of cll_answer, and says in its report how far it came.
+ * memset. Each call returns an answer, one of the numbers of cll_answer, and says in its report how far it came; but
+ * cll_pull, which is called for each title, tells a number of bytes alone.
  *
- * `header` and `report` must not be null. `data` and `out` may be null where their length is 0. What a call writes must
- * not overlap anything else that it is given: so no call works in place. cll_overlap tells whether two pieces of memory
- * overlap.
+ * `header`, `report` and `consumed` must not be null. `data` and `out` may be null where their length is 0. What a call
+ * writes must not overlap anything else that it is given: so no call works in place. cll_overlap tells whether two
+ * pieces of memory overlap.
  *
  * Nothing is kept between calls, but for what a cll_checker keeps in the caller's own memory. So calls may run in
  * several threads at once, where none writes what another one uses.
@@ -95,11 +96,10 @@ uint32_t cll_version(void);
  * Reads the one title in front of `data`, and says in `header` what it means. `consumed` is the length of the title.
  * The body of a string stands behind its title, and is not read.
  *
- * CLL_OK; CLL_SHORT where `data` ends before a title or inside it; CLL_SYNTAX, with the place 0, for a first byte with
- * which no title begins. After the last two `header` is as it was, and `consumed` counts the first byte if there is
- * one.
+ * CLL_OK; CLL_SHORT where `data` ends before a title or inside it; CLL_SYNTAX for a first byte with which no title
+ * begins. After the last two `header` is as it was, and `consumed` counts the first byte if there is one.
  */
-uint32_t cll_pull(const uint8_t *data, size_t len, cll_header *header, cll_report *report);
+uint32_t cll_pull(const uint8_t *data, size_t len, cll_header *header, size_t *consumed);
 
 /*
  * Writes the shortest title of a header in front of `out`, whole or not at all. `written` is its length, at most 9.

@@ -214,14 +214,14 @@ inline fault fault_of(std::uint32_t code, const cll_report &report) noexcept
 inline result<title> pull(input bytes) noexcept
 {
     cll_header got = {0, 0, 0};
-    cll_report report;
-    const std::uint32_t code = cll_pull(bytes.data(), bytes.size(), &got, &report);
+    std::size_t consumed = 0;
+    const std::uint32_t code = cll_pull(bytes.data(), bytes.size(), &got, &consumed);
     if (code != CLL_OK)
-        return detail::fault_of(code, report);
+        return detail::fault_of(code, cll_report{consumed, 0, 0, 0, 0});
     std::optional<std::uint64_t> value;
     if (got.indefinite == 0)
         value = got.value;
-    return title{{static_cast<kind>(got.kind), value}, static_cast<std::size_t>(report.consumed)};
+    return title{{static_cast<kind>(got.kind), value}, consumed};
 }
 
 /* Writes the shortest title of a header, whole or not at all. Its length is at most 9. */

@@ -76,7 +76,9 @@ static int holds(const struct row *row)
         exit(2);
     memcpy(data, row->bytes, row->len);
     if (strcmp(row->call, "pull") == 0) {
-        answer = cll_pull(data, row->len, &header, &report);
+        size_t consumed = 9;
+        answer = cll_pull(data, row->len, &header, &consumed);
+        report = (cll_report){consumed, 0, 0, 0, 0};
         if (answer == CLL_OK)
             made = told(text, &header);
     } else if (strcmp(row->call, "push") == 0) {

@@ -122,7 +122,7 @@ def _library():
     data, size, number = ctypes.c_void_p, ctypes.c_size_t, ctypes.c_uint64
     header, report = ctypes.POINTER(_Header), ctypes.POINTER(_Report)
     checker = ctypes.POINTER(_Checker)
-    calls.cll_pull.argtypes = [data, size, header, report]
+    calls.cll_pull.argtypes = [data, size, header, ctypes.POINTER(size)]
     calls.cll_push.argtypes = [header, data, size, report]
     calls.cll_push_wide.argtypes = [header, ctypes.c_uint32, data, size, report]
     calls.cll_recode.argtypes = [data, size, number, data, size, report]
@@ -189,9 +189,9 @@ def _check(answer, report, offset=0):
 
 def _pulled(at, length, offset):
     """The header of the title there, and the title's length."""
-    header, report = _Header(), _Report()
-    _check(_CALLS.cll_pull(at, length, header, report), report, offset)
-    return Header(Kind(header.kind), None if header.indefinite else header.value), report.consumed
+    header, consumed = _Header(), ctypes.c_size_t()
+    _check(_CALLS.cll_pull(at, length, header, consumed), _Report(consumed=consumed.value), offset)
+    return Header(Kind(header.kind), None if header.indefinite else header.value), consumed.value
 
 
 def _skipped(at, length, depth, offset):

@@ -41,11 +41,17 @@ pub struct Stopped {
 
 /// The header of the title in front, and the title's length. Errors name offsets that begin at `offset`.
 pub(crate) fn pull(bytes: &[u8], offset: usize) -> Result<(Header, usize), Error> {
-    let (mut parts, mut report) = (cll_header::default(), cll_report::default());
+    let (mut parts, mut consumed) = (cll_header::default(), 0);
     // SAFETY: as this file says.
-    match unsafe { sys::cll_pull(bytes.as_ptr(), bytes.len(), &mut parts, &mut report) } {
-        0 => Ok((Header::of(&parts), report.consumed as usize)),
-        answer => Err(Error::of(answer, &report, offset)),
+    match unsafe { sys::cll_pull(bytes.as_ptr(), bytes.len(), &mut parts, &mut consumed) } {
+        0 => Ok((Header::of(&parts), consumed)),
+        answer => {
+            let report = cll_report {
+                consumed: consumed as u64,
+                ..cll_report::default()
+            };
+            Err(Error::of(answer, &report, offset))
+        }
     }
 }
 

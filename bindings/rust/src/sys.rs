@@ -45,7 +45,7 @@ extern "C" {
         data: *const u8,
         len: usize,
         header: *mut cll_header,
-        report: *mut cll_report,
+        consumed: *mut usize,
     ) -> u32;
     pub fn cll_push(
         header: *const cll_header,

@@ -21,12 +21,12 @@ static uint64_t titles(const uint8_t *bytes, size_t size) {
     size_t offset = 0;
     while (offset < size) {
         cll_header header;
-        cll_report report;
-        uint32_t answer = cll_pull(bytes + offset, size - offset, &header, &report);
+        size_t consumed;
+        uint32_t answer = cll_pull(bytes + offset, size - offset, &header, &consumed);
         if (answer == CLL_SHORT)
             break;
         sum += answer == CLL_OK && header.kind == CLL_POSITIVE ? header.value : 1;
-        offset += report.consumed;
+        offset += consumed;
     }
     return sum;
 }

@@ -11,9 +11,8 @@ use Rattle.ciborium_ll.proofs.CopyingTold.{consumes_told}
 use Rattle.ciborium_ll.proofs.TitleLaws.{title_refused}
 use Rattle.ciborium_ll_c.specs.declared.answer.CllAnswer.{CllAnswer}
 use Rattle.ciborium_ll_c.specs.declared.answer.CllAnswer.TheVariants as a
-use Rattle.ciborium_ll_c.specs.declared.answer.CllReport.{CllReport}
 use Rattle.ciborium_ll_c.specs.declared.header.CllHeader.{CllHeader}
-use Rattle.ciborium_ll_c.specs.Answers.{Reports, code}
+use Rattle.ciborium_ll_c.specs.Answers.{code}
 use Rattle.ciborium_ll_c.specs.Headers.{Says}
 use Rattle.ciborium_ll_c.specs.Pulling.{Pulls, TitleInFront}
 
@@ -45,18 +44,18 @@ code_exactly answer result is exact =
     let same = code_ok answer result is in (λ ok. exact.0 (same.0 ok), λ holds. same.1 (exact.1 holds))
 
 -- `Ok` comes just where a title stands in front
-pub pulled_exactly : (bytes : List ℕ) (answer : CllAnswer) (old new : CllHeader) (report : CllReport) (result : ℕ)
-    → result ≡ code answer → Pulls bytes answer old new report → (result ≡ code a.Ok) ↔ TitleInFront bytes
-pulled_exactly bytes a.Ok old new report result is pulled = (λ same. pulled.0, λ front. is)
-pulled_exactly bytes a.Short old new report result is pulled =
+pub pulled_exactly : (bytes : List ℕ) (answer : CllAnswer) (old new : CllHeader) (consumed result : ℕ)
+    → result ≡ code answer → Pulls bytes answer old new consumed → (result ≡ code a.Ok) ↔ TitleInFront bytes
+pulled_exactly bytes a.Ok old new consumed result is pulled = (λ same. pulled.0, λ front. is)
+pulled_exactly bytes a.Short old new consumed result is pulled =
     (λ same. absurd (omega (arith, is, same)), λ front. absurd (front_not_cut bytes front pulled.0))
-pulled_exactly bytes a.Syntax old new report result is pulled =
+pulled_exactly bytes a.Syntax old new consumed result is pulled =
     (λ same. absurd (omega (arith, is, same)), λ front. absurd (front_not_refused bytes front pulled.0))
-pulled_exactly bytes a.Room old new report result is pulled = absurd pulled
-pulled_exactly bytes a.TooLong old new report result is pulled = absurd pulled
-pulled_exactly bytes a.BreakDue old new report result is pulled = absurd pulled
-pulled_exactly bytes a.TooDeep old new report result is pulled = absurd pulled
-pulled_exactly bytes a.Argument old new report result is pulled = absurd pulled
+pulled_exactly bytes a.Room old new consumed result is pulled = absurd pulled
+pulled_exactly bytes a.TooLong old new consumed result is pulled = absurd pulled
+pulled_exactly bytes a.BreakDue old new consumed result is pulled = absurd pulled
+pulled_exactly bytes a.TooDeep old new consumed result is pulled = absurd pulled
+pulled_exactly bytes a.Argument old new consumed result is pulled = absurd pulled
 
 module _ {R E : Type 0} (source : Ghosts R E) (strict : Bool) (reader : R) (decoder : Decoder R)
     (fresh : IsFreshAs strict reader 0 decoder) where
@@ -71,20 +70,13 @@ module _ {R E : Type 0} (source : Ghosts R E) (strict : Bool) (reader : R) (deco
 -- the title that was pulled stood in front of what was due
 module _ {R E : Type 0} (source : Ghosts R E) where
   pub pulled_front : (reader : R) (due : List ℕ) (header : Header) (old new : Decoder R) (parts : CllHeader)
-      (report : CllReport) (count : ℕ) → count ≡ new.offset → PullsTitle source old header new
+      (consumed : ℕ) → consumed ≡ new.offset → PullsTitle source old header new
       → IsFreshAs false reader 0 old → source.ahead reader ≡ Some due → Says parts header
-      → Reports report count 0 0
-      → (front : TitleInFront due) × Says parts front.header × Reports report (length front.title) 0 0
-  pulled_front reader due header old new parts report count behind pulled fresh ahead says reports =
+      → (front : TitleInFront due) × Says parts front.header × (consumed ≡ length front.title)
+  pulled_front reader due header old new parts consumed behind pulled fresh ahead says =
       let told = due_ahead source false reader old fresh due ahead in
       let gone = consumes_told _ _ due pulled.title told pulled.bytes in (
         record { title = pulled.title; header = header; rest = gone.0; is_title = pulled.is_title; is = gone.2 },
         says,
-        record {
-          consumed_is = omega (arith, reports.consumed_is, behind, pulled.offset, fresh.offset);
-          written_is = reports.written_is;
-          none_counted = reports.none_counted;
-          none_whole = reports.none_whole;
-          place_is = reports.place_is;
-        },
+        omega (arith, behind, pulled.offset, fresh.offset),
       )

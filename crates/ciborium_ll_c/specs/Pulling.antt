@@ -4,9 +4,7 @@ use Rattle.ciborium_ll.specs.Types.Header.{Header}
 use Rattle.ciborium_ll.specs.Title.{IsTitle, IsCutTitle, BeginsRefused}
 use Rattle.ciborium_ll_c.specs.declared.answer.CllAnswer.{CllAnswer}
 use Rattle.ciborium_ll_c.specs.declared.answer.CllAnswer.TheVariants as a
-use Rattle.ciborium_ll_c.specs.declared.answer.CllReport.{CllReport}
 use Rattle.ciborium_ll_c.specs.declared.header.CllHeader.{CllHeader}
-use Rattle.ciborium_ll_c.specs.Answers.{Reports}
 use Rattle.ciborium_ll_c.specs.Headers.{Says}
 
 -- a title stands in front of the bytes (RFC 7049, 2.1 to 2.3)
@@ -19,9 +17,9 @@ pub record TitleInFront (bytes : List ℕ) : Type 0 where
 
 -- the title in front, by the answer: the parts of its header, and its length as what was consumed. Where there is none,
 -- the parts are as they were, and a first byte was consumed if there is one
-abbrev pub Pulls : List ℕ → CllAnswer → CllHeader → CllHeader → CllReport → Type 0
-Pulls bytes a.Ok old new report = (front : TitleInFront bytes) × Says new front.header
-    × Reports report (length front.title) 0 0
-Pulls bytes a.Short old new report = IsCutTitle bytes × (new ≡ old) × Reports report (min 1 (length bytes)) 0 0
-Pulls bytes a.Syntax old new report = BeginsRefused bytes × (new ≡ old) × Reports report 1 0 0
-Pulls bytes answer old new report = ⊥
+abbrev pub Pulls : List ℕ → CllAnswer → CllHeader → CllHeader → ℕ → Type 0
+Pulls bytes a.Ok old new consumed = (front : TitleInFront bytes) × Says new front.header
+    × (consumed ≡ length front.title)
+Pulls bytes a.Short old new consumed = IsCutTitle bytes × (new ≡ old) × (consumed ≡ min 1 (length bytes))
+Pulls bytes a.Syntax old new consumed = BeginsRefused bytes × (new ≡ old) × (consumed ≡ 1)
+Pulls bytes answer old new consumed = ⊥

@@ -2,7 +2,8 @@
 //! none calls out of this library. What a checker keeps between calls stands in memory of the caller's own.
 //!
 //! C passes a slice as a pointer and then a length. Each call answers by a number, which is the code of a
-//! [`CllAnswer`], and says in a [`CllReport`] how far it came.
+//! [`CllAnswer`], and says in a [`CllReport`] how far it came. `cll_pull`, which is called for each title, tells a number
+//! of bytes alone.
 #![tactic(auto)]
 
 ghost use Rattle.std.specs.Prelude.{◌≡◌, ◌↔◌, ◌≤◌, ◌<◌, List, ◌++◌, drop, length, Bool, true, false, ℕ};
@@ -67,12 +68,12 @@ pub extern "C" fn cll_version() -> u32
 }
 
 /// Reads the title in front of the bytes.
-fn pull(bytes: &[u8], header: &mut CllHeader, report: &mut CllReport) -> CllAnswer
-    ensures { Pulls bytes.now result header.old header.new report.new }
+fn pull(bytes: &[u8], header: &mut CllHeader, consumed: &mut usize) -> CllAnswer
+    ensures { Pulls bytes.now result header.old header.new consumed.new }
 {
     let mut decoder = Decoder::from(SliceReader::new(bytes));
     let pulled = pull_title(&mut decoder);
-    report.say(decoder.offset(), 0, 0);
+    *consumed = decoder.offset();
     match pulled {
         Ok((pulled, title)) => {
             let parts = CllHeader::of_title(title, pulled);
@@ -89,18 +90,20 @@ fn pull(bytes: &[u8], header: &mut CllHeader, report: &mut CllReport) -> CllAnsw
     }
 }
 
-/// Reads the title in front of the bytes (RFC 7049, 2.1 to 2.3), and says in `header` what it means.
+/// Reads the title in front of the bytes (RFC 7049, 2.1 to 2.3), and says in `header` what it means, and in `consumed`
+/// how many bytes it read.
 ///
-/// The answers are `Ok`; `Short` where the bytes end before a title or inside it; and `Syntax` with the place 0 for a
-/// first byte with which no title begins. After the last two `header` is as it was.
+/// The answers are `Ok`, and then that is the length of the title; `Short` where the bytes end before a title or inside
+/// it; and `Syntax` for a first byte with which no title begins. After the last two `header` is as it was, and
+/// `consumed` counts the first byte if there is one.
 #[unsafe(no_mangle)]
 #[tactic(auto, using(crate::proofs::PullLaws::pulled_exactly))]
-pub extern "C" fn cll_pull(bytes: &[u8], header: &mut CllHeader, report: &mut CllReport) -> u32
+pub extern "C" fn cll_pull(bytes: &[u8], header: &mut CllHeader, consumed: &mut usize) -> u32
     ensures pulled { (answer : CllAnswer) × (result ≡ code answer)
-        × Pulls bytes.now answer header.old header.new report.new }
+        × Pulls bytes.now answer header.old header.new consumed.new }
     ensures exactly { result ≡ code a.Ok ↔ TitleInFront bytes.now }
 {
-    pull(bytes, header, report).code()
+    pull(bytes, header, consumed).code()
 }
 
 /// Writes a title in front of the output, whole or not at all.

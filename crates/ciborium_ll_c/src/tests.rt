@@ -24,21 +24,21 @@ fn told(report: &CllReport) -> [u64; 3] {
     [report.consumed, report.written, report.place]
 }
 
-// What a pull gives: its number, then kind, form and value of the header, and its report.
-fn pulled(bytes: &[u8]) -> (u32, [u64; 3], [u64; 3]) {
+// What a pull gives: its number, then kind, form and value of the header, and how many bytes were consumed.
+fn pulled(bytes: &[u8]) -> (u32, [u64; 3], usize) {
     let mut header = CllHeader {
         value: 99,
         kind: 98,
         indefinite: 97,
     };
-    let mut report = nothing();
-    let code = cll_pull(bytes, &mut header, &mut report);
+    let mut consumed = 96;
+    let code = cll_pull(bytes, &mut header, &mut consumed);
     let parts = [
         u64::from(header.kind),
         u64::from(header.indefinite),
         header.value,
     ];
-    (code, parts, told(&report))
+    (code, parts, consumed)
 }
 
 // What a push into the first of 16 bytes gives: its number, its report and the 16 bytes.
@@ -93,8 +93,7 @@ fn in_front(bytes: &[u8]) -> [u8; 16] {
 // A title, and the kind, the form and the value that C is told.
 fn title_row(rt: &impl Abort, bytes: &[u8], kind: u8, indefinite: u8, value: u64) {
     let parts = [u64::from(kind), u64::from(indefinite), value];
-    let report = [bytes.len() as u64, 0, 0];
-    assert!(rt; pulled(bytes) == (0, parts, report), "at {bytes:?}");
+    assert!(rt; pulled(bytes) == (0, parts, bytes.len()), "at {bytes:?}");
 }
 
 #[test]
@@ -131,8 +130,8 @@ fn titles(rt: HostRuntime) {
 }
 
 // No title: the answer, and how many bytes were consumed.
-fn no_title_row(rt: &impl Abort, bytes: &[u8], answer: CllAnswer, consumed: u64) {
-    let want = (answer.code(), [98, 97, 99], [consumed, 0, 0]);
+fn no_title_row(rt: &impl Abort, bytes: &[u8], answer: CllAnswer, consumed: usize) {
+    let want = (answer.code(), [98, 97, 99], consumed);
     assert!(rt; pulled(bytes) == want, "at {bytes:?}");
 }
 
