@@ -78,7 +78,8 @@ static int holds(const struct row *row)
     if (strcmp(row->call, "pull") == 0) {
         size_t consumed = 9;
         answer = cll_pull(data, row->len, &header, &consumed);
-        report = (cll_report){consumed, 0, 0, 0, 0};
+        report.consumed = consumed;
+        report.place = 0;
         if (answer == CLL_OK)
             made = told(text, &header);
     } else if (strcmp(row->call, "push") == 0) {
