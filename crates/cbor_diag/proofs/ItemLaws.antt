@@ -1,5 +1,5 @@
 -- The show of an item behind its header, which was pulled, as a read of the item.
-use Rattle.std.proofs.Common.{◌≡◌, ℕ, suc, Bool, [], Option, Result, Err, IfErr, inr, false}
+use Rattle.std.proofs.Common.{◌≡◌, ℕ, suc, Bool, [], Option, Result, Err, IfErr, inr}
 use Rattle.ciborium_ll.specs.Types.Read.{Ghosts}
 use Rattle.ciborium_ll.specs.Types.Header.{Header}
 use Rattle.ciborium_ll.specs.Types.Decoder.{Decoder}
@@ -11,7 +11,7 @@ use Rattle.ciborium_ll.specs.Skipping.{SkipsString}
 use Rattle.cbor_skip.specs.declared.SkipError.{SkipError}
 use Rattle.cbor_skip.specs.declared.SkipError.TheVariants as s
 use Rattle.cbor_skip.specs.Due.{IsNest}
-use Rattle.cbor_skip.specs.Skipping.{StopsItem, ReadsWithin, SkipsWithin}
+use Rattle.cbor_skip.specs.Skipping.{StopsItem, ReadsWithin, SkipsWithin, strictness}
 use Rattle.cbor_skip.proofs.ItemSteps.{reads_plain, reads_string, reads_nest, stops_here, stops_nest}
 use Rattle.cbor_diag.specs.declared.DiagError.{DiagError}
 use Rattle.cbor_diag.specs.Showing.{IsWriting, OnReading, OnString, ReadsFrom}
@@ -36,8 +36,8 @@ module _ {R E : Type 0} (source : Ghosts R E) (outer : Bool) (depth : ℕ) (befo
 module _ {R E F : Type 0} (source : Ghosts R E) (outer : Bool) (depth : ℕ) (before titled : Decoder R)
     (steady : IsSteady source before → IsSteady source titled) where
   -- an item that is a header alone
-  pub scalar_read : (header : Header) (result : Result (Unit {0}) (DiagError E F)) → Completes false depth header []
-      → PullsTitle source before header titled → IfErr result IsWriting
+  pub scalar_read : (header : Header) (result : Result (Unit {0}) (DiagError E F))
+      → Completes (strictness before) depth header [] → PullsTitle source before header titled → IfErr result IsWriting
       → OnReading (ItemRead source outer depth before titled) result
   scalar_read header result completes pulled writing =
       reading_whole (ItemRead source outer depth before titled) result (reads_plain source pulled steady completes)

@@ -1,5 +1,5 @@
 -- Rows of items in lists of bytes: how many they are, and what may follow some of them.
-use Rattle.std.proofs.Common.{◌≡◌, ℕ, suc, ◌<◌, ◌≤◌, ◌⊎◌, List, [], ◌∷◌, ◌++◌, length, Some, refl, false}
+use Rattle.std.proofs.Common.{◌≡◌, ℕ, suc, ◌<◌, ◌≤◌, ◌⊎◌, List, [], ◌∷◌, ◌++◌, length, Some, refl, Bool}
 use Rattle.std.proofs.Common.{sym, ap, subst, ◌∙◌, inl, inr, arith, append_assoc, length-append}
 use Rattle.ciborium_ll.specs.Title.{BeginsRefused}
 use Rattle.ciborium_ll.specs.Strings.{Kind, kind_header}
@@ -9,7 +9,7 @@ use Rattle.ciborium_ll.specs.Faults.{FirstFault, CutTitle, NoTitle, OtherTitle, 
 use Rattle.ciborium_ll.proofs.ItemLaws.{one_item}
 use Rattle.ciborium_ll.proofs.NestLaws.{title_some}
 use Rattle.cbor_skip.specs.Due.{ReachesItem, at_item, at_string, at_body, at_piece}
-use Rattle.cbor_skip.specs.ItemFaults.{ItemInFront}
+use Rattle.cbor_skip.specs.ItemFaults.{ItemInFront, ItemFault, Fault, LongTitle, NestedOpen}
 use Rattle.cbor_skip.proofs.ItemSteps.{item_of}
 
 -- ---- lengths
@@ -20,10 +20,10 @@ nothing [] e = refl
 nothing (byte ∷ u) e = absurd (omega (arith, e))
 
 -- an item takes a byte at least
-pub items_counted : (d n : ℕ) (u : List ℕ) → AreItems false d n u → n ≤ length u
-items_counted d n u no_items = omega arith
-items_counted d n u (more_items {count = m} {title = t} {rest = r} {others = a} {header = x} p g c i) =
-    omega (arith, items_counted d m a i, title_some t x p, length-append t (r ++ a), length-append r a)
+pub items_counted : (s : Bool) (d n : ℕ) (u : List ℕ) → AreItems s d n u → n ≤ length u
+items_counted s d n u no_items = omega arith
+items_counted s d n u (more_items {count = m} {title = t} {rest = r} {others = a} {header = x} p g c i) =
+    omega (arith, items_counted s d m a i, title_some t x p, length-append t (r ++ a), length-append r a)
 
 -- ---- two rows
 
@@ -33,21 +33,21 @@ item_apart t r a s =
     append_assoc t (r ++ a) s ∙ (ap (λ (z : List ℕ). t ++ z) (append_assoc r a s) ∙ sym (append_assoc t r (a ++ s)))
 
 -- behind some items of a whole row one more comes, or those were all
-pub rows_meet : (d m : ℕ) (u : List ℕ) → AreItems false d m u → (n : ℕ) (w : List ℕ) → AreItems false d n w
+pub rows_meet : (b : Bool) (d m : ℕ) (u : List ℕ) → AreItems b d m u → (n : ℕ) (w : List ℕ) → AreItems b d n w
     → (s : List ℕ)
-    → w ≡ u ++ s → ItemInFront d s ⊎ ((n ≡ m) × (s ≡ []))
-rows_meet d m u no_items n w no_items s e = inr (refl, sym e)
-rows_meet d m u no_items n w (more_items {title = t} {rest = r} {others = a} {header = x} p g c i) s e =
-    inl (record { item = t ++ r; rest = a; is_item = item_of d t r x p c; is = sym e ∙ sym (append_assoc t r a) })
-rows_meet d m u (more_items {title = t} {rest = r} {others = a} {header = x} p g c i) n w no_items s e =
+    → w ≡ u ++ s → ItemInFront b d s ⊎ ((n ≡ m) × (s ≡ []))
+rows_meet b d m u no_items n w no_items s e = inr (refl, sym e)
+rows_meet b d m u no_items n w (more_items {title = t} {rest = r} {others = a} {header = x} p g c i) s e =
+    inl (record { item = t ++ r; rest = a; is_item = item_of b d t r x p g c; is = sym e ∙ sym (append_assoc t r a) })
+rows_meet b d m u (more_items {title = t} {rest = r} {others = a} {header = x} p g c i) n w no_items s e =
     let counted = ap length e in
     absurd (omega (arith, counted, title_some t x p, length-append t (r ++ a), length-append (t ++ (r ++ a)) s))
-rows_meet d m u (more_items {count = j} {title = t} {rest = r} {others = a} {header = x} p g c i) n w
-    (more_items {count = k} {title = t'} {rest = r'} {others = a'} {header = x'} p' k' c' i') s e =
+rows_meet b d m u (more_items {count = j} {title = t} {rest = r} {others = a} {header = x} p g c i) n w
+    (more_items {count = k} {title = t'} {rest = r'} {others = a'} {header = x'} p' g' c' i') s e =
     let both : (t' ++ r') ++ a' ≡ (t ++ r) ++ (a ++ s) = append_assoc t' r' a' ∙ (e ∙ item_apart t r a s) in
-    let o = one_item false false d d (t' ++ r') (t ++ r) a' (a ++ s) (item_of d t' r' x' p' c')
-    (item_of d t r x p c) both in
-    elim (rows_meet d j a i k a' i' s o.1) [
+    let o = one_item b b d d (t' ++ r') (t ++ r) a' (a ++ s) (item_of b d t' r' x' p' g' c')
+    (item_of b d t r x p g c) both in
+    elim (rows_meet b d j a i k a' i' s o.1) [
       | inl comes ↦ inl comes
       | inr ends ↦ inr (ap suc ends.0, ends.1)
     ]
@@ -62,19 +62,19 @@ inside_some k u bs (deeper {outer = x} {inner = y} {bodies = cs} p q) =
     omega (arith, inside_some k x cs p, length-append x y)
 
 -- before a byte was read an item is due
-pub due_first : (d : ℕ) (u : List ℕ) (at : Place) → ReachesItem d u at → u ≡ [] → at ≡ Due
-due_first d u at (at_item p) e = refl
-due_first d u at (at_string {bytes = a} {opens = y} {bodies = bs} {kind = k} p q ok) e =
+pub due_first : (s : Bool) (d : ℕ) (u : List ℕ) (at : Place) → ReachesItem s d u at → u ≡ [] → at ≡ Due
+due_first s d u at (at_item p) e = refl
+due_first s d u at (at_string {bytes = a} {opens = y} {bodies = bs} {kind = k} p q g ok) e =
     let counted = ap length e in absurd (omega (arith, counted, inside_some k y bs q, length-append a y))
-due_first d u at (at_body {bytes = a} {title = t} {len = l} k r p) e =
+due_first s d u at (at_body {bytes = a} {title = t} {len = l} k r p g) e =
     let counted = ap length e in
     absurd (omega (arith, counted, title_some t (kind_header k (Some l)) p, length-append a t))
-due_first d u at (at_piece {bytes = a} {title = t} {len = l} {kind = k} r p) e =
+due_first s d u at (at_piece {bytes = a} {title = t} {len = l} {kind = k} r p g) e =
     let counted = ap length e in
     absurd (omega (arith, counted, title_some t (kind_header k (Some l)) p, length-append a t))
 
 -- where no byte is consumed of what is short there is none
-pub short_first : (before : List ℕ) (at : Place) (ahead : List ℕ) (answer : Answer) (written : List ℕ) (consumed : ℕ)
+short_first : (before : List ℕ) (at : Place) (ahead : List ℕ) (answer : Answer) (written : List ℕ) (consumed : ℕ)
     → FirstFault before [] at ahead answer written consumed → at ≡ Due → answer ≡ Short → consumed ≡ 0 → ahead ≡ []
 short_first before at ahead answer written consumed (CutTitle title cut) due is none = nothing ahead (omega (
   arith,
@@ -87,7 +87,7 @@ short_first before at ahead answer written consumed (CutBody front rest l e w a 
 short_first before at ahead answer written consumed (CutDamagedText front rest l damaged e t c) due is none = absurd cc
 
 -- where there is none, it is short, and none is consumed
-pub first_short : (before : List ℕ) (at : Place) (ahead : List ℕ) (answer : Answer) (written : List ℕ) (consumed : ℕ)
+first_short : (before : List ℕ) (at : Place) (ahead : List ℕ) (answer : Answer) (written : List ℕ) (consumed : ℕ)
     → FirstFault before [] at ahead answer written consumed → at ≡ Due → ahead ≡ [] → (answer ≡ Short) × (consumed ≡ 0)
 first_short before at ahead answer written consumed (CutTitle title cut) due none =
     let counted = ap length none in (refl, omega (arith, counted))
@@ -97,3 +97,22 @@ first_short before at ahead answer written consumed (OtherTitle header rest p m 
 first_short before at ahead answer written consumed (DamagedText front rest l damaged e t c) due none = absurd cc
 first_short before at ahead answer written consumed (CutBody front rest l e w a b c) due none = absurd cc
 first_short before at ahead answer written consumed (CutDamagedText front rest l damaged e t c) due none = absurd cc
+
+-- the same of what stops the read of an item
+pub fault_first : (s : Bool) (before : List ℕ) (at : Place) (ahead : List ℕ) (answer : Answer) (written : List ℕ)
+    (consumed : ℕ)
+    → ItemFault s before at ahead answer written consumed → at ≡ Due → answer ≡ Short → consumed ≡ 0 → ahead ≡ []
+fault_first s before at ahead answer written consumed (Fault f) due is none =
+    short_first before at ahead answer written consumed f due is none
+fault_first s before at ahead answer written consumed (LongTitle header rest on title p longer e) due is none =
+    absurd cc
+fault_first s before at ahead answer written consumed (NestedOpen rest on p e) due is none = absurd cc
+
+pub first_fault : (s : Bool) (before : List ℕ) (at : Place) (ahead : List ℕ) (answer : Answer) (written : List ℕ)
+    (consumed : ℕ)
+    → ItemFault s before at ahead answer written consumed → at ≡ Due → ahead ≡ [] → (answer ≡ Short) × (consumed ≡ 0)
+first_fault s before at ahead answer written consumed (Fault f) due none =
+    first_short before at ahead answer written consumed f due none
+first_fault s before at ahead answer written consumed (LongTitle {title = t} header rest on title p longer e) due none =
+    let counted = ap length (sym e ∙ none) in absurd (omega (arith, counted, title_some t header p, length-append t rest))
+first_fault s before at ahead answer written consumed (NestedOpen rest on p e) due none = absurd cc

@@ -1,5 +1,5 @@
 -- What `check` read: items one behind the other, and what stands behind them.
-use Rattle.std.proofs.Common.{◌≡◌, ℕ, suc, List, [], ◌∷◌, ◌++◌, length, Some, Result, Ok, Err, false}
+use Rattle.std.proofs.Common.{◌≡◌, ℕ, suc, Bool, List, [], ◌∷◌, ◌++◌, length, Some, Result, Ok, Err}
 use Rattle.std.proofs.Common.{IsOk, IfOk, ◌↔◌, refl, sym, ap, subst, ◌∙◌, inl, inr, arith, append-nil}
 use Rattle.std.proofs.Common.{length-append, drop}
 use Rattle.std.proofs.Math.Seq.{drop-nil}
@@ -14,15 +14,17 @@ use Rattle.ciborium_ll.proofs.CopyingTold.{consumes_told}
 use Rattle.ciborium_ll.proofs.NestLaws.{title_some}
 use Rattle.cbor_skip.specs.declared.SkipError.{SkipError}
 use Rattle.cbor_skip.specs.declared.SkipError.TheVariants as s
-use Rattle.cbor_skip.specs.Skipping.{ReadsItem, SkipsItem}
+use Rattle.cbor_skip.specs.ItemFaults.{ItemInFront}
+use Rattle.cbor_skip.specs.Skipping.{ReadsItem, SkipsItem, strictness}
 use Rattle.cbor_skip.specs.SkippingTold.{IsReadyToSkip, MeetsItemFault, SkipsTold}
 use Rattle.cbor_skip.proofs.ItemSteps.{items_item}
-use Rattle.cbor_skip.proofs.SkippingToldLaws.{skip_told, skip_exactly}
+use Rattle.cbor_skip.proofs.SkippingToldLaws.{ready_mode, skip_told, skip_exactly}
+use Rattle.cbor_skip.proofs.StrictnessLaws.{items_looser, none_behind, passed_keeps}
 use Rattle.cbor_look.specs.declared.sequence.Sequence.{Sequence}
 use Rattle.cbor_look.specs.declared.sequence.Stopped.{Stopped}
 use Rattle.cbor_look.specs.Sequences.{IsSequence, IsEnd, EndsSequence, ReadsItems, ChecksItems}
 use Rattle.cbor_look.specs.Sequences.{ChecksTold}
-use Rattle.cbor_look.proofs.ItemRows.{items_counted, rows_meet, due_first, short_first, first_short}
+use Rattle.cbor_look.proofs.ItemRows.{items_counted, rows_meet, due_first, fault_first, first_fault}
 use Rattle.cbor_look.proofs.ItemRows.{nothing}
 
 module _ {R E : Type 0} (source : Ghosts R E) where
@@ -35,7 +37,9 @@ module _ {R E : Type 0} (source : Ghosts R E) where
       → ReadsItem source depth now new → ReadsItems source depth (suc count) old new
   one_more depth count old now new so_far item = record {
     bytes = so_far.bytes ++ item.item;
-    are_items = items_item depth count so_far.bytes item.item so_far.are_items item.is_item;
+    are_items = items_item (strictness old) depth count so_far.bytes item.item so_far.are_items
+        (items_looser (strictness old) (strictness now) (passed_keeps source so_far.passed) depth 1 item.item
+        item.is_item);
     passed = Passes-then source old now new so_far.bytes item.item so_far.passed item.passed;
   }
 
@@ -50,7 +54,7 @@ module _ {R E : Type 0} (source : Ghosts R E) where
     between = between;
     reads = record {
       bytes = reads.bytes;
-      are_items = subst (λ (n : ℕ). AreItems false depth n reads.bytes) (sym is.2) reads.are_items;
+      are_items = subst (λ (n : ℕ). AreItems (strictness old) depth n reads.bytes) (sym is.2) reads.are_items;
       passed = reads.passed;
     };
     counted = omega (arith, is.3, from, here, reads.passed.offset);
@@ -91,7 +95,7 @@ module _ {R E : Type 0} (source : Ghosts R E) where
           ahead = gone.0;
           parts = gone.2;
           still_ready = record {
-            lenient = reads.passed.mode ∙ ready.lenient;
+            none_waits = none_behind source reads.passed ready.none_waits;
             steady = reads.passed.steady ready.steady;
             told = gone.1;
             fits-title = omega (arith, counted, offset, both, ready.fits-title);
@@ -100,15 +104,15 @@ module _ {R E : Type 0} (source : Ghosts R E) where
         }
 
     -- a fault of which nothing is consumed: no byte was left
-    no_byte : (ahead : List ℕ) (between new : Decoder R) → MeetsItemFault source depth ahead Short between new
+    no_byte : (ahead : List ℕ) (between new : Decoder R) → MeetsItemFault source old.strict depth ahead Short between new
         → new.offset ≡ between.offset → (ahead ≡ []) × (view source new ≡ Some [])
     no_byte ahead between new meets still =
         let fault = meets.fault in
         let none = nothing fault.before (omega (arith, meets.offset, still)) in
-        let at = due_first depth fault.before fault.place fault.reach none in
+        let at = due_first old.strict depth fault.before fault.place fault.reach none in
         let nowhere : fault.consumed ≡ 0 = omega (arith, meets.offset, still) in
         let left =
-        short_first fault.before fault.place fault.ahead fault.answer fault.written fault.consumed fault.fault at
+        fault_first old.strict fault.before fault.place fault.ahead fault.answer fault.written fault.consumed fault.fault at
         meets.answered nowhere in (
           fault.is ∙ (ap (λ (z : List ℕ). z ++ fault.ahead) none ∙ left),
           meets.left ∙ ap Some (ap (λ (z : List ℕ). drop fault.consumed z) left ∙ drop-nil fault.consumed),
@@ -116,7 +120,7 @@ module _ {R E : Type 0} (source : Ghosts R E) where
 
     -- where no byte is left, an item is short, and nothing is consumed
     no_bytes : (ahead : List ℕ) (answer : Answer) (between new : Decoder R)
-        → MeetsItemFault source depth ahead answer between new
+        → MeetsItemFault source old.strict depth ahead answer between new
         → ahead ≡ [] → (answer ≡ Short) × (new.offset ≡ between.offset)
     no_bytes ahead answer between new meets none =
         let fault = meets.fault in
@@ -124,16 +128,16 @@ module _ {R E : Type 0} (source : Ghosts R E) where
         let both = length-append fault.before fault.ahead in
         let first = nothing fault.before (omega (arith, counted, both)) in
         let last = nothing fault.ahead (omega (arith, counted, both)) in
-        let at = due_first depth fault.before fault.place fault.reach first in
+        let at = due_first old.strict depth fault.before fault.place fault.reach first in
         let short =
-        first_short fault.before fault.place fault.ahead fault.answer fault.written fault.consumed fault.fault at last
+        first_fault old.strict fault.before fault.place fault.ahead fault.answer fault.written fault.consumed fault.fault at last
         in
         let begins = ap length first in
         (sym meets.answered ∙ short.0, omega (arith, meets.offset, short.1, begins))
 
     -- so the read of an item fails there by the end
     ends_there : (ahead : List ℕ) (between new : Decoder R) (error : SkipError E)
-        → SkipsTold source depth ahead between (Err error) new
+        → SkipsTold source old.strict depth ahead between (Err error) new
         → ahead ≡ [] → IsEnd error between.offset new.offset
     ends_there ahead between new (s.Break at) met none =
         let counted = ap length (sym met.fault.is ∙ none) in
@@ -154,35 +158,52 @@ module _ {R E : Type 0} (source : Ghosts R E) where
     ends_there ahead between new (s.Read e.TooLong) met none = absurd met
     ends_there ahead between new (s.Read e.Waiting) met none = absurd met
 
+    -- the items that were read, by the mode
+    items_ready : (count : ℕ) (between : Decoder R) (reads : ReadsItems source depth count old between)
+        → AreItems old.strict depth count reads.bytes
+    items_ready count between reads =
+        subst (λ (b : Bool). AreItems b depth count reads.bytes) (ready_mode source depth room old due ready)
+        reads.are_items
+
+    -- what the read of an item behind them met
+    met_behind : (count : ℕ) (between : Decoder R) (reads : ReadsItems source depth count old between)
+        (result : Result (Unit {0}) (SkipError E)) (new : Decoder R) → SkipsItem source depth room between result new
+        → SkipsTold source old.strict depth (behind count between reads).ahead between result new
+    met_behind count between reads result new skips =
+        let c = behind count between reads in
+        subst (λ (b : Bool). SkipsTold source b depth c.ahead between result new) reads.passed.mode
+        (skip_told source depth room between c.ahead c.still_ready new result skips)
+
     pub check_told : (new : Decoder R) (result : Result (Sequence E) (Stopped E))
         → ChecksItems source depth room old result new
         → ChecksTold source depth due old result new
     check_told new (Ok sequence) finds =
         let c = behind sequence.items finds.between finds.reads in
-        let met =
-        skip_told source depth room finds.between c.ahead c.still_ready new (Err (s.Read (e.Io sequence.«end»)))
+        let met = met_behind sequence.items finds.between finds.reads (Err (s.Read (e.Io sequence.«end»))) new
         finds.fails in
         let none = no_byte c.ahead finds.between new met finds.still in
         let all = c.parts ∙ (ap (λ (z : List ℕ). finds.reads.bytes ++ z) none.0 ∙ append-nil finds.reads.bytes) in
         let counted = ap length all in
         record {
-          are_items = subst (λ (z : List ℕ). AreItems false depth sequence.items z) (sym all) finds.reads.are_items;
+          are_items = subst (λ (z : List ℕ). AreItems old.strict depth sequence.items z) (sym all)
+              (items_ready sequence.items finds.between finds.reads);
           counted = finds.counted ∙ sym counted;
           left = none.1;
           offset = omega (arith, finds.still, finds.reads.passed.offset, counted);
         }
     check_told new (Err stopped) finds =
         let c = behind stopped.items finds.between finds.reads in
-        let met = skip_told source depth room finds.between c.ahead c.still_ready new (Err stopped.error) finds.fails in
+        let met = met_behind stopped.items finds.between finds.reads (Err stopped.error) new finds.fails in
         let exactly = skip_exactly source depth room finds.between c.ahead c.still_ready new (Err stopped.error)
         finds.fails in
         record {
           before = finds.reads.bytes;
           ahead = c.ahead;
-          are_items = finds.reads.are_items;
+          are_items = items_ready stopped.items finds.between finds.reads;
           is = c.parts;
           place = finds.place ∙ finds.reads.passed.offset;
-          no_item = λ front. (let ok = exactly.1 front in absurd cc);
+          no_item = λ front. (let ok = exactly.1 (subst (λ (b : Bool). ItemInFront b depth c.ahead)
+              (sym finds.reads.passed.mode) front) in absurd cc);
           no_end = λ none. finds.no_end (ends_there c.ahead finds.between new stopped.error met none);
           between = finds.between;
           at = sym finds.place;
@@ -191,12 +212,12 @@ module _ {R E : Type 0} (source : Ghosts R E) where
 
     exactly_told : (new : Decoder R) (result : Result (Sequence E) (Stopped E))
         → ChecksTold source depth due old result new
-        → IsOk result ↔ IsSequence depth due
+        → IsOk result ↔ IsSequence old.strict depth due
     exactly_told new (Ok sequence) told = (λ ok. (sequence.items, told.are_items), λ is. refl)
     exactly_told new (Err stopped) told = (
       λ ok. absurd cc,
       λ is.
-          elim (rows_meet depth stopped.items told.before told.are_items is.0 due is.1 told.ahead told.is) [
+          elim (rows_meet old.strict depth stopped.items told.before told.are_items is.0 due is.1 told.ahead told.is) [
             | inl comes ↦ absurd (told.no_item comes)
             | inr ends ↦ absurd (told.no_end ends.1)
           ],
@@ -204,25 +225,25 @@ module _ {R E : Type 0} (source : Ghosts R E) where
 
     pub check_exactly : (new : Decoder R) (result : Result (Sequence E) (Stopped E))
         → ChecksItems source depth room old result new
-        → IsOk result ↔ IsSequence depth due
+        → IsOk result ↔ IsSequence old.strict depth due
     check_exactly new result checks = exactly_told new result (check_told new result checks)
 
-    number_told : (count : ℕ) → AreItems false depth count due → (new : Decoder R)
+    number_told : (count : ℕ) → AreItems old.strict depth count due → (new : Decoder R)
         (result : Result (Sequence E) (Stopped E))
         → ChecksTold source depth due old result new
         → IfOk result (λ sequence. sequence.items ≡ count)
     number_told count items new (Ok sequence) told =
-        elim (rows_meet depth sequence.items due told.are_items count due items [] (sym (append-nil due))) [
+        elim (rows_meet old.strict depth sequence.items due told.are_items count due items [] (sym (append-nil due))) [
           | inl comes ↦ (
               let counted = ap length comes.is in
-              let some = items_counted depth 1 comes.item comes.is_item in
+              let some = items_counted old.strict depth 1 comes.item comes.is_item in
               absurd (omega (arith, counted, some, length-append comes.item comes.rest))
               )
           | inr ends ↦ sym ends.0
         ]
     number_told count items new (Err stopped) told = tt
 
-    pub check_number : (count : ℕ) → AreItems false depth count due → (new : Decoder R)
+    pub check_number : (count : ℕ) → AreItems old.strict depth count due → (new : Decoder R)
         (result : Result (Sequence E) (Stopped E))
         → ChecksItems source depth room old result new
         → IfOk result (λ sequence. sequence.items ≡ count)

@@ -1,5 +1,5 @@
 -- What `check_one` read: an item, and what stands behind it.
-use Rattle.std.proofs.Common.{◌≡◌, ℕ, ◌+◌, List, [], ◌∷◌, ◌++◌, length, Some, Result, Ok, Err, false}
+use Rattle.std.proofs.Common.{◌≡◌, ℕ, ◌+◌, Bool, List, [], ◌∷◌, ◌++◌, length, Some, Result, Ok, Err, inl, inr}
 use Rattle.std.proofs.Common.{IsOk, ◌↔◌, refl, sym, ap, subst, ◌∙◌, arith, append-nil, length-append}
 use Rattle.std.proofs.lemmas.List.{length-take}
 use Rattle.ciborium_ll.specs.Types.Read.{Ghosts}
@@ -9,13 +9,12 @@ use Rattle.ciborium_ll.specs.Types.Error.{Error}
 use Rattle.ciborium_ll.specs.Types.Error.TheVariants as e
 use Rattle.ciborium_ll.specs.Items.{AreItems, IsItem}
 use Rattle.ciborium_ll.specs.Decoding.{view, PullsHeader}
-use Rattle.ciborium_ll.proofs.DecodingLaws.{lenient_refuses}
 use Rattle.ciborium_ll.proofs.CopyingTold.{consumes_told, next_read_small}
 use Rattle.ciborium_ll.proofs.ItemLaws.{one_item}
 use Rattle.ciborium_ll.proofs.NestLaws.{title_some}
-use Rattle.cbor_skip.specs.Skipping.{ReadsItem}
+use Rattle.cbor_skip.specs.Skipping.{ReadsItem, strictness}
 use Rattle.cbor_skip.specs.SkippingTold.{IsReadyToSkip}
-use Rattle.cbor_skip.proofs.SkippingToldLaws.{skip_told, skip_exactly}
+use Rattle.cbor_skip.proofs.SkippingToldLaws.{ready_mode, skip_told, skip_exactly}
 use Rattle.cbor_look.specs.declared.sequence.Sequence.{Sequence}
 use Rattle.cbor_look.specs.declared.single.NotOne.{NotOne}
 use Rattle.cbor_look.specs.declared.single.NotOne.TheVariants as n
@@ -64,11 +63,19 @@ module _ {R E : Type 0} (source : Ghosts R E) where
           let counted = ap length began.1 in
           omega (arith, counted, stops.offset, length-append stops.read began.0)),
     )
-    end_found between new (Err (e.Syntax at)) fails told mode offset =
-        let refused = lenient_refuses source between at new (mode ∙ ready.lenient) fails in
+    end_found between new (Err (e.Syntax at)) (inl refused) told mode offset =
         let gone = consumes_told _ _ [] (refused.byte ∷ []) told refused.bytes in
         let counted = ap length gone.2 in
         absurd (omega (arith, counted))
+    end_found between new (Err (e.Syntax at)) (inr longer) told mode offset =
+        let gone = consumes_told _ _ [] longer.title told longer.bytes in
+        let counted = ap length gone.2 in
+        absurd (omega (
+          arith,
+          counted,
+          title_some longer.title longer.header longer.is_title,
+          length-append longer.title gone.0,
+        ))
     end_found between new (Err e.TooLong) passes told mode offset =
         let gone = consumes_told _ _ [] passes.read told passes.bytes in
         let counted = ap length gone.2 in
@@ -83,6 +90,11 @@ module _ {R E : Type 0} (source : Ghosts R E) where
           length-append passes.read gone.0,
         ))
     end_found between new (Err e.Waiting) none told mode offset = absurd none
+
+    -- the item that was read, by the mode
+    item_ready : (item : List ℕ) → IsItem (strictness old) depth item → IsItem old.strict depth item
+    item_ready item i =
+        subst (λ (b : Bool). IsItem b depth item) (ready_mode source depth room old due ready) i
 
     pub one_told : (new : Decoder R) (result : Result (Sequence E) (NotOne E)) → ChecksOne source depth room old result
         new
@@ -103,8 +115,9 @@ module _ {R E : Type 0} (source : Ghosts R E) where
         gone.2 ∙ (ap (λ (z : List ℕ). finds.reads.item ++ z) rest ∙ append-nil finds.reads.item) in (
           finds.one,
           record {
-            are_items = subst (λ (n : ℕ). AreItems false depth n due) (sym finds.one)
-                (subst (λ (z : List ℕ). IsItem false depth z) (sym all) finds.reads.is_item);
+            are_items = subst (λ (n : ℕ). AreItems old.strict depth n due) (sym finds.one)
+                (subst (λ (z : List ℕ). IsItem old.strict depth z) (sym all)
+                (item_ready finds.reads.item finds.reads.is_item));
             counted = finds.counted ∙ sym (ap length all);
             left = left.1 ∙ ap Some last;
             offset = finds.still ∙ (passed.offset ∙ ap (λ (z : List ℕ). old.offset + length z) (sym all));
@@ -115,7 +128,7 @@ module _ {R E : Type 0} (source : Ghosts R E) where
         let passed = finds.reads.passed in
         let gone = consumes_told _ _ due finds.reads.item ready.told passed.consumed in
         record {
-          front = record { item = finds.reads.item; rest = gone.0; is_item = finds.reads.is_item; is = gone.2 };
+          front = record { item = finds.reads.item; rest = gone.0; is_item = item_ready finds.reads.item finds.reads.is_item; is = gone.2 };
           some = λ none.
               let counted = ap length (gone.2 ∙ (ap (λ (z : List ℕ). finds.reads.item ++ z) none
               ∙ append-nil finds.reads.item)) in
@@ -128,9 +141,9 @@ module _ {R E : Type 0} (source : Ghosts R E) where
 
     one_exactly_told : (new : Decoder R) (result : Result (Sequence E) (NotOne E))
         → ChecksOne source depth room old result new
-        → ChecksOneTold source depth due old result new → IsOk result ↔ IsItem false depth due
+        → ChecksOneTold source depth due old result new → IsOk result ↔ IsItem old.strict depth due
     one_exactly_told new (Ok sequence) checks told =
-        (λ ok. subst (λ (n : ℕ). AreItems false depth n due) told.0 told.1.are_items, λ item. refl)
+        (λ ok. subst (λ (n : ℕ). AreItems old.strict depth n due) told.0 told.1.are_items, λ item. refl)
     one_exactly_told new (Err (n.Item error)) checks told = (
       λ ok. absurd cc,
       λ item. (let ok = (skip_exactly source depth room old due ready new (Err error) checks).1
@@ -140,11 +153,11 @@ module _ {R E : Type 0} (source : Ghosts R E) where
     one_exactly_told new (Err (n.More at next)) checks told = (
       λ ok. absurd cc,
       λ item. (let front = told.front in
-          let o = one_item false false depth depth due front.item [] front.rest item front.is_item
+          let o = one_item old.strict old.strict depth depth due front.item [] front.rest item front.is_item
           (append-nil due ∙ front.is) in
           absurd (told.some (sym o.1))),
     )
 
     pub one_exactly : (new : Decoder R) (result : Result (Sequence E) (NotOne E))
-        → ChecksOne source depth room old result new → IsOk result ↔ IsItem false depth due
+        → ChecksOne source depth room old result new → IsOk result ↔ IsItem old.strict depth due
     one_exactly new result checks = one_exactly_told new result checks (one_told new result checks)

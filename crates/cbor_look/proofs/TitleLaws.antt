@@ -123,7 +123,7 @@ value_completes x value levels = absurd value
 pub value_item : (x : Header) (title : List ℕ) → IsValue x → IsTitle title x → (levels : ℕ) → IsItem false levels title
 value_item x title value p levels =
     subst (λ (z : List ℕ). IsItem false levels z) (append-nil title)
-    (item_of levels title [] x p (value_completes x value levels))
+    (item_of false levels title [] x p tt (value_completes x value levels))
 
 rest_completes : (k : Kind) (len : Option ℕ) (bytes : List ℕ) → IsRest k len bytes → (levels : ℕ)
     → Completes false levels (kind_header k len) bytes
@@ -138,7 +138,7 @@ rest_completes Text None bytes rest levels =
 pub string_item : (k : Kind) (len : Option ℕ) (title bytes : List ℕ) → IsTitle title (kind_header k len)
     → IsRest k len bytes → (levels : ℕ) → IsItem false levels (title ++ bytes)
 string_item k len title bytes p rest levels =
-    item_of levels title bytes (kind_header k len) p (rest_completes k len bytes rest levels)
+    item_of false levels title bytes (kind_header k len) p tt (rest_completes k len bytes rest levels)
 
 -- a break has one title
 pub break_bytes : (title : List ℕ) → IsTitle title h.Break → title ≡ 0xff ∷ []
@@ -146,12 +146,12 @@ break_bytes title p = alone_bytes title h.Break p refl
 
 -- outside of all nests the bytes are items
 outside_items : (depth : ℕ) (nests : List Nest) (before : List ℕ) → StandsWithin depth nests before
-    → length nests ≡ 0 → IsSequence depth before
+    → length nests ≡ 0 → IsSequence false depth before
 outside_items depth nests before (outside {count = n} i) empty = (n, i)
 outside_items depth nests before (inside w e p more are) empty = absurd (omega (arith, empty))
 
 pub walk_ended : (depth : ℕ) (walk : Walk) (before : List ℕ) → IsDue depth walk before → walk.used ≡ 0
-    → IsSequence depth before
+    → IsSequence false depth before
 walk_ended depth walk before due empty =
     outside_items depth due.nests before due.within (sym due.keeps.used ∙ empty)
 

@@ -122,7 +122,7 @@ goes_on depth levels nest outer bytes item inner level is_item more =
     let item' = subst (λ (n : ℕ). IsItem false n item) same is_item in
     subst (λ (z : List ℕ). StandsWithin depth (record { header = nest.header; count = suc nest.count } ∷ outer) z) whole
     (inside inner.within inner.level inner.is_title more
-    (items_item inner.levels nest.count inner.items item inner.are_items item'))
+    (items_item false inner.levels nest.count inner.items item inner.are_items item'))
 
 -- what completes the nest ends an item a level further out
 ends_nest : (depth : ℕ) (nest : Nest) (outer : List Nest) (bytes more rest : List ℕ) (walk : Walk)
@@ -135,7 +135,7 @@ ends_nest depth nest outer bytes more rest walk inner e completes keeps = record
   levels = suc inner.levels;
   due = record { nests = outer; within = inner.within; keeps = keeps };
   left = inner.level;
-  is_item = item_of (suc inner.levels) inner.title rest nest.header inner.is_title completes;
+  is_item = item_of false (suc inner.levels) inner.title rest nest.header inner.is_title tt completes;
   is =
       ap (λ (z : List ℕ). z ++ more) inner.is ∙ (append_assoc inner.before (inner.title ++ inner.items) more
       ∙ (ap (λ (z : List ℕ). inner.before ++ z) (append_assoc inner.title inner.items more)
@@ -167,7 +167,7 @@ enters_empty depth walk before title header x due p within room is done =
       due = due;
       left = omega (arith, used, same, within, room);
       is_item = subst (λ (z : List ℕ). IsItem false (suc levels) z) (append-nil title)
-          (item_of (suc levels) title [] header p (all_read header levels 0 [] x is done no_items));
+          (item_of false (suc levels) title [] header p tt (all_read header levels 0 [] x is done no_items));
       is = refl;
     }
 
@@ -287,7 +287,7 @@ break_closes depth walk new before due some may same less deep =
 outside_more : (depth levels : ℕ) (nests : List Nest) (before item : List ℕ) → StandsWithin depth nests before
     → length nests ≡ 0 → levels ≡ depth → IsItem false levels item → StandsWithin depth [] (before ++ item)
 outside_more depth levels nests before item (outside {count = n} i) none same is_item =
-    outside (items_item depth n before item i (subst (λ (k : ℕ). IsItem false k item) same is_item))
+    outside (items_item false depth n before item i (subst (λ (k : ℕ). IsItem false k item) same is_item))
 outside_more depth levels nests before item (inside w e p more are) none same is_item = absurd (omega (arith, none))
 
 pub end_outside : (depth : ℕ) (walk : Walk) (bytes : List ℕ) → IsBehindItem depth walk bytes → walk.used ≡ 0
@@ -392,7 +392,7 @@ level_ends depth walk new after s (nest ∷ nests) before item levels stands kee
     let level = inner.level in
     let same : levels ≡ inner.levels = omega (arith, level, left) in
     let item' = subst (λ (n : ℕ). IsItem false n item) same is_item in
-    let all = items_item inner.levels count inner.items item inner.are_items item' in
+    let all = items_item false inner.levels count inner.items item inner.are_items item' in
     let completes = all_read nest.header inner.levels (suc count) (inner.items ++ item) after is done all in
     ends_nest depth nest nests before item (inner.items ++ item) new inner refl completes (record {
       kept = subst (λ (z : List Remaining). AreKept z nests) (sym s.written)

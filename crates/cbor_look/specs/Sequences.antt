@@ -1,5 +1,5 @@
 -- Sequences of items (RFC 8742), and what `check` does with them.
-use Rattle.std.specs.Prelude.{◌≡◌, ℕ, ◌+◌, ◌-◌, List, [], ◌++◌, length, Some, Result, Ok, Err, false}
+use Rattle.std.specs.Prelude.{◌≡◌, ℕ, ◌+◌, ◌-◌, Bool, List, [], ◌++◌, length, Some, Result, Ok, Err}
 use Rattle.ciborium_ll.specs.Types.Read.{Ghosts}
 use Rattle.ciborium_ll.specs.Types.Decoder.{Decoder}
 use Rattle.ciborium_ll.specs.Types.Error.TheVariants as e
@@ -8,14 +8,15 @@ use Rattle.ciborium_ll.specs.Decoding.{view, Passes}
 use Rattle.cbor_skip.specs.declared.SkipError.{SkipError}
 use Rattle.cbor_skip.specs.declared.SkipError.TheVariants as s
 use Rattle.cbor_skip.specs.ItemFaults.{ItemInFront}
-use Rattle.cbor_skip.specs.Skipping.{SkipsItem}
+use Rattle.cbor_skip.specs.Skipping.{SkipsItem, strictness}
 use Rattle.cbor_skip.specs.SkippingTold.{SkipsTold}
 use Rattle.cbor_look.specs.declared.sequence.Sequence.{Sequence}
 use Rattle.cbor_look.specs.declared.sequence.Stopped.{Stopped}
 
--- the bytes are items of that depth, one behind the other, and nothing else (RFC 8742, 2)
-abbrev pub IsSequence : ℕ → List ℕ → Type 0
-IsSequence depth bytes = (count : ℕ) × AreItems false depth count bytes
+-- the bytes are items of that depth, in any spelling or in the shortest one, one behind the other, and nothing else (RFC
+-- 8742, 2)
+abbrev pub IsSequence : Bool → ℕ → List ℕ → Type 0
+IsSequence strict depth bytes = (count : ℕ) × AreItems strict depth count bytes
 
 -- Whether an error says that no byte of an item came: the reader failed, and the offset is that of the item's place
 abbrev pub IsEnd : {E : Type 0} → SkipError E → ℕ → ℕ → Type 0
@@ -30,10 +31,10 @@ EndsSequence error items start place stop (Err stopped) =
     (stopped ≡ record { items = items; place = place; error = error }) × (IsEnd error place stop → ⊥)
 
 module _ {R E : Type 0} (source : Ghosts R E) where
-  -- so many items were read
+  -- so many items were read, by a strict decoder in their shortest spelling
   pub record ReadsItems (depth count : ℕ) (old new : Decoder R) : Type 0 where
     pub bytes : List ℕ
-    pub are_items : AreItems false depth count bytes
+    pub are_items : AreItems (strictness old) depth count bytes
     pub passed : Passes source old bytes new
 
   -- so many items were read, and where a further one is due the reader failed with nothing consumed
@@ -57,10 +58,10 @@ module _ {R E : Type 0} (source : Ghosts R E) where
   ChecksItems depth room old (Ok sequence) new = FindsEnd depth room old sequence new
   ChecksItems depth room old (Err stopped) new = FindsNoItem depth room old stopped new
 
-  -- the bytes are a sequence of so many items, and none is left
+  -- the bytes are a sequence of so many items, of a strict decoder in their shortest spelling, and none is left
   pub record FindsSequence (depth : ℕ) (due : List ℕ) (old : Decoder R) (sequence : Sequence E) (new : Decoder R)
       : Type 0 where
-    pub are_items : AreItems false depth sequence.items due
+    pub are_items : AreItems old.strict depth sequence.items due
     pub counted : sequence.bytes ≡ length due
     pub left : view source new ≡ Some []
     pub offset : new.offset ≡ old.offset + length due
@@ -70,14 +71,14 @@ module _ {R E : Type 0} (source : Ghosts R E) where
       : Type 0 where
     pub before : List ℕ
     pub ahead : List ℕ
-    pub are_items : AreItems false depth stopped.items before
+    pub are_items : AreItems old.strict depth stopped.items before
     pub is : due ≡ before ++ ahead
     pub place : stopped.place ≡ old.offset + length before
-    pub no_item : ItemInFront depth ahead → ⊥
+    pub no_item : ItemInFront old.strict depth ahead → ⊥
     pub no_end : ahead ≡ [] → ⊥
     pub between : Decoder R
     pub at : between.offset ≡ stopped.place
-    pub met : SkipsTold source depth ahead between (Err stopped.error) new
+    pub met : SkipsTold source old.strict depth ahead between (Err stopped.error) new
 
   -- `check` where the bytes are told, by its answer
   abbrev pub ChecksTold : ℕ → List ℕ → Decoder R → Result (Sequence E) (Stopped E) → Decoder R → Type 0

@@ -49,12 +49,12 @@ module _ {R E : Type 0} (source : Ghosts R E) where
 
   -- an item is in front, and some bytes follow it, from this offset on
   pub record HasMore (depth : ℕ) (due : List ℕ) (old : Decoder R) (at : ℕ) : Type 0 where
-    pub front : ItemInFront depth due
+    pub front : ItemInFront old.strict depth due
     pub some : front.rest ≡ [] → ⊥
     pub place : at ≡ old.offset + length front.item
 
   -- `check_one` where the bytes are told, by its answer
   abbrev pub ChecksOneTold : ℕ → List ℕ → Decoder R → Result (Sequence E) (NotOne E) → Decoder R → Type 0
   ChecksOneTold depth due old (Ok sequence) new = (sequence.items ≡ 1) × FindsSequence source depth due old sequence new
-  ChecksOneTold depth due old (Err (n.Item error)) new = SkipsTold source depth due old (Err error) new
+  ChecksOneTold depth due old (Err (n.Item error)) new = SkipsTold source old.strict depth due old (Err error) new
   ChecksOneTold depth due old (Err (n.More at next)) new = HasMore depth due old at

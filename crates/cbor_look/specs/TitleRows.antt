@@ -1,5 +1,5 @@
 -- What the rows of a title show, and of the string that it begins.
-use Rattle.std.specs.Prelude.{ℕ, List, [], ◌++◌, Option, Result, OnOk}
+use Rattle.std.specs.Prelude.{ℕ, false, List, [], ◌++◌, Option, Result, OnOk}
 use Rattle.ciborium_ll.specs.Types.Read.{Ghosts}
 use Rattle.ciborium_ll.specs.Types.Decoder.{Decoder}
 use Rattle.cbor_look.specs.declared.dump.DumpError.{DumpError}
@@ -31,4 +31,4 @@ module _ {R E W : Type 0} (source : Ghosts R E) where
       (old new : Decoder R) : Type 0 where
     pub bytes : List ℕ
     pub shows : Shows source depth old.offset drawn then_drawn [] bytes old new
-    pub whole : OnOk result (IsSequence depth bytes)
+    pub whole : OnOk result (IsSequence false depth bytes)

@@ -1,6 +1,7 @@
 //! A sequence of items (RFC 8742), read to its end.
 
-ghost use Rattle.std.specs.Prelude.{◌≡◌, ◌≤◌, ◌↔◌, ℕ, List, length, IsOk, IfOk, false};
+ghost use Rattle.std.specs.Prelude.{◌≡◌, ◌≤◌, ◌↔◌, ℕ, List, length, IsOk, IfOk};
+ghost use Rattle.ciborium_ll.specs.Decoding.{strict_of};
 ghost use Rattle.ciborium_ll.specs.Items.{AreItems};
 ghost use Rattle.cbor_skip.specs.SkippingTold.{IsReadyToSkip};
 ghost use Rattle.cbor_look.specs.Sequences.{ChecksItems, ChecksTold, EndsSequence, IsSequence};
@@ -35,7 +36,8 @@ pub struct Stopped<E> {
 /// Reads items up to the end, with tags, arrays and maps nested at most `depth` levels deep.
 ///
 /// `Ok` says that whole items were there, and that the reader failed where a further one would begin, before a byte of
-/// it came. Over a reader that fails only where bytes are missing that is the end of a sequence (RFC 8742).
+/// it came. Over a reader that fails only where bytes are missing that is the end of a sequence (RFC 8742). Of a strict
+/// decoder it says that each item was there in its shortest spelling (RFC 7049, 3.9).
 ///
 /// The error is that of `skip_item` on the item that could not be read, with what it consumed. Strings go through
 /// `buffer`. No memory is taken but for the stack, of which each level takes a frame.
@@ -50,9 +52,9 @@ pub fn check<R: Read>(
     ensures told { (due : List ℕ) → IsReadyToSkip R.Read (length buffer.old) decoder.old due
         → ChecksTold R.Read depth due decoder.old result decoder.new }
     ensures exactly { (due : List ℕ) → IsReadyToSkip R.Read (length buffer.old) decoder.old due
-        → (IsOk result ↔ IsSequence depth due) }
+        → (IsOk result ↔ IsSequence (strict_of decoder.old) depth due) }
     ensures number { (due : List ℕ) (count : ℕ) → IsReadyToSkip R.Read (length buffer.old) decoder.old due
-        → AreItems false depth count due → IfOk result (λ sequence. sequence.items ≡ count) }
+        → AreItems (strict_of decoder.old) depth count due → IfOk result (λ sequence. sequence.items ≡ count) }
 {
     let start = decoder.offset();
     let mut items = 0;

@@ -1,6 +1,7 @@
 //! One item, and nothing behind it.
 
-ghost use Rattle.std.specs.Prelude.{◌≡◌, ◌≤◌, ◌↔◌, ℕ, List, length, IsOk, false};
+ghost use Rattle.std.specs.Prelude.{◌≡◌, ◌≤◌, ◌↔◌, ℕ, List, length, IsOk};
+ghost use Rattle.ciborium_ll.specs.Decoding.{strict_of};
 ghost use Rattle.ciborium_ll.specs.Items.{IsItem};
 ghost use Rattle.cbor_skip.specs.SkippingTold.{IsReadyToSkip};
 ghost use Rattle.cbor_look.specs.Singles.{ChecksOne, ChecksOneTold, EndsOne};
@@ -23,7 +24,8 @@ pub enum NotOne<E> {
 /// Reads one item, with tags, arrays and maps nested at most `depth` levels deep, and the end behind it.
 ///
 /// `Ok` says that one whole item was there, and that the reader failed behind it before a byte more came. Over a reader
-/// that fails only where bytes are missing that is the end. What follows an item is read for as long as one title.
+/// that fails only where bytes are missing that is the end. What follows an item is read for as long as one title. Of a
+/// strict decoder it says that the item was there in its shortest spelling (RFC 7049, 3.9).
 ///
 /// `Item` carries the error of `skip_item`. `More` names the offset behind the item.
 pub fn check_one<R: Read>(
@@ -37,7 +39,7 @@ pub fn check_one<R: Read>(
     ensures told { (due : List ℕ) → IsReadyToSkip R.Read (length buffer.old) decoder.old due
         → ChecksOneTold R.Read depth due decoder.old result decoder.new }
     ensures exactly { (due : List ℕ) → IsReadyToSkip R.Read (length buffer.old) decoder.old due
-        → (IsOk result ↔ IsItem false depth due) }
+        → (IsOk result ↔ IsItem (strict_of decoder.old) depth due) }
 {
     let start = decoder.offset();
     if let Err(error) = skip_item(decoder, depth, buffer) {

@@ -98,48 +98,49 @@ abbrev pub IsWell : Verdict → Type 0
 IsWell (v.Well items bytes) = Unit {0}
 IsWell verdict = ⊥
 
--- the bytes are what is wanted: with `--one` one item, else a sequence of items (RFC 8742, 2)
-abbrev pub IsWanted : Bool → ℕ → List ℕ → Type 0
-IsWanted true depth due = IsItem false depth due
-IsWanted false depth due = IsSequence depth due
+-- the bytes are what is wanted: with `--one` one item, else a sequence of items (RFC 8742, 2); with `--strict` in their
+-- shortest spelling (RFC 7049, 3.9)
+abbrev pub IsWanted : Bool → Bool → ℕ → List ℕ → Type 0
+IsWanted true strict depth due = IsItem strict depth due
+IsWanted false strict depth due = IsSequence strict depth due
 
--- `Stops depth due start verdict`: what stops the read of an item in front of these bytes, which begin at the offset,
--- is so named, with its offset
-abbrev pub Stops : ℕ → List ℕ → ℕ → Verdict → Type 0
-Stops depth due start (v.Syntax place) = (fault : HasItemFault depth due) × (at : ℕ)
+-- `Stops strict depth due start verdict`: what stops the read of an item in front of these bytes, which begin at the
+-- offset, is so named, with its offset
+abbrev pub Stops : Bool → ℕ → List ℕ → ℕ → Verdict → Type 0
+Stops strict depth due start (v.Syntax place) = (fault : HasItemFault strict depth due) × (at : ℕ)
     × (fault.answer ≡ Syntax at) × (place ≡ start + at)
-Stops depth due start (v.Short place) = (fault : HasItemFault depth due)
+Stops strict depth due start (v.Short place) = (fault : HasItemFault strict depth due)
     × (fault.answer ≡ Short) × (place ≡ start + length fault.before + fault.consumed)
-Stops depth due start (v.Break place) = (fault : HasEarlyBreak depth due) × (place ≡ start + length fault.before)
-Stops depth due start (v.Deep place) = (fault : HasDeepNest depth due) × (place ≡ start + length fault.before)
-Stops depth due start verdict = ⊥
+Stops strict depth due start (v.Break place) = (fault : HasEarlyBreak strict depth due) × (place ≡ start + length fault.before)
+Stops strict depth due start (v.Deep place) = (fault : HasDeepNest strict depth due) × (place ≡ start + length fault.before)
+Stops strict depth due start verdict = ⊥
 
 -- so many items, and behind them bytes in which the read of a further one stops, of which the fault is named
-pub record StopsBehind (depth count : ℕ) (due : List ℕ) (start : ℕ) (verdict : Verdict) : Type 0 where
+pub record StopsBehind (strict : Bool) (depth count : ℕ) (due : List ℕ) (start : ℕ) (verdict : Verdict) : Type 0 where
   pub before : List ℕ
   pub ahead : List ℕ
-  pub are_items : AreItems false depth count before
+  pub are_items : AreItems strict depth count before
   pub is : due ≡ before ++ ahead
-  pub stops : Stops depth ahead (start + length before) verdict
+  pub stops : Stops strict depth ahead (start + length before) verdict
 
 -- one item, and from this offset on some bytes behind it
-pub record HasMore (depth : ℕ) (due : List ℕ) (start place : ℕ) : Type 0 where
-  pub front : ItemInFront depth due
+pub record HasMore (strict : Bool) (depth : ℕ) (due : List ℕ) (start place : ℕ) : Type 0 where
+  pub front : ItemInFront strict depth due
   pub some : front.rest ≡ [] → ⊥
   pub at : place ≡ start + length front.item
 
 -- what is found of a sequence from this offset on: all its items and bytes, or the first fault
-abbrev pub FindsAll : ℕ → List ℕ → ℕ → Verdict → Type 0
-FindsAll depth due start (v.Well items bytes) = AreItems false depth items due × (bytes ≡ length due)
-FindsAll depth due start verdict = (count : ℕ) × StopsBehind depth count due start verdict
+abbrev pub FindsAll : Bool → ℕ → List ℕ → ℕ → Verdict → Type 0
+FindsAll strict depth due start (v.Well items bytes) = AreItems strict depth items due × (bytes ≡ length due)
+FindsAll strict depth due start verdict = (count : ℕ) × StopsBehind strict depth count due start verdict
 
 -- what is found where one item is wanted
-abbrev pub FindsOne : ℕ → List ℕ → ℕ → Verdict → Type 0
-FindsOne depth due start (v.Well items bytes) = (items ≡ 1) × IsItem false depth due × (bytes ≡ length due)
-FindsOne depth due start (v.More place) = HasMore depth due start place
-FindsOne depth due start verdict = StopsBehind depth 0 due start verdict
+abbrev pub FindsOne : Bool → ℕ → List ℕ → ℕ → Verdict → Type 0
+FindsOne strict depth due start (v.Well items bytes) = (items ≡ 1) × IsItem strict depth due × (bytes ≡ length due)
+FindsOne strict depth due start (v.More place) = HasMore strict depth due start place
+FindsOne strict depth due start verdict = StopsBehind strict depth 0 due start verdict
 
 -- either, as is wanted
-abbrev pub Finds : Bool → ℕ → List ℕ → ℕ → Verdict → Type 0
-Finds true depth due start verdict = FindsOne depth due start verdict
-Finds false depth due start verdict = FindsAll depth due start verdict
+abbrev pub Finds : Bool → Bool → ℕ → List ℕ → ℕ → Verdict → Type 0
+Finds true strict depth due start verdict = FindsOne strict depth due start verdict
+Finds false strict depth due start verdict = FindsAll strict depth due start verdict

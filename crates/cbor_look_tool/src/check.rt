@@ -1,7 +1,7 @@
 //! The word `check`.
 
-ghost use Rattle.std.specs.Prelude.{◌≡◌, ◌≤◌, ◌↔◌, ℕ, List, false};
-ghost use Rattle.ciborium_ll.specs.Decoding.{offset_of};
+ghost use Rattle.std.specs.Prelude.{◌≡◌, ◌≤◌, ◌↔◌, ℕ, List};
+ghost use Rattle.ciborium_ll.specs.Decoding.{offset_of, strict_of};
 ghost use Rattle.ciborium_ll.specs.Items.{IsItem};
 ghost use Rattle.cbor_skip.specs.SkippingTold.{IsReadyToSkip};
 ghost use Rattle.cbor_look.specs.Sequences.{IsSequence};
@@ -65,9 +65,9 @@ where
     requires { depth ≤ 256 }
     ensures says { Says R.Read one depth 512 decoder.old result decoder.new }
     ensures exactly { (due : List ℕ) → IsReadyToSkip R.Read 512 decoder.old due
-        → (IsWell result ↔ IsWanted one depth due) }
+        → (IsWell result ↔ IsWanted one (strict_of decoder.old) depth due) }
     ensures told { (due : List ℕ) → IsReadyToSkip R.Read 512 decoder.old due
-        → Finds one depth due (offset_of decoder.old) result }
+        → Finds one (strict_of decoder.old) depth due (offset_of decoder.old) result }
 {
     if one {
         single(decoder, depth)
@@ -83,9 +83,9 @@ where
     requires { depth ≤ 256 }
     ensures says { SaysItems R.Read depth 512 decoder.old result decoder.new }
     ensures exactly { (due : List ℕ) → IsReadyToSkip R.Read 512 decoder.old due
-        → (IsWell result ↔ IsSequence depth due) }
+        → (IsWell result ↔ IsSequence (strict_of decoder.old) depth due) }
     ensures told { (due : List ℕ) → IsReadyToSkip R.Read 512 decoder.old due
-        → FindsAll depth due (offset_of decoder.old) result }
+        → FindsAll (strict_of decoder.old) depth due (offset_of decoder.old) result }
 {
     let mut buffer = [0; BUFFER_SIZE];
     let answer = check(decoder, depth, &mut buffer);
@@ -112,9 +112,9 @@ where
     requires { depth ≤ 256 }
     ensures says { SaysOne R.Read depth 512 decoder.old result decoder.new }
     ensures exactly { (due : List ℕ) → IsReadyToSkip R.Read 512 decoder.old due
-        → (IsWell result ↔ IsItem false depth due) }
+        → (IsWell result ↔ IsItem (strict_of decoder.old) depth due) }
     ensures told { (due : List ℕ) → IsReadyToSkip R.Read 512 decoder.old due
-        → FindsOne depth due (offset_of decoder.old) result }
+        → FindsOne (strict_of decoder.old) depth due (offset_of decoder.old) result }
 {
     let mut buffer = [0; BUFFER_SIZE];
     let answer = check_one(decoder, depth, &mut buffer);

@@ -1,5 +1,5 @@
 -- Items that follow one another, over any reader, where only their number is known.
-use Rattle.std.proofs.Common.{◌≡◌, ℕ, suc, ◌*◌, List, [], ◌++◌, Some, None, Result, Ok, Err}
+use Rattle.std.proofs.Common.{◌≡◌, ℕ, suc, ◌*◌, Bool, List, [], ◌++◌, Some, None, Result, Ok, Err}
 use Rattle.std.proofs.Common.{refl, sym, ap, subst, ◌∙◌, arith, append_assoc, append-nil, false}
 use Rattle.ciborium_ll.specs.Types.Read.{Ghosts}
 use Rattle.ciborium_ll.specs.Types.Header.{Header}
@@ -11,15 +11,16 @@ use Rattle.ciborium_ll.proofs.DecodingLaws.{Passes-none, Passes-then}
 use Rattle.cbor_skip.specs.declared.SkipError.{SkipError}
 use Rattle.cbor_skip.specs.Due.{IsNest, item_count}
 use Rattle.cbor_skip.specs.Skipping.{ReadsItem, ReadsCounted, SkipsCounted, SkipsWithin, StopsItem, StopsCounted}
-use Rattle.cbor_skip.specs.Skipping.{SkipsItem}
+use Rattle.cbor_skip.specs.Skipping.{SkipsItem, strictness}
 use Rattle.cbor_skip.proofs.ItemSteps.{reads_nest, stops_nest, no_items_read}
+use Rattle.cbor_skip.proofs.StrictnessLaws.{items_looser, due_looser, passed_keeps}
 
 -- an item and then others
-item_first : (d n : ℕ) (u v : List ℕ) → IsItem false d u → AreItems false d n v → AreItems false d (suc n) (u ++ v)
-item_first d n u v (more_items {title = t} {rest = w} p g c no_items) i =
+item_first : (s : Bool) (d n : ℕ) (u v : List ℕ) → IsItem s d u → AreItems s d n v → AreItems s d (suc n) (u ++ v)
+item_first s d n u v (more_items {title = t} {rest = w} p g c no_items) i =
     let joined : t ++ (w ++ v) ≡ (t ++ (w ++ [])) ++ v =
     ap (λ (z : List ℕ). t ++ (z ++ v)) (sym (append-nil w)) ∙ sym (append_assoc t (w ++ []) v) in
-    subst (λ (z : List ℕ). AreItems false d (suc n) z) joined (more_items p tt c i)
+    subst (λ (z : List ℕ). AreItems s d (suc n) z) joined (more_items p g c i)
 
 -- a header that counts items is a nest's
 pub counted_nest : (x : Header) (n : ℕ) → item_count x ≡ Some n → IsNest x
@@ -68,14 +69,18 @@ module _ {R E : Type 0} (source : Ghosts R E) where
       → SkipsCounted source n d room now result new → SkipsCounted source (suc n) d room old result new
   item_then n d room old now first (Ok done) new others = record {
     items = first.item ++ others.items;
-    are_items = item_first d n first.item others.items first.is_item others.are_items;
+    are_items = item_first (strictness old) d n first.item others.items first.is_item
+        (items_looser (strictness old) (strictness now) (passed_keeps source first.passed) d n others.items
+        others.are_items);
     passed = Passes-then source old now new first.item others.items first.passed others.passed;
   }
   item_then n d room old now first (Err error) new others = record {
     before = suc others.before;
     items = first.item ++ others.items;
     more = (let less = others.more in omega (arith, less));
-    are_items = item_first d others.before first.item others.items first.is_item others.are_items;
+    are_items = item_first (strictness old) d others.before first.item others.items first.is_item
+        (items_looser (strictness old) (strictness now) (passed_keeps source first.passed) d others.before others.items
+        others.are_items);
     between = others.between;
     passed = Passes-then source old now others.between first.item others.items first.passed others.passed;
     stops = others.stops;
@@ -96,7 +101,7 @@ module _ {R E : Type 0} (source : Ghosts R E) where
       → SkipsCounted source n d room old result new → SkipsWithin source x d room old result new
   counted_within (h.Tag m) n d room old is (Ok done) new reads =
       let one : n ≡ 1 = cc in
-      let items = subst (λ (k : ℕ). AreItems false d k reads.items) one reads.are_items in
+      let items = subst (λ (k : ℕ). AreItems (strictness old) d k reads.items) one reads.are_items in
       record { rest = reads.items; completes = tag items; passed = reads.passed }
   counted_within (h.Tag m) n d room old is (Err error) new stops = record {
     count = stops.before;
@@ -109,7 +114,7 @@ module _ {R E : Type 0} (source : Ghosts R E) where
   }
   counted_within (h.Array (Some m)) n d room old is (Ok done) new reads =
       let same : n ≡ m = cc in
-      let items = subst (λ (k : ℕ). AreItems false d k reads.items) same reads.are_items in
+      let items = subst (λ (k : ℕ). AreItems (strictness old) d k reads.items) same reads.are_items in
       record { rest = reads.items; completes = array items; passed = reads.passed }
   counted_within (h.Array (Some m)) n d room old is (Err error) new stops = record {
     count = stops.before;
@@ -123,7 +128,7 @@ module _ {R E : Type 0} (source : Ghosts R E) where
   counted_within (h.Array None) n d room old is result new skips = absurd cc
   counted_within (h.Map (Some m)) n d room old is (Ok done) new reads =
       let twice : n ≡ 2 * m = cc in
-      let items = subst (λ (k : ℕ). AreItems false d k reads.items) twice reads.are_items in
+      let items = subst (λ (k : ℕ). AreItems (strictness old) d k reads.items) twice reads.are_items in
       record { rest = reads.items; completes = pairs items; passed = reads.passed }
   counted_within (h.Map (Some m)) n d room old is (Err error) new stops = record {
     count = stops.before;
@@ -174,14 +179,16 @@ module _ {R E : Type 0} (source : Ghosts R E) where
       record { item = reads.items; is_item = reads.are_items; passed = reads.passed }
   one_item d room old (Err error) new stops =
       let inner = stops.stops in
-      let none : stops.items ≡ [] = no_items_read d stops.before stops.items stops.more stops.are_items in
+      let none : stops.items ≡ [] = no_items_read (strictness old) d stops.before stops.items stops.more
+      stops.are_items in
       let passed =
       Passes-then source old stops.between inner.between stops.items inner.bytes stops.passed inner.passed in
       record {
         bytes = inner.bytes;
         levels = inner.levels;
         closable = inner.closable;
-        due = inner.due;
+        due = due_looser (strictness old) (strictness stops.between) (passed_keeps source stops.passed) false d
+            inner.bytes inner.levels inner.closable inner.due;
         between = inner.between;
         passed = subst (λ (z : List ℕ). Passes source old (z ++ inner.bytes) inner.between) none passed;
         stops = inner.stops;

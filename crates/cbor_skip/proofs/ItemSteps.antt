@@ -1,7 +1,7 @@
 -- The steps of the read of an item, over any reader.
 use Rattle.std.proofs.Common.{◌≡◌, ℕ, zero, suc, ◌<◌, ◌*◌, Bool, true, false, List, [], ◌∷◌, ◌++◌, length, Option}
 use Rattle.std.proofs.Common.{Some, None, Result, Ok, Err, refl, sym, ap, subst, ◌∙◌, inl, arith, append_assoc}
-use Rattle.std.proofs.Common.{append-nil}
+use Rattle.std.proofs.Common.{append-nil, length-append}
 use Rattle.ciborium_ll.specs.Types.Read.{Ghosts}
 use Rattle.ciborium_ll.specs.Types.Header.{Header}
 use Rattle.ciborium_ll.specs.Types.Header.TheVariants as h
@@ -12,9 +12,11 @@ use Rattle.ciborium_ll.specs.Strings.{Kind, Bytes, Text, kind_header, IsString, 
 use Rattle.ciborium_ll.specs.Strings.IsString.{definite, indefinite}
 use Rattle.ciborium_ll.specs.Elements.{AreWritable}
 use Rattle.ciborium_ll.specs.Items.{Completes, byte_string, text_string, open_bytes, open_text, tag, array, pairs}
-use Rattle.ciborium_ll.specs.Items.{open_array, open_pairs, AreItems, no_items, more_items, IsItem}
+use Rattle.ciborium_ll.specs.Items.{open_array, open_pairs, AreItems, no_items, more_items, IsItem, IsTakenTitle}
+use Rattle.ciborium_ll.specs.Items.{AreTakenStrings}
 use Rattle.ciborium_ll.specs.Decoding.{Passes, PullsHeader, PullsTitle, IsSteady}
-use Rattle.ciborium_ll.specs.Skipping.{SkipsWhole}
+use Rattle.ciborium_ll.specs.Skipping.{IsTakenBehind, SkipsWhole}
+use Rattle.ciborium_ll.proofs.Lists.{same_front}
 use Rattle.ciborium_ll.proofs.TitleLaws.{IsTitle-shortest, title_in_range}
 use Rattle.ciborium_ll.proofs.StringLaws.{fronts}
 use Rattle.ciborium_ll.proofs.NestLaws.{alone_bytes}
@@ -23,65 +25,74 @@ use Rattle.cbor_skip.specs.declared.SkipError.{SkipError}
 use Rattle.cbor_skip.specs.declared.SkipError.TheVariants as s
 use Rattle.cbor_skip.specs.declared.remaining.Remaining.{Remaining}
 use Rattle.cbor_skip.specs.declared.remaining.Remaining.TheVariants as r
-use Rattle.cbor_skip.specs.Due.{here, within}
+use Rattle.cbor_skip.specs.Due.{here, within, may_close}
 use Rattle.cbor_skip.specs.Remaining.{IsRemaining, is_done, closes}
 use Rattle.cbor_skip.specs.Skipping.{StopsDue, StopsTitle, StopsItem, ReadsItem, SkipsItem, ReadsWithin, StopsWithin}
-use Rattle.cbor_skip.specs.Skipping.{SkipsWithin}
+use Rattle.cbor_skip.specs.Skipping.{SkipsWithin, strictness}
 use Rattle.cbor_skip.proofs.RemainingLaws.{takes_more}
+use Rattle.cbor_skip.proofs.StrictnessLaws.{completes_looser, items_looser, due_looser, strict_by, pulled_taken}
+use Rattle.cbor_skip.proofs.StrictnessLaws.{pulled_keeps, passed_keeps}
 
 -- ---- lists of items
 
 -- a title and what completes it are an item
-pub item_of : (d : ℕ) (t rest : List ℕ) (x : Header) → IsTitle t x → Completes false d x rest
-    → IsItem false d (t ++ rest)
-item_of d t rest x p c = subst (λ (z : List ℕ). IsItem false d (t ++ z)) (append-nil rest) (more_items p tt c no_items)
+pub item_of : (s : Bool) (d : ℕ) (t rest : List ℕ) (x : Header) → IsTitle t x → IsTakenTitle s t x
+    → Completes s d x rest → IsItem s d (t ++ rest)
+item_of s d t rest x p g c = subst (λ (z : List ℕ). IsItem s d (t ++ z)) (append-nil rest) (more_items p g c no_items)
 
 -- one item more
-pub items_item : (d n : ℕ) (u v : List ℕ) → AreItems false d n u → IsItem false d v → AreItems false d (suc n) (u ++ v)
-items_item d n u v no_items i = i
-items_item d n u v (more_items {count = m} {title = t} {rest = w} {others = a} {header = x} p g c others) i =
+pub items_item : (s : Bool) (d n : ℕ) (u v : List ℕ) → AreItems s d n u → IsItem s d v → AreItems s d (suc n) (u ++ v)
+items_item s d n u v no_items i = i
+items_item s d n u v (more_items {count = m} {title = t} {rest = w} {others = a} {header = x} p g c others) i =
     let whole : t ++ (w ++ (a ++ v)) ≡ (t ++ (w ++ a)) ++ v =
     sym (append_assoc t (w ++ a) v ∙ ap (λ (z : List ℕ). t ++ z) (append_assoc w a v)) in
-    subst (λ (z : List ℕ). AreItems false d (suc (suc m)) z) whole (more_items p tt c (items_item d m a v others i))
+    subst (λ (z : List ℕ). AreItems s d (suc (suc m)) z) whole (more_items p g c (items_item s d m a v others i))
 
 -- what completes a tag is one item
-one_of : (n d : ℕ) (rest : List ℕ) → Completes false (suc d) (h.Tag n) rest → IsItem false d rest
-one_of n d rest (tag i) = i
+one_of : (s : Bool) (n d : ℕ) (rest : List ℕ) → Completes s (suc d) (h.Tag n) rest → IsItem s d rest
+one_of s n d rest (tag i) = i
 
 -- of less than one item nothing was read
-pub no_items_read : (d count : ℕ) (items : List ℕ) → count < 1 → AreItems false d count items → items ≡ []
-no_items_read d count items less no_items = refl
-no_items_read d count items less (more_items p g c i) = absurd (omega (arith, less))
+pub no_items_read : (s : Bool) (d count : ℕ) (items : List ℕ) → count < 1 → AreItems s d count items → items ≡ []
+no_items_read s d count items less no_items = refl
+no_items_read s d count items less (more_items p g c i) = absurd (omega (arith, less))
 
 -- ---- a string behind its header
 
-completes_body : (d : ℕ) (k : Kind) (b : List ℕ) → IsWritable k b
-    → Completes false d (kind_header k (Some (length b))) b
-completes_body d Bytes b sound = byte_string refl
-completes_body d Text b sound = text_string refl sound
+completes_body : (s : Bool) (d : ℕ) (k : Kind) (b : List ℕ) → IsWritable k b
+    → Completes s d (kind_header k (Some (length b))) b
+completes_body s d Bytes b sound = byte_string refl
+completes_body s d Text b sound = text_string refl sound
 
-completes_open : (d : ℕ) (k : Kind) (x : List ℕ) (bs : List (List ℕ)) → AreStrings k x bs → AreWritable k bs
-    → Completes false d (kind_header k None) (x ++ 0xff ∷ [])
-completes_open d Bytes x bs strings sound = open_bytes strings tt
-completes_open d Text x bs strings sound = open_text strings tt sound
+completes_open : (s : Bool) (d : ℕ) (k : Kind) (x : List ℕ) (bs : List (List ℕ)) → AreStrings k x bs
+    → AreTakenStrings s k x bs → AreWritable k bs → Completes s d (kind_header k None) (x ++ 0xff ∷ [])
+completes_open s d Bytes x bs strings taken sound = open_bytes strings taken
+completes_open s d Text x bs strings taken sound = open_text strings taken sound
 
 -- what follows a string's title is the rest of an item
-string_completes : (d : ℕ) (k : Kind) (len : Option ℕ) (t rest w : List ℕ) (bs : List (List ℕ))
+string_completes : (s : Bool) (d : ℕ) (k : Kind) (len : Option ℕ) (t rest w : List ℕ) (bs : List (List ℕ))
     → IsTitle t (kind_header k len)
-    → IsString k w bs → t ++ rest ≡ w → AreWritable k bs → Completes false d (kind_header k len) rest
-string_completes d k len t rest w bs p (definite {title = t'} {body = b} p') e sound =
+    → IsString k w bs → t ++ rest ≡ w → IsTakenBehind s k len rest bs → AreWritable k bs
+    → Completes s d (kind_header k len) rest
+string_completes s d k len t rest w bs p (definite {title = t'} {body = b} p') e taken sound =
     let f = fronts k t t' rest b len (Some (length b)) p p' e in
     let same : Some (length b) ≡ len = sym f.1 in
     let behind : b ≡ rest = sym f.2 in
-    subst (λ (z : List ℕ). Completes false d (kind_header k len) z) behind
-    (subst (λ (o : Option ℕ). Completes false d (kind_header k o) b) same (completes_body d k b sound.0))
-string_completes d k len t rest w bs p (indefinite {title = t'} {strings = x} p' strings) e sound =
+    subst (λ (z : List ℕ). Completes s d (kind_header k len) z) behind
+    (subst (λ (o : Option ℕ). Completes s d (kind_header k o) b) same (completes_body s d k b sound.0))
+string_completes s d k len t rest w bs p (indefinite {title = t'} {strings = x} p' strings) e taken sound =
     let f = fronts k t t' rest (x ++ 0xff ∷ []) len None p p' e in
     let same : None ≡ len = sym f.1 in
     let behind : x ++ 0xff ∷ [] ≡ rest = sym f.2 in
-    subst (λ (z : List ℕ). Completes false d (kind_header k len) z) behind
-    (subst (λ (o : Option ℕ). Completes false d (kind_header k o) (x ++ 0xff ∷ [])) same
-    (completes_open d k x bs strings sound))
+    let parts = subst (λ (o : Option ℕ). IsTakenBehind s k o rest bs) (sym same) taken in
+    let both : x ++ 0xff ∷ [] ≡ parts.0 ++ 0xff ∷ [] = behind ∙ parts.1 in
+    let counted = ap length both in
+    let one = same_front x parts.0 (0xff ∷ []) (0xff ∷ [])
+    (omega (arith, counted, length-append x (0xff ∷ []), length-append parts.0 (0xff ∷ []))) both in
+    let flat = subst (λ (z : List ℕ). AreTakenStrings s k z bs) (sym one.0) parts.2 in
+    subst (λ (z : List ℕ). Completes s d (kind_header k len) z) behind
+    (subst (λ (o : Option ℕ). Completes s d (kind_header k o) (x ++ 0xff ∷ [])) same
+    (completes_open s d k x bs strings flat sound))
 
 module _ {R E : Type 0} (source : Ghosts R E) where
   -- ---- one item
@@ -94,36 +105,42 @@ module _ {R E : Type 0} (source : Ghosts R E) where
 
   -- an item is a title, and what completes it
   reads_item : {d : ℕ} {old titled new : Decoder R} {x : Header} {rest : List ℕ} → PullsTitle source old x titled
-      → (IsSteady source old → IsSteady source titled) → Completes false d x rest → Passes source titled rest new
+      → (IsSteady source old → IsSteady source titled) → Completes (strictness old) d x rest
+      → Passes source titled rest new
       → ReadsItem source d old new
   reads_item {d = d} {old = old} {titled = titled} {new = new} {x = x} {rest = rest} title steady completes passed =
       record {
         item = title.title ++ rest;
-        is_item = item_of d title.title rest x title.is_title completes;
+        is_item = item_of (strictness old) d title.title rest x title.is_title (pulled_taken source title) completes;
         passed = Passes-then source old titled new title.title rest (pulled_first title steady) passed;
       }
 
   pub reads_plain : {d : ℕ} {old titled : Decoder R} {x : Header} → PullsTitle source old x titled
-      → (IsSteady source old → IsSteady source titled) → Completes false d x [] → ReadsItem source d old titled
+      → (IsSteady source old → IsSteady source titled) → Completes (strictness old) d x [] → ReadsItem source d old titled
   reads_plain {titled = titled} title steady completes = reads_item title steady completes (Passes-none source titled)
 
   pub reads_string : {d : ℕ} {old titled new : Decoder R} (k : Kind) (len : Option ℕ)
       → PullsTitle source old (kind_header k len) titled → (IsSteady source old → IsSteady source titled)
       → SkipsWhole source k len titled new → ReadsItem source d old new
-  reads_string {d = d} k len title steady whole =
+  reads_string {d = d} {old = old} {titled = titled} k len title steady whole =
       let x = kind_header k len in
       let shortest = IsTitle-shortest x (title_in_range title.title x title.is_title) in
       let completes =
-      string_completes d k len (shortest_title x) whole.behind _ whole.bodies shortest whole.is_string refl
-      whole.sound in
-      reads_item title steady completes whole.passed
+      string_completes titled.strict d k len (shortest_title x) whole.behind _ whole.bodies shortest whole.is_string
+      refl whole.taken whole.sound in
+      let keeps : strictness old ≡ true → titled.strict ≡ true =
+      λ on. title.mode ∙ (strict_by old.waiting old.strict on).0 in
+      reads_item title steady (completes_looser (strictness old) titled.strict keeps d x whole.behind completes)
+      whole.passed
 
   pub reads_nest : {d levels : ℕ} {old titled new : Decoder R} {x : Header} → suc levels ≡ d
       → PullsTitle source old x titled
       → (IsSteady source old → IsSteady source titled) → ReadsWithin source x levels titled new
       → ReadsItem source d old new
-  reads_nest {old = old} {new = new} level title steady inner =
-      subst (λ (n : ℕ). ReadsItem source n old new) level (reads_item title steady inner.completes inner.passed)
+  reads_nest {levels = levels} {old = old} {titled = titled} {new = new} {x = x} level title steady inner =
+      let completes = completes_looser (strictness old) (strictness titled) (pulled_keeps source title) (suc levels) x
+      inner.rest inner.completes in
+      subst (λ (n : ℕ). ReadsItem source n old new) level (reads_item title steady completes inner.passed)
 
   -- an error where the item begins
   pub stops_here : {outer : Bool} {d room : ℕ} {old : Decoder R} {error : SkipError E} {new : Decoder R}
@@ -151,9 +168,15 @@ module _ {R E : Type 0} (source : Ghosts R E) where
       {new : Decoder R}
       → suc levels ≡ d → PullsTitle source old x titled → (IsSteady source old → IsSteady source titled)
       → StopsWithin source x levels room titled error new → StopsItem source outer d room old error new
-  stops_nest {outer = outer} {room = room} {old = old} {titled = titled} {error = error} {new = new} level title steady
-      stops =
+  stops_nest {outer = outer} {levels = levels} {room = room} {old = old} {titled = titled} {x = x} {error = error}
+      {new = new} level title steady stops =
       let inner = stops.stops in
+      let items = items_looser (strictness old) (strictness titled) (pulled_keeps source title) levels stops.count
+      stops.items stops.are_items in
+      let keeps : strictness old ≡ true → strictness stops.between ≡ true =
+      λ on. passed_keeps source stops.passed (pulled_keeps source title on) in
+      let due = due_looser (strictness old) (strictness stops.between) keeps (may_close x stops.count) levels
+      inner.bytes inner.levels inner.closable inner.due in
       let first = pulled_first title steady in
       let rest =
       Passes-then source titled stops.between inner.between stops.items inner.bytes stops.passed inner.passed in
@@ -161,7 +184,7 @@ module _ {R E : Type 0} (source : Ghosts R E) where
         bytes = title.title ++ (stops.items ++ inner.bytes);
         levels = inner.levels;
         closable = inner.closable;
-        due = within title.is_title stops.takes_more stops.are_items inner.due;
+        due = within title.is_title (pulled_taken source title) stops.takes_more items due;
         between = inner.between;
         passed = Passes-then source old titled inner.between title.title (stops.items ++ inner.bytes) first rest;
         stops = inner.stops;
@@ -174,7 +197,7 @@ module _ {R E : Type 0} (source : Ghosts R E) where
     pub count : ℕ
     pub is_remaining : IsRemaining x count remaining
     pub items : List ℕ
-    pub are_items : AreItems false d count items
+    pub are_items : AreItems (strictness old) d count items
     pub passed : Passes source old items now
 
   pub none_read : {x : Header} {d : ℕ} {old : Decoder R} {remaining : Remaining} → IsRemaining x 0 remaining
@@ -186,13 +209,16 @@ module _ {R E : Type 0} (source : Ghosts R E) where
       → SoFar x d old now remaining
       → ((count : ℕ) → IsRemaining x count remaining → IsRemaining x (suc count) after) → ReadsItem source d now new
       → SoFar x d old new after
-  one_more {d = d} {old = old} {now = now} {new = new} so_far goes_on item = record {
-    count = suc so_far.count;
-    is_remaining = goes_on so_far.count so_far.is_remaining;
-    items = so_far.items ++ item.item;
-    are_items = items_item d so_far.count so_far.items item.item so_far.are_items item.is_item;
-    passed = Passes-then source old now new so_far.items item.item so_far.passed item.passed;
-  }
+  one_more {d = d} {old = old} {now = now} {new = new} so_far goes_on item =
+      let one = items_looser (strictness old) (strictness now) (passed_keeps source so_far.passed) d 1 item.item
+      item.is_item in
+      record {
+        count = suc so_far.count;
+        is_remaining = goes_on so_far.count so_far.is_remaining;
+        items = so_far.items ++ item.item;
+        are_items = items_item (strictness old) d so_far.count so_far.items item.item so_far.are_items one;
+        passed = Passes-then source old now new so_far.items item.item so_far.passed item.passed;
+      }
 
   -- an error where one more is due; the buffer was as long from the start
   pub stops_within : {x : Header} {d room room' : ℕ} {old now new : Decoder R} {error : SkipError E}
@@ -214,43 +240,43 @@ module _ {R E : Type 0} (source : Ghosts R E) where
       }
 
   -- all items were read, by what remains
-  all_read : (x : Header) (d count : ℕ) (items : List ℕ) (remaining : Remaining) → IsRemaining x count remaining
-      → is_done remaining ≡ true → AreItems false d count items → Completes false (suc d) x items
-  all_read (h.Tag n) d count items (r.Items zero) is done i =
-      let one : count ≡ 1 = omega (arith, is) in tag (subst (λ (m : ℕ). AreItems false d m items) one i)
-  all_read (h.Array (Some n)) d count items (r.Items zero) is done i =
-      let all : count ≡ n = omega (arith, is) in array (subst (λ (m : ℕ). AreItems false d m items) all i)
-  all_read (h.Map (Some n)) d count items (r.Pairs zero) is done i =
-      let all : count ≡ 2 * n = omega (arith, is) in pairs (subst (λ (m : ℕ). AreItems false d m items) all i)
-  all_read (h.Tag n) d count items (r.Items (suc m)) is done i = absurd cc
-  all_read (h.Array (Some n)) d count items (r.Items (suc m)) is done i = absurd cc
-  all_read (h.Map (Some n)) d count items (r.Pairs (suc m)) is done i = absurd cc
-  all_read (h.Map (Some n)) d count items (r.Value m) is done i = absurd cc
-  all_read (h.Array None) d count items r.OpenItems is done i = absurd cc
-  all_read (h.Map None) d count items r.OpenPairs is done i = absurd cc
-  all_read (h.Map None) d count items r.OpenValue is done i = absurd cc
-  all_read x d count items remaining is done i = absurd is
+  all_read : (s : Bool) (x : Header) (d count : ℕ) (items : List ℕ) (remaining : Remaining) → IsRemaining x count remaining
+      → is_done remaining ≡ true → AreItems s d count items → Completes s (suc d) x items
+  all_read s (h.Tag n) d count items (r.Items zero) is done i =
+      let one : count ≡ 1 = omega (arith, is) in tag (subst (λ (m : ℕ). AreItems s d m items) one i)
+  all_read s (h.Array (Some n)) d count items (r.Items zero) is done i =
+      let all : count ≡ n = omega (arith, is) in array (subst (λ (m : ℕ). AreItems s d m items) all i)
+  all_read s (h.Map (Some n)) d count items (r.Pairs zero) is done i =
+      let all : count ≡ 2 * n = omega (arith, is) in pairs (subst (λ (m : ℕ). AreItems s d m items) all i)
+  all_read s (h.Tag n) d count items (r.Items (suc m)) is done i = absurd cc
+  all_read s (h.Array (Some n)) d count items (r.Items (suc m)) is done i = absurd cc
+  all_read s (h.Map (Some n)) d count items (r.Pairs (suc m)) is done i = absurd cc
+  all_read s (h.Map (Some n)) d count items (r.Value m) is done i = absurd cc
+  all_read s (h.Array None) d count items r.OpenItems is done i = absurd cc
+  all_read s (h.Map None) d count items r.OpenPairs is done i = absurd cc
+  all_read s (h.Map None) d count items r.OpenValue is done i = absurd cc
+  all_read s x d count items remaining is done i = absurd is
 
   pub ended : {x : Header} {d : ℕ} {old now : Decoder R} {remaining : Remaining} → SoFar x d old now remaining
       → is_done remaining ≡ true → ReadsWithin source x d old now
-  ended {x = x} {d = d} {remaining = remaining} so_far done = record {
+  ended {x = x} {d = d} {old = old} {remaining = remaining} so_far done = record {
     rest = so_far.items;
-    completes = all_read x d so_far.count so_far.items remaining so_far.is_remaining done so_far.are_items;
+    completes = all_read (strictness old) x d so_far.count so_far.items remaining so_far.is_remaining done so_far.are_items;
     passed = so_far.passed;
   }
 
   -- a break ended them, by what remains
-  all_closed : (x : Header) (d count : ℕ) (items : List ℕ) (remaining : Remaining) → IsRemaining x count remaining
-      → closes remaining ≡ true → AreItems false d count items → Completes false (suc d) x (items ++ 0xff ∷ [])
-  all_closed (h.Array None) d count items r.OpenItems is may i = open_array i
-  all_closed (h.Map None) d count items r.OpenPairs is may i =
-      open_pairs is.0 (subst (λ (m : ℕ). AreItems false d m items) is.1 i)
-  all_closed (h.Tag n) d count items (r.Items m) is may i = absurd cc
-  all_closed (h.Array (Some n)) d count items (r.Items m) is may i = absurd cc
-  all_closed (h.Map (Some n)) d count items (r.Pairs m) is may i = absurd cc
-  all_closed (h.Map (Some n)) d count items (r.Value m) is may i = absurd cc
-  all_closed (h.Map None) d count items r.OpenValue is may i = absurd cc
-  all_closed x d count items remaining is may i = absurd is
+  all_closed : (s : Bool) (x : Header) (d count : ℕ) (items : List ℕ) (remaining : Remaining) → IsRemaining x count remaining
+      → closes remaining ≡ true → AreItems s d count items → Completes s (suc d) x (items ++ 0xff ∷ [])
+  all_closed s (h.Array None) d count items r.OpenItems is may i = open_array i
+  all_closed s (h.Map None) d count items r.OpenPairs is may i =
+      open_pairs is.0 (subst (λ (m : ℕ). AreItems s d m items) is.1 i)
+  all_closed s (h.Tag n) d count items (r.Items m) is may i = absurd cc
+  all_closed s (h.Array (Some n)) d count items (r.Items m) is may i = absurd cc
+  all_closed s (h.Map (Some n)) d count items (r.Pairs m) is may i = absurd cc
+  all_closed s (h.Map (Some n)) d count items (r.Value m) is may i = absurd cc
+  all_closed s (h.Map None) d count items r.OpenValue is may i = absurd cc
+  all_closed s x d count items remaining is may i = absurd is
 
   pub closed : {x : Header} {d : ℕ} {old now new : Decoder R} {remaining : Remaining} → SoFar x d old now remaining
       → closes remaining ≡ true → PullsTitle source now h.Break new → (IsSteady source now → IsSteady source new)
@@ -261,7 +287,8 @@ module _ {R E : Type 0} (source : Ghosts R E) where
       let passed = Passes-pulled source old now new so_far.items h.Break title so_far.passed still in
       record {
         rest = so_far.items ++ 0xff ∷ [];
-        completes = all_closed x d so_far.count so_far.items remaining so_far.is_remaining may so_far.are_items;
+        completes = all_closed (strictness old) x d so_far.count so_far.items remaining so_far.is_remaining may
+            so_far.are_items;
         passed = subst (λ (z : List ℕ). Passes source old (so_far.items ++ z) new) lone passed;
       }
 
@@ -269,20 +296,22 @@ module _ {R E : Type 0} (source : Ghosts R E) where
 
   only_read : (n d : ℕ) (old new : Decoder R) → ReadsWithin source (h.Tag n) d old new → ReadsItem source d old new
   only_read n d old new reads =
-      record { item = reads.rest; is_item = one_of n d reads.rest reads.completes; passed = reads.passed }
+      record { item = reads.rest; is_item = one_of (strictness old) n d reads.rest reads.completes; passed = reads.passed }
 
   only_stops : (n d room : ℕ) (old : Decoder R) (error : SkipError E) (new : Decoder R)
       → StopsWithin source (h.Tag n) d room old error new → StopsItem source false d room old error new
   only_stops n d room old error new stops =
       let inner = stops.stops in
-      let none : stops.items ≡ [] = no_items_read d stops.count stops.items stops.takes_more stops.are_items in
+      let none : stops.items ≡ [] = no_items_read (strictness old) d stops.count stops.items stops.takes_more
+      stops.are_items in
       let passed =
       Passes-then source old stops.between inner.between stops.items inner.bytes stops.passed inner.passed in
       record {
         bytes = inner.bytes;
         levels = inner.levels;
         closable = inner.closable;
-        due = inner.due;
+        due = due_looser (strictness old) (strictness stops.between) (passed_keeps source stops.passed)
+            (may_close (h.Tag n) stops.count) d inner.bytes inner.levels inner.closable inner.due;
         between = inner.between;
         passed = subst (λ (z : List ℕ). Passes source old (z ++ inner.bytes) inner.between) none passed;
         stops = inner.stops;

@@ -1,5 +1,5 @@
 -- What a skip means where the bytes are told: the premises turn the general statement into an exact one.
-use Rattle.std.proofs.Common.{◌≡◌, ℕ, ◌+◌, ◌-◌, ◌^◌, ◌<◌, ◌≤◌, ◌⊎◌, Bool, false, List, [], ◌∷◌, ◌++◌, length, drop}
+use Rattle.std.proofs.Common.{◌≡◌, ℕ, ◌+◌, ◌-◌, ◌^◌, ◌<◌, ◌≤◌, ◌⊎◌, Bool, true, false, List, [], ◌∷◌, ◌++◌, length, drop}
 use Rattle.std.proofs.Common.{take, min, Option, Some, None, Result, Ok, Err, IsOk, ◌↔◌, refl, sym, ap, subst, ◌∙◌}
 use Rattle.std.proofs.Common.{inl, inr, arith, append_assoc, length-append}
 use Rattle.std.proofs.lemmas.List.{length-take}
@@ -11,12 +11,14 @@ use Rattle.ciborium_ll.specs.Types.Header.TheVariants as h
 use Rattle.ciborium_ll.specs.Types.Decoder.{Decoder}
 use Rattle.ciborium_ll.specs.Types.Error.{Error}
 use Rattle.ciborium_ll.specs.Types.Error.TheVariants as e
-use Rattle.ciborium_ll.specs.Title.{BeginsRefused, title_len}
+use Rattle.ciborium_ll.specs.Title.{IsTitle, BeginsRefused, title_len}
 use Rattle.ciborium_ll.specs.Strings.{Kind, Text, kind_header, IsMisplaced}
 use Rattle.ciborium_ll.specs.Text.{IsCharacters, BeginsNoText}
 use Rattle.ciborium_ll.specs.Faults.{Place, Due, In, BodyDue, IsAtTitle, IsInside, FirstFault, CutTitle, NoTitle}
 use Rattle.ciborium_ll.specs.Faults.{OtherTitle, DamagedText, CutBody, CutDamagedText, Short, Syntax, with_front}
-use Rattle.ciborium_ll.specs.Decoding.{view, next_read, Passes, PullsHeader, PullsTitle, IsSteady}
+use Rattle.ciborium_ll.specs.Items.{AreTakenStrings}
+use Rattle.ciborium_ll.specs.Decoding.{view, next_read, Passes, PullsHeader, PullsTitle, IsSteady, RefusesTitle}
+use Rattle.ciborium_ll.specs.Decoding.{RefusesLonger}
 use Rattle.ciborium_ll.specs.Finishing.{EndsBody, RestFails, RestPasses, RestDamaged}
 use Rattle.ciborium_ll.specs.Skipping.{SkipsString, SkipsInside, MeetsNoTitle, MeetsBody}
 use Rattle.ciborium_ll.proofs.TitleLaws.{shortest_no_longer}
@@ -26,14 +28,15 @@ use Rattle.ciborium_ll.proofs.CopyingTold.{consumes_told, next_read_small, first
 use Rattle.ciborium_ll.proofs.Lists.{first_counted, front_of, front_behind}
 use Rattle.ciborium_ll.proofs.FrontLaws.{no_text_behind}
 use Rattle.ciborium_ll.proofs.NestLaws.{alone_bytes, open_alone}
-use Rattle.ciborium_ll.proofs.DecodingLaws.{lenient_refuses, Passes-then, Passes-pulled, Passes-none}
+use Rattle.ciborium_ll.proofs.DecodingLaws.{Passes-then, Passes-pulled, Passes-none}
 use Rattle.cbor_skip.specs.declared.SkipError.{SkipError}
 use Rattle.cbor_skip.specs.declared.SkipError.TheVariants as s
 use Rattle.cbor_skip.specs.Due.{ItemDue, ReachesItem, at_item, at_string, at_body, at_piece}
-use Rattle.cbor_skip.specs.ItemFaults.{ItemInFront}
-use Rattle.cbor_skip.specs.Skipping.{SkipsItem, StopsItem, ReadsItem}
+use Rattle.cbor_skip.specs.ItemFaults.{ItemInFront, Fault, LongTitle, NestedOpen}
+use Rattle.cbor_skip.specs.Skipping.{SkipsItem, StopsItem, ReadsItem, strictness}
 use Rattle.cbor_skip.specs.SkippingTold.{IsReadyToSkip, SkipsFront, MeetsItemFault, FindsBreak, FindsNest, SkipsTold}
 use Rattle.cbor_skip.proofs.DueLaws.{no_item_fault, no_early_break, no_deep_nest}
+use Rattle.cbor_skip.proofs.StrictnessLaws.{behind_taken, inside_when, strict_by, strict_mode, strict_settled}
 
 -- the row of a text's body that is no text, as a whole or however it goes on
 damage : (before : List ℕ) (len start : ℕ) (read rest behind : List ℕ) → rest ≡ read ++ behind → length read ≤ len
@@ -74,7 +77,7 @@ module _ {R E : Type 0} (source : Ghosts R E) (depth room : ℕ) (old : Decoder 
 
   -- an item was read: it stood in front
   front_told : view source old ≡ Some due → (new : Decoder R) → ReadsItem source depth old new
-      → SkipsFront source depth due old new
+      → SkipsFront source (strictness old) depth due old new
   front_told told new reads =
       let c = came_told told reads.item new reads.passed in
       record {
@@ -85,7 +88,8 @@ module _ {R E : Type 0} (source : Ghosts R E) (depth room : ℕ) (old : Decoder 
 
   -- `Ok` means that over any reader that tells its bytes
   pub ok_told : view source old ≡ Some due → (new : Decoder R) (result : Result (Unit {0}) (SkipError E))
-      → SkipsItem source depth room old result new → IsOk result → SkipsFront source depth due old new
+      → SkipsItem source depth room old result new → IsOk result
+      → SkipsFront source (strictness old) depth due old new
   ok_told told new (Ok done) reads ok = front_told told new reads
   ok_told told new (Err error) stops ok = absurd cc
 
@@ -96,12 +100,11 @@ module _ {R E : Type 0} (source : Ghosts R E) (depth room : ℕ) (old : Decoder 
     -- ---- where a title is due
 
     no_title : (bytes : List ℕ) (place : Place) (at : Decoder R) (start : ℕ) (new : Decoder R)
-        → ReachesItem depth bytes place
-        → IsAtTitle place → Passes source old bytes at → PullsHeader source at (Err (e.Syntax start)) new
-        → (n : ℕ) × (start ≡ old.offset + n) × MeetsItemFault source depth due (Syntax n) old new
-    no_title bytes place at start new reach title passed fails =
+        → ReachesItem (strictness old) depth bytes place
+        → IsAtTitle place → Passes source old bytes at → RefusesTitle source at start new
+        → (n : ℕ) × (start ≡ old.offset + n) × MeetsItemFault source (strictness old) depth due (Syntax n) old new
+    no_title bytes place at start new reach title passed refused =
         let c = came bytes at passed in
-        let refused = lenient_refuses source at start new (passed.mode ∙ ready.lenient) fails in
         let byte = refused.byte in
         let gone = consumes_told _ _ c.rest (byte ∷ []) c.left refused.bytes in (
           length bytes,
@@ -116,7 +119,7 @@ module _ {R E : Type 0} (source : Ghosts R E) (depth room : ℕ) (old : Decoder 
               consumed = 1;
               reach = reach;
               is = c.parts;
-              fault = NoTitle title (subst BeginsRefused (sym gone.2) refused.refused);
+              fault = Fault (NoTitle title (subst BeginsRefused (sym gone.2) refused.refused));
             };
             answered = refl;
             left = gone.1 ∙ ap Some (refused_byte c.rest gone.0 byte gone.2);
@@ -124,10 +127,75 @@ module _ {R E : Type 0} (source : Ghosts R E) (depth room : ℕ) (old : Decoder 
           },
         )
 
+    -- a strict decoder takes only the shortest spelling
+    strictly : (bytes : List ℕ) (at : Decoder R) → Passes source old bytes at → at.strict ≡ true
+        → strictness old ≡ true
+    strictly bytes at passed on =
+        let mode = sym passed.mode ∙ on in
+        strict_settled old.waiting old.strict (ready.none_waits mode) ∙ mode
+
+    -- a title that it refuses
+    long_title : (bytes : List ℕ) (place : Place) (at : Decoder R) (start : ℕ) (new : Decoder R)
+        → ReachesItem (strictness old) depth bytes place
+        → IsAtTitle place → Passes source old bytes at → RefusesLonger source at start new
+        → (n : ℕ) × (start ≡ old.offset + n) × MeetsItemFault source (strictness old) depth due (Syntax n) old new
+    long_title bytes place at start new reach title passed longer =
+        let c = came bytes at passed in
+        let gone = consumes_told _ _ c.rest longer.title c.left longer.bytes in (
+          length bytes,
+          longer.place ∙ passed.offset,
+          record {
+            fault = record {
+              before = bytes;
+              place = place;
+              ahead = c.rest;
+              answer = Syntax (length bytes);
+              written = [];
+              consumed = length longer.title;
+              reach = reach;
+              is = c.parts;
+              fault = LongTitle longer.header gone.0 (strictly bytes at passed longer.strict) title longer.is_title
+                  longer.not_strict gone.2;
+            };
+            answered = refl;
+            left = gone.1 ∙ ap Some (sym (ap (drop (length longer.title)) gone.2 ∙ drop-append_seam longer.title gone.0));
+            offset = omega (arith, longer.offset, passed.offset);
+          },
+        )
+
+    -- an open within a string, which it refuses
+    nested_open : (bytes : List ℕ) (k : Kind) (at : Decoder R) (header : Header) (start : ℕ) (new : Decoder R)
+        → ReachesItem (strictness old) depth bytes (In k) → Passes source old bytes at
+        → PullsTitle source at header new → at.strict ≡ true → header ≡ kind_header k None → start ≡ at.offset
+        → (n : ℕ) × (start ≡ old.offset + n) × MeetsItemFault source (strictness old) depth due (Syntax n) old new
+    nested_open bytes k at header start new reach passed pulled on is place =
+        let c = came bytes at passed in
+        let title = pulled.title in
+        let gone = consumes_told _ _ c.rest title c.left pulled.bytes in (
+          length bytes,
+          place ∙ passed.offset,
+          record {
+            fault = record {
+              before = bytes;
+              place = In k;
+              ahead = c.rest;
+              answer = Syntax (length bytes);
+              written = [];
+              consumed = length title;
+              reach = reach;
+              is = c.parts;
+              fault = NestedOpen gone.0 (strictly bytes at passed on) (subst (IsTitle title) is pulled.is_title) gone.2;
+            };
+            answered = refl;
+            left = gone.1 ∙ ap Some (sym (ap (drop (length title)) gone.2 ∙ drop-append_seam title gone.0));
+            offset = omega (arith, pulled.offset, passed.offset);
+          },
+        )
+
     cut_title : (bytes : List ℕ) (place : Place) (at : Decoder R) (fault : E) (new : Decoder R)
-        → ReachesItem depth bytes place
+        → ReachesItem (strictness old) depth bytes place
         → IsAtTitle place → Passes source old bytes at → PullsHeader source at (Err (e.Io fault)) new
-        → MeetsItemFault source depth due Short old new
+        → MeetsItemFault source (strictness old) depth due Short old new
     cut_title bytes place at fault new reach title passed fails =
         let c = came bytes at passed in
         let cut = fails.steady (passed.steady ready.steady) in
@@ -144,7 +212,7 @@ module _ {R E : Type 0} (source : Ghosts R E) (depth room : ℕ) (old : Decoder 
             consumed = min 1 (length c.rest);
             reach = reach;
             is = c.parts;
-            fault = CutTitle title ends.0;
+            fault = Fault (CutTitle title ends.0);
           };
           answered = refl;
           left = gone.1 ∙ ap Some (first_gone c.rest fails.read gone.0 gone.2 ends.1 ∙ sym (first_counted c.rest));
@@ -175,9 +243,9 @@ module _ {R E : Type 0} (source : Ghosts R E) (depth room : ℕ) (old : Decoder 
         )
 
     other_title : (bytes : List ℕ) (k : Kind) (at : Decoder R) (header : Header) (start : ℕ) (new : Decoder R)
-        → ReachesItem depth bytes (In k) → Passes source old bytes at → PullsTitle source at header new
+        → ReachesItem (strictness old) depth bytes (In k) → Passes source old bytes at → PullsTitle source at header new
         → IsMisplaced k header → start ≡ at.offset
-        → (n : ℕ) × (start ≡ old.offset + n) × MeetsItemFault source depth due (Syntax n) old new
+        → (n : ℕ) × (start ≡ old.offset + n) × MeetsItemFault source (strictness old) depth due (Syntax n) old new
     other_title bytes k at header start new reach passed pulled misplaced place =
         let c = came bytes at passed in
         let title = pulled.title in
@@ -194,7 +262,7 @@ module _ {R E : Type 0} (source : Ghosts R E) (depth room : ℕ) (old : Decoder 
               consumed = length title;
               reach = reach;
               is = c.parts;
-              fault = OtherTitle header gone.0 pulled.is_title misplaced gone.2;
+              fault = Fault (OtherTitle header gone.0 pulled.is_title misplaced gone.2);
             };
             answered = refl;
             left = gone.1 ∙ ap Some (sym (ap (drop (length title)) gone.2 ∙ drop-append_seam title gone.0));
@@ -205,8 +273,8 @@ module _ {R E : Type 0} (source : Ghosts R E) (depth room : ℕ) (old : Decoder 
     -- ---- where a body is due
 
     cut_body : (bytes : List ℕ) (k : Kind) (len start : ℕ) (at new : Decoder R)
-        → ReachesItem depth bytes (BodyDue k len start)
-        → Passes source old bytes at → RestFails source k [] len at new → MeetsItemFault source depth due Short old new
+        → ReachesItem (strictness old) depth bytes (BodyDue k len start)
+        → Passes source old bytes at → RestFails source k [] len at new → MeetsItemFault source (strictness old) depth due Short old new
     cut_body bytes k len start at new reach passed fails =
         let c = came bytes at passed in
         let part = fails.part in
@@ -230,11 +298,11 @@ module _ {R E : Type 0} (source : Ghosts R E) (depth room : ℕ) (old : Decoder 
             consumed = length part.read;
             reach = reach;
             is = c.parts;
-            fault = CutBody part.front (part.left ++ gone.0)
+            fault = Fault (CutBody part.front (part.left ++ gone.0)
                 (omega (arith, few, behind, fails.more, length-append part.read gone.0)) split part.sound
                 (omega (arith, parts, length-append part.front part.left))
                 (omega (arith, parts, part.few, length-append part.front part.left))
-                (omega (arith, behind, length-append part.read gone.0));
+                (omega (arith, behind, length-append part.read gone.0)));
           };
           answered = refl;
           left =
@@ -267,9 +335,9 @@ module _ {R E : Type 0} (source : Ghosts R E) (depth room : ℕ) (old : Decoder 
         )
 
     damaged_body : (bytes : List ℕ) (k : Kind) (len start : ℕ) (at new : Decoder R)
-        → ReachesItem depth bytes (BodyDue k len start)
+        → ReachesItem (strictness old) depth bytes (BodyDue k len start)
         → Passes source old bytes at → RestDamaged source k [] len at new
-        → MeetsItemFault source depth due (Syntax start) old new
+        → MeetsItemFault source (strictness old) depth due (Syntax start) old new
     damaged_body bytes k len start at new reach passed fails =
         let c = came bytes at passed in
         let gone = consumes_told _ _ c.rest fails.read c.left fails.passed.consumed in
@@ -281,9 +349,9 @@ module _ {R E : Type 0} (source : Ghosts R E) (depth room : ℕ) (old : Decoder 
             answer = Syntax start;
             written = with_front [] Text len [];
             consumed = length fails.read;
-            reach = subst (λ (j : Kind). ReachesItem depth bytes (BodyDue j len start)) fails.textual reach;
+            reach = subst (λ (j : Kind). ReachesItem (strictness old) depth bytes (BodyDue j len start)) fails.textual reach;
             is = c.parts;
-            fault = damage bytes len start fails.read c.rest gone.0 gone.2 fails.within fails.no_text;
+            fault = Fault (damage bytes len start fails.read c.rest gone.0 gone.2 fails.within fails.no_text);
           };
           answered = refl;
           left = gone.1 ∙ ap Some (sym (ap (drop (length fails.read)) gone.2 ∙ drop-append_seam fails.read gone.0));
@@ -293,9 +361,9 @@ module _ {R E : Type 0} (source : Ghosts R E) (depth room : ℕ) (old : Decoder 
     -- a body that fails, by its answer
     body_told : (bytes : List ℕ) (k : Kind) (len start at-place : ℕ) (at : Decoder R) (error : Error E)
         (new : Decoder R)
-        → ReachesItem depth bytes (BodyDue k len start) → Passes source old bytes at → at-place ≡ old.offset + start
+        → ReachesItem (strictness old) depth bytes (BodyDue k len start) → Passes source old bytes at → at-place ≡ old.offset + start
         → EndsBody source k [] len room at-place at (Err error) new
-        → SkipsTold source depth due old (Err (s.Read error)) new
+        → SkipsTold source (strictness old) depth due old (Err (s.Read error)) new
     body_told bytes k len start at-place at (e.Io fault) new reach passed place ends =
         cut_body bytes k len start at new reach passed ends
     body_told bytes k len start at-place at (e.Syntax n) new reach passed place ends =
@@ -306,12 +374,14 @@ module _ {R E : Type 0} (source : Ghosts R E) (depth room : ℕ) (old : Decoder 
 
     -- a title that fails, by its answer
     title_told : (bytes : List ℕ) (place : Place) (at : Decoder R) (error : Error E) (new : Decoder R)
-        → ReachesItem depth bytes place → IsAtTitle place → Passes source old bytes at
-        → PullsHeader source at (Err error) new → SkipsTold source depth due old (Err (s.Read error)) new
+        → ReachesItem (strictness old) depth bytes place → IsAtTitle place → Passes source old bytes at
+        → PullsHeader source at (Err error) new → SkipsTold source (strictness old) depth due old (Err (s.Read error)) new
     title_told bytes place at (e.Io fault) new reach title passed fails =
         cut_title bytes place at fault new reach title passed fails
-    title_told bytes place at (e.Syntax n) new reach title passed fails =
-        no_title bytes place at n new reach title passed fails
+    title_told bytes place at (e.Syntax n) new reach title passed (inl refused) =
+        no_title bytes place at n new reach title passed refused
+    title_told bytes place at (e.Syntax n) new reach title passed (inr longer) =
+        long_title bytes place at n new reach title passed longer
     title_told bytes place at e.TooLong new reach title passed fails = absurd (title_fits bytes at new passed fails)
     title_told bytes place at e.Waiting new reach title passed fails = absurd fails
 
@@ -322,7 +392,7 @@ module _ {R E : Type 0} (source : Ghosts R E) (depth room : ℕ) (old : Decoder 
       bytes : List ℕ
       levels : ℕ
       closable : Bool
-      item : ItemDue false depth bytes levels closable
+      item : ItemDue (strictness old) false depth bytes levels closable
       passed : Passes source old bytes at
       pulled : PullsTitle source at (kind_header k None) titled
       steady : IsSteady source at → IsSteady source titled
@@ -330,7 +400,7 @@ module _ {R E : Type 0} (source : Ghosts R E) (depth room : ℕ) (old : Decoder 
     -- a beginning of it was read
     record Inside (k : Kind) (between : Decoder R) : Type 0 where
       bytes : List ℕ
-      reach : ReachesItem depth bytes (In k)
+      reach : ReachesItem (strictness old) depth bytes (In k)
       passed : Passes source old bytes between
 
     inside : {k : Kind} {at titled between : Decoder R} → Opened k at titled → SkipsInside source k titled between
@@ -342,23 +412,29 @@ module _ {R E : Type 0} (source : Ghosts R E) (depth room : ℕ) (old : Decoder 
         let opened =
         Passes-pulled source at at titled [] (kind_header k None) pulled (Passes-none source at) first.steady in
         let behind = Passes-then source at titled between title part.behind opened part.passed in
+        let taken = inside_when (strictness old) k (title ++ part.behind) part.bodies (λ on.
+        let mode = pulled.mode ∙ (first.passed.mode ∙ (strict_by old.waiting old.strict on).0) in (
+          part.behind,
+          ap (λ (z : List ℕ). z ++ part.behind) lone,
+          subst (λ (b : Bool). AreTakenStrings b k part.behind part.bodies) mode part.taken,
+        )) in
         record {
           bytes = first.bytes ++ (title ++ part.behind);
           reach = at_string first.item
-              (subst (λ (z : List ℕ). IsInside k (z ++ part.behind) part.bodies) (sym lone) part.inside) part.sound;
+              (subst (λ (z : List ℕ). IsInside k (z ++ part.behind) part.bodies) (sym lone) part.inside) taken part.sound;
           passed = Passes-then source old at between first.bytes (title ++ part.behind) first.passed behind;
         }
 
     -- no further title
     meets_title : {k : Kind} {at titled : Decoder R} (error : Error E) (new : Decoder R) → Opened k at titled
-        → MeetsNoTitle source k titled error new → SkipsTold source depth due old (Err (s.Read error)) new
+        → MeetsNoTitle source k titled error new → SkipsTold source (strictness old) depth due old (Err (s.Read error)) new
     meets_title {k = k} error new first meets =
         let w = inside first meets.part in
         title_told w.bytes (In k) meets.between error new w.reach tt w.passed meets.fails
 
     -- the body of a further title
     meets_body : {k : Kind} {at titled : Decoder R} (error : Error E) (new : Decoder R) → Opened k at titled
-        → MeetsBody source k room titled error new → SkipsTold source depth due old (Err (s.Read error)) new
+        → MeetsBody source k room titled error new → SkipsTold source (strictness old) depth due old (Err (s.Read error)) new
     meets_body {k = k} error new first meets =
         let w = inside first meets.part in
         let title = meets.pulled in
@@ -366,25 +442,27 @@ module _ {R E : Type 0} (source : Ghosts R E) (depth room : ℕ) (old : Decoder 
         λ ready. meets.steady (first.steady (first.passed.steady ready)) in
         let header = kind_header k (Some meets.len) in
         let behind = Passes-pulled source old meets.between meets.titled w.bytes header title w.passed still in
-        let reach = at_piece w.reach title.is_title in
+        let reach = at_piece w.reach title.is_title (behind_taken source w.passed title) in
         body_told (w.bytes ++ title.title) k meets.len (length w.bytes) meets.between.offset meets.titled error new
         reach behind w.passed.offset meets.ends
 
     -- a string of indefinite length that fails, by its answer
     open_told : {k : Kind} {at titled : Decoder R} (error : Error E) (new : Decoder R) → Opened k at titled
         → SkipsString source k None room titled (Err error) new
-        → SkipsTold source depth due old (Err (s.Read error)) new
+        → SkipsTold source (strictness old) depth due old (Err (s.Read error)) new
     open_told (e.Io fault) new first (inl meets) = meets_title (e.Io fault) new first meets
     open_told (e.Io fault) new first (inr meets) = meets_body (e.Io fault) new first meets
     open_told (e.Syntax n) new first (inl meets) = meets_title (e.Syntax n) new first meets
     open_told {k = k} (e.Syntax n) new first (inr (inl meets)) =
         let w = inside first meets.part in
         let other = meets.other in
-        let misplaced : IsMisplaced k other.header = elim other.refused [
-          | inl elsewhere ↦ elsewhere
-          | inr nested ↦ absurd (let on = nested.0 in let off = w.passed.mode ∙ ready.lenient in cc)
-        ] in
-        other_title w.bytes k meets.between other.header n new w.reach w.passed other.pulled misplaced other.place
+        elim other.refused [
+          | inl misplaced ↦
+              other_title w.bytes k meets.between other.header n new w.reach w.passed other.pulled misplaced other.place
+          | inr nested ↦
+              nested_open w.bytes k meets.between other.header n new w.reach w.passed other.pulled nested.0 nested.1
+              other.place
+        ]
     open_told (e.Syntax n) new first (inr (inr meets)) = meets_body (e.Syntax n) new first meets
     open_told e.TooLong new first (inl meets) = meets_title e.TooLong new first meets
     open_told e.TooLong new first (inr meets) = meets_body e.TooLong new first meets
@@ -392,9 +470,9 @@ module _ {R E : Type 0} (source : Ghosts R E) (depth room : ℕ) (old : Decoder 
 
     -- a string that fails, by its length
     string_told : (bytes : List ℕ) (levels : ℕ) (closable : Bool) (k : Kind) (len : Option ℕ) (at titled : Decoder R)
-        (error : Error E) (new : Decoder R) → ItemDue false depth bytes levels closable → Passes source old bytes at
+        (error : Error E) (new : Decoder R) → ItemDue (strictness old) false depth bytes levels closable → Passes source old bytes at
         → PullsTitle source at (kind_header k len) titled → (IsSteady source at → IsSteady source titled)
-        → SkipsString source k len room titled (Err error) new → SkipsTold source depth due old (Err (s.Read error)) new
+        → SkipsString source k len room titled (Err error) new → SkipsTold source (strictness old) depth due old (Err (s.Read error)) new
     string_told bytes levels closable k None at titled error new item passed pulled steady fails =
         let first : Opened k at titled = record {
           bytes = bytes;
@@ -414,13 +492,13 @@ module _ {R E : Type 0} (source : Ghosts R E) (depth room : ℕ) (old : Decoder 
         let start = length (bytes ++ title) - title_len header in
         let place : titled.offset - title_len header ≡ old.offset + start =
         omega (arith, behind.offset, length-append bytes title, shortest_no_longer title header pulled.is_title) in
-        let reach = at_body k (at_item item) pulled.is_title in
+        let reach = at_body k (at_item item) pulled.is_title (behind_taken source passed pulled) in
         body_told (bytes ++ title) k n start (titled.offset - title_len header) titled error new reach behind place ends
 
     -- ---- all answers
 
     break_told : (at : ℕ) (new : Decoder R) → StopsItem source false depth room old (s.Break at) new
-        → FindsBreak source depth due old at new
+        → FindsBreak source (strictness old) depth due old at new
     break_told at new stops =
         let c = came stops.bytes stops.between stops.passed in
         let meets = stops.stops in
@@ -434,7 +512,7 @@ module _ {R E : Type 0} (source : Ghosts R E) (depth room : ℕ) (old : Decoder 
             rest = gone.0;
             levels = stops.levels;
             item_due =
-                subst (λ (b : Bool). ItemDue false depth stops.bytes stops.levels b) meets.not_closable stops.due;
+                subst (λ (b : Bool). ItemDue (strictness old) false depth stops.bytes stops.levels b) meets.not_closable stops.due;
             is = c.parts ∙ ap (λ (z : List ℕ). stops.bytes ++ z) ahead;
           };
           place = meets.place ∙ stops.passed.offset;
@@ -443,7 +521,7 @@ module _ {R E : Type 0} (source : Ghosts R E) (depth room : ℕ) (old : Decoder 
         }
 
     nest_told : (at : ℕ) (new : Decoder R) → StopsItem source false depth room old (s.Deep at) new
-        → FindsNest source depth due old at new
+        → FindsNest source (strictness old) depth due old at new
     nest_told at new stops =
         let c = came stops.bytes stops.between stops.passed in
         let meets = stops.stops in
@@ -455,8 +533,9 @@ module _ {R E : Type 0} (source : Ghosts R E) (depth room : ℕ) (old : Decoder 
             header = meets.header;
             rest = gone.0;
             closable = stops.closable;
-            item_due = subst (λ (n : ℕ). ItemDue false depth stops.bytes n stops.closable) meets.none_left stops.due;
+            item_due = subst (λ (n : ℕ). ItemDue (strictness old) false depth stops.bytes n stops.closable) meets.none_left stops.due;
             is_title = meets.pulled.is_title;
+            taken = behind_taken source stops.passed meets.pulled;
             is_nest = meets.is_nest;
             is = c.parts ∙ ap (λ (z : List ℕ). stops.bytes ++ z) gone.2;
           };
@@ -465,13 +544,12 @@ module _ {R E : Type 0} (source : Ghosts R E) (depth room : ℕ) (old : Decoder 
           offset = omega (arith, meets.pulled.offset, meets.place);
         }
 
-    pub skip_told : (new : Decoder R) (result : Result (Unit {0}) (SkipError E))
-        → SkipsItem source depth room old result new
-        → SkipsTold source depth due old result new
-    skip_told new (Ok done) reads = front_told ready.told new reads
-    skip_told new (Err (s.Break at)) stops = break_told at new stops
-    skip_told new (Err (s.Deep at)) stops = nest_told at new stops
-    skip_told new (Err (s.Read error)) stops =
+    told_by : (new : Decoder R) (result : Result (Unit {0}) (SkipError E)) → SkipsItem source depth room old result new
+        → SkipsTold source (strictness old) depth due old result new
+    told_by new (Ok done) reads = front_told ready.told new reads
+    told_by new (Err (s.Break at)) stops = break_told at new stops
+    told_by new (Err (s.Deep at)) stops = nest_told at new stops
+    told_by new (Err (s.Read error)) stops =
         elim stops.stops [
           | inl fails ↦ title_told stops.bytes Due stops.between error new (at_item stops.due) tt stops.passed fails
           | inr meets ↦
@@ -480,22 +558,32 @@ module _ {R E : Type 0} (source : Ghosts R E) (depth room : ℕ) (old : Decoder 
               stops.due stops.passed meets.pulled meets.steady meets.fails
         ]
 
+    -- where it is ready, it takes the shortest spelling alone where it is strict
+    pub ready_mode : strictness old ≡ old.strict
+    ready_mode = strict_mode old.waiting old.strict ready.none_waits
+
+    pub skip_told : (new : Decoder R) (result : Result (Unit {0}) (SkipError E))
+        → SkipsItem source depth room old result new
+        → SkipsTold source old.strict depth due old result new
+    skip_told new result skips =
+        subst (λ (b : Bool). SkipsTold source b depth due old result new) ready_mode (told_by new result skips)
+
     exactly_told : (new : Decoder R) (result : Result (Unit {0}) (SkipError E))
-        → SkipsTold source depth due old result new
-        → IsOk result ↔ ItemInFront depth due
+        → SkipsTold source old.strict depth due old result new
+        → IsOk result ↔ ItemInFront old.strict depth due
     exactly_told new (Ok done) told = (λ ok. told.front, λ front. refl)
     exactly_told new (Err (s.Break at)) told =
-        (λ ok. absurd cc, λ front. absurd (no_early_break depth due front told.fault))
+        (λ ok. absurd cc, λ front. absurd (no_early_break old.strict depth due front told.fault))
     exactly_told new (Err (s.Deep at)) told =
-        (λ ok. absurd cc, λ front. absurd (no_deep_nest depth due front told.fault))
+        (λ ok. absurd cc, λ front. absurd (no_deep_nest old.strict depth due front told.fault))
     exactly_told new (Err (s.Read (e.Io fault))) told =
-        (λ ok. absurd cc, λ front. absurd (no_item_fault depth due front told.fault))
+        (λ ok. absurd cc, λ front. absurd (no_item_fault old.strict depth due front told.fault))
     exactly_told new (Err (s.Read (e.Syntax at))) told =
-        (λ ok. absurd cc, λ front. absurd (no_item_fault depth due front told.2.fault))
+        (λ ok. absurd cc, λ front. absurd (no_item_fault old.strict depth due front told.2.fault))
     exactly_told new (Err (s.Read e.TooLong)) told = absurd told
     exactly_told new (Err (s.Read e.Waiting)) told = absurd told
 
     pub skip_exactly : (new : Decoder R) (result : Result (Unit {0}) (SkipError E))
         → SkipsItem source depth room old result new
-        → IsOk result ↔ ItemInFront depth due
+        → IsOk result ↔ ItemInFront old.strict depth due
     skip_exactly new result skips = exactly_told new result (skip_told new result skips)

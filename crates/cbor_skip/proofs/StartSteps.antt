@@ -1,5 +1,5 @@
 -- What a title begins tells its header.
-use Rattle.std.proofs.Common.{◌≡◌, ℕ, Option, [], refl, false}
+use Rattle.std.proofs.Common.{◌≡◌, ℕ, Option, [], refl, Bool}
 use Rattle.ciborium_ll.specs.Types.Header.{Header}
 use Rattle.ciborium_ll.specs.Types.Header.TheVariants as h
 use Rattle.ciborium_ll.specs.Items.{Completes, positive, negative, float, simple}
@@ -56,14 +56,15 @@ nest_start (h.Bytes k) nest e = absurd cc
 nest_start (h.Text k) nest e = absurd cc
 
 -- a value is an item by itself
-pub value_start : (depth : ℕ) (header : Header) → start_of header ≡ s.Value → Completes false depth header []
-value_start depth (h.Positive n) e = positive
-value_start depth (h.Negative n) e = negative
-value_start depth (h.Float x) e = float
-value_start depth (h.Simple n) e = simple
-value_start depth (h.Tag n) e = absurd cc
-value_start depth h.Break e = absurd cc
-value_start depth (h.Bytes k) e = absurd cc
-value_start depth (h.Text k) e = absurd cc
-value_start depth (h.Array k) e = absurd cc
-value_start depth (h.Map k) e = absurd cc
+pub value_start : (strict : Bool) (depth : ℕ) (header : Header) → start_of header ≡ s.Value
+    → Completes strict depth header []
+value_start strict depth (h.Positive n) e = positive
+value_start strict depth (h.Negative n) e = negative
+value_start strict depth (h.Float x) e = float
+value_start strict depth (h.Simple n) e = simple
+value_start strict depth (h.Tag n) e = absurd cc
+value_start strict depth h.Break e = absurd cc
+value_start strict depth (h.Bytes k) e = absurd cc
+value_start strict depth (h.Text k) e = absurd cc
+value_start strict depth (h.Array k) e = absurd cc
+value_start strict depth (h.Map k) e = absurd cc

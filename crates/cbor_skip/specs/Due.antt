@@ -1,12 +1,12 @@
 -- How far a read of one item comes in bytes, and what is due there.
-use Rattle.std.specs.Prelude.{ℕ, suc, ◌-◌, ◌*◌, ◌<◌, ◌%◌, ◌==◌, Bool, true, false, List, [], ◌++◌, length, Option}
+use Rattle.std.specs.Prelude.{◌≡◌, ℕ, suc, ◌-◌, ◌*◌, ◌<◌, ◌%◌, ◌==◌, Bool, true, false, List, [], ◌++◌, length, Option}
 use Rattle.std.specs.Prelude.{Some, None}
 use Rattle.ciborium_ll.specs.Types.Header.{Header}
 use Rattle.ciborium_ll.specs.Types.Header.TheVariants as h
-use Rattle.ciborium_ll.specs.Title.{IsTitle, title_len}
+use Rattle.ciborium_ll.specs.Title.{IsTitle, shortest_title, title_len}
 use Rattle.ciborium_ll.specs.Strings.{Kind, kind_header}
 use Rattle.ciborium_ll.specs.Elements.{AreWritable}
-use Rattle.ciborium_ll.specs.Items.{AreItems}
+use Rattle.ciborium_ll.specs.Items.{AreItems, AreTakenStrings, IsTakenTitle}
 use Rattle.ciborium_ll.specs.Faults.{IsInside, Place, Due, In, BodyDue}
 
 -- A nest: a header behind which items stand, one level deeper. It is that of a tag (RFC 7049, 2.4), an array or a map
@@ -42,30 +42,40 @@ may_close (h.Array None) count = true
 may_close (h.Map None) count = count % 2 == 0
 may_close header count = false
 
--- `ItemDue outer depth bytes levels closable`: the bytes are a beginning of an item to the depth, and behind them an
--- item to so many levels is due. `closable` says whether a break may stand in its place; `outer` says it of the whole
-pub data ItemDue : Bool → ℕ → List ℕ → ℕ → Bool → Type 0 where
+-- `ItemDue strict outer depth bytes levels closable`: the bytes are a beginning of an item to the depth, in its
+-- shortest spelling where only that is taken, and behind them an item to so many levels is due. `closable` says whether
+-- a break may stand in its place; `outer` says it of the whole
+pub data ItemDue (strict : Bool) : Bool → ℕ → List ℕ → ℕ → Bool → Type 0 where
   -- nothing was read
-  here : {outer : Bool} {depth : ℕ} → ItemDue outer depth [] depth outer
+  here : {outer : Bool} {depth : ℕ} → ItemDue strict outer depth [] depth outer
   -- a nest's title and some of its items were read, and a beginning of the next one
   within : {outer closable : Bool} {depth levels count : ℕ} {title items more : List ℕ} {header : Header}
-      → IsTitle title header → TakesMore header count → AreItems false depth count items
-      → ItemDue (may_close header count) depth more levels closable
-      → ItemDue outer (suc depth) (title ++ (items ++ more)) levels closable
+      → IsTitle title header → IsTakenTitle strict title header → TakesMore header count
+      → AreItems strict depth count items → ItemDue strict (may_close header count) depth more levels closable
+      → ItemDue strict outer (suc depth) (title ++ (items ++ more)) levels closable
 
--- `ReachesItem depth bytes place`: the bytes are a beginning of an item to the depth, and what is due behind them is
--- the place: an item; within a string a further one or its end; or a body
-pub data ReachesItem (depth : ℕ) : List ℕ → Place → Type 0 where
-  at_item : {bytes : List ℕ} {levels : ℕ} {closable : Bool} → ItemDue false depth bytes levels closable
-      → ReachesItem depth bytes Due
+-- within a string that isn't closed: where only the shortest spelling is taken, behind an open only strings of a
+-- definite length stand, each under a strict title (RFC 7049, 2.2.2 and 3.9)
+abbrev pub IsTakenInside : Bool → Kind → List ℕ → List (List ℕ) → Type 0
+IsTakenInside true kind opens bodies = (strings : List ℕ)
+    × (opens ≡ shortest_title (kind_header kind None) ++ strings) × AreTakenStrings true kind strings bodies
+IsTakenInside false kind opens bodies = Unit {0}
+
+-- `ReachesItem strict depth bytes place`: the bytes are a beginning of an item to the depth, in its shortest spelling
+-- where only that is taken, and what is due behind them is the place: an item; within a string a further one or its
+-- end; or a body
+pub data ReachesItem (strict : Bool) (depth : ℕ) : List ℕ → Place → Type 0 where
+  at_item : {bytes : List ℕ} {levels : ℕ} {closable : Bool} → ItemDue strict false depth bytes levels closable
+      → ReachesItem strict depth bytes Due
   at_string : {bytes opens : List ℕ} {levels : ℕ} {closable : Bool} {bodies : List (List ℕ)} {kind : Kind}
-      → ItemDue false depth bytes levels closable → IsInside kind opens bodies → AreWritable kind bodies
-      → ReachesItem depth (bytes ++ opens) (In kind)
+      → ItemDue strict false depth bytes levels closable → IsInside kind opens bodies
+      → IsTakenInside strict kind opens bodies → AreWritable kind bodies
+      → ReachesItem strict depth (bytes ++ opens) (In kind)
   -- the offset is the end of the title less the length of the shortest one: late, where the title is a longer one
-  at_body : {bytes title : List ℕ} {len : ℕ} (kind : Kind) → ReachesItem depth bytes Due
-      → IsTitle title (kind_header kind (Some len))
-      → ReachesItem depth (bytes ++ title)
+  at_body : {bytes title : List ℕ} {len : ℕ} (kind : Kind) → ReachesItem strict depth bytes Due
+      → IsTitle title (kind_header kind (Some len)) → IsTakenTitle strict title (kind_header kind (Some len))
+      → ReachesItem strict depth (bytes ++ title)
       (BodyDue kind len (length (bytes ++ title) - title_len (kind_header kind (Some len))))
-  at_piece : {bytes title : List ℕ} {len : ℕ} {kind : Kind} → ReachesItem depth bytes (In kind)
-      → IsTitle title (kind_header kind (Some len))
-      → ReachesItem depth (bytes ++ title) (BodyDue kind len (length bytes))
+  at_piece : {bytes title : List ℕ} {len : ℕ} {kind : Kind} → ReachesItem strict depth bytes (In kind)
+      → IsTitle title (kind_header kind (Some len)) → IsTakenTitle strict title (kind_header kind (Some len))
+      → ReachesItem strict depth (bytes ++ title) (BodyDue kind len (length bytes))

@@ -1,5 +1,5 @@
 -- What `skip_item` and its parts do, over any reader. Bytes are spoken of where the reader tells them.
-use Rattle.std.specs.Prelude.{◌≡◌, ℕ, suc, ◌<◌, ◌⊎◌, Bool, false, List, Option, Some, Result, Ok, Err}
+use Rattle.std.specs.Prelude.{◌≡◌, ℕ, suc, ◌<◌, ◌⊎◌, Bool, false, List, Option, Some, None, Result, Ok, Err}
 use Rattle.ciborium_ll.specs.Types.Read.{Ghosts}
 use Rattle.ciborium_ll.specs.Types.Header.{Header}
 use Rattle.ciborium_ll.specs.Types.Header.TheVariants as h
@@ -14,6 +14,15 @@ use Rattle.cbor_skip.specs.declared.Begun.TheVariants as b
 use Rattle.cbor_skip.specs.declared.SkipError.{SkipError}
 use Rattle.cbor_skip.specs.declared.SkipError.TheVariants as s
 use Rattle.cbor_skip.specs.Due.{IsNest, TakesMore, may_close, item_count, ItemDue}
+
+-- whether a decoder takes only the shortest spelling: a header that waits is given as it was pushed, so a strict one does
+-- so where none waits
+abbrev pub strict_unless_waiting : Option Header → Bool → Bool
+strict_unless_waiting None strict = strict
+strict_unless_waiting (Some header) strict = false
+
+abbrev pub strictness : {R : Type 0} → Decoder R → Bool
+strictness decoder = strict_unless_waiting decoder.waiting decoder.strict
 
 module _ {R E : Type 0} (source : Ghosts R E) where
   -- the title of a string came, and the read of the string failed behind it
@@ -55,15 +64,15 @@ module _ {R E : Type 0} (source : Ghosts R E) where
     pub bytes : List ℕ
     pub levels : ℕ
     pub closable : Bool
-    pub due : ItemDue outer depth bytes levels closable
+    pub due : ItemDue (strictness old) outer depth bytes levels closable
     pub between : Decoder R
     pub passed : Passes source old bytes between
     pub stops : StopsDue levels closable room between error new
 
-  -- one item was read
+  -- one item was read, by a strict decoder one in its shortest spelling
   pub record ReadsItem (depth : ℕ) (old new : Decoder R) : Type 0 where
     pub item : List ℕ
-    pub is_item : IsItem false depth item
+    pub is_item : IsItem (strictness old) depth item
     pub passed : Passes source old item new
 
   -- what a title began: an item, which was read whole and is one to any depth, a break, or a nest, which may be one of
@@ -78,7 +87,7 @@ module _ {R E : Type 0} (source : Ghosts R E) where
   -- so many items were read
   pub record ReadsCounted (count depth : ℕ) (old new : Decoder R) : Type 0 where
     pub items : List ℕ
-    pub are_items : AreItems false depth count items
+    pub are_items : AreItems (strictness old) depth count items
     pub passed : Passes source old items new
 
   -- of so many items some were read, and of one more a beginning
@@ -87,7 +96,7 @@ module _ {R E : Type 0} (source : Ghosts R E) where
     pub before : ℕ
     pub items : List ℕ
     pub more : before < count
-    pub are_items : AreItems false depth before items
+    pub are_items : AreItems (strictness old) depth before items
     pub between : Decoder R
     pub passed : Passes source old items between
     pub stops : StopsItem false depth room between error new
@@ -105,7 +114,7 @@ module _ {R E : Type 0} (source : Ghosts R E) where
   -- behind the header of a nest the rest of it was read
   pub record ReadsWithin (header : Header) (depth : ℕ) (old new : Decoder R) : Type 0 where
     pub rest : List ℕ
-    pub completes : Completes false (suc depth) header rest
+    pub completes : Completes (strictness old) (suc depth) header rest
     pub passed : Passes source old rest new
 
   -- behind the header of a nest so many items were read, and of one more a beginning
@@ -114,7 +123,7 @@ module _ {R E : Type 0} (source : Ghosts R E) where
     pub count : ℕ
     pub items : List ℕ
     pub takes_more : TakesMore header count
-    pub are_items : AreItems false depth count items
+    pub are_items : AreItems (strictness old) depth count items
     pub between : Decoder R
     pub passed : Passes source old items between
     pub stops : StopsItem (may_close header count) depth room between error new

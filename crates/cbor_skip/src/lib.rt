@@ -2,10 +2,10 @@
 #![tactic(auto)]
 
 ghost use Rattle.std.specs.Prelude.{◌≡◌, ◌<◌, ◌≤◌, ◌↔◌, ℕ, List, length, IsOk, MatchResult, Some};
-ghost use Rattle.ciborium_ll.specs.Decoding.{MovesOn, offset_of, view};
+ghost use Rattle.ciborium_ll.specs.Decoding.{MovesOn, offset_of, strict_of, view};
 ghost use Rattle.cbor_skip.specs.Due.{IsNest};
 ghost use Rattle.cbor_skip.specs.ItemFaults.{ItemInFront};
-ghost use Rattle.cbor_skip.specs.Skipping.{IsBegun, SkipsItem, SkipsCounted, SkipsWithin, StopsTitle};
+ghost use Rattle.cbor_skip.specs.Skipping.{IsBegun, SkipsItem, SkipsCounted, SkipsWithin, StopsTitle, strictness};
 ghost use Rattle.cbor_skip.specs.SkippingTold.{IsReadyToSkip, SkipsFront, SkipsTold};
 
 pub mod laws;
@@ -169,15 +169,16 @@ fn skip_within<R: Read>(
 /// Skips one item, with tags, arrays and maps nested at most `depth` levels deep (RFC 7049, 2.1 to 2.4).
 ///
 /// A tag, an array and a map take a level, an empty one too; a string takes none. `Ok` says that one whole item was
-/// there, each body of a text UTF-8 by itself, and the decoder is behind it. Strings go through `buffer`. No memory is
-/// taken but for the stack, of which each level takes a frame.
+/// there, each body of a text UTF-8 by itself, and the decoder is behind it; of a strict decoder, that it was there in
+/// its shortest spelling (3.9). Strings go through `buffer`. No memory is taken but for the stack, of which each level
+/// takes a frame.
 ///
 /// `Break` names the offset of a break that stands in place of an item. It may do so only where an array of indefinite
 /// length ends, or such a map behind whole pairs. `Deep` names the offset of a tag, an array or a map for which no
 /// level is left. Both have consumed that title alone behind what they read.
 ///
 /// `Read` carries the decoder's error. `Syntax` names the offset of a title that is none or may not stand within its
-/// string; of a body that is no text the offset of its title, or, where a whole string's title is longer than its
+/// string, and of a strict decoder also of one that isn't strict, or of an open within a string; of a body that is no text the offset of its title, or, where a whole string's title is longer than its
 /// shortest one, of the byte from which the shortest would reach the body. `Io` says that the reader failed, `TooLong`
 /// that the offset can't take the next read.
 ///
@@ -195,11 +196,11 @@ pub fn skip_item<R: Read>(
     requires room { 4 ≤ length buffer.old }
     ensures skipped { SkipsItem R.Read depth (length buffer.old) decoder.old result decoder.new }
     ensures told { (due : List ℕ) → IsReadyToSkip R.Read (length buffer.old) decoder.old due
-        → SkipsTold R.Read depth due decoder.old result decoder.new }
+        → SkipsTold R.Read (strict_of decoder.old) depth due decoder.old result decoder.new }
     ensures exactly { (due : List ℕ) → IsReadyToSkip R.Read (length buffer.old) decoder.old due
-        → (IsOk result ↔ ItemInFront depth due) }
+        → (IsOk result ↔ ItemInFront (strict_of decoder.old) depth due) }
     ensures front { (due : List ℕ) → view R.Read decoder.old ≡ Some due → IsOk result
-        → SkipsFront R.Read depth due decoder.old decoder.new }
+        → SkipsFront R.Read (strictness decoder.old) depth due decoder.old decoder.new }
     ensures moves_on { MovesOn R.Read decoder.old decoder.new }
 {
     skip_items(decoder, 1, depth, buffer)

@@ -1,5 +1,5 @@
 -- A string that is read to its end.
-use Rattle.std.proofs.Common.{◌≡◌, Bool, ℕ, zero, suc, ◌+◌, ◌-◌, ◌^◌, ◌<◌, ◌⊎◌, List, [], ◌∷◌, ◌++◌, length, Option}
+use Rattle.std.proofs.Common.{◌≡◌, Bool, true, false, ℕ, zero, suc, ◌+◌, ◌-◌, ◌^◌, ◌<◌, ◌⊎◌, List, [], ◌∷◌, ◌++◌, length, Option}
 use Rattle.std.proofs.Common.{Some}
 use Rattle.std.proofs.Common.{None, Result, Ok, Err, refl, sym, ap, subst, ◌∙◌, inl, inr, arith, append_assoc}
 use Rattle.std.proofs.Common.{length-append}
@@ -22,8 +22,13 @@ use Rattle.ciborium_ll_decoder.specs.Recoding.{BodyWritten}
 use Rattle.ciborium_ll_decoder.specs.Sides.{sides}
 use Rattle.ciborium_ll_decoder.specs.Finishing.{ReadsRest, BeginsRest, EndsBody}
 use Rattle.ciborium_ll.specs.Skipping.{SkipsWhole, SkipsInside, MeetsBody, StopsInside, SkipsString}
+use Rattle.ciborium_ll_grammar.specs.Elements.{spelling, pieces}
+use Rattle.ciborium_ll_grammar.specs.Items.{AreTakenStrings}
+use Rattle.ciborium_ll_grammar.specs.StrictElements.{AreFlat}
+use Rattle.ciborium_ll_grammar.proofs.ElementLaws.{respell_all}
 use Rattle.ciborium_ll_grammar.proofs.TitleLaws.{IsTitle-shortest}
 use Rattle.ciborium_ll_grammar.proofs.StepLaws.{counted, never}
+use Rattle.ciborium_ll.proofs.StrictRunLaws.{flat}
 use Rattle.ciborium_ll_decoder.proofs.DecodingLaws.{Passes-none, Passes-then, Passes-pulled}
 use Rattle.ciborium_ll_decoder.proofs.NestLaws.{alone_bytes, open_length, title_some, advance_definite, FindsOnly}
 use Rattle.ciborium_ll_decoder.proofs.RecodeLaws.{sound_body, passes_same}
@@ -49,6 +54,19 @@ pub close_string : (k : Kind) (u : List ℕ) (bs : List (List ℕ)) → IsInside
     → IsString k (u ++ 0xff ∷ []) bs
 close_string k u bs (one_open {title = t} {strings = x} p s) = rw (append_assoc t x (0xff ∷ [])) (indefinite p s)
 close_string k u bs (more_open {outer = y} {bodies = ds} i p s) = absurd (never k y ds i)
+
+-- behind one open that isn't closed, strings in their shortest spelling have no open
+flat_inside : (k : Kind) (u : List ℕ) (bs : List (List ℕ)) → IsInsideAt k (suc zero) u bs
+    → AreFlat k (spelling (pieces k bs)) bs
+flat_inside k u bs (one_open {strings = x} p s) =
+    flat k (spelling (pieces k bs)) bs (respell_all k x bs s).strings (omega arith)
+flat_inside k u bs (more_open {outer = y} {bodies = ds} i p s) = absurd (never k y ds i)
+
+-- where only these are taken
+pub taken_strings : (strict : Bool) (k : Kind) (u : List ℕ) (bs : List (List ℕ)) → (strict ≡ true → AreFlat k u bs)
+    → AreTakenStrings strict k u bs
+taken_strings true k u bs flat_ones = flat_ones refl
+taken_strings false k u bs flat_ones = tt
 
 -- ---- the end of a body
 
@@ -141,6 +159,7 @@ module _ {R E : Type 0} (source : Reader R E) (k : Kind) where
         bodies = body ∷ [];
         is_string = definite (subst (λ (n : ℕ). IsTitle title (kind_header k (Some n))) (sym reads.all)
             (IsTitle-shortest (kind_header k (Some len)) range));
+        taken = tt;
         sound = sound_body k body reads.sound;
         passed = reads.passed;
       }
@@ -258,6 +277,17 @@ module _ {R E : Type 0} (source : Reader R E) (k : Kind) where
     among result advances = advances_among source silent k (sides opened tt) (sides now tt) strict result progress
         progress' new mode so_far advances steady
 
+    taken_among : (left : ℕ) (between : Decoder R)
+        → (a : IsAmong source silent k left (sides opened tt) (sides between tt))
+        → AreTakenStrings opened.strict k a.strings a.bodies
+    taken_among left between a =
+        let front = shortest_title (kind_header k None) in
+        taken_strings opened.strict k a.strings a.bodies (λ on.
+        let tight = a.tight on in
+        let one = subst (λ (n : ℕ). IsInsideAt k n (front ++ a.strings) a.bodies) tight.0 a.within in
+        subst (λ (z : List ℕ). AreFlat k z a.bodies) (sym tight.1)
+        (flat_inside k (front ++ a.strings) a.bodies one))
+
     part_of : (left : ℕ) (between : Decoder R) → IsAmong source silent k left (sides opened tt) (sides between tt)
         → SkipsInside source k opened between
     part_of left between a = record {
@@ -265,6 +295,7 @@ module _ {R E : Type 0} (source : Reader R E) (k : Kind) where
       bodies = a.bodies;
       inside =
           counted k left _ _ a.within;
+      taken = taken_among left between a;
       sound = a.sound;
       passed = a.passed;
     }
@@ -282,6 +313,7 @@ module _ {R E : Type 0} (source : Reader R E) (k : Kind) where
           bodies = bodies;
           is_string = subst (λ (z : List ℕ). IsString k z bodies) (append_assoc front strings (0xff ∷ []))
               (close_string k (front ++ strings) bodies last);
+          taken = (strings, refl, taken_among all.left all.between all.among);
           sound = all.among.sound;
           passed = subst (λ (z : List ℕ). Passes source opened z new) (ap (λ (z : List ℕ). strings ++ z) break)
               (Passes-pulled source opened all.between new strings h.Break all.ends.pulled all.among.passed all.steady);

@@ -31,7 +31,7 @@ strict_title : (k : Kind) (o : Option ℕ) (t : List ℕ) → IsTitle t (kind_he
 strict_title k o t p l = record { shortest = tight_title t (kind_header k o) p l; meant = not_small k o }
 
 -- strings that are no longer than their pieces have no open
-flat : (k : Kind) (w : List ℕ) (bs : List (List ℕ)) → AreStrings k w bs → length w ≤ length (spelling (pieces k bs))
+pub flat : (k : Kind) (w : List ℕ) (bs : List (List ℕ)) → AreStrings k w bs → length w ≤ length (spelling (pieces k bs))
     → AreFlat k w bs
 flat k w bs no_strings l = none
 flat k w bs (more_strings {rest = y} {others = es} (definite {title = t} {body = b} p) ss) l =

@@ -1,6 +1,6 @@
 -- What `skip_bytes` and `skip_text` do: a string is read to its end, behind its header. The old decoder stands behind
 -- that header, and the bytes of the string are those of the header's shortest title and then those that are consumed.
-use Rattle.std.specs.Prelude.{ℕ, ◌-◌, ◌⊎◌, List, [], ◌++◌, Option, Some, None, Result, Ok, Err}
+use Rattle.std.specs.Prelude.{◌≡◌, ℕ, ◌-◌, ◌⊎◌, Bool, List, [], ◌∷◌, ◌++◌, Option, Some, None, Result, Ok, Err}
 use Rattle.ciborium_ll_io.specs.declared.io.Read.{Ghosts}
 use Rattle.ciborium_ll_decoder.specs.declared.dec.Decoder.{Decoder}
 use Rattle.ciborium_ll_decoder.specs.declared.dec.Error.{Error}
@@ -9,9 +9,17 @@ use Rattle.ciborium_ll_grammar.specs.Title.{shortest_title, title_len}
 use Rattle.ciborium_ll_grammar.specs.Strings.{Kind, kind_header, IsString}
 use Rattle.ciborium_ll_grammar.specs.Elements.{AreWritable}
 use Rattle.ciborium_ll_grammar.specs.Faults.{IsInside, IsRefusedIn}
+use Rattle.ciborium_ll_grammar.specs.Items.{AreTakenStrings}
 use Rattle.ciborium_ll_decoder.specs.Decoding.{IsSteady, Passes, PullsHeader, PullsTitle}
 use Rattle.ciborium_ll_decoder.specs.Finishing.{EndsBody}
 use Rattle.ciborium_ll_decoder.specs.Segments.{PullsOther}
+
+-- behind an open these strings stand, and then its break: any strings, or where only the shortest spelling is taken
+-- strings of a definite length alone, each under a strict title (RFC 7049, 2.2.2 and 3.9)
+abbrev pub IsTakenBehind : Bool → Kind → Option ℕ → List ℕ → List (List ℕ) → Type 0
+IsTakenBehind strict kind (Some len) behind bodies = Unit {0}
+IsTakenBehind strict kind None behind bodies =
+    (strings : List ℕ) × (behind ≡ strings ++ 0xff ∷ []) × AreTakenStrings strict kind strings bodies
 
 module _ {R E : Type 0} (source : Ghosts R E) (kind : Kind) where
   -- all of the string was read: the bytes behind its header make one string, and its bodies are sound
@@ -19,14 +27,17 @@ module _ {R E : Type 0} (source : Ghosts R E) (kind : Kind) where
     pub behind : List ℕ
     pub bodies : List (List ℕ)
     pub is_string : IsString kind (shortest_title (kind_header kind len) ++ behind) bodies
+    pub taken : IsTakenBehind old.strict kind len behind bodies
     pub sound : AreWritable kind bodies
     pub passed : Passes source old behind new
 
-  -- a beginning of a string of indefinite length was read, behind its open: further opens, and whole strings
+  -- a beginning of a string of indefinite length was read, behind its open: further opens, and whole strings; by a
+  -- strict decoder strings of a definite length alone, each under a strict title
   pub record SkipsInside (old between : Decoder R) : Type 0 where
     pub behind : List ℕ
     pub bodies : List (List ℕ)
     pub inside : IsInside kind (shortest_title (kind_header kind None) ++ behind) bodies
+    pub taken : AreTakenStrings old.strict kind behind bodies
     pub sound : AreWritable kind bodies
     pub passed : Passes source old behind between
 

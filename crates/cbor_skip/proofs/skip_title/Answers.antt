@@ -4,6 +4,7 @@ use Rattle.ciborium_ll.specs.Types.Header.TheVariants as h
 use Rattle.ciborium_ll.specs.Strings.{Bytes, Text}
 use Rattle.ciborium_ll.proofs.NestLaws.{title_some}
 use Rattle.ciborium_ll.proofs.TitleLaws.{shortest_no_longer}
+use Rattle.cbor_skip.specs.Skipping.{strictness}
 use Rattle.cbor_skip.proofs.ItemSteps.{reads_plain, reads_string}
 use Rattle.cbor_skip.proofs.StartSteps.{bytes_start, text_start, value_start}
 use Rattle.cbor_skip.proofs.skip_title.Goals as goal
@@ -24,7 +25,7 @@ skip_text-requires-clause-covered g c =
 
 pub returns-in-Value-clause-begun : goal.returns-in-Value-clause-begun
 returns-in-Value-clause-begun g c = λ depth.
-    let plain = value_start depth c.in_ok-header.header (sym c.start.ensures ∙ c.in-Value.is) in
+    let plain = value_start (strictness c.args.decoder.now) depth c.in_ok-header.header (sym c.start.ensures ∙ c.in-Value.is) in
     reads_plain g.R.Read c.in_ok-header.ensures.header c.pull_title.ensures.moves_on.steady plain
 
 -- ---- strings

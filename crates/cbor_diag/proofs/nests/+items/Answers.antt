@@ -8,7 +8,7 @@ use Rattle.ciborium_ll.proofs.DecodingLaws.{MovesOn-none, MovesOn-then}
 use Rattle.cbor_skip.specs.declared.SkipError.{SkipError}
 use Rattle.cbor_skip.specs.Due.{IsNest}
 use Rattle.cbor_skip.specs.Remaining.{is_done, closes}
-use Rattle.cbor_skip.specs.Skipping.{SkipsWithin}
+use Rattle.cbor_skip.specs.Skipping.{SkipsWithin, strictness}
 use Rattle.cbor_skip.proofs.ItemSteps.{none_read, one_more, stops_here, pull_stops, stops_within, ended, closed}
 use Rattle.cbor_diag.specs.Showing.{ReadsFrom}
 use Rattle.cbor_diag.proofs.ShowLaws.{reading_stops}
@@ -19,28 +19,28 @@ use Rattle.cbor_diag.proofs.nests.+items.Goals as goal
 
 pub show_item-returns-in-Positive-clause-reads : goal.show_item-returns-in-Positive-clause-reads
 show_item-returns-in-Positive-clause-reads g t c = λ before outer at pulled steady.
-    let completes = subst (λ (x : Header). Completes false c.args.depth x []) (sym c.in-Positive.is) positive in
+    let completes = subst (λ (x : Header). Completes (strictness before) c.args.depth x []) (sym c.in-Positive.is) positive in
     scalar_read g.R.Read outer c.args.depth before c.args.decoder.now steady c.args.header c.said.result completes
     pulled
     c.said.ensures.writing
 
 pub show_item-returns-in-Negative-clause-reads : goal.show_item-returns-in-Negative-clause-reads
 show_item-returns-in-Negative-clause-reads g t c = λ before outer at pulled steady.
-    let completes = subst (λ (x : Header). Completes false c.args.depth x []) (sym c.in-Negative.is) negative in
+    let completes = subst (λ (x : Header). Completes (strictness before) c.args.depth x []) (sym c.in-Negative.is) negative in
     scalar_read g.R.Read outer c.args.depth before c.args.decoder.now steady c.args.header c.said-in-Negative.result
     completes pulled
     c.said-in-Negative.ensures.writing
 
 pub show_item-returns-in-Float-clause-reads : goal.show_item-returns-in-Float-clause-reads
 show_item-returns-in-Float-clause-reads g t c = λ before outer at pulled steady.
-    let completes = subst (λ (x : Header). Completes false c.args.depth x []) (sym c.in-Float.is) float in
+    let completes = subst (λ (x : Header). Completes (strictness before) c.args.depth x []) (sym c.in-Float.is) float in
     scalar_read g.R.Read outer c.args.depth before c.args.decoder.now steady c.args.header c.said-in-Float.result
     completes pulled
     c.said-in-Float.ensures.writing
 
 pub show_item-returns-in-Simple-clause-reads : goal.show_item-returns-in-Simple-clause-reads
 show_item-returns-in-Simple-clause-reads g t c = λ before outer at pulled steady.
-    let completes = subst (λ (x : Header). Completes false c.args.depth x []) (sym c.in-Simple.is) simple in
+    let completes = subst (λ (x : Header). Completes (strictness before) c.args.depth x []) (sym c.in-Simple.is) simple in
     scalar_read g.R.Read outer c.args.depth before c.args.decoder.now steady c.args.header c.said-in-Simple.result
     completes pulled
     c.said-in-Simple.ensures.writing

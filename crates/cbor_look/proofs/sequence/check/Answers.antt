@@ -1,5 +1,5 @@
 use Rattle.std.proofs.Common.{length, Err, arith, add-one}
-use Rattle.cbor_skip.specs.Skipping.{ReadsItem, SkipsItem}
+use Rattle.cbor_skip.specs.Skipping.{ReadsItem, SkipsItem, strictness}
 use Rattle.cbor_look.proofs.ItemRows.{items_counted}
 use Rattle.cbor_look.proofs.SequenceLaws.{none_read, one_more, ends, check_told, check_exactly, check_number}
 use Rattle.cbor_look.proofs.sequence.check.Goals as goal
@@ -15,16 +15,16 @@ pub overflow_add-items : goal.overflow_add-items
 overflow_add-items g c =
     let item : ReadsItem g.R.Read c.args.depth c.items.decoder c.skip_item.new.decoder =
     rw c.offset-place.ensures.same at c.in-Ok.ensures.skipped in
-    let some = items_counted c.args.depth 1 item.item item.is_item in
+    let some = items_counted (strictness c.items.decoder) c.args.depth 1 item.item item.is_item in
     let reads = c.items.invariant.reads in
-    let all = items_counted c.args.depth c.items.items reads.bytes reads.are_items in
+    let all = items_counted (strictness c.args.decoder.now) c.args.depth c.items.items reads.bytes reads.are_items in
     omega (arith, some, all, item.passed.offset, reads.passed.offset)
 
 pub items-smaller : goal.items-smaller
 items-smaller g c =
     let item : ReadsItem g.R.Read c.args.depth c.items.decoder c.skip_item.new.decoder =
     rw c.offset-place.ensures.same at c.in-Ok.ensures.skipped in
-    let some = items_counted c.args.depth 1 item.item item.is_item in
+    let some = items_counted (strictness c.items.decoder) c.args.depth 1 item.item item.is_item in
     omega (arith, some, item.passed.offset)
 
 pub items-preserved : goal.items-preserved

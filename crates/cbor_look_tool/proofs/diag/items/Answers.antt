@@ -1,5 +1,5 @@
 use Rattle.std.proofs.Common.{suc, Err, arith, sym, subst}
-use Rattle.cbor_skip.specs.Skipping.{ReadsItem, SkipsItem}
+use Rattle.cbor_skip.specs.Skipping.{ReadsItem, SkipsItem, strictness}
 use Rattle.cbor_diag.specs.Showing.{OnReading}
 use Rattle.cbor_look.proofs.ItemRows.{items_counted}
 use Rattle.cbor_look.proofs.SequenceLaws.{none_read, one_more}
@@ -27,7 +27,7 @@ pub items-smaller : goal.items-smaller
 items-smaller g c =
     let item : ReadsItem g.R.Read c.args.depth c.items.decoder c.diagnose.new.decoder =
     rw c.offset-place.ensures.same at c.in_default.ensures.reads in
-    let some = items_counted c.args.depth 1 item.item item.is_item in
+    let some = items_counted (strictness c.items.decoder) c.args.depth 1 item.item item.is_item in
     omega (arith, some, item.passed.offset)
 
 pub items-preserved : goal.items-preserved
