@@ -17,7 +17,7 @@ use crate::snapshot::Snapshot;
 use crate::title::{affix_len, begins_none, header_of};
 use ciborium_ll_grammar::hdr::Header;
 use ciborium_ll_grammar::hdr::table::{TitleKind, row_of};
-use ciborium_ll_text::state::State;
+use ciborium_ll_text::state::{State, text_front};
 
 /// Why a title of this kind may not stand there, where not all of its bytes came.
 fn blocked(within: Within, depth: usize, place: usize, kind: TitleKind) -> Option<Fault>
@@ -136,13 +136,15 @@ impl Checker {
     ghost use Rattle.cbor_feed.specs.Snapshots.{Holds};
     ghost use Rattle.std.specs.Prelude.{Bool, ℕ, ◌-◌, ◌++◌, List, [], IfSome, take, true, false};
     ghost use Rattle.ciborium_ll_text.specs.States.{after_byte};
-    ghost use Rattle.cbor_feed.specs.Steps.{IsFed, Step, TitleStep, counted, start, text_left, title_place, with_byte};
+    ghost use Rattle.cbor_feed.specs.Steps.{IsFed, Leads, Step, TitleStep, counted, counted_by, start, text_left};
+    ghost use Rattle.cbor_feed.specs.Steps.{title_place, with_byte};
     ghost use Rattle.cbor_feed.specs.Telling.{IsAnswer, IsMore, Tells, TellsEnd, end_of, is_due, progress_of, title_due};
     ghost use Rattle.cbor_feed.specs.Spots.{Spot, at_phase, body_placed, broken, bytes_due, bytes_entered, entered};
     ghost use Rattle.cbor_feed.specs.Spots.{item_done, item_entered, nested, string_closed, string_done, string_open};
     ghost use Rattle.cbor_feed.specs.Spots.{open_entered, refused, text_due, text_entered};
     ghost use Rattle.cbor_feed.specs.declared.phase.Within.TheVariants as w;
     ghost use Rattle.cbor_feed.specs.declared.phase.Phase.TheVariants as p;
+    ghost use Rattle.ciborium_ll_text.specs.declared.state.State.TheVariants as s;
 
     /// A checker of an item to which nothing came. Tags, arrays and maps may be nested at most `depth` levels deep:
     /// each takes a level, an empty one too, and a string takes none.
@@ -410,28 +412,37 @@ impl Checker {
         }
     }
 
-    /// A byte of the body of a byte string, of which so many were left.
-    fn bytes_step(&mut self, left: usize)
-        requires room { self.old.offset < usize.MAX }
-        requires some { 0 < left }
-        ensures { spot_of self.new ≡ bytes_due (left - 1) (counted (spot_of self.old)) }
+    /// So many bytes of the body of a byte string, of which at least as many were left.
+    #[inline(always)]
+    fn bytes_taken(&mut self, left: usize, len: usize)
+        requires room { self.old.offset + len ≤ usize.MAX }
+        requires within { len ≤ left }
+        ensures { spot_of self.new ≡ bytes_due (left - len) (counted_by len (spot_of self.old)) }
     {
         self.front.clear();
-        self.offset += 1;
-        self.bytes_due(left - 1);
+        self.offset += len;
+        self.bytes_due(left - len);
     }
 
-    /// A byte of the body of a text, of which so many were left.
-    fn text_step(&mut self, left: usize, state: State, byte: u8)
-        requires room { self.old.offset < usize.MAX }
-        requires some { 0 < left }
-        ensures { let next = after_byte state byte in spot_of self.new
-            ≡ text_left (may_end next (left - 1)) (left - 1) next (counted (spot_of self.old)) }
+    /// Bytes of the body of a byte string, of which so many were left: all that are there. Says how many.
+    #[inline(always)]
+    fn bytes_run(&mut self, left: usize, bytes: &[u8]) -> usize
+        requires phase { self.old.phase ≡ p.Bytes left }
+        requires some { 0 < length bytes.now }
+        requires room { self.old.offset + length bytes.now ≤ usize.MAX }
+        ensures some { 0 < result }
+        ensures within { result ≤ length bytes.now }
+        ensures leads { Leads (spot_of self.old) (take result bytes.now) (spot_of self.new) }
     {
-        self.front.clear();
-        self.offset += 1;
-        let state = state.step(byte);
-        let left = left - 1;
+        let len = left.min(bytes.len());
+        self.bytes_taken(left, len);
+        len
+    }
+
+    /// So many bytes of a text are left behind some that have led to this state.
+    fn text_left(&mut self, left: usize, state: State)
+        ensures { spot_of self.new ≡ text_left (may_end state left) left state (spot_of self.old) }
+    {
         if !may_end(state, left) {
             self.refuse();
         } else if left == 0 {
@@ -441,6 +452,55 @@ impl Checker {
         }
     }
 
+    /// So many bytes of the body of a text have led to this state, of which at least as many were left.
+    #[inline(always)]
+    fn text_taken(&mut self, left: usize, len: usize, state: State)
+        requires room { self.old.offset + len ≤ usize.MAX }
+        requires within { len ≤ left }
+        ensures { spot_of self.new
+            ≡ text_left (may_end state (left - len)) (left - len) state (counted_by len (spot_of self.old)) }
+    {
+        self.front.clear();
+        self.offset += len;
+        self.text_left(left - len, state);
+    }
+
+    /// A byte of the body of a text, of which so many were left.
+    fn text_step(&mut self, left: usize, state: State, byte: u8)
+        requires room { self.old.offset < usize.MAX }
+        requires some { 0 < left }
+        ensures { let next = after_byte state byte in spot_of self.new
+            ≡ text_left (may_end next (left - 1)) (left - 1) next (counted (spot_of self.old)) }
+    {
+        self.text_taken(left, 1, state.step(byte));
+    }
+
+    /// Bytes of the body of a text between two characters, of which so many were left: all that are there. Where no
+    /// text goes on so they are the whole characters in front, and where none is there one byte. Says how many.
+    #[inline(always)]
+    fn text_run(&mut self, left: usize, bytes: &[u8]) -> usize
+        requires phase { self.old.phase ≡ p.Text left s.Between }
+        requires some { 0 < length bytes.now }
+        requires room { self.old.offset + length bytes.now ≤ usize.MAX }
+        ensures some { 0 < result }
+        ensures within { result ≤ length bytes.now }
+        ensures leads { Leads (spot_of self.old) (take result bytes.now) (spot_of self.new) }
+    {
+        let len = left.min(bytes.len());
+        let (front, behind) = text_front(&bytes[..len], 0, State::Between);
+        if may_end(behind, left - len) {
+            self.text_taken(left, len, behind);
+            return len;
+        }
+        let whole = front.len();
+        if whole > 0 {
+            self.text_taken(left, whole, State::Between);
+            return whole;
+        }
+        self.text_step(left, State::Between, bytes[0]);
+        1
+    }
+
     /// Whether more bytes may come.
     fn is_due(&self) -> bool
         ensures { result ≡ is_due self.now.phase }
@@ -448,18 +508,43 @@ impl Checker {
         !matches!(self.phase, Phase::Ended | Phase::Faulted(_))
     }
 
-    /// One byte more.
-    fn step(&mut self, byte: u8)
-        requires room { self.old.offset < usize.MAX }
+    /// Some bytes more: one of a title, or of a body what is there. Says how many.
+    fn run(&mut self, bytes: &[u8]) -> usize
+        requires some { 0 < length bytes.now }
+        requires room { self.old.offset + length bytes.now ≤ usize.MAX }
         requires due { is_due self.old.phase ≡ true }
-        ensures { Step (spot_of self.old) byte (spot_of self.new) }
+        ensures some { 0 < result }
+        ensures within { result ≤ length bytes.now }
+        ensures leads { Leads (spot_of self.old) (take result bytes.now) (spot_of self.new) }
     {
         match self.phase {
-            Phase::Title => self.title_step(byte),
-            Phase::Bytes(left) => self.bytes_step(left),
-            Phase::Text(left, state) => self.text_step(left, state, byte),
-            Phase::Ended | Phase::Faulted(_) => {}
+            Phase::Title => {
+                self.title_step(bytes[0]);
+                1
+            }
+            Phase::Bytes(left) => self.bytes_run(left, bytes),
+            Phase::Text(left, State::Between) => self.text_run(left, bytes),
+            Phase::Text(left, state) => {
+                self.text_step(left, state, bytes[0]);
+                1
+            }
+            Phase::Ended | Phase::Faulted(_) => unreachable!(),
         }
+    }
+
+    /// The bytes up to the end of the item or up to the fault, or all of them. Says how many.
+    #[inline(always)]
+    fn run_all(&mut self, bytes: &[u8]) -> usize
+        requires { self.old.offset + length bytes.now ≤ usize.MAX }
+        ensures within { result ≤ length bytes.now }
+        ensures all { is_due self.new.phase ≡ true → result ≡ length bytes.now }
+        ensures leads { Leads (spot_of self.old) (take result bytes.now) (spot_of self.new) }
+    {
+        let mut at = 0;
+        'runs: while at < bytes.len() && self.is_due() {
+            at += self.run(&bytes[at..]);
+        }
+        at
     }
 
     /// How many bytes a title lacks at least.
@@ -528,23 +613,16 @@ impl Checker {
         ensures answers { IsAnswer result.progress (spot_of self.new) }
         ensures stays { is_due self.old.phase ≡ false → (result.taken ≡ 0) × (spot_of self.new ≡ spot_of self.old) }
     {
-        for (at, byte) in bytes.iter().enumerate() {
-            if !self.is_due() {
-                return Feed {
-                    taken: at,
-                    progress: self.answer(),
-                };
-            }
-            if self.offset == usize::MAX {
-                return Feed {
-                    taken: at,
-                    progress: Progress::TooLong,
-                };
-            }
-            self.step(*byte);
+        let counted = bytes.len().min(usize::MAX - self.offset);
+        let taken = self.run_all(&bytes[..counted]);
+        if taken < bytes.len() && self.is_due() {
+            return Feed {
+                taken,
+                progress: Progress::TooLong,
+            };
         }
         Feed {
-            taken: bytes.len(),
+            taken,
             progress: self.answer(),
         }
     }
