@@ -14,4 +14,5 @@ pub mod StepLaws
 pub mod StringLaws
 pub mod TellLaws
 pub mod TitleDueLaws
+pub mod TitleLeads
 pub mod Waiting

@@ -134,7 +134,8 @@ impl Checker {
     ghost use Rattle.std.specs.Prelude.{◌<◌};
     ghost use Rattle.cbor_feed.specs.Checking.{IsAt, spot_of};
     ghost use Rattle.cbor_feed.specs.Snapshots.{Holds};
-    ghost use Rattle.std.specs.Prelude.{Bool, ℕ, ◌-◌, ◌++◌, List, [], IfSome, take, true, false};
+    ghost use Rattle.std.specs.Prelude.{Bool, ℕ, ◌-◌, ◌/◌, ◌++◌, List, [], IfSome, take, true, false};
+    ghost use Rattle.ciborium_ll_grammar.specs.TitleRows.{IsTitleKind};
     ghost use Rattle.ciborium_ll_text.specs.States.{after_byte};
     ghost use Rattle.cbor_feed.specs.Steps.{IsFed, Leads, Step, TitleStep, counted, counted_by, start, text_left};
     ghost use Rattle.cbor_feed.specs.Steps.{title_place, with_byte};
@@ -412,6 +413,67 @@ impl Checker {
         }
     }
 
+    /// The first of these bytes, which is one of a title. Says that it is one byte.
+    #[inline(never)]
+    fn title_byte(&mut self, bytes: &[u8]) -> usize
+        requires phase { self.old.phase ≡ p.Title }
+        requires some { 0 < length bytes.now }
+        requires room { self.old.offset < usize.MAX }
+        ensures one { result ≡ 1 }
+        ensures leads { Leads (spot_of self.old) (take result bytes.now) (spot_of self.new) }
+    {
+        self.title_step(bytes[0]);
+        1
+    }
+
+    /// All of a title of this kind and of so many bytes, where it may stand there and is taken. Else it takes nothing,
+    /// and says so.
+    #[inline(always)]
+    fn title_taken(&mut self, bytes: &[u8], len: usize, kind: TitleKind) -> bool
+        requires phase { self.old.phase ≡ p.Title }
+        requires fresh { length self.old.front ≡ 0 }
+        requires within { len ≤ length bytes.now }
+        requires room { self.old.offset + length bytes.now ≤ usize.MAX }
+        requires long { len ≡ 1 + affix_len (slice_index bytes.now 0 % 32) }
+        requires kind { IsTitleKind kind (slice_index bytes.now 0 / 32) (slice_index bytes.now 0 % 32) }
+        ensures yes { result ≡ true → Leads (spot_of self.old) (take len bytes.now) (spot_of self.new) }
+        ensures no { result ≡ false → self.new ≡ self.old }
+    {
+        if len > 1 && blocked(self.within, self.depth, self.offset, kind).is_some() {
+            return false;
+        }
+        match header_of(&bytes[..len], self.strict) {
+            Some(header) => {
+                self.place = self.offset;
+                self.offset += len;
+                self.enter(header);
+                true
+            }
+            None => false,
+        }
+    }
+
+    /// A title: all of it where nothing of it came and the rest is there, and else a byte. Says how many bytes.
+    #[inline(always)]
+    fn title_run(&mut self, bytes: &[u8]) -> usize
+        requires phase { self.old.phase ≡ p.Title }
+        requires some { 0 < length bytes.now }
+        requires room { self.old.offset + length bytes.now ≤ usize.MAX }
+        ensures some { 0 < result }
+        ensures within { result ≤ length bytes.now }
+        ensures leads { Leads (spot_of self.old) (take result bytes.now) (spot_of self.new) }
+    {
+        let row = row_of(bytes[0]);
+        let len = 1 + affix_len(row.affix);
+        if self.front.len() > 0 || bytes.len() < len {
+            return self.title_byte(bytes);
+        }
+        if self.title_taken(bytes, len, row.kind) {
+            return len;
+        }
+        self.title_byte(bytes)
+    }
+
     /// So many bytes of the body of a byte string, of which at least as many were left.
     #[inline(always)]
     fn bytes_taken(&mut self, left: usize, len: usize)
@@ -508,7 +570,7 @@ impl Checker {
         !matches!(self.phase, Phase::Ended | Phase::Faulted(_))
     }
 
-    /// Some bytes more: one of a title, or of a body what is there. Says how many.
+    /// Some bytes more: a title or a byte of one, or of a body what is there. Says how many.
     fn run(&mut self, bytes: &[u8]) -> usize
         requires some { 0 < length bytes.now }
         requires room { self.old.offset + length bytes.now ≤ usize.MAX }
@@ -518,10 +580,7 @@ impl Checker {
         ensures leads { Leads (spot_of self.old) (take result bytes.now) (spot_of self.new) }
     {
         match self.phase {
-            Phase::Title => {
-                self.title_step(bytes[0]);
-                1
-            }
+            Phase::Title => self.title_run(bytes),
             Phase::Bytes(left) => self.bytes_run(left, bytes),
             Phase::Text(left, State::Between) => self.text_run(left, bytes),
             Phase::Text(left, state) => {

@@ -1,13 +1,7 @@
 use Rattle.std.proofs.Common.{rules, arith}
 use Rattle.cbor_feed.specs.Checking.{spot_of}
-use Rattle.cbor_feed.proofs.LeadLaws.{one_leads, text_one, title_one}
+use Rattle.cbor_feed.proofs.LeadLaws.{one_leads, text_one}
 use Rattle.cbor_feed.proofs.checker.Checker.run.Goals as goal
-
-pub returns-in-Title-clause-leads : goal.returns-in-Title-clause-leads
-returns-in-Title-clause-leads c =
-    one_leads c.args.bytes.now (spot_of c.args.self.now) (spot_of c.title_step.new.self) (λ i less. search rules)
-    c.requires.some
-    (title_one _ (spot_of c.args.self.now) (spot_of c.title_step.new.self) (search rules) c.title_step.ensures)
 
 pub returns-in-Text : goal.returns-in-Text
 returns-in-Text c = record {
