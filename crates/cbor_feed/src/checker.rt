@@ -10,7 +10,7 @@ ghost use Rattle.cbor_feed.specs.Blocked.{blocked};
 
 use crate::front::{Front, LONGEST};
 use crate::level::Level;
-use crate::levels::{Levels, MOST_LEVELS};
+use crate::levels::{Levels, MOST_LEVELS, are_levels};
 use crate::phase::{Fault, Phase, Within};
 use crate::progress::{End, Feed, Progress};
 use crate::snapshot::Snapshot;
@@ -20,6 +20,7 @@ use ciborium_ll_grammar::hdr::table::{TitleKind, row_of};
 use ciborium_ll_text::state::{State, text_front};
 
 /// Why a title of this kind may not stand there, where not all of its bytes came.
+#[inline(always)]
 fn blocked(within: Within, depth: usize, place: usize, kind: TitleKind) -> Option<Fault>
     ensures { result ≡ blocked within depth place kind }
 {
@@ -39,6 +40,7 @@ fn blocked(within: Within, depth: usize, place: usize, kind: TitleKind) -> Optio
 }
 
 /// Whether so many bytes may end a text that has come to this state.
+#[inline(always)]
 fn may_end(state: State, left: usize) -> bool
     ensures { result ≡ may_end state left }
 {
@@ -186,6 +188,7 @@ impl Checker {
     }
 
     /// A whole item has come.
+    #[inline(always)]
     fn item_done(&mut self)
         ensures { spot_of self.new ≡ item_done (spot_of self.old) }
     {
@@ -203,6 +206,7 @@ impl Checker {
     }
 
     /// A whole string of a definite length has come: an item, or a piece of an open string.
+    #[inline(always)]
     fn string_done(&mut self)
         ensures { spot_of self.new ≡ string_done self.old.within (spot_of self.old) }
     {
@@ -213,6 +217,7 @@ impl Checker {
     }
 
     /// The title of a byte string of this length has come, or so many bytes of its body are left.
+    #[inline(always)]
     fn bytes_due(&mut self, len: usize)
         ensures { spot_of self.new ≡ bytes_due len (spot_of self.old) }
     {
@@ -224,6 +229,7 @@ impl Checker {
     }
 
     /// The title of a text of this length has come.
+    #[inline(always)]
     fn text_due(&mut self, len: usize)
         ensures { spot_of self.new ≡ text_due len (spot_of self.old) }
     {
@@ -235,6 +241,7 @@ impl Checker {
     }
 
     /// The title of a tag, an array or a map has come.
+    #[inline(always)]
     fn nested(&mut self, inner: Level)
         ensures { spot_of self.new ≡ nested self.old.depth inner (spot_of self.old) }
     {
@@ -248,6 +255,7 @@ impl Checker {
     }
 
     /// A break has come where an item is due.
+    #[inline(always)]
     fn broken(&mut self)
         ensures { spot_of self.new ≡ broken self.old.levels (spot_of self.old) }
     {
@@ -283,6 +291,7 @@ impl Checker {
     }
 
     /// The title of this header has come where an item is due.
+    #[inline(always)]
     fn enter_item(&mut self, header: Header)
         requires { 1 ≤ self.old.offset }
         ensures { spot_of self.new ≡ item_entered header (spot_of self.old) }
@@ -363,6 +372,7 @@ impl Checker {
     }
 
     /// The title of this header has come.
+    #[inline(always)]
     fn enter(&mut self, header: Header)
         requires { open_count self.old.within + 1 ≤ self.old.offset }
         ensures { spot_of self.new ≡ entered self.old.within header (spot_of self.old) }
@@ -375,6 +385,7 @@ impl Checker {
     }
 
     /// Where the title began of which the next byte is one.
+    #[inline(always)]
     fn title_place(&self) -> usize
         ensures { result ≡ title_place self.now.front (spot_of self.now) }
     {
@@ -474,6 +485,19 @@ impl Checker {
         self.title_byte(bytes)
     }
 
+    /// The same within an open string. It is kept apart from the path of an item's title.
+    #[inline(never)]
+    fn title_within(&mut self, bytes: &[u8]) -> usize
+        requires phase { self.old.phase ≡ p.Title }
+        requires some { 0 < length bytes.now }
+        requires room { self.old.offset + length bytes.now ≤ usize.MAX }
+        ensures some { 0 < result }
+        ensures within { result ≤ length bytes.now }
+        ensures leads { Leads (spot_of self.old) (take result bytes.now) (spot_of self.new) }
+    {
+        self.title_run(bytes)
+    }
+
     /// So many bytes of the body of a byte string, of which at least as many were left.
     #[inline(always)]
     fn bytes_taken(&mut self, left: usize, len: usize)
@@ -502,6 +526,7 @@ impl Checker {
     }
 
     /// So many bytes of a text are left behind some that have led to this state.
+    #[inline(always)]
     fn text_left(&mut self, left: usize, state: State)
         ensures { spot_of self.new ≡ text_left (may_end state left) left state (spot_of self.old) }
     {
@@ -564,6 +589,7 @@ impl Checker {
     }
 
     /// Whether more bytes may come.
+    #[inline(always)]
     fn is_due(&self) -> bool
         ensures { result ≡ is_due self.now.phase }
     {
@@ -580,7 +606,10 @@ impl Checker {
         ensures leads { Leads (spot_of self.old) (take result bytes.now) (spot_of self.new) }
     {
         match self.phase {
-            Phase::Title => self.title_run(bytes),
+            Phase::Title => match self.within {
+                Within::Nothing => self.title_run(bytes),
+                Within::Bytes(_) | Within::Text(_) => self.title_within(bytes),
+            },
             Phase::Bytes(left) => self.bytes_run(left, bytes),
             Phase::Text(left, State::Between) => self.text_run(left, bytes),
             Phase::Text(left, state) => {
@@ -721,14 +750,16 @@ impl Checker {
             return None;
         }
         let nests = usize::from(snapshot.nests);
-        let levels = Levels::restore(nests, &snapshot.kinds, &snapshot.counts)?;
+        if !are_levels(nests, &snapshot.kinds, &snapshot.counts) {
+            return None;
+        }
         Some(Checker {
             strict,
             phase,
             front: Front::restore(&snapshot.title, usize::from(snapshot.title_len)),
             within,
             depth: snapshot.depth as usize,
-            levels,
+            levels: Levels::restore(nests, &snapshot.kinds, &snapshot.counts),
             place: snapshot.place as usize,
             offset: snapshot.offset as usize,
         })
