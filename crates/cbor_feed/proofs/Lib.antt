@@ -1,8 +1,9 @@
-pub mod ExactLaws
-pub mod KeptLaws
-pub mod LevelLaws
 pub mod BlockedLaws
 pub mod EnterLaws
+pub mod ExactLaws
+pub mod KeptLaws
+pub mod LeadLaws
+pub mod LevelLaws
 pub mod LiveLaws
 pub mod LongerBegun
 pub mod OneSpot
@@ -13,4 +14,5 @@ pub mod StepLaws
 pub mod StringLaws
 pub mod TellLaws
 pub mod TitleDueLaws
+pub mod TitleLeads
 pub mod Waiting

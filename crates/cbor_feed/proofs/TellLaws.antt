@@ -42,7 +42,7 @@ title_counts spot new (early fault c some all) = refl
 title_counts spot new (whole x q g) = (entered_kept spot.within x (record spot { front = [] })).1
 title_counts spot new (none r) = refl
 
-step_counts : (phase : Phase) (spot new : Spot) (b : ℕ) → StepIn phase spot b new → new.offset ≡ spot.offset + 1
+pub step_counts : (phase : Phase) (spot new : Spot) (b : ℕ) → StepIn phase spot b new → new.offset ≡ spot.offset + 1
 step_counts p.Title spot new b step = title_counts (with_byte b spot) new step
 step_counts (p.Bytes zero) spot new b step = absurd step
 step_counts (p.Bytes (suc left)) spot new b step =

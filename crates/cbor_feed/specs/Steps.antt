@@ -94,6 +94,10 @@ text_left false left state spot = refused spot
 text_left true zero state spot = string_done spot.within spot
 text_left true (suc left) state spot = at_phase (p.Text (suc left) state) spot
 
+-- so many bytes of a body came
+abbrev pub counted_by : ℕ → Spot → Spot
+counted_by len spot = record spot { front = []; offset = spot.offset + len }
+
 -- a byte of a body came
 abbrev pub counted : Spot → Spot
 counted spot = record spot { front = []; offset = spot.offset + 1 }
@@ -111,6 +115,12 @@ StepIn (p.Faulted fault) spot byte new = ⊥
 
 abbrev pub Step : Spot → ℕ → Spot → Type 0
 Step spot byte new = StepIn spot.phase spot byte new
+
+-- `Leads spot bytes new`: from the spot these bytes lead to the new one, byte by byte
+pub data Leads : Spot → List ℕ → Spot → Type 0 where
+  stay : {spot : Spot} → Leads spot [] spot
+  go : {bytes : List ℕ} {spot next new : Spot} (byte : ℕ) → byte < 256 → Step spot byte next → Leads next bytes new
+      → Leads spot (byte ∷ bytes) new
 
 -- `IsFed strict depth bytes spot`: to one item to the depth, and where `strict` holds to one in its shortest spelling,
 -- these bytes have led to the spot

@@ -10,16 +10,17 @@ ghost use Rattle.cbor_feed.specs.Blocked.{blocked};
 
 use crate::front::{Front, LONGEST};
 use crate::level::Level;
-use crate::levels::{Levels, MOST_LEVELS};
+use crate::levels::{Levels, MOST_LEVELS, are_levels};
 use crate::phase::{Fault, Phase, Within};
 use crate::progress::{End, Feed, Progress};
 use crate::snapshot::Snapshot;
 use crate::title::{affix_len, begins_none, header_of};
 use ciborium_ll_grammar::hdr::Header;
 use ciborium_ll_grammar::hdr::table::{TitleKind, row_of};
-use ciborium_ll_text::state::State;
+use ciborium_ll_text::state::{State, text_front};
 
 /// Why a title of this kind may not stand there, where not all of its bytes came.
+#[inline(always)]
 fn blocked(within: Within, depth: usize, place: usize, kind: TitleKind) -> Option<Fault>
     ensures { result ≡ blocked within depth place kind }
 {
@@ -39,6 +40,7 @@ fn blocked(within: Within, depth: usize, place: usize, kind: TitleKind) -> Optio
 }
 
 /// Whether so many bytes may end a text that has come to this state.
+#[inline(always)]
 fn may_end(state: State, left: usize) -> bool
     ensures { result ≡ may_end state left }
 {
@@ -134,15 +136,18 @@ impl Checker {
     ghost use Rattle.std.specs.Prelude.{◌<◌};
     ghost use Rattle.cbor_feed.specs.Checking.{IsAt, spot_of};
     ghost use Rattle.cbor_feed.specs.Snapshots.{Holds};
-    ghost use Rattle.std.specs.Prelude.{Bool, ℕ, ◌-◌, ◌++◌, List, [], IfSome, take, true, false};
+    ghost use Rattle.std.specs.Prelude.{Bool, ℕ, ◌-◌, ◌/◌, ◌++◌, List, [], IfSome, take, true, false};
+    ghost use Rattle.ciborium_ll_grammar.specs.TitleRows.{IsTitleKind};
     ghost use Rattle.ciborium_ll_text.specs.States.{after_byte};
-    ghost use Rattle.cbor_feed.specs.Steps.{IsFed, Step, TitleStep, counted, start, text_left, title_place, with_byte};
+    ghost use Rattle.cbor_feed.specs.Steps.{IsFed, Leads, Step, TitleStep, counted, counted_by, start, text_left};
+    ghost use Rattle.cbor_feed.specs.Steps.{title_place, with_byte};
     ghost use Rattle.cbor_feed.specs.Telling.{IsAnswer, IsMore, Tells, TellsEnd, end_of, is_due, progress_of, title_due};
     ghost use Rattle.cbor_feed.specs.Spots.{Spot, at_phase, body_placed, broken, bytes_due, bytes_entered, entered};
     ghost use Rattle.cbor_feed.specs.Spots.{item_done, item_entered, nested, string_closed, string_done, string_open};
     ghost use Rattle.cbor_feed.specs.Spots.{open_entered, refused, text_due, text_entered};
     ghost use Rattle.cbor_feed.specs.declared.phase.Within.TheVariants as w;
     ghost use Rattle.cbor_feed.specs.declared.phase.Phase.TheVariants as p;
+    ghost use Rattle.ciborium_ll_text.specs.declared.state.State.TheVariants as s;
 
     /// A checker of an item to which nothing came. Tags, arrays and maps may be nested at most `depth` levels deep:
     /// each takes a level, an empty one too, and a string takes none.
@@ -183,6 +188,7 @@ impl Checker {
     }
 
     /// A whole item has come.
+    #[inline(always)]
     fn item_done(&mut self)
         ensures { spot_of self.new ≡ item_done (spot_of self.old) }
     {
@@ -200,6 +206,7 @@ impl Checker {
     }
 
     /// A whole string of a definite length has come: an item, or a piece of an open string.
+    #[inline(always)]
     fn string_done(&mut self)
         ensures { spot_of self.new ≡ string_done self.old.within (spot_of self.old) }
     {
@@ -210,6 +217,7 @@ impl Checker {
     }
 
     /// The title of a byte string of this length has come, or so many bytes of its body are left.
+    #[inline(always)]
     fn bytes_due(&mut self, len: usize)
         ensures { spot_of self.new ≡ bytes_due len (spot_of self.old) }
     {
@@ -221,6 +229,7 @@ impl Checker {
     }
 
     /// The title of a text of this length has come.
+    #[inline(always)]
     fn text_due(&mut self, len: usize)
         ensures { spot_of self.new ≡ text_due len (spot_of self.old) }
     {
@@ -232,6 +241,7 @@ impl Checker {
     }
 
     /// The title of a tag, an array or a map has come.
+    #[inline(always)]
     fn nested(&mut self, inner: Level)
         ensures { spot_of self.new ≡ nested self.old.depth inner (spot_of self.old) }
     {
@@ -245,6 +255,7 @@ impl Checker {
     }
 
     /// A break has come where an item is due.
+    #[inline(always)]
     fn broken(&mut self)
         ensures { spot_of self.new ≡ broken self.old.levels (spot_of self.old) }
     {
@@ -280,6 +291,7 @@ impl Checker {
     }
 
     /// The title of this header has come where an item is due.
+    #[inline(always)]
     fn enter_item(&mut self, header: Header)
         requires { 1 ≤ self.old.offset }
         ensures { spot_of self.new ≡ item_entered header (spot_of self.old) }
@@ -360,6 +372,7 @@ impl Checker {
     }
 
     /// The title of this header has come.
+    #[inline(always)]
     fn enter(&mut self, header: Header)
         requires { open_count self.old.within + 1 ≤ self.old.offset }
         ensures { spot_of self.new ≡ entered self.old.within header (spot_of self.old) }
@@ -372,6 +385,7 @@ impl Checker {
     }
 
     /// Where the title began of which the next byte is one.
+    #[inline(always)]
     fn title_place(&self) -> usize
         ensures { result ≡ title_place self.now.front (spot_of self.now) }
     {
@@ -410,28 +424,112 @@ impl Checker {
         }
     }
 
-    /// A byte of the body of a byte string, of which so many were left.
-    fn bytes_step(&mut self, left: usize)
+    /// The first of these bytes, which is one of a title. Says that it is one byte.
+    #[inline(never)]
+    fn title_byte(&mut self, bytes: &[u8]) -> usize
+        requires phase { self.old.phase ≡ p.Title }
+        requires some { 0 < length bytes.now }
         requires room { self.old.offset < usize.MAX }
-        requires some { 0 < left }
-        ensures { spot_of self.new ≡ bytes_due (left - 1) (counted (spot_of self.old)) }
+        ensures one { result ≡ 1 }
+        ensures leads { Leads (spot_of self.old) (take result bytes.now) (spot_of self.new) }
     {
-        self.front.clear();
-        self.offset += 1;
-        self.bytes_due(left - 1);
+        self.title_step(bytes[0]);
+        1
     }
 
-    /// A byte of the body of a text, of which so many were left.
-    fn text_step(&mut self, left: usize, state: State, byte: u8)
-        requires room { self.old.offset < usize.MAX }
-        requires some { 0 < left }
-        ensures { let next = after_byte state byte in spot_of self.new
-            ≡ text_left (may_end next (left - 1)) (left - 1) next (counted (spot_of self.old)) }
+    /// All of a title of this kind and of so many bytes, where it may stand there and is taken. Else it takes nothing,
+    /// and says so.
+    #[inline(always)]
+    fn title_taken(&mut self, bytes: &[u8], len: usize, kind: TitleKind) -> bool
+        requires phase { self.old.phase ≡ p.Title }
+        requires fresh { length self.old.front ≡ 0 }
+        requires within { len ≤ length bytes.now }
+        requires room { self.old.offset + length bytes.now ≤ usize.MAX }
+        requires long { len ≡ 1 + affix_len (slice_index bytes.now 0 % 32) }
+        requires kind { IsTitleKind kind (slice_index bytes.now 0 / 32) (slice_index bytes.now 0 % 32) }
+        ensures yes { result ≡ true → Leads (spot_of self.old) (take len bytes.now) (spot_of self.new) }
+        ensures no { result ≡ false → self.new ≡ self.old }
+    {
+        if len > 1 && blocked(self.within, self.depth, self.offset, kind).is_some() {
+            return false;
+        }
+        match header_of(&bytes[..len], self.strict) {
+            Some(header) => {
+                self.place = self.offset;
+                self.offset += len;
+                self.enter(header);
+                true
+            }
+            None => false,
+        }
+    }
+
+    /// A title: all of it where nothing of it came and the rest is there, and else a byte. Says how many bytes.
+    #[inline(always)]
+    fn title_run(&mut self, bytes: &[u8]) -> usize
+        requires phase { self.old.phase ≡ p.Title }
+        requires some { 0 < length bytes.now }
+        requires room { self.old.offset + length bytes.now ≤ usize.MAX }
+        ensures some { 0 < result }
+        ensures within { result ≤ length bytes.now }
+        ensures leads { Leads (spot_of self.old) (take result bytes.now) (spot_of self.new) }
+    {
+        let row = row_of(bytes[0]);
+        let len = 1 + affix_len(row.affix);
+        if self.front.len() > 0 || bytes.len() < len {
+            return self.title_byte(bytes);
+        }
+        if self.title_taken(bytes, len, row.kind) {
+            return len;
+        }
+        self.title_byte(bytes)
+    }
+
+    /// The same within an open string. It is kept apart from the path of an item's title.
+    #[inline(never)]
+    fn title_within(&mut self, bytes: &[u8]) -> usize
+        requires phase { self.old.phase ≡ p.Title }
+        requires some { 0 < length bytes.now }
+        requires room { self.old.offset + length bytes.now ≤ usize.MAX }
+        ensures some { 0 < result }
+        ensures within { result ≤ length bytes.now }
+        ensures leads { Leads (spot_of self.old) (take result bytes.now) (spot_of self.new) }
+    {
+        self.title_run(bytes)
+    }
+
+    /// So many bytes of the body of a byte string, of which at least as many were left.
+    #[inline(always)]
+    fn bytes_taken(&mut self, left: usize, len: usize)
+        requires room { self.old.offset + len ≤ usize.MAX }
+        requires within { len ≤ left }
+        ensures { spot_of self.new ≡ bytes_due (left - len) (counted_by len (spot_of self.old)) }
     {
         self.front.clear();
-        self.offset += 1;
-        let state = state.step(byte);
-        let left = left - 1;
+        self.offset += len;
+        self.bytes_due(left - len);
+    }
+
+    /// Bytes of the body of a byte string, of which so many were left: all that are there. Says how many.
+    #[inline(always)]
+    fn bytes_run(&mut self, left: usize, bytes: &[u8]) -> usize
+        requires phase { self.old.phase ≡ p.Bytes left }
+        requires some { 0 < length bytes.now }
+        requires room { self.old.offset + length bytes.now ≤ usize.MAX }
+        ensures some { 0 < result }
+        ensures within { result ≤ length bytes.now }
+        ensures leads { Leads (spot_of self.old) (take result bytes.now) (spot_of self.new) }
+    {
+        let len = left.min(bytes.len());
+        self.bytes_taken(left, len);
+        len
+    }
+
+    /// So many bytes of a text are left behind some that have led to this state.
+    #[inline(always)]
+    fn text_left(&mut self, left: usize, state: State)
+        ensures { spot_of self.new ≡ text_left (may_end state left) left state (spot_of self.old) }
+    {
         if !may_end(state, left) {
             self.refuse();
         } else if left == 0 {
@@ -441,25 +539,100 @@ impl Checker {
         }
     }
 
+    /// So many bytes of the body of a text have led to this state, of which at least as many were left.
+    #[inline(always)]
+    fn text_taken(&mut self, left: usize, len: usize, state: State)
+        requires room { self.old.offset + len ≤ usize.MAX }
+        requires within { len ≤ left }
+        ensures { spot_of self.new
+            ≡ text_left (may_end state (left - len)) (left - len) state (counted_by len (spot_of self.old)) }
+    {
+        self.front.clear();
+        self.offset += len;
+        self.text_left(left - len, state);
+    }
+
+    /// A byte of the body of a text, of which so many were left.
+    fn text_step(&mut self, left: usize, state: State, byte: u8)
+        requires room { self.old.offset < usize.MAX }
+        requires some { 0 < left }
+        ensures { let next = after_byte state byte in spot_of self.new
+            ≡ text_left (may_end next (left - 1)) (left - 1) next (counted (spot_of self.old)) }
+    {
+        self.text_taken(left, 1, state.step(byte));
+    }
+
+    /// Bytes of the body of a text between two characters, of which so many were left: all that are there. Where no
+    /// text goes on so they are the whole characters in front, and where none is there one byte. Says how many.
+    #[inline(always)]
+    fn text_run(&mut self, left: usize, bytes: &[u8]) -> usize
+        requires phase { self.old.phase ≡ p.Text left s.Between }
+        requires some { 0 < length bytes.now }
+        requires room { self.old.offset + length bytes.now ≤ usize.MAX }
+        ensures some { 0 < result }
+        ensures within { result ≤ length bytes.now }
+        ensures leads { Leads (spot_of self.old) (take result bytes.now) (spot_of self.new) }
+    {
+        let len = left.min(bytes.len());
+        let (front, behind) = text_front(&bytes[..len], 0, State::Between);
+        if may_end(behind, left - len) {
+            self.text_taken(left, len, behind);
+            return len;
+        }
+        let whole = front.len();
+        if whole > 0 {
+            self.text_taken(left, whole, State::Between);
+            return whole;
+        }
+        self.text_step(left, State::Between, bytes[0]);
+        1
+    }
+
     /// Whether more bytes may come.
+    #[inline(always)]
     fn is_due(&self) -> bool
         ensures { result ≡ is_due self.now.phase }
     {
         !matches!(self.phase, Phase::Ended | Phase::Faulted(_))
     }
 
-    /// One byte more.
-    fn step(&mut self, byte: u8)
-        requires room { self.old.offset < usize.MAX }
+    /// Some bytes more: a title or a byte of one, or of a body what is there. Says how many.
+    fn run(&mut self, bytes: &[u8]) -> usize
+        requires some { 0 < length bytes.now }
+        requires room { self.old.offset + length bytes.now ≤ usize.MAX }
         requires due { is_due self.old.phase ≡ true }
-        ensures { Step (spot_of self.old) byte (spot_of self.new) }
+        ensures some { 0 < result }
+        ensures within { result ≤ length bytes.now }
+        ensures leads { Leads (spot_of self.old) (take result bytes.now) (spot_of self.new) }
     {
         match self.phase {
-            Phase::Title => self.title_step(byte),
-            Phase::Bytes(left) => self.bytes_step(left),
-            Phase::Text(left, state) => self.text_step(left, state, byte),
-            Phase::Ended | Phase::Faulted(_) => {}
+            Phase::Title => match self.within {
+                Within::Nothing => self.title_run(bytes),
+                Within::Bytes(_) | Within::Text(_) => self.title_within(bytes),
+            },
+            Phase::Bytes(left) => self.bytes_run(left, bytes),
+            Phase::Text(left, State::Between) => self.text_run(left, bytes),
+            Phase::Text(left, state) => {
+                self.text_step(left, state, bytes[0]);
+                1
+            }
+            Phase::Ended | Phase::Faulted(_) => unreachable!(),
         }
+    }
+
+    /// The bytes up to the end of the item or up to the fault, or all of them. Says how many.
+    #[inline(always)]
+    fn run_all(&mut self, bytes: &[u8]) -> usize
+        requires { self.old.offset + length bytes.now ≤ usize.MAX }
+        ensures within { result ≤ length bytes.now }
+        ensures all { is_due self.new.phase ≡ true → result ≡ length bytes.now }
+        ensures leads { Leads (spot_of self.old) (take result bytes.now) (spot_of self.new) }
+    {
+        let mut at = 0;
+        'runs: while at < bytes.len() && self.is_due() {
+            at += self.run(&bytes[at..]);
+        }
+        at
     }
 
     /// How many bytes a title lacks at least.
@@ -528,23 +701,16 @@ impl Checker {
         ensures answers { IsAnswer result.progress (spot_of self.new) }
         ensures stays { is_due self.old.phase ≡ false → (result.taken ≡ 0) × (spot_of self.new ≡ spot_of self.old) }
     {
-        for (at, byte) in bytes.iter().enumerate() {
-            if !self.is_due() {
-                return Feed {
-                    taken: at,
-                    progress: self.answer(),
-                };
-            }
-            if self.offset == usize::MAX {
-                return Feed {
-                    taken: at,
-                    progress: Progress::TooLong,
-                };
-            }
-            self.step(*byte);
+        let counted = bytes.len().min(usize::MAX - self.offset);
+        let taken = self.run_all(&bytes[..counted]);
+        if taken < bytes.len() && self.is_due() {
+            return Feed {
+                taken,
+                progress: Progress::TooLong,
+            };
         }
         Feed {
-            taken: bytes.len(),
+            taken,
             progress: self.answer(),
         }
     }
@@ -584,14 +750,16 @@ impl Checker {
             return None;
         }
         let nests = usize::from(snapshot.nests);
-        let levels = Levels::restore(nests, &snapshot.kinds, &snapshot.counts)?;
+        if !are_levels(nests, &snapshot.kinds, &snapshot.counts) {
+            return None;
+        }
         Some(Checker {
             strict,
             phase,
             front: Front::restore(&snapshot.title, usize::from(snapshot.title_len)),
             within,
             depth: snapshot.depth as usize,
-            levels,
+            levels: Levels::restore(nests, &snapshot.kinds, &snapshot.counts),
             place: snapshot.place as usize,
             offset: snapshot.offset as usize,
         })

@@ -26,6 +26,7 @@ impl Model for Front {
 
 impl Front {
     /// No bytes.
+    #[inline(always)]
     pub(crate) fn new() -> Front
         ensures { result ≡ [] }
     {
@@ -36,6 +37,7 @@ impl Front {
     }
 
     /// How many bytes came.
+    #[inline(always)]
     pub(crate) fn len(&self) -> usize
         ensures { result ≡ length self.now }
     {
@@ -43,6 +45,7 @@ impl Front {
     }
 
     /// Gives the bytes up.
+    #[inline(always)]
     pub(crate) fn clear(&mut self)
         ensures { self.new ≡ [] }
     {
@@ -50,6 +53,7 @@ impl Front {
     }
 
     /// Takes one byte more.
+    #[inline(always)]
     pub(crate) fn push(&mut self, byte: u8)
         requires { length self.old < 9 }
         ensures { self.new ≡ self.old ++ byte ∷ [] }
@@ -59,6 +63,7 @@ impl Front {
     }
 
     /// The bytes.
+    #[inline(always)]
     pub(crate) fn bytes(&self) -> &[u8]
         ensures { result.now ≡ self.now }
     {
@@ -76,6 +81,7 @@ impl Front {
     }
 
     /// The first so many of these bytes.
+    #[inline(always)]
     pub(crate) fn restore(bytes: &[u8; LONGEST], len: usize) -> Front
         requires { len ≤ 9 }
         ensures { result ≡ take len bytes.now }

@@ -27,6 +27,7 @@ pub(crate) enum Level {
 
 impl Level {
     /// What the header of a tag, an array or a map announces.
+    #[inline(always)]
     pub(crate) fn behind(header: Header) -> Level
         ensures { result ≡ contents header }
     {
@@ -41,6 +42,7 @@ impl Level {
     }
 
     /// What is left behind one item more, where one is due.
+    #[inline(always)]
     pub(crate) fn next(self) -> Option<Level>
         ensures { result ≡ next self }
     {
@@ -56,6 +58,7 @@ impl Level {
     }
 
     /// Whether a break may stand in place of the item in front.
+    #[inline(always)]
     pub(crate) fn closes(self) -> bool
         ensures { result ≡ closes self }
     {
@@ -63,6 +66,7 @@ impl Level {
     }
 
     /// The number of the kind, and a count.
+    #[inline(always)]
     pub(crate) fn numbers(self) -> (u8, usize)
         ensures { level_in result.0 result.1 ≡ Some self }
     {
@@ -77,6 +81,7 @@ impl Level {
     }
 
     /// What has these numbers.
+    #[inline(always)]
     pub(crate) fn of(kind: u8, count: usize) -> Option<Level>
         ensures { result ≡ level_in kind count }
     {

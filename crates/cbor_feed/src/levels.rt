@@ -48,6 +48,7 @@ impl Levels {
     }
 
     /// The innermost level, where there is one.
+    #[inline(always)]
     pub(crate) fn innermost(&self) -> Option<Level>
         ensures { result ≡ innermost self.now }
     {
@@ -58,6 +59,7 @@ impl Levels {
     }
 
     /// Takes the innermost level off.
+    #[inline(always)]
     pub(crate) fn pop(&mut self)
         ensures { self.new ≡ others self.old }
     {
@@ -67,6 +69,7 @@ impl Levels {
     }
 
     /// Puts a level within the others.
+    #[inline(always)]
     pub(crate) fn push(&mut self, level: Level)
         requires { length self.old < 256 }
         ensures { self.new ≡ level ∷ self.old }
@@ -98,25 +101,22 @@ impl Levels {
         len: usize,
         kinds: &[u8; MOST_LEVELS],
         counts: &[u64; MOST_LEVELS],
-    ) -> Option<Levels>
-        requires { len ≤ 256 }
-        ensures { result ≡ levels_in len kinds.now counts.now }
+    ) -> Levels
+        requires most { len ≤ 256 }
+        requires some { IsSome (levels_in len kinds.now counts.now) }
+        ensures { levels_in len kinds.now counts.now ≡ Some result }
     {
-        if are_levels(len, kinds, counts) {
-            Some(Levels {
-                kinds: *kinds,
-                counts: *counts,
-                len,
-            })
-        } else {
-            None
+        Levels {
+            kinds: *kinds,
+            counts: *counts,
+            len,
         }
     }
 }
 
 /// Whether so many numbers are those of levels.
 #[inline(always)]
-fn are_levels(len: usize, kinds: &[u8; MOST_LEVELS], counts: &[u64; MOST_LEVELS]) -> bool
+pub(crate) fn are_levels(len: usize, kinds: &[u8; MOST_LEVELS], counts: &[u64; MOST_LEVELS]) -> bool
     requires { len ≤ 256 }
     ensures yes { result ≡ true → IsSome (levels_in len kinds.now counts.now) }
     ensures no { result ≡ false → levels_in len kinds.now counts.now ≡ None }

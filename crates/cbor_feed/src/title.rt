@@ -13,6 +13,7 @@ use ciborium_ll_grammar::hdr::table::{Affix, row_of};
 use ciborium_ll_grammar::hdr::{Header, Minor, Title};
 
 /// How many bytes stand behind the first one.
+#[inline(always)]
 pub(crate) fn affix_len(affix: Affix) -> usize
     ensures { (minor : ℕ) → IsAffix affix minor → result ≡ affix_len minor }
 {
@@ -26,6 +27,7 @@ pub(crate) fn affix_len(affix: Affix) -> usize
 }
 
 /// The minor of a first byte, with the number that it holds or that the bytes behind it are. A reserved one is none.
+#[inline(always)]
 fn minor_of(affix: Affix, first: u8, bytes: &[u8]) -> Option<Minor>
     requires affix { IsAffix affix (first % 32) }
     requires long { length bytes.now ≡ affix_len (first % 32) }
@@ -46,6 +48,7 @@ fn minor_of(affix: Affix, first: u8, bytes: &[u8]) -> Option<Minor>
 }
 
 /// The number of two bytes.
+#[inline(always)]
 fn two_bytes(bytes: &[u8]) -> u16
     requires { length bytes.now ≡ 2 }
     ensures { to_be_bytes w16 result ≡ bytes.now }
@@ -54,6 +57,7 @@ fn two_bytes(bytes: &[u8]) -> u16
 }
 
 /// The number of four bytes.
+#[inline(always)]
 fn four_bytes(bytes: &[u8]) -> u32
     requires { length bytes.now ≡ 4 }
     ensures { to_be_bytes w32 result ≡ bytes.now }
@@ -62,6 +66,7 @@ fn four_bytes(bytes: &[u8]) -> u32
 }
 
 /// The number of eight bytes.
+#[inline(always)]
 fn eight_bytes(bytes: &[u8]) -> u64
     requires { length bytes.now ≡ 8 }
     ensures { to_be_bytes w64 result ≡ bytes.now }
@@ -73,6 +78,7 @@ fn eight_bytes(bytes: &[u8]) -> u64
 
 /// The header of a title, or nothing where no title that is taken begins so: with no meaning, or where only the
 /// shortest spelling is taken a longer one. All bytes that the first one announces are there.
+#[inline(always)]
 pub(crate) fn header_of(bytes: &[u8], strict: bool) -> Option<Header>
     requires { length bytes.now ≡ 1 + affix_len (slice_index bytes.now 0 % 32) }
     ensures title { IfSome result (IsTitle bytes.now) }

@@ -1,44 +1,49 @@
-use Rattle.std.proofs.Common.{ℕ, ◌≡◌, ◌++◌, take, length, ap, subst, arith, rules}
+use Rattle.std.proofs.Common.{◌≡◌, ◌≤◌, ◌++◌, take, length, ap, true, arith, rules, length-append}
+use Rattle.std.proofs.lemmas.List.{length-take-le}
 use Rattle.cbor_feed.specs.Checking.{spot_of}
-use Rattle.cbor_feed.specs.Spots.{Spot}
-use Rattle.cbor_feed.specs.Telling.{Tells, is_due}
-use Rattle.cbor_feed.proofs.TellLaws.{fed_counts, fed_more, told}
+use Rattle.cbor_feed.proofs.LeadLaws.{leads_fed, leads_stays, run_front}
+use Rattle.cbor_feed.proofs.TellLaws.{fed_counts, told}
 use Rattle.cbor_feed.proofs.checker.Checker.feed.Goals as goal
 
-pub loop-at-preserved : goal.loop-at-preserved
-loop-at-preserved c = record {
-  fed = λ strict depth fed is.
-      fed_more strict depth fed (spot_of c.loop-at.self) (spot_of c.step.new.self) c.args.bytes.now c.loop-at.at
-      (search rules)
-      (search rules) (c.loop-at.invariant.fed strict depth fed is) (search rules);
-  stays = λ off.
-      let same = ap (λ (spot : Spot). is_due spot.phase) (c.loop-at.invariant.stays off).1 in
-      let is = c.is_due.ensures in
-      let due = c.if-not-is_due.false in
-      absurd cc;
-}
+pub returns-then-is_due-clause-fed : goal.returns-then-is_due-clause-fed
+returns-then-is_due-clause-fed c = λ strict depth fed is.
+    let run = run_front c.args.bytes.now c.run_all-taken.result c.min-counted.result (spot_of c.args.self.now)
+    (spot_of c.run_all-taken.new.self) c.run_all-taken.ensures.within (search rules) c.run_all-taken.ensures.leads in
+    leads_fed strict depth fed (take c.run_all-taken.result c.args.bytes.now) (spot_of c.args.self.now)
+    (spot_of c.run_all-taken.new.self) is run
 
-pub returns-then-not-is_due-clause-tells : goal.returns-then-not-is_due-clause-tells
-returns-then-not-is_due-clause-tells c = λ strict depth fed is.
-    let checker = c.loop-at.self in
-    let whole = fed ++ take c.loop-at.at c.args.bytes.now in
-    told strict depth whole (spot_of checker) c.answer.result c.answer.ensures
-    (c.loop-at.invariant.fed strict depth fed is)
-    checker.left checker.begun
+pub returns-then-is_due-clause-tells : goal.returns-then-is_due-clause-tells
+returns-then-is_due-clause-tells c = λ strict depth fed is.
+    let bytes = c.args.bytes.now in
+    let taken = c.run_all-taken.result in
+    let counts = fed_counts strict depth fed (spot_of c.args.self.now) is in
+    let fits : c.min-counted.result ≤ length bytes = search rules in
+    let due : c.is_due.result ≡ true = c.if-is_due.true in
+    let all = c.run_all-taken.ensures.all (search rules) in
+    let most = length-take-le c.min-counted.result bytes fits in
+    let long = length-take-le taken bytes (omega (arith, all, most, fits)) in
+    let least = c.min-counted.ensures in
+    omega (arith, counts, all, most, long, least, c.if-taken-bytes.true, length-append fed (take taken bytes))
 
-pub returns-then-self-clause-tells : goal.returns-then-self-clause-tells
-returns-then-self-clause-tells c = λ strict depth fed is.
-    let whole = fed ++ take c.loop-at.at c.args.bytes.now in
-    let counts = fed_counts strict depth whole (spot_of c.loop-at.self) (c.loop-at.invariant.fed strict depth fed is) in
-    omega (arith, counts, c.if-self.true)
+pub returns-clause-fed : goal.returns-clause-fed
+returns-clause-fed c = λ strict depth fed is.
+    let run = run_front c.args.bytes.now c.run_all-taken.result c.min-counted.result (spot_of c.args.self.now)
+    (spot_of c.run_all-taken.new.self) c.run_all-taken.ensures.within (search rules) c.run_all-taken.ensures.leads in
+    leads_fed strict depth fed (take c.run_all-taken.result c.args.bytes.now) (spot_of c.args.self.now)
+    (spot_of c.run_all-taken.new.self) is run
 
 pub returns-clause-tells : goal.returns-clause-tells
 returns-clause-tells c = λ strict depth fed is.
-    let checker = c.loop-at.self in
+    let checker = c.run_all-taken.new.self in
+    told strict depth (fed ++ take c.run_all-taken.result c.args.bytes.now) (spot_of checker) c.answer.result
+    c.answer.ensures (returns-clause-fed c strict depth fed is) checker.left checker.begun
+
+pub returns-clause-stays : goal.returns-clause-stays
+returns-clause-stays c = λ off.
     let bytes = c.args.bytes.now in
-    let whole = fed ++ take c.loop-at.at bytes in
-    let all : c.loop-at.at ≡ length bytes = search rules in
-    subst (λ (n : ℕ). Tells strict depth (fed ++ take n bytes) c.answer-2.result) all
-    (told strict depth whole (spot_of checker) c.answer-2.result c.answer-2.ensures
-    (c.loop-at.invariant.fed strict depth fed is)
-    checker.left checker.begun)
+    let taken = c.run_all-taken.result in
+    let stays = leads_stays (spot_of c.args.self.now) (spot_of c.run_all-taken.new.self)
+    (take taken (take c.min-counted.result bytes)) off c.run_all-taken.ensures.leads in
+    let none = ap length stays.0 in
+    let long = length-take-le taken (take c.min-counted.result bytes) c.run_all-taken.ensures.within in
+    (omega (arith, none, long), stays.1)

@@ -1,0 +1,268 @@
+-- Where several bytes lead at once.
+use Rattle.std.proofs.Common.{◌≡◌, ℕ, zero, suc, ◌+◌, ◌-◌, ◌<◌, ◌≤◌, Bool, true, false, List, [], ◌∷◌, ◌++◌}
+use Rattle.std.proofs.Common.{length, take, drop, get_or, slice_index, refl, sym, ap, subst, ◌∙◌, arith}
+use Rattle.std.proofs.Common.{append_assoc, append-nil, length-append, length-drop, le-leb, Option, Some, None}
+use Rattle.std.proofs.lemmas.List.{get_or-take, length-take-le, take_at, take_rest, take-take}
+use Rattle.std.proofs.Math.Seq.{take-add}
+use Rattle.ciborium_ll_text.specs.declared.state.State.{State}
+use Rattle.ciborium_ll_text.specs.declared.state.State.TheVariants as s
+use Rattle.ciborium_ll_text.specs.States.{after, after_byte}
+use Rattle.ciborium_ll_text.specs.Text.{IsFront}
+use Rattle.ciborium_ll_text.proofs.StateLaws.{after-append, text_ends}
+use Rattle.cbor_feed.specs.declared.level.Level.{Level}
+use Rattle.cbor_feed.specs.declared.phase.Phase.{Phase}
+use Rattle.cbor_feed.specs.declared.phase.Phase.TheVariants as p
+use Rattle.cbor_feed.specs.declared.phase.Within.{Within}
+use Rattle.cbor_feed.specs.declared.phase.Within.TheVariants as w
+use Rattle.cbor_feed.specs.Levels.{next}
+use Rattle.cbor_feed.specs.Spots.{Spot, at_phase, settled, string_done, bytes_due}
+use Rattle.cbor_feed.specs.Steps.{IsFed, Leads, Step, StepIn, TitleStep, stay, go, more, counted, counted_by, may_end}
+use Rattle.cbor_feed.specs.Steps.{text_left, with_byte}
+use Rattle.cbor_feed.specs.Telling.{is_due}
+use Rattle.cbor_feed.proofs.StepLaws.{one_more_due}
+use Rattle.cbor_feed.proofs.TellLaws.{step_counts}
+
+-- ---- bytes that lead somewhere
+
+-- each is a byte
+abbrev pub Below : List ℕ → Type 0
+Below xs = (i : ℕ) → i < length xs → get_or xs i 0 < 256
+
+pub below_rest : (x : ℕ) (xs : List ℕ) → Below (x ∷ xs) → Below xs
+below_rest x xs below = λ i less. below (suc i) (omega (arith, less))
+
+pub below_take : (n : ℕ) (xs : List ℕ) → n ≤ length xs → Below xs → Below (take n xs)
+below_take n xs le below = λ i less.
+    let long = length-take-le n xs le in
+    let same = get_or-take n xs i 0 (omega (arith, less, long)) in
+    let b = below i (omega (arith, less, long, le)) in
+    omega (arith, same, b)
+
+-- they were fed behind those before
+pub leads_fed : (s : Bool) (d : ℕ) (fed xs : List ℕ) (spot new : Spot) → IsFed s d fed spot → Leads spot xs new
+    → IsFed s d (fed ++ xs) new
+leads_fed s d fed xs spot new is stay = subst (λ (z : List ℕ). IsFed s d z spot) (sym (append-nil fed)) is
+leads_fed s d fed xs spot new is (go {bytes = ys} {next = m} b below one rest) =
+    subst (λ (z : List ℕ). IsFed s d z new) (append_assoc fed (b ∷ []) ys)
+    (leads_fed s d (fed ++ b ∷ []) ys m new (more b below is one) rest)
+
+pub leads_more : (a b c : Spot) (xs ys : List ℕ) → Leads a xs b → Leads b ys c → Leads a (xs ++ ys) c
+leads_more a b c xs ys stay f = f
+leads_more a b c xs ys (go {bytes = zs} {next = m} x below one rest) f =
+    go x below one (leads_more m b c zs ys rest f)
+
+-- each is counted
+pub leads_counts : (spot new : Spot) (xs : List ℕ) → Leads spot xs new → new.offset ≡ spot.offset + length xs
+leads_counts spot new xs stay = omega arith
+leads_counts spot new xs (go {bytes = ys} {next = m} b below one rest) =
+    let first = step_counts spot.phase spot m b one in
+    let others = leads_counts m new ys rest in
+    omega (arith, first, others)
+
+not_due : (phase : Phase) (spot new : Spot) (b : ℕ) → is_due phase ≡ false → StepIn phase spot b new → ⊥
+not_due p.Title spot new b off step = cc
+not_due (p.Bytes left) spot new b off step = cc
+not_due (p.Text left state) spot new b off step = cc
+not_due p.Ended spot new b off step = step
+not_due (p.Faulted fault) spot new b off step = step
+
+-- none comes where none is due
+pub leads_stays : (spot new : Spot) (xs : List ℕ) → is_due spot.phase ≡ false → Leads spot xs new
+    → (xs ≡ []) × (new ≡ spot)
+leads_stays spot new xs off stay = (refl, refl)
+leads_stays spot new xs off (go {next = m} b below one rest) = absurd (not_due spot.phase spot m b off one)
+
+-- one byte
+pub one_leads : (xs : List ℕ) (spot new : Spot) → Below xs → 0 < length xs → Step spot (slice_index xs 0) new
+    → Leads spot (take 1 xs) new
+one_leads [] spot new below some step = absurd (omega arith)
+one_leads (x ∷ xs) spot new below some step = go x (below 0 (omega arith)) step stay
+
+-- ---- what was due does not count behind a body
+
+settled_by : (o : Option Level) (g : Level) (gs : List Level) (d : ℕ) (s : Spot) (a : Phase) → next g ≡ o
+    → settled (suc d) gs (at_phase a s) ≡ settled (suc d) gs s
+    → settled d (g ∷ gs) (at_phase a s) ≡ settled d (g ∷ gs) s
+settled_by None g gs d s a e same = rw (e, settled) same
+settled_by (Some left) g gs d s a e same = rw (e, settled) refl
+
+settled_alike : (gs : List Level) (d : ℕ) (s : Spot) (a : Phase) → settled d gs (at_phase a s) ≡ settled d gs s
+settled_alike [] d s a = refl
+settled_alike (g ∷ gs) d s a = settled_by (next g) g gs d s a refl (settled_alike gs (suc d) s a)
+
+done_alike : (i : Within) (s : Spot) (a : Phase) → string_done i (at_phase a s) ≡ string_done i s
+done_alike w.Nothing s a = settled_alike s.levels s.depth s a
+done_alike (w.Bytes n) s a = refl
+done_alike (w.Text n) s a = refl
+
+due_alike : (len : ℕ) (s : Spot) (a : Phase) → bytes_due len (at_phase a s) ≡ bytes_due len s
+due_alike zero s a = done_alike s.within s a
+due_alike (suc n) s a = refl
+
+left_alike : (m : Bool) (len : ℕ) (x : State) (s : Spot) (a : Phase)
+    → text_left m len x (at_phase a s) ≡ text_left m len x s
+left_alike false len x s a = refl
+left_alike true zero x s a = done_alike s.within s a
+left_alike true (suc n) x s a = refl
+
+-- ---- bytes of a byte string
+
+-- the spot with nothing of a title, to which so many bytes came
+abbrev at_count : ℕ → Spot → Spot
+at_count n s = record s { front = []; offset = n }
+
+body_leads : (xs : List ℕ) (left total n : ℕ) (s : Spot) → Below xs → s.phase ≡ p.Bytes total
+    → total ≡ length xs + left → n ≡ s.offset + length xs → 0 < length xs
+    → Leads s xs (bytes_due left (at_count n s))
+body_leads [] left total n s below at all on some = absurd (omega arith)
+body_leads (x ∷ []) left total n s below at all on some =
+    let here : s.phase ≡ p.Bytes (suc left) = at ∙ ap p.Bytes (omega (arith, all)) in
+    let counts : n ≡ s.offset + 1 = omega (arith, on) in
+    let new = bytes_due left (at_count n s) in
+    go x (below 0 (omega arith))
+    (subst (λ (z : Phase). StepIn z s x new) (sym here)
+    (ap (λ (z : ℕ). bytes_due left (at_count z s)) counts))
+    stay
+body_leads (x ∷ y ∷ ys) left total n s below at all on some =
+    let k : ℕ = length ys + left in
+    let here : s.phase ≡ p.Bytes (suc (suc k)) = at ∙ ap p.Bytes (omega (arith, all)) in
+    let m : Spot = at_phase (p.Bytes (suc k)) (counted s) in
+    let rest = body_leads (y ∷ ys) left (suc k) n m (below_rest x (y ∷ ys) below) refl (omega arith)
+    (omega (arith, on)) (omega arith) in
+    go x (below 0 (omega arith)) (subst (λ (z : Phase). StepIn z s x m) (sym here) refl)
+    (subst (λ (z : Spot). Leads m (y ∷ ys) z) (due_alike left (at_count n s) (p.Bytes (suc k))) rest)
+
+-- as many as are there
+pub bytes_lead : (xs : List ℕ) (n left : ℕ) (s new : Spot) → Below xs → s.phase ≡ p.Bytes left → 0 < n
+    → n ≤ length xs → n ≤ left → new ≡ bytes_due (left - n) (counted_by n s) → Leads s (take n xs) new
+bytes_lead xs n left s new below at some le within e =
+    let long = length-take-le n xs le in
+    subst (λ (z : Spot). Leads s (take n xs) z) (sym e)
+    (body_leads (take n xs) (left - n) left (s.offset + n) s (below_take n xs le below) at
+    (omega (arith, long, within)) (omega (arith, long)) (omega (arith, long, some)))
+
+-- ---- bytes of a text
+
+-- what may end behind bytes may end in front of them
+may_back : (xs : List ℕ) (state : State) (left k : ℕ) → k ≡ length xs + left → may_end (after state xs) left ≡ true
+    → may_end state k ≡ true
+may_back [] state left k e may = subst (λ (z : ℕ). may_end state z ≡ true) (let same : left ≡ k = omega (arith, e) in same) may
+may_back (x ∷ xs) state left k e may =
+    let so_far = may_back xs (after_byte state x) left (length xs + left) refl may in
+    subst (λ (z : ℕ). may_end state z ≡ true) (let same : suc (length xs + left) ≡ k = omega (arith, e) in same)
+    (one_more_due state x (length xs + left) so_far)
+
+chars_lead : (xs : List ℕ) (left total n : ℕ) (state : State) (s : Spot) → Below xs → s.phase ≡ p.Text total state
+    → total ≡ length xs + left → n ≡ s.offset + length xs → 0 < length xs → may_end (after state xs) left ≡ true
+    → Leads s xs (text_left true left (after state xs) (at_count n s))
+chars_lead [] left total n state s below at all on some may = absurd (omega arith)
+chars_lead (x ∷ []) left total n state s below at all on some may =
+    let here : s.phase ≡ p.Text (suc left) state = at ∙ ap (λ (z : ℕ). p.Text z state) (omega (arith, all)) in
+    let counts : n ≡ s.offset + 1 = omega (arith, on) in
+    let new = text_left true left (after_byte state x) (at_count n s) in
+    go x (below 0 (omega arith))
+    (subst (λ (z : Phase). StepIn z s x new) (sym here)
+    (ap (λ (z : ℕ). text_left true left (after_byte state x) (at_count z s)) counts
+    ∙ ap (λ (z : Bool). text_left z left (after_byte state x) (counted s)) (sym may)))
+    stay
+chars_lead (x ∷ y ∷ ys) left total n state s below at all on some may =
+    let k : ℕ = length ys + left in
+    let behind : State = after_byte state x in
+    let here : s.phase ≡ p.Text (suc (suc k)) state = at ∙ ap (λ (z : ℕ). p.Text z state) (omega (arith, all)) in
+    let goes : may_end behind (suc k) ≡ true = may_back (y ∷ ys) behind left (suc k) (omega arith) may in
+    let m : Spot = at_phase (p.Text (suc k) behind) (counted s) in
+    let rest = chars_lead (y ∷ ys) left (suc k) n behind m (below_rest x (y ∷ ys) below) refl (omega arith)
+    (omega (arith, on)) (omega arith) may in
+    go x (below 0 (omega arith))
+    (subst (λ (z : Phase). StepIn z s x m) (sym here)
+    (ap (λ (z : Bool). text_left z (suc k) behind (counted s)) (sym goes)))
+    (subst (λ (z : Spot). Leads m (y ∷ ys) z)
+    (left_alike true left (after behind (y ∷ ys)) (at_count n s) (p.Text (suc k) behind)) rest)
+
+-- as many as are there, or as make a text
+pub text_leads : (xs : List ℕ) (n left : ℕ) (state behind : State) (s new : Spot) → Below xs
+    → s.phase ≡ p.Text left state → 0 < n → n ≤ length xs → n ≤ left → behind ≡ after state (take n xs)
+    → may_end behind (left - n) ≡ true
+    → new ≡ text_left (may_end behind (left - n)) (left - n) behind (counted_by n s) → Leads s (take n xs) new
+text_leads xs n left state behind s new below at some le within is may e =
+    let long = length-take-le n xs le in
+    let known : new ≡ text_left true (left - n) (after state (take n xs)) (counted_by n s) =
+    e ∙ (ap (λ (z : Bool). text_left z (left - n) behind (counted_by n s)) may
+    ∙ ap (λ (z : State). text_left true (left - n) z (counted_by n s)) is) in
+    subst (λ (z : Spot). Leads s (take n xs) z) (sym known)
+    (chars_lead (take n xs) (left - n) left (s.offset + n) state s (below_take n xs le below) at
+    (omega (arith, long, within)) (omega (arith, long)) (omega (arith, long, some))
+    (subst (λ (z : State). may_end z (left - n) ≡ true) is may))
+
+-- ---- bytes of a list that come run by run
+
+-- those that are left
+pub rest_long : (xs : List ℕ) (at : ℕ) → length (take (length xs - at) (drop at xs)) ≡ length xs - at
+rest_long xs at = ap length (take_rest xs at) ∙ length-drop at xs
+
+pub run_more : (xs : List ℕ) (at n : ℕ) (s m new : Spot) → Leads s (take at xs) m
+    → Leads m (take n (take (length xs - at) (drop at xs))) new → Leads s (take (at + n) xs) new
+run_more xs at n s m new so_far run =
+    subst (λ (z : List ℕ). Leads s z new)
+    (ap (λ (z : List ℕ). take at xs ++ take n z) (take_rest xs at) ∙ sym (take-add at n xs))
+    (leads_more s m new (take at xs) (take n (take (length xs - at) (drop at xs))) so_far run)
+
+-- so many came, and the others have room
+pub run_room : (xs : List ℕ) (at most : ℕ) (s m : Spot) → at ≤ length xs → s.offset + length xs ≤ most
+    → Leads s (take at xs) m → m.offset + length (take (length xs - at) (drop at xs)) ≤ most
+run_room xs at most s m le room so_far =
+    let counts = leads_counts s m (take at xs) so_far in
+    let long = length-take-le at xs le in
+    let rest = rest_long xs at in
+    omega (arith, counts, long, rest, le, room)
+
+-- of a list only so many counted
+pub run_front : (xs : List ℕ) (n most : ℕ) (s new : Spot) → n ≤ length (take most xs) → most ≤ length xs
+    → Leads s (take n (take most xs)) new → Leads s (take n xs) new
+run_front xs n most s new le fits run =
+    let long = length-take-le most xs fits in
+    subst (λ (z : List ℕ). Leads s z new) (take-take n most xs (omega (arith, le, long))) run
+
+-- ---- the front of bytes that is text
+
+pub front_long : (x front : List ℕ) → IsFront x front (drop (length front) x) → length front ≤ length x
+front_long x front is =
+    let whole = ap length is.parts in omega (arith, whole, length-append front (drop (length front) x))
+
+-- behind all bytes the state is that behind the ones that follow the front
+pub whole_state : (x front : List ℕ) (behind : State) → IsFront x front (drop (length front) x)
+    → behind ≡ after s.Between (drop (length front) x) → behind ≡ after s.Between x
+whole_state x front behind is e =
+    let rest = drop (length front) x in
+    e ∙ (ap (λ (z : State). after z rest) (sym (text_ends front is.text))
+    ∙ (sym (after-append s.Between front rest) ∙ ap (after s.Between) (sym is.parts)))
+
+-- behind the front it is the one between two characters
+pub front_state : (xs front : List ℕ) (n : ℕ) → n ≤ length xs → IsFront (take n xs) front (drop (length front) (take n xs))
+    → s.Between ≡ after s.Between (take (length front) xs)
+front_state xs front n le is =
+    let x = take n xs in
+    let long = front_long x front is in
+    let all = length-take-le n xs le in
+    let same : take (length front) xs ≡ front =
+    sym (take-take (length front) n xs (omega (arith, long, all)))
+    ∙ (ap (take (length front)) is.parts ∙ take_at front (drop (length front) x) (length front) refl) in
+    sym (ap (after s.Between) same ∙ text_ends front is.text)
+
+pub between_ends : (left : ℕ) → may_end s.Between left ≡ true
+between_ends left = le-leb 0 left (omega arith)
+
+-- one byte of a text
+pub text_one : (left : ℕ) (state : State) (x : ℕ) (s new : Spot) → s.phase ≡ p.Text left state → 0 < left
+    → (let behind = after_byte state x in new ≡ text_left (may_end behind (left - 1)) (left - 1) behind (counted s))
+    → Step s x new
+text_one zero state x s new at some e = absurd (omega arith)
+text_one (suc left) state x s new at some e =
+    let less : suc left - 1 ≡ left = omega arith in
+    let behind = after_byte state x in
+    subst (λ (z : Phase). StepIn z s x new) (sym at)
+    (subst (λ (z : ℕ). new ≡ text_left (may_end behind z) z behind (counted s)) less e)
+
+-- one byte of a title
+pub title_one : (x : ℕ) (s new : Spot) → s.phase ≡ p.Title → TitleStep (with_byte x s) new → Step s x new
+title_one x s new at step = subst (λ (z : Phase). StepIn z s x new) (sym at) step
