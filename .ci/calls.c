@@ -47,6 +47,70 @@ static int checks_null(void)
         && told(cll_checker_end(&checker, &report), CLL_OK, 0, 0, 0);
 }
 
+/* A copier takes null where there are no bytes. Of no elements nothing is due. */
+static int copies_null(void)
+{
+    static const uint8_t one[] = {0x05};
+    cll_copier copier;
+    return cll_copier_init(&copier, 0) == CLL_OK
+        && told(cll_copier_feed(&copier, one, 1, NULL, 0, &report), CLL_OK, 0, 0, 0)
+        && cll_copier_init(&copier, 1) == CLL_OK
+        && told(cll_copier_feed(&copier, NULL, 0, NULL, 0, &report), CLL_SHORT, 0, 0, 0)
+        && told(cll_copier_end(&copier, &report), CLL_SHORT, 0, 0, 0)
+        && told(cll_copier_feed(&copier, one, 1, NULL, 0, &report), CLL_ROOM, 1, 0, 0)
+        && told(cll_copier_end(&copier, &report), CLL_ROOM, 0, 0, 0)
+        && told(cll_copier_feed(&copier, NULL, 0, space, 1, &report), CLL_OK, 0, 1, 0) && space[0] == 0x05
+        && told(cll_copier_end(&copier, &report), CLL_OK, 0, 0, 0);
+}
+
+/* Memory with no copier in it, of a checker too: what stands there stays, and nothing is written. */
+static int refuses_copiers(void)
+{
+    static cll_copier copier, old;
+    static cll_checker checker;
+    static const uint8_t one[] = {0x05};
+    for (unsigned fill = 0; fill <= 256; fill++) {
+        memset(&copier, (int)fill, sizeof copier);
+        if (fill == 256 && cll_checker_init(&checker, 0) == CLL_OK)
+            memcpy(&copier, &checker, sizeof copier);
+        old = copier;
+        space[0] = 0xee;
+        if (!told(cll_copier_feed(&copier, one, 1, space, SPACE, &report), CLL_ARGUMENT, 0, 0, 0)
+            || !told(cll_copier_end(&copier, &report), CLL_ARGUMENT, 0, 0, 0) || space[0] != 0xee
+            || memcmp(&copier, &old, sizeof old) != 0)
+            return 0;
+    }
+    return 1;
+}
+
+/* One byte of a copier is another one, each in turn: nothing is taken or written that is not there. */
+static int survives_damaged_copiers(void)
+{
+    static const uint8_t begun[] = {0x19, 0x03, 0xe8, 0x7f, 0x7f, 0x63, 0xe6};
+    static const uint8_t more[] = {0xb0, 0xb4, 0xff, 0xff, 0x9f, 0x19};
+    cll_copier good;
+    if (sizeof good != 72 || cll_copier_init(&good, 3) != CLL_OK
+        || !told(cll_copier_feed(&good, begun, sizeof begun, space, 2, &report), CLL_ROOM, 3, 2, 0))
+        return 0;
+    for (unsigned fed = 0; fed < 2; fed++) {
+        for (size_t at = 0; at < sizeof good; at++) {
+            for (unsigned value = 0; value < 256; value++) {
+                cll_copier bad = good;
+                ((uint8_t *)&bad)[at] = (uint8_t)value;
+                memset(space, 0xee, 16);
+                const uint32_t answer = cll_copier_feed(&bad, more, sizeof more, space, 12, &report);
+                if (answer > CLL_ARGUMENT || report.consumed > sizeof more || report.written > 12
+                    || (report.written < 12 && space[report.written] != 0xee) || space[12] != 0xee
+                    || cll_copier_end(&bad, &report) > CLL_ARGUMENT)
+                    return 0;
+            }
+        }
+        if (fed == 0 && !told(cll_copier_feed(&good, begun + 3, 4, space, SPACE, &report), CLL_SHORT, 4, 3, 0))
+            return 0;
+    }
+    return 1;
+}
+
 /* What a checker has to find of bytes: the answer, how many it takes of them, and the place. */
 struct finding { const uint8_t *data; size_t len; uint32_t depth, answer; uint64_t taken, place; };
 
@@ -344,6 +408,7 @@ int main(void)
         {"answers", tells_answers},     {"overlaps", finds_overlaps}, {"version", is_this_version},
         {"no bytes", checks_null},      {"cuts", checks_pieces},      {"inside", keeps_inside},
         {"memory", refuses_memory},     {"overwritten", survives_damage}, {"elements", counts_elements},
+        {"no bytes to copy", copies_null}, {"no copier", refuses_copiers}, {"a copier", survives_damaged_copiers},
     };
     for (size_t i = 0; i < sizeof rows / sizeof *rows; i++) {
         if (!rows[i].holds()) {

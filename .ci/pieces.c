@@ -3,6 +3,9 @@
  * bytes: each front of them at once and then the rest, byte by byte, and in random pieces. Each piece ends at a guard
  * page, and so does the checker, or it begins behind one.
  *
+ * A copier gets the same bytes, in random pieces and with random rooms, each of which ends at a guard page: what it
+ * makes is what cll_recode makes of them, and goes on from what that has written where they are faulty or cut.
+ *
  * What has to be answered comes from calls over the whole front, cll_skip, cll_strict and cll_recode, whose answers are
  * proved. Where they say that the bytes end too early, more is due just where some bytes behind them make an item: so
  * such bytes are looked for, and skipped. How many bytes are due at least is known of an item by how it was made.
@@ -23,10 +26,14 @@ struct finding { uint32_t answer; uint64_t taken, place; };
 /* A front to which bytes are added: what is answered, and how many bytes are due. */
 struct front { uint8_t data[PLENTY + MORE]; size_t len; uint32_t answer; uint64_t due; };
 
-static struct guarded input, output, checkers, reports;
+/* What a copier makes of bytes: what is found of them, and what is written. */
+struct copy { struct finding found; uint8_t data[MOST]; size_t written; };
+
+static struct guarded input, output, checkers, copiers, reports;
 static cll_checker *checker;
+static cll_copier *copier;
 static cll_report *report;
-static unsigned long answers[CLL_ARGUMENT + 1], completed, fronts;
+static unsigned long answers[CLL_ARGUMENT + 1], completed, copies_made, fronts;
 
 /* Whether the checker is a strict one. */
 static int strict;
@@ -247,6 +254,75 @@ static int in_two(struct finding *want, const uint8_t *data, size_t len, uint32_
     return copies(&all, data, len, depth);
 }
 
+/* Feeds a copier a piece with so much room, and adds to what it made before. Then it moves. */
+static void feed_copier(struct copy *copy, const uint8_t *data, size_t len, size_t room)
+{
+    uint8_t *out = output.end - room;
+    uint8_t *other = (uint8_t *)copier == copiers.start ? copiers.end - sizeof *copier : copiers.start;
+    copy->found.answer = cll_copier_feed(copier, at_end(&input, data, len), len, out, room, report);
+    copy->found.taken += report->consumed;
+    copy->found.place = report->place;
+    memcpy(copy->data + copy->written, out, (size_t)report->written);
+    copy->written += (size_t)report->written;
+    copier = (cll_copier *)memmove(other, copier, sizeof *copier);
+}
+
+/* What a copier makes of bytes in pieces and rooms of at most so many, and whether it says the same of their end. */
+static int copied(struct copy *copy, const uint8_t *data, size_t len, uint64_t count, size_t longest)
+{
+    memset(copy, 0, sizeof *copy);
+    if (cll_copier_init(copier, count) != CLL_OK)
+        return 0;
+    do {
+        const size_t there = (size_t)copy->found.taken, left = len - there;
+        const size_t piece = longest == 1 ? 1 : (size_t)below(longest + 1);
+        const size_t room = longest == 1 ? 1 : (size_t)below(longest + 1);
+        feed_copier(copy, data + there, piece < left ? piece : left, room);
+    } while (copy->found.answer == CLL_ROOM || (copy->found.answer == CLL_SHORT && copy->found.taken < len));
+    return cll_copier_end(copier, report) == copy->found.answer && report->consumed == 0 && report->written == 0
+        && report->place == copy->found.place;
+}
+
+/* Whether the copy is that of the calls over all bytes, which has written so many of `want`. */
+static int is_copy(const struct copy *copy, const struct finding *found, const uint8_t *want, size_t written)
+{
+    if (written > copy->written || memcmp(copy->data, want, written) != 0)
+        return 0;
+    switch (found->answer) {
+    case CLL_OK:
+        return same(&copy->found, found) && copy->written == written;
+    case CLL_SHORT:
+        return copy->found.answer == CLL_SYNTAX || copy->found.answer == CLL_SHORT;
+    default:
+        return copy->found.answer == found->answer && copy->found.place == found->place;
+    }
+}
+
+/* Whether a copier makes of bytes what the calls over all of them do, however both are cut. */
+static int copies_on(const uint8_t *data, size_t len)
+{
+    static struct copy once, pieces;
+    static uint8_t want[MOST];
+    uint8_t *out = output.end - len;
+    struct finding found;
+    cll_recode(at_end(&input, data, len), len, UINT64_MAX, out, len, report);
+    const uint64_t count = below(report->elements + 2);
+    found.answer = cll_recode(at_end(&input, data, len), len, count, out, len, report);
+    found.taken = report->consumed;
+    found.place = report->place;
+    const size_t written = (size_t)report->written;
+    memcpy(want, out, written);
+    if (!copied(&once, data, len, count, 1) || !is_copy(&once, &found, want, written))
+        return 0;
+    for (unsigned i = 0; i < ROUNDS; i++) {
+        if (!copied(&pieces, data, len, count, 2 + (size_t)below(len + 1)) || !same(&pieces.found, &once.found)
+            || pieces.written != once.written || memcmp(pieces.data, once.data, once.written) != 0)
+            return 0;
+    }
+    copies_made++;
+    return 1;
+}
+
 /* Tries bytes in all ways. */
 static int holds(const uint8_t *data, size_t len, uint32_t depth)
 {
@@ -260,7 +336,7 @@ static int holds(const uint8_t *data, size_t len, uint32_t depth)
         if (want[cut].answer == CLL_SHORT && !completes(data, cut, depth))
             return 0;
     }
-    return 1;
+    return strict || copies_on(data, len);
 }
 
 /* Whether as many bytes are due in front of each byte of an item as were, when it was made. */
@@ -371,8 +447,10 @@ int main(int argc, char **argv)
     input = guard(MOST + MORE);
     output = guard(MOST);
     checkers = guard(sizeof *checker);
+    copiers = guard(sizeof *copier);
     reports = guard(sizeof *report);
     checker = (cll_checker *)checkers.start;
+    copier = (cll_copier *)copiers.start;
     report = (cll_report *)(reports.end - sizeof *report);
     for (strict = 0; strict < 2; strict++) {
         if (argc < 2 && tries_lists() != 0)
@@ -382,8 +460,8 @@ int main(int argc, char **argv)
                 return 1;
         }
     }
-    printf("%lu fronts: %lu ended, %lu short, of which %lu were completed, %lu syntax, %lu break, %lu deep\n", fronts,
+    printf("%lu fronts: %lu ended, %lu short, of which %lu were completed, %lu syntax, %lu break, %lu deep\n%lu copies\n", fronts,
         answers[CLL_OK], answers[CLL_SHORT], completed, answers[CLL_SYNTAX], answers[CLL_BREAK_DUE],
-        answers[CLL_TOO_DEEP]);
+        answers[CLL_TOO_DEEP], copies_made);
     return answers[CLL_TOO_LONG] + answers[CLL_ARGUMENT] + answers[CLL_ROOM] > 0;
 }

@@ -9,13 +9,14 @@
  * writes must not overlap anything else that it is given: so no call works in place. cll_overlap tells whether two
  * pieces of memory overlap.
  *
- * Nothing is kept between calls, but for what a cll_checker keeps in the caller's own memory. So calls may run in
- * several threads at once, where none writes what another one uses.
+ * Nothing is kept between calls, but for what a cll_checker and a cll_copier keep in the caller's own memory. So calls
+ * may run in several threads at once, where none writes what another one uses.
  *
  * Of the stack, as measured on x86-64, cll_pull, cll_push, cll_push_wide, cll_utf8, cll_checker_init,
- * cll_checker_init_strict and cll_checker_end take less than 128 bytes, cll_recode and cll_strict less than 2 KiB, and
- * cll_checker_feed less than 6 KiB. cll_skip takes less than 2 KiB and 328 bytes for each level that it goes down: 8 KiB
- * at 16 levels, 23 KiB at 64, and 84 KiB at 256.
+ * cll_checker_init_strict, cll_checker_end and cll_copier_init take less than 128 bytes, cll_copier_feed and
+ * cll_copier_end less than 1 KiB, cll_recode and cll_strict less than 2 KiB, and cll_checker_feed less than 6 KiB.
+ * cll_skip takes less than 2 KiB and 328 bytes for each level that it goes down: 8 KiB at 16 levels, 23 KiB at 64, and
+ * 84 KiB at 256.
  */
 #ifndef CIBORIUM_LL_H
 #define CIBORIUM_LL_H
@@ -49,7 +50,8 @@ typedef struct { uint64_t value; uint8_t kind; uint8_t indefinite; } cll_header;
  * it lies inside a title that is longer than that.
  *
  * Of the calls of a checker the offset is counted from the item's first byte, through all pieces; and with CLL_OK and
- * CLL_SHORT `place` says more, as stands at these calls.
+ * CLL_SHORT `place` says more, as stands at these calls. Of those of a copier it is counted from the first byte of the
+ * elements, through all pieces.
  *
  * Of cll_recode and cll_strict `elements` says how many elements were done whole, whatever the answer, and `whole` the
  * offset in `data` behind the last of them. Of the other calls both are 0.
@@ -62,6 +64,12 @@ typedef struct { uint64_t consumed; uint64_t written; uint64_t place; uint64_t e
  * may be copied as it is, and then both go on by themselves.
  */
 typedef struct { uint64_t words[296]; } cll_checker;
+
+/*
+ * A copier of elements whose bytes come in pieces, and of their shortest spelling, which is taken in pieces too. Of its
+ * memory all that stands above of a checker's is so.
+ */
+typedef struct { uint64_t words[9]; } cll_copier;
 
 typedef enum cll_kind {
     CLL_POSITIVE,
@@ -80,7 +88,7 @@ typedef enum cll_kind {
 
 typedef enum cll_answer {
     CLL_OK,        /* all that was asked for was done */
-    CLL_SHORT,     /* the bytes end too early; `consumed` says where the read stopped; of a checker: more is due */
+    CLL_SHORT,     /* the bytes end too early; `consumed` says where the read stopped; of what is fed: more is due */
     CLL_SYNTAX,    /* at `place` stands no CBOR, or for cll_utf8 no UTF-8, that could stand there */
     CLL_ROOM,      /* what is to be written next does not fit into `out` */
     CLL_TOO_LONG,  /* an offset would pass the greatest number, which no bytes in memory make it do: never answered */
@@ -215,6 +223,46 @@ uint32_t cll_checker_feed(cll_checker *checker, const uint8_t *data, size_t len,
  * more were due at least. A fault and CLL_ARGUMENT are answered as by cll_checker_feed.
  */
 uint32_t cll_checker_end(const cll_checker *checker, cll_report *report);
+
+/*
+ * Sets a copier up for `count` elements to which nothing came, whatever stood in `copier` before. An element is a title
+ * that begins no string, or a whole string.
+ *
+ * CLL_OK, whatever `count` is. Of no elements the copier has ended.
+ */
+uint32_t cll_copier_init(cll_copier *copier, uint64_t count);
+
+/*
+ * Gives a copier the next bytes of its elements, as many as there are, and writes in front of `out` as much of their
+ * shortest spelling as it can. `consumed` says how many of the bytes it took, and `written` how many it wrote. Behind
+ * these `out` is as it was. How the bytes are cut into pieces, and how much room each call has, changes nothing of what
+ * is written in all: of so many elements that is what cll_recode writes.
+ *
+ * CLL_OK where so many elements came, and all of their spelling is written; what stands behind them in `data` is not
+ * taken. CLL_SHORT where more is due: all of `data` was taken, and all is written that can be before more comes. Of a
+ * title and of a character that are cut nothing is written. CLL_ROOM where `out` is full, and there is more to write:
+ * what was not taken of `data` has to be given again, and where that is nothing, a call with no bytes writes the rest.
+ * `written` is then `room`, so a call that has some room always gets on. CLL_SYNTAX where no so many elements begin as
+ * the bytes so far do: it comes with the first byte of which that is so, in a text that is no UTF-8 with the byte that
+ * goes wrong, and what was written is the spelling of what stands in front of the fault. CLL_TOO_LONG where the elements
+ * go on behind 2^64 - 1 bytes. CLL_ARGUMENT where no copier was set up there, or what stands there now is that of none:
+ * nothing was taken or written, and nothing has changed. After CLL_OK and after CLL_SYNTAX a further call takes and
+ * writes nothing, and answers the same.
+ *
+ * Not all memory that was overwritten is found out by CLL_ARGUMENT. But whatever stands there, no call reads or writes
+ * beyond what it is given.
+ */
+uint32_t cll_copier_feed(cll_copier *copier, const uint8_t *data, size_t len, uint8_t *out, size_t room,
+    cll_report *report);
+
+/*
+ * Says what it means that no more bytes come, and leaves the copier as it is. `consumed` and `written` are 0.
+ *
+ * CLL_OK just where the bytes so far are so many elements, and all of their spelling was written, which is so of no
+ * elements too; CLL_SHORT where they are cut off; CLL_ROOM where there is more to write, which cll_copier_feed does.
+ * CLL_SYNTAX and CLL_ARGUMENT are answered as by cll_copier_feed.
+ */
+uint32_t cll_copier_end(const cll_copier *copier, cll_report *report);
 
 #ifdef __cplusplus
 }

@@ -353,6 +353,63 @@ private:
     std::uint64_t taken_ = 0;
 };
 
+/*
+ * How far elements have come of which a copier got a piece: how many bytes it took of that and how many it wrote,
+ * whether all elements have come and are written, and whether there is more to write, for which there was no room.
+ */
+struct copying {
+    std::size_t consumed;
+    std::size_t written;
+    bool ended;
+    bool full;
+};
+
+/*
+ * Copies so many elements whose bytes come in pieces to their shortest spelling, however they are cut and how long the
+ * outputs are. It takes no memory but its own, and may be copied.
+ */
+class copier {
+public:
+    explicit copier(std::uint64_t count) noexcept { (void)cll_copier_init(&kept_, count); }
+
+    /*
+     * Takes the next bytes, and writes as much as can be written of all so far. Where `full` is true, what was not
+     * taken has to be given again. A fault comes with the first byte behind which no such elements go on, and names an
+     * offset in all of them. Behind the end and behind a fault a further call takes and writes nothing, and gives the
+     * same.
+     */
+    result<copying> feed(input bytes, output out) noexcept
+    {
+        cll_report report;
+        const std::uint32_t code = cll_copier_feed(&kept_, bytes.data(), bytes.size(), out.data(), out.size(), &report);
+        taken_ += report.consumed;
+        if (code != CLL_OK && code != CLL_SHORT && code != CLL_ROOM)
+            return detail::fault_of(code, report);
+        return copying{static_cast<std::size_t>(report.consumed), static_cast<std::size_t>(report.written),
+            code == CLL_OK, code == CLL_ROOM};
+    }
+
+    /*
+     * Why no end may stand here, or nothing where all elements have come and are written. `too_short` names how many
+     * bytes came.
+     */
+    std::optional<fault> end() const noexcept
+    {
+        cll_report report;
+        const std::uint32_t code = cll_copier_end(&kept_, &report);
+        if (code == CLL_OK)
+            return std::nullopt;
+        return fault{static_cast<answer>(code), code == CLL_SHORT ? taken_ : report.place, 0, 0, 0, 0};
+    }
+
+    /* How many bytes were taken of all pieces. */
+    std::uint64_t taken() const noexcept { return taken_; }
+
+private:
+    cll_copier kept_ = {};
+    std::uint64_t taken_ = 0;
+};
+
 /* Goes through bytes. A call that fails leaves it where it was, and its places are offsets in all of the bytes. */
 class reader {
 public:

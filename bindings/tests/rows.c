@@ -63,6 +63,29 @@ static uint32_t fed(char *text, const uint8_t *data, size_t len, uint32_t depth,
     return answer;
 }
 
+/* Gives a copier the bytes one by one, with room for one each, and makes what it wrote. */
+static uint32_t copied(char *text, const uint8_t *data, size_t len, uint64_t count, cll_report *report)
+{
+    cll_copier copier;
+    uint8_t out[ROOM];
+    uint64_t taken = 0, written = 0, place;
+    uint32_t answer;
+    memset(&copier, 0, sizeof copier);
+    cll_copier_init(&copier, count);
+    do {
+        answer = cll_copier_feed(&copier, data + taken, taken < len, out + written, written < ROOM, report);
+        taken += report->consumed;
+        written += report->written;
+    } while ((answer == CLL_ROOM && written < ROOM) || (answer == CLL_SHORT && taken < len));
+    place = report->place;
+    if (shown(text, out, written) != text)
+        strcpy(text, "-");
+    if (cll_copier_end(&copier, report) != answer || report->place != place)
+        strcpy(text, "another end");
+    report->consumed = taken;
+    return answer;
+}
+
 static int holds(const struct row *row)
 {
     /* Of just as many bytes as there are, so that a sanitizer sees each one beyond. */
@@ -99,6 +122,9 @@ static int holds(const struct row *row)
         answer = cll_utf8(data, row->len, &report);
     } else if (strcmp(row->call, "feed") == 0 || strcmp(row->call, "feed_strict") == 0) {
         answer = fed(text, data, row->len, (uint32_t)row->number, strcmp(row->call, "feed") != 0, &report);
+        made = text;
+    } else if (strcmp(row->call, "copy") == 0) {
+        answer = copied(text, data, row->len, row->number, &report);
         made = text;
     }
     int same = answer == row->answer && report.consumed == row->consumed && strcmp(made, row->made) == 0

@@ -68,6 +68,26 @@ bool feeds(const row &row, const std::vector<std::uint8_t> &data)
         && may_end && (!end || (end->name() == name && end->place == row.place));
 }
 
+/* Gives a copier the bytes one by one, with room for one each. */
+bool copies(const row &row, const std::vector<std::uint8_t> &data)
+{
+    cll::copier copier(row.number);
+    std::array<std::uint8_t, ROOM> out;
+    std::size_t written = 0;
+    auto got = copier.feed({}, {});
+    do {
+        const auto at = static_cast<std::size_t>(copier.taken());
+        got = copier.feed({data.data() + at, at < data.size() ? 1u : 0u}, {out.data() + written, 1});
+        written += got ? got->written : static_cast<std::size_t>(got.fault().written);
+    } while (got && !got->ended && written < out.size() && (got->full || copier.taken() < data.size()));
+    const std::string name = !got ? got.fault().name() : got->ended ? "ok" : "short";
+    const std::uint64_t place = name == "short" ? copier.taken() : got.fault().place;
+    const auto end = copier.end();
+    return name == answer_names[row.answer] && copier.taken() == row.consumed && place == row.place
+        && shown({out.data(), written}) == row.made && !end == (name == "ok")
+        && (!end || (end->name() == name && end->place == row.place));
+}
+
 int holds(const row *row)
 {
     const std::string_view call = row->call;
@@ -93,6 +113,8 @@ int holds(const row *row)
     }
     if (call == "feed" || call == "feed_strict")
         return feeds(*row, data);
+    if (call == "copy")
+        return copies(*row, data);
     const auto depth = static_cast<std::uint32_t>(row->number);
     const auto got = call == "strict" ? cll::strict(data, row->number)
         : call == "skip" ? cll::skip(data, depth) : cll::utf8(data);
@@ -160,6 +182,27 @@ bool checks()
         && cll::checker(257).feed({}).fault().code == cll::answer::argument && !cll::checker().end();
 }
 
+/* Elements in two pieces: what has no room comes later, a copy of a copier goes on by itself, and a fault stays. */
+bool copies_on()
+{
+    std::array<std::uint8_t, 4> out;
+    cll::copier copier(2);
+    const auto first = copier.feed("\x19\x03"sv, out);
+    cll::copier copy = copier;
+    const auto full = copier.feed("\xe8\x61z\x07"sv, {out.data(), 2});
+    const auto early = copier.end();
+    const auto next = copier.feed("\x61z\x07"sv, {out.data() + 2, 2});
+    const bool begun = shown(out) == "1903e861";
+    const auto last = copier.feed("\x07"sv, out);
+    const auto fault = copy.feed("\xe8\x1c"sv, out).fault();
+    return first->consumed == 2 && first->written == 0 && !first->ended && !first->full && full->consumed == 1
+        && full->written == 2 && full->full && early->code == cll::answer::room && next->consumed == 2
+        && next->written == 2 && next->full && begun && last->consumed == 0 && last->written == 1 && last->ended
+        && !copier.end() && copier.taken() == 5 && fault.code == cll::answer::syntax && fault.place == 3
+        && fault.consumed == 2 && fault.written == 3 && copy.feed("\x05"sv, out).fault().consumed == 0
+        && copy.end()->place == 3 && cll::copier(1).end()->code == cll::answer::too_short && !cll::copier(0).end();
+}
+
 /* Spans of what has no bytes, and of other bytes than numbers. */
 bool spans()
 {
@@ -176,7 +219,7 @@ bool spans()
 
 int main(int argc, char **argv)
 {
-    if (argc != 2 || !throws() || !reads() || !joins() || !checks() || !spans())
+    if (argc != 2 || !throws() || !reads() || !joins() || !checks() || !copies_on() || !spans())
         return 2;
     return go_through(argv[1], holds);
 }

@@ -10,7 +10,7 @@ import os
 from collections import namedtuple
 
 __all__ = ["Kind", "Header", "Title", "Recoded", "Error", "Short", "Syntax", "Room", "BreakDue", "TooDeep", "Argument",
-           "Progress", "Checker", "pull", "push", "recode", "strict", "skip", "utf8", "headers"]
+           "Progress", "Checker", "Copied", "Copier", "pull", "push", "recode", "strict", "skip", "utf8", "headers"]
 
 Kind = enum.IntEnum("Kind", "POSITIVE NEGATIVE BYTES TEXT ARRAY MAP TAG SIMPLE HALF SINGLE DOUBLE BREAK", start=0)
 
@@ -32,23 +32,28 @@ Progress.__doc__ = """How far an item has come: how many bytes were taken of a p
 where it has not ended, and how many bytes more are due at least, which is 0 where it has."""
 
 
+Copied = namedtuple("Copied", "data consumed ended")
+Copied.__doc__ = """What elements have become of which a copier got a piece: what can be written of them so far, how
+many bytes were taken of the piece, and whether all elements have come."""
+
+
 class Error(ValueError):
     """Why a call failed.
 
     ``name`` names the answer, and ``place`` is the offset that it names, in all of the bytes; of ``short`` it is where
     the read stopped. ``consumed`` and ``written`` say how far the call came; ``elements`` how many elements ``recode``
-    and ``strict`` did whole, and ``whole`` how many bytes these have.
+    and ``strict`` did whole, and ``whole`` how many bytes these have. Of a ``Copier`` ``data`` is what it wrote.
     """
 
     name = "error"
 
-    def __init__(self, place, consumed, written, elements=0, whole=0):
+    def __init__(self, place, consumed, written, elements=0, whole=0, data=b""):
         super().__init__(f"{self.name} at {place}")
         self.place, self.consumed, self.written = place, consumed, written
-        self.elements, self.whole = elements, whole
+        self.elements, self.whole, self.data = elements, whole, data
 
     def __reduce__(self):
-        return type(self), (self.place, self.consumed, self.written, self.elements, self.whole)
+        return type(self), (self.place, self.consumed, self.written, self.elements, self.whole, self.data)
 
 
 class Short(Error):
@@ -105,6 +110,10 @@ class _Checker(ctypes.Structure):
     _fields_ = [("words", ctypes.c_uint64 * 296)]
 
 
+class _Copier(ctypes.Structure):
+    _fields_ = [("words", ctypes.c_uint64 * 9)]
+
+
 class _Buffer(ctypes.Structure):
     """The Py_buffer of Python's own interface for C."""
 
@@ -121,7 +130,7 @@ def _library():
     calls = ctypes.CDLL(name)
     data, size, number = ctypes.c_void_p, ctypes.c_size_t, ctypes.c_uint64
     header, report = ctypes.POINTER(_Header), ctypes.POINTER(_Report)
-    checker = ctypes.POINTER(_Checker)
+    checker, copier = ctypes.POINTER(_Checker), ctypes.POINTER(_Copier)
     calls.cll_pull.argtypes = [data, size, header, ctypes.POINTER(size)]
     calls.cll_push.argtypes = [header, data, size, report]
     calls.cll_push_wide.argtypes = [header, ctypes.c_uint32, data, size, report]
@@ -133,9 +142,12 @@ def _library():
     calls.cll_checker_init_strict.argtypes = [checker, ctypes.c_uint32]
     calls.cll_checker_feed.argtypes = [checker, data, size, report]
     calls.cll_checker_end.argtypes = [checker, report]
+    calls.cll_copier_init.argtypes = [copier, number]
+    calls.cll_copier_feed.argtypes = [copier, data, size, data, size, report]
+    calls.cll_copier_end.argtypes = [copier, report]
     calls.cll_version.argtypes = []
     for call in ("version pull push push_wide recode strict skip utf8 checker_init checker_init_strict "
-                 "checker_feed checker_end").split():
+                 "checker_feed checker_end copier_init copier_feed copier_end").split():
         getattr(calls, f"cll_{call}").restype = ctypes.c_uint32
     return calls
 
@@ -318,6 +330,51 @@ class Checker:
         """
         report = _Report()
         answer = _CALLS.cll_checker_end(self._kept, report)
+        if answer == 1:
+            raise Short(self.consumed, 0, 0)
+        _check(answer, report)
+
+
+class Copier:
+    """Copies so many elements whose bytes come in pieces to their shortest spelling, however they are cut.
+
+    ``consumed`` is how many bytes were taken of all pieces.
+    """
+
+    __slots__ = ("consumed", "_kept")
+
+    def __init__(self, count=1):
+        self.consumed, self._kept = 0, _Copier()
+        _check(_CALLS.cll_copier_init(self._kept, _held(count, 64, "the count")), _Report())
+
+    def feed(self, data, offset=0):
+        """Takes the bytes from the offset on: all of them, but none behind the end of the elements.
+
+        It gives what can be written of all bytes so far, and was not given before. An error comes with the first byte
+        behind which no such elements go on, and names an offset in all of them; what these bytes became in front of it
+        stands in its ``data``. Behind the end and behind an error nothing more is taken, and the answer stays.
+        """
+        report, out, answer, taken = _Report(), bytearray(), 3, 0
+        with _Memory(data, offset) as (at, length):
+            space = bytearray(length + 16)
+            there = ctypes.addressof(ctypes.c_char.from_buffer(space))
+            while answer == 3:
+                answer = _CALLS.cll_copier_feed(self._kept, at + taken, length - taken, there, len(space), report)
+                taken += report.consumed
+                out += memoryview(space)[:report.written]
+        self.consumed += taken
+        if answer > 1:
+            raise _ERRORS[answer](report.place, taken, len(out), data=bytes(out))
+        return Copied(bytes(out), taken, answer == 0)
+
+    def end(self):
+        """Says that no more bytes come.
+
+        It raises ``Short`` where the elements are cut off, with how many bytes came as the place, and the error that
+        ``feed`` raised, if it did. Where all of them have come all is well.
+        """
+        report = _Report()
+        answer = _CALLS.cll_copier_end(self._kept, report)
         if answer == 1:
             raise Short(self.consumed, 0, 0)
         _check(answer, report)

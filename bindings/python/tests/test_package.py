@@ -156,6 +156,44 @@ class Checkers(unittest.TestCase):
         self.assertRaises(TypeError, ciborium_ll.Checker().feed, "a1")
 
 
+class Copiers(unittest.TestCase):
+    def test_each_cut_gives_the_same(self):
+        data = bytes.fromhex("a1 7802c3a9 5f580101ff 1903e8 1b0000000000000005 07")
+        whole, length = ciborium_ll.recode(data, 5)
+        for cut in range(length):
+            copier = ciborium_ll.Copier(5)
+            first = copier.feed(data[:cut])
+            self.assertEqual((first.consumed, first.ended), (cut, False))
+            self.assertTrue(whole.startswith(first.data))
+            with self.assertRaises(ciborium_ll.Short) as caught:
+                copier.end()
+            self.assertEqual(caught.exception.place, cut)
+            last = copier.feed(data, cut)
+            self.assertEqual((first.data + last.data, last.consumed, last.ended), (whole, length - cut, True))
+            self.assertEqual(copier.feed(b"\x05"), (b"", 0, True))
+            self.assertEqual(copier.consumed, length)
+            copier.end()
+
+    def test_a_fault_stays(self):
+        copier = ciborium_ll.Copier(3)
+        copier.feed(b"\x18")
+        for data, consumed, made in (b"\x05\x1c", 2, b"\x05"), (b"\x01", 0, b""), (b"", 0, b""):
+            with self.assertRaises(ciborium_ll.Syntax) as caught:
+                copier.feed(data)
+            error = caught.exception
+            self.assertEqual((error.place, error.consumed, error.written, error.data), (2, consumed, len(made), made))
+        self.assertRaises(ciborium_ll.Syntax, copier.end)
+
+    def test_no_elements(self):
+        copier = ciborium_ll.Copier(0)
+        copier.end()
+        self.assertEqual(copier.feed(b"\x05"), (b"", 0, True))
+
+    def test_what_is_refused(self):
+        self.assertRaises(OverflowError, ciborium_ll.Copier, 1 << 64)
+        self.assertRaises(TypeError, ciborium_ll.Copier().feed, "a1")
+
+
 class Headers(unittest.TestCase):
     def test_titles_and_bodies(self):
         got = [(title.start, title.end, title.header.kind.name, title.header.value, title.body)

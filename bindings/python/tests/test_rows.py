@@ -53,6 +53,20 @@ def fed(depth, data, shortest):
     return "ok", taken, 0, f"length/{progress.length}"
 
 
+def copied(count, data):
+    """What a copier makes of bytes that come one by one, as it stands in the table."""
+    copier, out = ciborium_ll.Copier(count), b""
+    try:
+        got = copier.feed(b"")
+        for at in range(len(data)):
+            got = copier.feed(data[:at + 1], at)
+            out += got.data
+    except ciborium_ll.Error as error:
+        return error.name, copier.consumed, error.place, (out + error.data).hex() or "-"
+    taken = copier.consumed
+    return ("ok", taken, 0, out.hex() or "-") if got.ended else ("short", taken, taken, out.hex() or "-")
+
+
 class Rows(unittest.TestCase):
     def test_rows(self):
         rows = [line.split() for line in TABLE.read_text().splitlines() if line and not line.startswith("#")]
@@ -65,6 +79,10 @@ class Rows(unittest.TestCase):
                 if call in ("feed", "feed_strict"):
                     data = b"" if given == "-" else bytes.fromhex(given)
                     got = fed(int(number), data, call == "feed_strict")
+                    self.assertEqual(got, (answer, int(consumed), int(place), want))
+                    continue
+                if call == "copy":
+                    got = copied(int(number), b"" if given == "-" else bytes.fromhex(given))
                     self.assertEqual(got, (answer, int(consumed), int(place), want))
                     continue
                 try:

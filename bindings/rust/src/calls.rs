@@ -1,7 +1,7 @@
 //! The calls over slices. This file alone calls what is not safe by its types: each pointer is that of a slice or of a
 //! value, and none that is written overlaps another one.
 
-use crate::sys::{self, cll_checker, cll_header, cll_report};
+use crate::sys::{self, cll_checker, cll_copier, cll_header, cll_report};
 use crate::{Error, Header};
 use core::str;
 
@@ -148,7 +148,11 @@ pub fn utf8(bytes: &[u8]) -> Result<&str, Error> {
 /// spelling alone.
 pub(crate) fn new_checker(depth: u32, strict: bool) -> Result<cll_checker, Error> {
     let mut checker = cll_checker { words: [0; 296] };
-    let init = if strict { sys::cll_checker_init_strict } else { sys::cll_checker_init };
+    let init = if strict {
+        sys::cll_checker_init_strict
+    } else {
+        sys::cll_checker_init
+    };
     // SAFETY: as this file says.
     match unsafe { init(&mut checker, depth) } {
         0 => Ok(checker),
@@ -170,5 +174,35 @@ pub(crate) fn end(checker: &cll_checker) -> (u32, cll_report) {
     let mut report = cll_report::default();
     // SAFETY: as this file says.
     let answer = unsafe { sys::cll_checker_end(checker, &mut report) };
+    (answer, report)
+}
+
+/// A copier of so many elements, to which nothing came.
+pub(crate) fn new_copier(count: u64) -> cll_copier {
+    let mut copier = cll_copier { words: [0; 9] };
+    // SAFETY: as this file says.
+    let _answer = unsafe { sys::cll_copier_init(&mut copier, count) };
+    copier
+}
+
+/// Gives a copier the next bytes, and room for what they become: the answer, and the report.
+pub(crate) fn feed_copier(
+    copier: &mut cll_copier,
+    bytes: &[u8],
+    out: &mut [u8],
+) -> (u32, cll_report) {
+    let mut report = cll_report::default();
+    let (data, len) = (bytes.as_ptr(), bytes.len());
+    let (space, room) = (out.as_mut_ptr(), out.len());
+    // SAFETY: as this file says.
+    let answer = unsafe { sys::cll_copier_feed(copier, data, len, space, room, &mut report) };
+    (answer, report)
+}
+
+/// What it means that no more bytes come to a copier: the answer, and the report.
+pub(crate) fn end_copier(copier: &cll_copier) -> (u32, cll_report) {
+    let mut report = cll_report::default();
+    // SAFETY: as this file says.
+    let answer = unsafe { sys::cll_copier_end(copier, &mut report) };
     (answer, report)
 }

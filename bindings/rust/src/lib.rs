@@ -22,6 +22,7 @@ compile_error!("the proved library is built for x86-64 Linux alone");
 
 mod calls;
 mod checker;
+mod copier;
 mod decoder;
 mod encoder;
 mod error;
@@ -30,6 +31,7 @@ pub mod sys;
 
 pub use calls::{recode, skip_item, strict, strict_len, utf8, Copied, Stopped};
 pub use checker::{Checker, Feed, Progress};
+pub use copier::{Copier, Copying, Fed};
 pub use decoder::{Decoder, Segments};
 pub use encoder::Encoder;
 pub use error::Error;

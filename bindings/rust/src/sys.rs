@@ -38,6 +38,14 @@ pub struct cll_checker {
     pub words: [u64; 296],
 }
 
+/// A copier of elements whose bytes come in pieces. What stands in it is the library's, and zeros are none.
+#[repr(C)]
+#[derive(Clone, Copy, Debug)]
+pub struct cll_copier {
+    /// Its memory.
+    pub words: [u64; 9],
+}
+
 #[allow(missing_docs)]
 extern "C" {
     pub fn cll_version() -> u32;
@@ -80,4 +88,14 @@ extern "C" {
         report: *mut cll_report,
     ) -> u32;
     pub fn cll_checker_end(checker: *const cll_checker, report: *mut cll_report) -> u32;
+    pub fn cll_copier_init(copier: *mut cll_copier, count: u64) -> u32;
+    pub fn cll_copier_feed(
+        copier: *mut cll_copier,
+        data: *const u8,
+        len: usize,
+        out: *mut u8,
+        room: usize,
+        report: *mut cll_report,
+    ) -> u32;
+    pub fn cll_copier_end(copier: *const cll_copier, report: *mut cll_report) -> u32;
 }

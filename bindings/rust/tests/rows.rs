@@ -1,7 +1,8 @@
 //! Holds the crate to the table of rows that every binding is held to.
 
 use ciborium_ll_proved::{
-    recode, skip_item, strict_len, utf8, Checker, Decoder, Encoder, Error, Float, Header, Progress,
+    recode, skip_item, strict_len, utf8, Checker, Copier, Copying, Decoder, Encoder, Error, Float,
+    Header, Progress,
 };
 
 const TABLE: &str = include_str!("../../tests/rows");
@@ -115,7 +116,11 @@ fn made(call: &str, number: u64, given: &str) -> Result<(usize, String), Error> 
 
 /// What a checker says that gets the bytes one by one, as it stands in the table.
 fn fed(depth: u32, data: &[u8], strict: bool) -> String {
-    let made = if strict { Checker::strict(depth) } else { Checker::new(depth) };
+    let made = if strict {
+        Checker::strict(depth)
+    } else {
+        Checker::new(depth)
+    };
     let mut checker = match made {
         Ok(checker) => checker,
         Err(error) => return format!("{} 0 0 -", error.name()),
@@ -146,6 +151,44 @@ fn fed(depth: u32, data: &[u8], strict: bool) -> String {
     }
 }
 
+/// What a copier makes that gets the bytes one by one, with room for one, as it stands in the table.
+fn copied(count: u64, data: &[u8]) -> String {
+    let (mut copier, mut out, mut made) = (Copier::new(count), [0; 1], Vec::new());
+    let got = loop {
+        let next = data
+            .get(copier.taken()..)
+            .map_or(&data[..0], |rest| &rest[..rest.len().min(1)]);
+        let got = copier.feed(next, &mut out);
+        if let Ok(fed) = got {
+            made.extend_from_slice(&out[..fed.written]);
+        }
+        match got.map(|fed| fed.progress) {
+            Ok(Copying::Room) => {}
+            Ok(Copying::More) if copier.taken() < data.len() => {}
+            got => break got,
+        }
+    };
+    let (taken, made) = (copier.taken(), hex_of(&made));
+    match got {
+        Ok(Copying::Ended) => {
+            assert_eq!(copier.end(), Ok(()));
+            format!("ok {taken} 0 {made}")
+        }
+        Ok(_) => {
+            assert_eq!(copier.end(), Err(Error::Short(taken)));
+            format!("short {taken} {taken} {made}")
+        }
+        Err(error) => {
+            assert_eq!(copier.end(), Err(error));
+            format!(
+                "{} {taken} {} {made}",
+                error.name(),
+                error.place().unwrap_or(0)
+            )
+        }
+    }
+}
+
 #[test]
 fn rows_hold() {
     let rows = TABLE
@@ -164,6 +207,15 @@ fn rows_hold() {
         if call == "feed" || call == "feed_strict" {
             let got = fed(number as u32, &bytes_of(given), call == "feed_strict");
             assert_eq!(got, words[3..].join(" "), "{row}");
+            count += 1;
+            continue;
+        }
+        if call == "copy" {
+            assert_eq!(
+                copied(number, &bytes_of(given)),
+                words[3..].join(" "),
+                "{row}"
+            );
             count += 1;
             continue;
         }

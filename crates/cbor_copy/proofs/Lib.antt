@@ -1,5 +1,6 @@
 pub mod BlockedLaws
 pub mod BodySteps
+pub mod EndLaws
 pub mod EnterLaws
 pub mod ExactLaws
 pub mod FedLaws

@@ -98,7 +98,8 @@ due_by (p.Faulted place) count b bytes output more marks told are_bytes run =
     absurd (told.0 (b ∷ more) are_bytes (subst (RunInFront count) (append-nil (bytes ++ b ∷ more))
     (whole_in_front count (bytes ++ b ∷ more) [] marks run)))
 
-ended_by : (phase : Phase) (count : ℕ) (bytes output : List ℕ) (marks : List Mark)
+-- where so many elements came, their spelling was put out
+pub ended_by : (phase : Phase) (count : ℕ) (bytes output : List ℕ) (marks : List Mark)
     → TellsWhole count bytes output (progress_in phase) → EndedIn phase → IsRun count bytes marks
     → spelling marks ≡ output
 ended_by p.Ended count bytes output marks told has run =

@@ -7,6 +7,8 @@ use Rattle.cbor_copy.specs.declared.phase.Phase.{Phase}
 use Rattle.cbor_copy.specs.declared.phase.Phase.TheVariants as p
 use Rattle.cbor_copy.specs.declared.progress.Progress.{Progress}
 use Rattle.cbor_copy.specs.declared.progress.Progress.TheVariants as r
+use Rattle.cbor_copy.specs.declared.progress.End.{End}
+use Rattle.cbor_copy.specs.declared.progress.End.TheVariants as e
 use Rattle.cbor_copy.specs.Spots.{Spot}
 
 -- more bytes may come
@@ -24,6 +26,17 @@ progress_in phase = r.More
 abbrev pub progress_of : List ℕ → Phase → Progress
 progress_of [] phase = progress_in phase
 progress_of (byte ∷ bytes) phase = r.Room
+
+-- what it means that no more bytes come
+abbrev pub end_in : Phase → End
+end_in p.Ended = e.Ended
+end_in (p.Faulted place) = e.Syntax place
+end_in phase = e.Short
+
+-- the same, by what is pending and what is due
+abbrev pub end_of : List ℕ → Phase → End
+end_of [] phase = end_in phase
+end_of (byte ∷ bytes) phase = e.Room
 
 -- it is so, but where no more bytes can be counted
 abbrev pub IsAnswer : Progress → List ℕ → Phase → Type 0
@@ -90,6 +103,14 @@ pub record LacksRoom (count : ℕ) (bytes output : List ℕ) : Type 0 where
 abbrev pub Tells : ℕ → List ℕ → List ℕ → Progress → Type 0
 Tells count bytes output r.Room = LacksRoom count bytes output
 Tells count bytes output progress = TellsWhole count bytes output progress
+
+-- What it says that no more bytes come. Ended: they are so many elements, and all of that is written. Short: they are a
+-- part of so many. Syntax: no such elements begin so
+abbrev pub TellsEnd : ℕ → List ℕ → List ℕ → End → Type 0
+TellsEnd count bytes output e.Ended = AreSpelled count bytes output
+TellsEnd count bytes output e.Short = ComesTo count bytes Short output × SomeGoOn count bytes
+TellsEnd count bytes output e.Room = LacksRoom count bytes output
+TellsEnd count bytes output (e.Syntax place) = NoneGoOn count bytes × FaultsAt place count bytes output
 
 -- ---- by the spot
 

@@ -8,7 +8,8 @@ ghost use Rattle.cbor_copy.specs.Steps.{may_end};
 use crate::few::Few;
 use crate::pending::Pending;
 use crate::phase::{Phase, StringKind, Within};
-use crate::progress::{Copied, Progress};
+use crate::progress::{Copied, End, Progress};
+use crate::snapshot::{Snapshot, is_state};
 use crate::title::{affix_len, header_of};
 use ciborium_ll_grammar::hdr::Header;
 use ciborium_ll_grammar::hdr::table::{TitleKind, row_of};
@@ -59,17 +60,20 @@ pub struct Copier {
 }
 
 impl Copier {
-    ghost use Rattle.std.specs.Prelude.{ℕ, ◌-◌, ◌++◌, ◌∷◌, List, take, drop, false};
+    ghost use Rattle.std.specs.Prelude.{ℕ, ◌-◌, ◌++◌, ◌∷◌, ◌↔◌, List, take, drop, false, IfSome};
     ghost use Rattle.ciborium_ll_text.specs.States.{after_byte};
-    ghost use Rattle.cbor_copy.specs.Copying.{IsCopied, spot_of};
+    ghost use Rattle.cbor_copy.specs.Copying.{IsAt, IsCopied, spot_of};
+    ghost use Rattle.cbor_copy.specs.Snapshots.{Holds};
     ghost use Rattle.cbor_copy.specs.Spots.{Spot, body_due, element_done, element_entered, elements_due, entered};
     ghost use Rattle.cbor_copy.specs.Spots.{string_closed, string_done, string_entered, string_open, within_entered};
     ghost use Rattle.cbor_copy.specs.Spots.{piece_entered, refused};
     ghost use Rattle.cbor_copy.specs.Fronts.{most_cut};
     ghost use Rattle.cbor_copy.specs.Steps.{Step, TitleStep, byte_put, text_left, title_place, with_byte, with_char};
     ghost use Rattle.cbor_copy.specs.Telling.{IsAnswer, IsMore, IsRoom, Tells, is_due, progress_of};
+    ghost use Rattle.cbor_copy.specs.Telling.{AreSpelled, TellsEnd, end_of};
     ghost use Rattle.cbor_copy.specs.declared.phase.Phase.TheVariants as p;
     ghost use Rattle.cbor_copy.specs.declared.phase.StringKind.TheVariants as k;
+    ghost use Rattle.cbor_copy.specs.declared.progress.End.TheVariants as e;
 
     /// A copier of so many elements, to which nothing came.
     pub fn new(count: usize) -> Copier
@@ -341,6 +345,35 @@ impl Copier {
         }
     }
 
+    /// What it means that no more bytes come, by what is pending and what is due.
+    fn at_end(&self) -> End
+        ensures { result ≡ end_of self.now.pending self.now.phase }
+    {
+        if !self.pending.is_empty() {
+            return End::Room;
+        }
+        match self.phase {
+            Phase::Ended => End::Ended,
+            Phase::Faulted(place) => End::Syntax(place),
+            Phase::Title | Phase::Bytes(_) | Phase::Text(_, _) => End::Short,
+        }
+    }
+
+    /// What it means that no more bytes come. The copier stays as it is.
+    ///
+    /// `Ended` says that the bytes so far are so many elements, all of them written. `Short` says that they are cut off:
+    /// more bytes were due, and what is written is all that can be. `Syntax` says that no such elements begin so.
+    /// `Room` says none of these yet: bytes are to be written, and [`Copier::feed`] writes them, also with no piece.
+    pub fn end(&self) -> End
+        ensures answers { result ≡ end_of self.now.pending self.now.phase }
+        ensures tells { (count : ℕ) (fed given : List ℕ) → IsCopied count fed given self.now
+            → TellsEnd count fed given result }
+        ensures exactly { (count : ℕ) (fed given : List ℕ) → IsCopied count fed given self.now
+            → (result ≡ e.Ended ↔ AreSpelled count fed given) }
+    {
+        self.at_end()
+    }
+
     /// Takes a piece of the elements' bytes, of any length, and writes their shortest spelling in front of `out`. How
     /// the input is cut into pieces, and how long the outputs are, changes nothing of what is written in all.
     ///
@@ -395,5 +428,53 @@ impl Copier {
             written,
             progress: self.progress(),
         }
+    }
+
+    /// How far the copy has come, as plain numbers, of which [`Copier::restore`] makes this copier again.
+    pub fn save(&self) -> Snapshot
+        ensures { Holds result (spot_of self.now) }
+    {
+        let (phase, number, text) = self.phase.numbers();
+        let (strings, more) = self.within.numbers();
+        let (front, front_len) = self.front.save();
+        let (pending, pending_len) = self.pending.rest().save();
+        Snapshot {
+            offset: self.offset as u64,
+            place: self.place as u64,
+            left: self.left as u64,
+            number: number as u64,
+            more: more as u64,
+            front,
+            pending,
+            front_len: front_len as u8,
+            pending_len: pending_len as u8,
+            phase,
+            text,
+            strings,
+            spare: 0,
+        }
+    }
+
+    /// The copier that [`Copier::save`] made the numbers of, or none where they are those of no copier: where memory was
+    /// overwritten, or never written.
+    pub fn restore(snapshot: &Snapshot) -> Option<Copier>
+        ensures some { IfSome result (λ copier. Holds snapshot.now (spot_of copier)) }
+        ensures same { (spot : Spot) → Holds snapshot.now spot → IsAt result spot }
+    {
+        let phase = Phase::of(snapshot.phase, snapshot.number as usize, snapshot.text)?;
+        let within = Within::of(snapshot.strings, snapshot.more as usize)?;
+        if !is_state(snapshot, phase, within) {
+            return None;
+        }
+        let pending = Few::restore(&snapshot.pending, usize::from(snapshot.pending_len));
+        Some(Copier {
+            phase,
+            front: Few::restore(&snapshot.front, usize::from(snapshot.front_len)),
+            within,
+            left: snapshot.left as usize,
+            place: snapshot.place as usize,
+            offset: snapshot.offset as usize,
+            pending: Pending::of(pending),
+        })
     }
 }

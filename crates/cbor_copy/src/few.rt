@@ -1,6 +1,6 @@
 //! A few bytes: of a title, or of a character.
 
-ghost use Rattle.std.specs.Prelude.{◌≡◌, ◌+◌, ◌<◌, ◌≤◌, ◌++◌, [], ◌∷◌, length};
+ghost use Rattle.std.specs.Prelude.{◌≡◌, ◌+◌, ◌<◌, ◌≤◌, ◌++◌, [], ◌∷◌, length, take, drop};
 ghost use Rattle.ciborium_ll_grammar.specs.Parts.{IsMinor, minor_affix};
 ghost use Rattle.ciborium_ll_grammar.specs.Title.{IsInRange, shortest_title};
 
@@ -118,6 +118,35 @@ impl Few {
         bytes.push(title.first_byte());
         bytes.put_affix(title.minor);
         bytes
+    }
+
+    /// The first so many of these bytes.
+    pub(crate) fn restore(bytes: &[u8; LONGEST], len: usize) -> Few
+        requires { len ≤ 9 }
+        ensures { result ≡ take len bytes.now }
+    {
+        Few { bytes: *bytes, len }
+    }
+
+    /// The bytes in front of an array of zeros, and how many they are.
+    pub(crate) fn save(&self) -> ([u8; LONGEST], usize)
+        ensures saved { take result.1 result.0 ≡ self.now }
+        ensures len { result.1 ≡ length self.now }
+        ensures most { result.1 ≤ 9 }
+    {
+        let mut bytes = [0; LONGEST];
+        bytes[..self.len].copy_from_slice(&self.bytes[..self.len]);
+        (bytes, self.len)
+    }
+
+    /// The bytes behind the first so many.
+    pub(crate) fn rest(&self, given: usize) -> Few
+        requires { given ≤ length self.now }
+        ensures { result ≡ drop given self.now }
+    {
+        let mut rest = Few::new();
+        rest.put(&self.bytes[given..self.len]);
+        rest
     }
 
     /// The bytes.

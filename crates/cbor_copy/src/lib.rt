@@ -8,7 +8,9 @@ pub mod laws;
 mod pending;
 mod phase;
 mod progress;
+mod snapshot;
 mod title;
 
 pub use self::copier::Copier;
-pub use self::progress::{Copied, Progress};
+pub use self::progress::{Copied, End, Progress};
+pub use self::snapshot::Snapshot;

@@ -33,6 +33,20 @@ impl Pending {
         }
     }
 
+    /// These bytes.
+    pub(crate) fn of(few: Few) -> Pending
+        ensures { result ≡ few }
+    {
+        Pending { few, given: 0 }
+    }
+
+    /// The bytes, with none of those that were given.
+    pub(crate) fn rest(&self) -> Few
+        ensures { result ≡ self.now }
+    {
+        self.few.rest(self.given)
+    }
+
     /// Whether there are none.
     pub(crate) fn is_empty(&self) -> bool
         ensures yes { result ≡ true → self.now ≡ [] }

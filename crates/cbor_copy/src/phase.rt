@@ -1,5 +1,8 @@
 //! What a copier waits for.
 
+ghost use Rattle.std.specs.Prelude.{◌≡◌, Some};
+ghost use Rattle.cbor_copy.specs.Snapshots.{phase_in, within_in};
+
 use ciborium_ll_text::state::State;
 
 /// The two kinds of string.
@@ -33,4 +36,63 @@ pub(crate) enum Within {
     Nothing,
     /// One of this kind, and so many within it.
     Open(StringKind, usize),
+}
+
+impl Phase {
+    /// The number of the kind, how many bytes are due or the place of a fault, and the number of a text's state.
+    #[inline(always)]
+    pub(crate) fn numbers(self) -> (u8, usize, u8)
+        ensures { phase_in result.0 result.1 result.2 ≡ Some self }
+    {
+        match self {
+            Phase::Title => (1, 0, 0),
+            Phase::Bytes(left) => (2, left, 0),
+            Phase::Text(left, state) => (3, left, state.number()),
+            Phase::Ended => (4, 0, 0),
+            Phase::Faulted(place) => (5, place, 0),
+        }
+    }
+
+    /// What a copier with these numbers waits for.
+    pub(crate) fn of(kind: u8, number: usize, text: u8) -> Option<Phase>
+        ensures { result ≡ phase_in kind number text }
+    {
+        match kind {
+            1 => Some(Phase::Title),
+            2 => Some(Phase::Bytes(number)),
+            3 => match State::of_number(text) {
+                Some(state) => Some(Phase::Text(number, state)),
+                None => None,
+            },
+            4 => Some(Phase::Ended),
+            5 => Some(Phase::Faulted(number)),
+            _ => None,
+        }
+    }
+}
+
+impl Within {
+    /// The number of the kind, and how many strings are open within the first.
+    #[inline(always)]
+    pub(crate) fn numbers(self) -> (u8, usize)
+        ensures { within_in result.0 result.1 ≡ Some self }
+    {
+        match self {
+            Within::Nothing => (0, 0),
+            Within::Open(StringKind::Bytes, more) => (1, more),
+            Within::Open(StringKind::Text, more) => (2, more),
+        }
+    }
+
+    /// The open strings that have these numbers.
+    pub(crate) fn of(kind: u8, more: usize) -> Option<Within>
+        ensures { result ≡ within_in kind more }
+    {
+        match kind {
+            0 => Some(Within::Nothing),
+            1 => Some(Within::Open(StringKind::Bytes, more)),
+            2 => Some(Within::Open(StringKind::Text, more)),
+            _ => None,
+        }
+    }
 }

@@ -27,3 +27,16 @@ pub struct Copied {
     /// How far the copy has come.
     pub progress: Progress,
 }
+
+/// What it means that no more bytes come.
+#[derive(Clone, Copy, Debug, PartialEq, Eq)]
+pub enum End {
+    /// So many elements have come, and they are written.
+    Ended,
+    /// The bytes so far are a part of so many elements, and no more.
+    Short,
+    /// There are bytes to write, which a call with no bytes writes.
+    Room,
+    /// No such elements begin as the bytes so far do, with the offset that [`Progress::Syntax`] has.
+    Syntax(usize),
+}

@@ -6,4 +6,6 @@ mod answers;
 #[cfg(test)]
 mod cuts;
 #[cfg(test)]
+mod memory;
+#[cfg(test)]
 mod rows;

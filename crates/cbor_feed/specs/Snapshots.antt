@@ -4,7 +4,7 @@ use Rattle.std.specs.Prelude.{None}
 use Rattle.std.specs.Prelude.{if◌then◌else◌, slice_index, take}
 use Rattle.ciborium_ll_grammar.specs.Title.{affix_len}
 use Rattle.ciborium_ll_text.specs.declared.state.State.{State}
-use Rattle.ciborium_ll_text.specs.declared.state.State.TheVariants as s
+use Rattle.ciborium_ll_text.specs.Numbers.{state_in}
 use Rattle.cbor_feed.specs.declared.level.Level.{Level}
 use Rattle.cbor_feed.specs.declared.level.Level.TheVariants as l
 use Rattle.cbor_feed.specs.declared.phase.Phase.{Phase}
@@ -16,19 +16,6 @@ use Rattle.cbor_feed.specs.declared.snapshot.Snapshot.{Snapshot}
 use Rattle.cbor_feed.specs.Opens.{open_count}
 use Rattle.cbor_feed.specs.Spots.{Spot}
 use Rattle.cbor_feed.specs.Telling.{has_left}
-
--- how far the characters of a text have come, by its number
-abbrev pub state_in : ℕ → Option State
-state_in text =
-    if text == 0 then Some s.Between else
-    (if text == 1 then Some s.OneDue else
-    (if text == 2 then Some s.TwoDue else
-    (if text == 3 then Some s.ThreeDue else
-    (if text == 4 then Some s.BehindE0 else
-    (if text == 5 then Some s.BehindEd else
-    (if text == 6 then Some s.BehindF0 else
-    (if text == 7 then Some s.BehindF4 else
-    (if text == 8 then Some s.Damaged else None))))))))
 
 -- so many bytes of a text are due, where there is such a state
 abbrev pub text_in : ℕ → Option State → Option Phase

@@ -1,7 +1,7 @@
 //! What a checker waits for.
 
 ghost use Rattle.std.specs.Prelude.{◌≡◌, Some};
-ghost use Rattle.cbor_feed.specs.Snapshots.{phase_in, state_in, within_in};
+ghost use Rattle.cbor_feed.specs.Snapshots.{phase_in, within_in};
 
 use ciborium_ll_text::state::State;
 
@@ -45,41 +45,6 @@ pub(crate) enum Within {
     Text(usize),
 }
 
-/// The number of a text's state.
-fn state_number(state: State) -> u8
-    ensures { state_in result ≡ Some state }
-{
-    match state {
-        State::Between => 0,
-        State::OneDue => 1,
-        State::TwoDue => 2,
-        State::ThreeDue => 3,
-        State::BehindE0 => 4,
-        State::BehindEd => 5,
-        State::BehindF0 => 6,
-        State::BehindF4 => 7,
-        State::Damaged => 8,
-    }
-}
-
-/// The state of a text that has this number.
-fn state_of(number: u8) -> Option<State>
-    ensures { result ≡ state_in number }
-{
-    match number {
-        0 => Some(State::Between),
-        1 => Some(State::OneDue),
-        2 => Some(State::TwoDue),
-        3 => Some(State::ThreeDue),
-        4 => Some(State::BehindE0),
-        5 => Some(State::BehindEd),
-        6 => Some(State::BehindF0),
-        7 => Some(State::BehindF4),
-        8 => Some(State::Damaged),
-        _ => None,
-    }
-}
-
 impl Phase {
     /// The number of the kind, how many bytes are due or the place of a fault, and the number of a text's state.
     #[inline(always)]
@@ -89,7 +54,7 @@ impl Phase {
         match self {
             Phase::Title => (1, 0, 0),
             Phase::Bytes(left) => (2, left, 0),
-            Phase::Text(left, state) => (3, left, state_number(state)),
+            Phase::Text(left, state) => (3, left, state.number()),
             Phase::Ended => (4, 0, 0),
             Phase::Faulted(Fault::Syntax(place)) => (5, place, 0),
             Phase::Faulted(Fault::Break(place)) => (6, place, 0),
@@ -104,7 +69,7 @@ impl Phase {
         match kind {
             1 => Some(Phase::Title),
             2 => Some(Phase::Bytes(number)),
-            3 => match state_of(text) {
+            3 => match State::of_number(text) {
                 Some(state) => Some(Phase::Text(number, state)),
                 None => None,
             },

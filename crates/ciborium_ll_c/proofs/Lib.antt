@@ -1,5 +1,6 @@
 pub mod CopyLaws
 pub mod CountLaws
+pub mod PieceLaws
 pub mod PullLaws
 pub mod SkipLaws
 pub mod TextFronts

@@ -1,5 +1,5 @@
 //! The library for C and C++: a static library, whose header is `include/ciborium_ll.h`. No call takes memory, and
-//! none calls out of this library. What a checker keeps between calls stands in memory of the caller's own.
+//! none calls out of this library. What a checker and a copier keep between calls stands in memory of the caller's own.
 //!
 //! C passes a slice as a pointer and then a length. Each call answers by a number, which is the code of a
 //! [`CllAnswer`], and says in a [`CllReport`] how far it came. `cll_pull`, which is called for each title, tells a number
@@ -7,6 +7,8 @@
 #![tactic(auto)]
 
 ghost use Rattle.std.specs.Prelude.{◌≡◌, ◌↔◌, ◌≤◌, ◌<◌, List, ◌++◌, drop, length, Bool, true, false, ℕ};
+ghost use Rattle.cbor_copy.specs.Copying.{IsCopiedTo};
+ghost use Rattle.cbor_copy.specs.Spots.{Spot as CopySpot};
 ghost use Rattle.cbor_feed.specs.Spots.{Spot};
 ghost use Rattle.cbor_feed.specs.Steps.{IsFed};
 ghost use Rattle.ciborium_ll.specs.Faults.{RunInFront};
@@ -24,6 +26,7 @@ ghost use Rattle.ciborium_ll_c.specs.Checking.{Checks};
 ghost use Rattle.ciborium_ll_c.specs.Copying.{CopiesInto, CopiesAnyhow, HasRoom, copy_answer, copy_place};
 ghost use Rattle.ciborium_ll_c.specs.Counting.{CountsCopy, CountsElements, CountsStrictly};
 ghost use Rattle.ciborium_ll_c.specs.Feeding.{EndsFed, Feeds, IsKept, IsNoChecker, IsSetUp};
+ghost use Rattle.ciborium_ll_c.specs.Pieces.{EndsCopied, FeedsCopied, IsCopier, IsCopierOf, IsNoCopier, StaysWithin};
 ghost use Rattle.ciborium_ll_c.specs.Pulling.{Pulls, TitleInFront};
 ghost use Rattle.ciborium_ll_c.specs.Pushing.{Pushes, Puts};
 ghost use Rattle.ciborium_ll_c.specs.Skipping.{Skips, skip_answer, skip_place};
@@ -32,6 +35,9 @@ ghost use Rattle.ciborium_ll_c.specs.Widths.{PushesWide};
 
 mod answer;
 mod checker;
+mod copier;
+#[cfg(test)]
+mod copier_tests;
 mod header;
 mod tally;
 #[cfg(test)]
@@ -40,6 +46,7 @@ mod wide;
 
 pub use self::answer::{CllAnswer, CllReport};
 pub use self::checker::CllChecker;
+pub use self::copier::CllCopier;
 pub use self::header::CllHeader;
 use self::tally::{Tally, copy_counted};
 use self::wide::title_in;
@@ -461,4 +468,56 @@ pub extern "C" fn cll_checker_end(checker: &CllChecker, report: &mut CllReport) 
     ensures argument { IsNoChecker checker.now → (result ≡ code a.Argument) × Reports report.new 0 0 0 }
 {
     checker::end(checker, report).code()
+}
+
+/// Sets a copier of `count` elements up in memory of the caller's own, to which nothing came (RFC 7049, 2.1 and 2.2).
+/// What stood in that memory does not count. The answer is `Ok`.
+#[unsafe(no_mangle)]
+pub extern "C" fn cll_copier_init(copier: &mut CllCopier, count: u64) -> u32
+    ensures { (result ≡ code a.Ok) × IsCopierOf count copier.new }
+{
+    copier::init(copier, count as usize);
+    CllAnswer::Ok.code()
+}
+
+/// Gives a copier the next bytes of its elements, as many as have come, and writes in front of `out` as much of their
+/// shortest spelling as it can (RFC 7049, 3.9). How the bytes are cut into pieces, and how long the outputs are,
+/// changes nothing of what is written in all. Behind what was written `out` is as it was.
+///
+/// The answers are `Ok` where so many elements came, and they are written; `Short` where more is due: all bytes were
+/// taken, and all that can be written of them is; `Room` where `out` is full and there is more to write, after which
+/// the rest of the bytes is to be given again; `Syntax` where no such elements begin as the bytes so far do, with the
+/// fault's offset in all of them; `TooLong` where the elements go on behind `u64::MAX` bytes; and `Argument` where no
+/// copier was set up, or what stands there is none, after which that memory and `out` are as they were. After `Ok` and
+/// after `Syntax` a later call takes and writes nothing, and answers the same.
+#[unsafe(no_mangle)]
+pub extern "C" fn cll_copier_feed(
+    copier: &mut CllCopier,
+    bytes: &[u8],
+    out: &mut [u8],
+    report: &mut CllReport,
+) -> u32
+    ensures fed { (count : ℕ) (fed given : List ℕ) (spot : CopySpot) → IsCopiedTo count fed given spot
+        → IsCopier copier.old spot → (answer : CllAnswer) × (result ≡ code answer)
+        × FeedsCopied count fed given spot bytes.now out.old answer out.new report.new copier.new }
+    ensures within { StaysWithin bytes.now out.old out.new report.new }
+    ensures argument { IsNoCopier copier.old → (result ≡ code a.Argument) × (copier.new ≡ copier.old)
+        × (out.new ≡ out.old) × Reports report.new 0 0 0 }
+{
+    copier::feed(copier, bytes, out, report).code()
+}
+
+/// Says what it means that no more bytes come to a copier, and leaves it as it is.
+///
+/// The answers are `Ok` exactly where the bytes so far are so many elements, and all of their shortest spelling was
+/// written; `Short` where they are cut off; `Room` where there is more to write, which `cll_copier_feed` does with no
+/// bytes too; and `Syntax` and `Argument` as of `cll_copier_feed`.
+#[unsafe(no_mangle)]
+pub extern "C" fn cll_copier_end(copier: &CllCopier, report: &mut CllReport) -> u32
+    ensures ended { (count : ℕ) (fed given : List ℕ) (spot : CopySpot) → IsCopiedTo count fed given spot
+        → IsCopier copier.now spot → (answer : CllAnswer) × (result ≡ code answer)
+        × EndsCopied count fed given spot answer report.new }
+    ensures argument { IsNoCopier copier.now → (result ≡ code a.Argument) × Reports report.new 0 0 0 }
+{
+    copier::end(copier, report).code()
 }

@@ -1,4 +1,5 @@
 pub mod Cuts
+pub mod Numbers
 pub mod Rows
 pub mod States
 pub mod Text

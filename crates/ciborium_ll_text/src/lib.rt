@@ -6,5 +6,6 @@
 
 mod blocks;
 pub mod laws;
+mod numbers;
 mod rows;
 pub mod state;

@@ -1,0 +1,90 @@
+use crate::calls;
+use crate::sys::cll_copier;
+use crate::Error;
+
+/// How far elements have come.
+#[derive(Clone, Copy, Debug, PartialEq, Eq)]
+pub enum Copying {
+    /// More bytes are due, and all is written that can be before they come.
+    More,
+    /// There is more to write, and no room for it: what was not taken has to be given again.
+    Room,
+    /// All elements have come, and they are written.
+    Ended,
+}
+
+/// The answer to a piece.
+#[derive(Clone, Copy, Debug, PartialEq, Eq)]
+pub struct Fed {
+    /// How many bytes of the piece were taken.
+    pub taken: usize,
+    /// How many bytes were written.
+    pub written: usize,
+    /// How far the elements have come.
+    pub progress: Copying,
+}
+
+/// Copies elements whose bytes come in pieces to their shortest spelling, however they are cut and how long the outputs
+/// are. It takes no memory but its own.
+///
+/// ```
+/// use ciborium_ll_proved::{Copier, Copying};
+///
+/// let mut copier = Copier::new(2);
+/// let mut out = [0; 8];
+/// let fed = copier.feed(b"\x19\x00", &mut out).unwrap();
+/// assert_eq!((fed.taken, fed.written, fed.progress), (2, 0, Copying::More));
+/// let fed = copier.feed(b"\x05\x61a\x07", &mut out).unwrap();
+/// assert_eq!((fed.taken, fed.written, fed.progress), (3, 3, Copying::Ended));
+/// assert_eq!(&out[..3], b"\x05\x61a");
+/// ```
+#[derive(Clone, Debug)]
+pub struct Copier {
+    kept: cll_copier,
+    taken: usize,
+}
+
+impl Copier {
+    /// A copier of so many elements.
+    pub fn new(count: u64) -> Copier {
+        Copier {
+            kept: calls::new_copier(count),
+            taken: 0,
+        }
+    }
+
+    /// Takes the next bytes, and writes in front of the output as much as can be written of all so far. An error comes
+    /// with the first byte behind which no such elements go on, and names an offset in all of them. Behind the end and
+    /// behind an error a further call takes and writes nothing, and answers the same.
+    pub fn feed(&mut self, bytes: &[u8], out: &mut [u8]) -> Result<Fed, Error> {
+        let (answer, report) = calls::feed_copier(&mut self.kept, bytes, out);
+        let (taken, written) = (report.consumed as usize, report.written as usize);
+        self.taken += taken;
+        let progress = match answer {
+            0 => Copying::Ended,
+            1 => Copying::More,
+            3 => Copying::Room,
+            answer => return Err(Error::of(answer, &report, 0)),
+        };
+        Ok(Fed {
+            taken,
+            written,
+            progress,
+        })
+    }
+
+    /// How many bytes were taken of all pieces.
+    pub fn taken(&self) -> usize {
+        self.taken
+    }
+
+    /// Says that no more bytes come. All is well where all elements have come and are written. `Short` says how many
+    /// bytes came where they are cut off, `Room` that there is more to write, and the other errors are those of `feed`.
+    pub fn end(&self) -> Result<(), Error> {
+        match calls::end_copier(&self.kept) {
+            (0, _) => Ok(()),
+            (1, _) => Err(Error::Short(self.taken)),
+            (answer, report) => Err(Error::of(answer, &report, 0)),
+        }
+    }
+}
