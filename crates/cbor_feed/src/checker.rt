@@ -10,7 +10,7 @@ ghost use Rattle.cbor_feed.specs.Blocked.{blocked};
 
 use crate::front::{Front, LONGEST};
 use crate::level::Level;
-use crate::levels::{Levels, MOST_LEVELS, are_levels};
+use crate::levels::{Levels, MOST_LEVELS};
 use crate::phase::{Fault, Phase, Within};
 use crate::progress::{End, Feed, Progress};
 use crate::snapshot::Snapshot;
@@ -750,16 +750,14 @@ impl Checker {
             return None;
         }
         let nests = usize::from(snapshot.nests);
-        if !are_levels(nests, &snapshot.kinds, &snapshot.counts) {
-            return None;
-        }
+        let levels = Levels::restore(nests, &snapshot.kinds, &snapshot.counts)?;
         Some(Checker {
             strict,
             phase,
             front: Front::restore(&snapshot.title, usize::from(snapshot.title_len)),
             within,
             depth: snapshot.depth as usize,
-            levels: Levels::restore(nests, &snapshot.kinds, &snapshot.counts),
+            levels,
             place: snapshot.place as usize,
             offset: snapshot.offset as usize,
         })

@@ -101,22 +101,25 @@ impl Levels {
         len: usize,
         kinds: &[u8; MOST_LEVELS],
         counts: &[u64; MOST_LEVELS],
-    ) -> Levels
-        requires most { len ≤ 256 }
-        requires some { IsSome (levels_in len kinds.now counts.now) }
-        ensures { levels_in len kinds.now counts.now ≡ Some result }
+    ) -> Option<Levels>
+        requires { len ≤ 256 }
+        ensures { result ≡ levels_in len kinds.now counts.now }
     {
-        Levels {
-            kinds: *kinds,
-            counts: *counts,
-            len,
+        if are_levels(len, kinds, counts) {
+            Some(Levels {
+                kinds: *kinds,
+                counts: *counts,
+                len,
+            })
+        } else {
+            None
         }
     }
 }
 
 /// Whether so many numbers are those of levels.
 #[inline(always)]
-pub(crate) fn are_levels(len: usize, kinds: &[u8; MOST_LEVELS], counts: &[u64; MOST_LEVELS]) -> bool
+fn are_levels(len: usize, kinds: &[u8; MOST_LEVELS], counts: &[u64; MOST_LEVELS]) -> bool
     requires { len ≤ 256 }
     ensures yes { result ≡ true → IsSome (levels_in len kinds.now counts.now) }
     ensures no { result ≡ false → levels_in len kinds.now counts.now ≡ None }
