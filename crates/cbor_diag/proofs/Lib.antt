@@ -1,3 +1,4 @@
+mod FloatLaws
 mod ItemLaws
 mod QuoteLaws
 mod ShowLaws

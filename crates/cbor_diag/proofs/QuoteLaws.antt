@@ -12,6 +12,14 @@ Shrinks-nothing : (room : Option ℕ) → Shrinks room room 0
 Shrinks-nothing None = tt
 Shrinks-nothing (Some n) = omega arith
 
+-- no byte was written
+pub writes_nothing : {W F : Type 0} (sink : Ghosts W F) (writer : W) → WritesAll sink writer [] writer
+writes_nothing sink writer = record {
+  appended = Appends-nil (sink.written writer);
+  room = Shrinks-nothing (sink.room writer);
+  failures = refl;
+}
+
 module _ {W F : Type 0} (sink : Ghosts W F) (quotes : Quotes) where
   -- the bytes in front of the rest were shown: what a show of the rest does now, one of all bytes does
   pub record Midway (bytes rest : List ℕ) (old now : W) : Type 0 where
@@ -44,10 +52,5 @@ module _ {W F : Type 0} (sink : Ghosts W F) (quotes : Quotes) where
   pub midway_last : (bytes rest : List ℕ) (old now : W) → rest ≡ [] → Midway bytes rest old now
       → WritesAll sink old (body_text quotes bytes) now
   midway_last bytes rest old now none m =
-      let nothing : WritesAll sink now [] now = record {
-        appended = Appends-nil (sink.written now);
-        room = Shrinks-nothing (sink.room now);
-        failures = refl;
-      } in
       m.goes_on (Ok (tt {0})) now (subst (λ (z : List ℕ). WritesAll sink now (body_text quotes z) now) (sym none)
-      nothing)
+      (writes_nothing sink now))

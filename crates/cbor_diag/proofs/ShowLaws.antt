@@ -2,6 +2,9 @@
 use Rattle.std.proofs.Common.{◌≡◌, ◌∙◌, ℕ, Option, Result, Ok, Err, IfErr, OnOk, arith, refl, subst}
 use Rattle.ciborium_ll.specs.Types.Read.{Ghosts}
 use Rattle.ciborium_ll.specs.Types.Decoder.{Decoder}
+use Rattle.ciborium_ll.specs.Types.Float.{Float as Raw}
+use Rattle.ciborium_ll.specs.Types.Header.{Header}
+use Rattle.ciborium_ll.specs.Types.Header.TheVariants as h
 use Rattle.ciborium_ll.specs.Types.Error.{Error}
 use Rattle.ciborium_ll.specs.Strings.{Kind}
 use Rattle.ciborium_ll.specs.Types.Write.{Ghosts as Sink}
@@ -12,7 +15,9 @@ use Rattle.cbor_skip.specs.declared.SkipError.{SkipError}
 use Rattle.cbor_skip.specs.declared.SkipError.TheVariants as s
 use Rattle.cbor_diag.specs.declared.DiagError.{DiagError}
 use Rattle.cbor_diag.specs.declared.DiagError.TheVariants as d
-use Rattle.cbor_diag.specs.Showing.{IsWriting, OnReading, OnString, ShowsFirst, nothing}
+use Rattle.cbor_diag.specs.Floats.{IsFloatText}
+use Rattle.cbor_diag.specs.Showing.{IsWriting, OnReading, OnString, ShowsFirst, ShowsHeader, nothing, said_of}
+use Rattle.cbor_diag.specs.Writing.{ShowsOne}
 
 module _ {E F : Type 0} where
   -- where the writer failed, anything holds of the read
@@ -85,6 +90,16 @@ module _ {R E : Type 0} (source : Ghosts R E) where
       → OnOk result (MovesOn source mid new) → OnOk result (MovesOn source old new)
   moved_then old mid new (Ok done) first then = MovesOn-then source old mid new first then
   moved_then old mid new (Err error) first then = tt
+
+-- what a write of a float's text answered, as the answer of a show
+pub float_said : {E W F : Type 0} (sink : Sink W F) (header : Header) (float : Raw) (old new : W)
+    (answer : Result (Unit {0}) F) (result : Result (Unit {0}) (DiagError E F)) → header ≡ h.Float float
+    → result ≡ said_of answer → ShowsOne sink (IsFloatText float) old answer new
+    → ShowsHeader sink header old result new
+float_said sink header float old new (Ok done) result is same shown = rw (is, same)
+    (shown.text, shown.is_text, shown.written)
+float_said sink header float old new (Err fault) result is same shown = rw (is, same)
+    (shown.text, shown.is_text, shown.written)
 
 module _ {R E W F : Type 0} (source : Ghosts R E) (sink : Sink W F) where
   -- where no header was pulled, nothing was written

@@ -1,3 +1,5 @@
 pub mod DiagTexts
+pub mod Floats
 pub mod Notation
 pub mod Showing
+pub mod Writing

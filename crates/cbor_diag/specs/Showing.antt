@@ -3,6 +3,7 @@ use Rattle.std.specs.Prelude.{◌≡◌, ℕ, Bool, List, Option, Some, None, Re
 use Rattle.ciborium_ll.specs.Types.Read.{Ghosts}
 use Rattle.ciborium_ll.specs.Types.Write.{Ghosts as Sink}
 use Rattle.ciborium_ll.specs.Types.Header.{Header}
+use Rattle.ciborium_ll.specs.Types.Header.TheVariants as h
 use Rattle.ciborium_ll.specs.Types.Decoder.{Decoder}
 use Rattle.ciborium_ll.specs.Types.Error.{Error}
 use Rattle.ciborium_ll.specs.Decoding.{PullsHeader, PullsTitle}
@@ -12,6 +13,7 @@ use Rattle.cbor_skip.specs.declared.SkipError.TheVariants as s
 use Rattle.cbor_skip.specs.Skipping.{ReadsItem, StopsItem}
 use Rattle.cbor_diag.specs.declared.DiagError.{DiagError}
 use Rattle.cbor_diag.specs.declared.DiagError.TheVariants as d
+use Rattle.cbor_diag.specs.Floats.{IsFloatText}
 use Rattle.cbor_diag.specs.Notation.{header_text}
 
 module _ {E F : Type 0} where
@@ -53,6 +55,12 @@ module _ {E W F : Type 0} (sink : Sink W F) where
   ShowsText (Some text) old (Err (d.Write fault)) new = WritesBytes sink {T = Unit {0}} old (Err fault) text new
   ShowsText (Some text) old (Err (d.Read error)) new = ⊥
 
+  -- the text of a header was written, where it is a whole item: of a float it is one that fits
+  abbrev pub ShowsHeader : Header → W → Result (Unit {0}) (DiagError E F) → W → Type 0
+  ShowsHeader (h.Float float) old result new =
+      (text : List ℕ) × IsFloatText float text × ShowsText (Some text) old result new
+  ShowsHeader header old result new = ShowsText (header_text header) old result new
+
 module _ {R E W F : Type 0} (source : Ghosts R E) (sink : Sink W F) where
   -- What `diagnose` writes of the title in front: where a header was pulled that has a text, just that. Where none was
   -- pulled, nothing was written
@@ -61,4 +69,4 @@ module _ {R E W F : Type 0} (source : Ghosts R E) (sink : Sink W F) where
     nothing : (error : Error E) (new : Decoder R) → PullsHeader source old (Err error) new
         → result ≡ Err (d.Read (s.Read error)) → after ≡ before → ShowsFirst old before result after
     first : (header : Header) (titled : Decoder R) → PullsTitle source old header titled
-        → ShowsText sink (header_text header) before result after → ShowsFirst old before result after
+        → ShowsHeader sink header before result after → ShowsFirst old before result after

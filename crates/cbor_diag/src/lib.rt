@@ -36,9 +36,10 @@ pub enum DiagError<E, F> {
 /// was there, and the decoder is behind it; `Read` carries the error that `skip_item` answers, and the decoder is where
 /// that leaves it. What stands before the fault was written. `Write` carries the writer's error.
 ///
-/// Of an integer or a simple value just its text is written: the digits in base 10, or the name, or `simple(N)`.
+/// Of an integer or a simple value just its text is written: the digits in base 10, or the name, or `simple(N)`. Of a
+/// float just digits that are read as its value, or `NaN`, `Infinity`, `-Infinity`, and the indicator of its width.
 ///
-/// Floats have the indicator of their width, `_2` or `_3`, where a shorter one holds the same value. No other indicator
+/// That indicator is `_2` or `_3`, and stands exactly where a shorter width holds the same value. No other indicator
 /// is written but that of the indefinite forms: how long the titles of integers, lengths and tags are is not shown.
 pub fn diagnose<R: Read, W: Write>(
     decoder: &mut Decoder<R>,

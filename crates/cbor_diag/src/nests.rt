@@ -6,8 +6,7 @@ ghost use Rattle.ciborium_ll.specs.Title.{title_len};
 ghost use Rattle.ciborium_ll.specs.Decoding.{IsSteady, MovesOn, PullsTitle, offset_of, waiting_of};
 ghost use Rattle.cbor_skip.specs.Due.{IsNest};
 ghost use Rattle.cbor_skip.specs.Skipping.{SkipsWithin};
-ghost use Rattle.cbor_diag.specs.Showing.{IsWriting, OnReading, ReadsFrom, ShowsText};
-ghost use Rattle.cbor_diag.specs.Notation.{header_text};
+ghost use Rattle.cbor_diag.specs.Showing.{IsWriting, OnReading, ReadsFrom, ShowsHeader};
 
 use crate::DiagError;
 use crate::layout::Line;
@@ -70,7 +69,7 @@ pub(crate) fn show_item<R: Read, W: Write>(
     ensures reads { (before : AnyDecoder R) (outer : Bool) → place ≡ offset_of before
         → PullsTitle R.Read before header decoder.old → (IsSteady R.Read before → IsSteady R.Read decoder.old)
         → OnReading (λ answer. ReadsFrom R.Read outer depth 64 before answer decoder.new) result }
-    ensures text { ShowsText W.Write (header_text header) writer.old result writer.new }
+    ensures text { ShowsHeader W.Write header writer.old result writer.new }
     ensures moves_on { OnOk result (MovesOn R.Read decoder.old decoder.new) }
 {
     match header {

@@ -1,9 +1,12 @@
 //! Numbers, floats and simple values.
 
-ghost use Rattle.std.specs.Prelude.{◌≡◌, ◌<◌, negsuc, decimal};
+ghost use Rattle.std.specs.Prelude.{◌≡◌, ◌<◌, ◌≤◌, [], negsuc, decimal, if◌then◌else◌};
 ghost use Rattle.std.specs.Fmt.{signed_decimal};
 ghost use Rattle.ciborium_ll.specs.Encoding.{WritesBytes};
+ghost use Rattle.cbor_diag.specs.Floats.{IsFloatText, IsNumberText, half_size, half_value, holds, is_held};
+ghost use Rattle.cbor_diag.specs.Floats.{power_of_two, with_point};
 ghost use Rattle.cbor_diag.specs.Notation.{simple_text};
+ghost use Rattle.cbor_diag.specs.Writing.{ShowsMarked, ShowsOne};
 
 use crate::put::{put, put_three, put_two};
 use ciborium_ll::io::Write;
@@ -74,7 +77,10 @@ const SINGLE: Width = Width {
 };
 
 /// Shows a float, and its width where a shorter one holds the same value (RFC 8949, 8.1).
-pub(crate) fn show_float<W: Write>(writer: &mut W, float: Float) -> Result<(), W::Error> {
+#[tactic(auto, using(crate::proofs::FloatLaws::float_shown))]
+pub(crate) fn show_float<W: Write>(writer: &mut W, float: Float) -> Result<(), W::Error>
+    ensures { ShowsOne W.Write (IsFloatText float) writer.old result writer.new }
+{
     match float {
         Float::Half(bits) => show_number(writer, half_value(bits), b""),
         Float::Single(bits) => {
@@ -90,86 +96,115 @@ pub(crate) fn show_float<W: Write>(writer: &mut W, float: Float) -> Result<(), W
 }
 
 /// The value of a half (RFC 8949, appendix D).
-fn half_value(bits: u16) -> f64 {
-    let exponent = bits / 1024 % 32;
-    let fraction = bits % 1024;
-    let size = if exponent == 31 {
-        if fraction == 0 {
+fn half_value(bits: u16) -> f64
+    ensures { result ≡ half_value bits }
+{
+    let size = half_size(bits / 1024 % 32, bits % 1024);
+    if bits < 0x8000 { size } else { -size }
+}
+
+/// The value of a half without its sign.
+fn half_size(exponent: u16, fraction: u16) -> f64
+    requires exponent { exponent < 32 }
+    requires fraction { fraction < 1024 }
+    ensures { result ≡ half_size exponent fraction }
+{
+    if exponent == 31 {
+        return if fraction == 0 {
             f64::INFINITY
         } else {
             f64::NAN
-        }
-    } else if exponent == 0 {
-        f64::from(fraction) * power_of_two(1)
-    } else {
-        f64::from(fraction + 1024) * power_of_two(exponent)
-    };
-    if bits < 0x8000 { size } else { -size }
+        };
+    }
+    if exponent == 0 {
+        return f64::from(fraction) * power_of_two(1);
+    }
+    f64::from(fraction + 1024) * power_of_two(exponent)
 }
 
 /// Two to the power of the exponent less 25.
 fn power_of_two(exponent: u16) -> f64
     requires { exponent < 32 }
+    ensures { result ≡ power_of_two exponent }
 {
     f64_from_bits_with_nan((u64::from(exponent) + 998) * 0x10_0000_0000_0000)
 }
 
 /// The mark, where the width holds the double too.
-fn mark<'a>(double: u64, width: Width, mark: &'a [u8]) -> &'a [u8] {
+fn mark<'a>(double: u64, width: Width, mark: &'a [u8]) -> &'a [u8]
+    requires narrow { width.digits ≤ 52 }
+    ensures { result.now ≡ (if holds width double then mark.now else []) }
+{
     if holds(double, width) { mark } else { b"" }
 }
 
 /// Whether a float of the width has the value of the double.
-fn holds(double: u64, width: Width) -> bool {
-    let exponent = double / 0x10_0000_0000_0000 % 0x800;
-    let fraction = double % 0x10_0000_0000_0000;
+fn holds(double: u64, width: Width) -> bool
+    requires narrow { width.digits ≤ 52 }
+    ensures { result ≡ holds width double }
+{
+    is_held(
+        width,
+        double / 0x10_0000_0000_0000 % 0x800,
+        double % 0x10_0000_0000_0000,
+    )
+}
+
+/// The same by the exponent and the fraction of the double.
+fn is_held(width: Width, exponent: u64, fraction: u64) -> bool
+    requires narrow { width.digits ≤ 52 }
+    requires exponent { exponent < 2048 }
+    ensures { result ≡ is_held width exponent fraction }
+{
     if exponent == 0x7ff {
         return true;
     }
     if exponent == 0 {
         return fraction == 0;
     }
-    if exponent > width.most || exponent.saturating_add(width.digits) < width.least {
+    if exponent > width.most || exponent + width.digits < width.least {
         return false;
     }
     // Below its least exponent a width has a bit less for each step.
-    let lost = 52u64
-        .saturating_sub(width.digits)
-        .saturating_add(width.least.saturating_sub(exponent));
-    u64::from(fraction.trailing_zeros()) >= lost
+    let lost = (52 - width.digits) + width.least.saturating_sub(exponent);
+    fraction % 2u64.pow(lost as u32) == 0
 }
 
 /// Shows a value by its shortest digits, and then a mark.
-fn show_number<W: Write>(writer: &mut W, value: f64, mark: &[u8]) -> Result<(), W::Error> {
+fn show_number<W: Write>(writer: &mut W, value: f64, mark: &[u8]) -> Result<(), W::Error>
+    ensures { ShowsMarked W.Write (IsNumberText value) mark.now writer.old result writer.new }
+{
     if value.is_nan() {
         return put_two(writer, b"NaN", mark);
     }
-    if value == f64::INFINITY {
-        return put_two(writer, b"Infinity", mark);
+    if value.is_finite() {
+        show_digits(
+            writer,
+            ryu::Buffer::new().format_finite_with_plus(value).as_bytes(),
+        )?;
+        return put(writer, mark);
     }
-    if value == f64::NEG_INFINITY {
-        return put_two(writer, b"-Infinity", mark);
+    if value.is_sign_negative() {
+        put_two(writer, b"-Infinity", mark)
+    } else {
+        put_two(writer, b"Infinity", mark)
     }
-    show_digits(writer, ryu::Buffer::new().format(value).as_bytes())?;
-    put(writer, mark)
 }
 
-/// Shows digits as the standard spells them: with a point, and a sign in front of the exponent.
-fn show_digits<W: Write>(writer: &mut W, digits: &[u8]) -> Result<(), W::Error> {
-    let Some(at) = digits.iter().position(|byte| *byte == b'e') else {
-        return put(writer, digits);
-    };
-    let (front, exponent) = digits.split_at(at);
-    put(writer, front)?;
-    if !front.contains(&b'.') {
-        put(writer, b".0")?;
+/// Shows digits as the standard spells them: with a point in front of the exponent.
+fn show_digits<W: Write>(writer: &mut W, digits: &[u8]) -> Result<(), W::Error>
+    ensures { WritesBytes W.Write writer.old result (with_point digits.now) writer.new }
+{
+    let mut rest = digits;
+    'digits: while let Some((first, behind)) = rest.split_first() {
+        if *first == b'.' {
+            return put(writer, rest);
+        }
+        if *first == b'e' {
+            return put_two(writer, b".0", rest);
+        }
+        put(writer, &[*first])?;
+        rest = behind;
     }
-    put(writer, b"e")?;
-    let Some((_, exponent)) = exponent.split_first() else {
-        return Ok(());
-    };
-    if !exponent.starts_with(b"-") {
-        put(writer, b"+")?;
-    }
-    put(writer, exponent)
+    Ok(())
 }

@@ -11,7 +11,7 @@ use Rattle.cbor_skip.specs.Remaining.{is_done, closes}
 use Rattle.cbor_skip.specs.Skipping.{SkipsWithin, strictness}
 use Rattle.cbor_skip.proofs.ItemSteps.{none_read, one_more, stops_here, pull_stops, stops_within, ended, closed}
 use Rattle.cbor_diag.specs.Showing.{ReadsFrom}
-use Rattle.cbor_diag.proofs.ShowLaws.{reading_stops}
+use Rattle.cbor_diag.proofs.ShowLaws.{float_said, reading_stops}
 use Rattle.cbor_diag.proofs.ItemLaws.{scalar_read, string_read, nest_deep, nest_read, nest_stops}
 use Rattle.cbor_diag.proofs.nests.+items.Goals as goal
 
@@ -37,6 +37,11 @@ show_item-returns-in-Float-clause-reads g t c = λ before outer at pulled steady
     scalar_read g.R.Read outer c.args.depth before c.args.decoder.now steady c.args.header c.said-in-Float.result
     completes pulled
     c.said-in-Float.ensures.writing
+
+pub show_item-returns-in-Float-clause-text : goal.show_item-returns-in-Float-clause-text
+show_item-returns-in-Float-clause-text g t c =
+    float_said g.W.Write c.args.header c.in-Float.float _ _ c.show_float.result c.said-in-Float.result c.in-Float.is
+    c.said-in-Float.ensures.same c.show_float.ensures
 
 pub show_item-returns-in-Simple-clause-reads : goal.show_item-returns-in-Simple-clause-reads
 show_item-returns-in-Simple-clause-reads g t c = λ before outer at pulled steady.
