@@ -5,7 +5,8 @@ use Rattle.ciborium_ll.specs.Title.{BeginsRefused}
 use Rattle.ciborium_ll.specs.Strings.{Kind, kind_header}
 use Rattle.ciborium_ll.specs.Items.{AreItems, no_items, more_items}
 use Rattle.ciborium_ll.specs.Faults.{Place, Due, IsInside, opened, deeper, Answer, Short}
-use Rattle.ciborium_ll.specs.Faults.{FirstFault, CutTitle, NoTitle, OtherTitle, DamagedText, CutBody, CutDamagedText}
+use Rattle.ciborium_ll.specs.Faults.{FirstFault, CutTitle, NoTitle, LongTitle, OtherTitle, DamagedText, CutBody}
+use Rattle.ciborium_ll.specs.Faults.{CutDamagedText}
 use Rattle.ciborium_ll.proofs.ItemLaws.{one_item}
 use Rattle.ciborium_ll.proofs.NestLaws.{title_some}
 use Rattle.cbor_skip.specs.Due.{ReachesItem, at_item, at_string, at_body, at_piece}
@@ -75,12 +76,13 @@ due_first d u at (at_piece {bytes = a} {title = t} {len = l} {kind = k} r p) e =
 
 -- where no byte is consumed of what is short there is none
 pub short_first : (before : List ℕ) (at : Place) (ahead : List ℕ) (answer : Answer) (written : List ℕ) (consumed : ℕ)
-    → FirstFault before [] at ahead answer written consumed → at ≡ Due → answer ≡ Short → consumed ≡ 0 → ahead ≡ []
+    → FirstFault false before [] at ahead answer written consumed → at ≡ Due → answer ≡ Short → consumed ≡ 0 → ahead ≡ []
 short_first before at ahead answer written consumed (CutTitle title cut) due is none = nothing ahead (omega (
   arith,
   none,
 ))
 short_first before at ahead answer written consumed (NoTitle title refused) due is none = absurd cc
+short_first before at ahead answer written consumed (LongTitle header rest d p untaken e) due is none = absurd (untaken tt)
 short_first before at ahead answer written consumed (OtherTitle header rest p m e) due is none = absurd cc
 short_first before at ahead answer written consumed (DamagedText front rest l damaged e t c) due is none = absurd cc
 short_first before at ahead answer written consumed (CutBody front rest l e w a b c) due is none = absurd cc
@@ -88,11 +90,12 @@ short_first before at ahead answer written consumed (CutDamagedText front rest l
 
 -- where there is none, it is short, and none is consumed
 pub first_short : (before : List ℕ) (at : Place) (ahead : List ℕ) (answer : Answer) (written : List ℕ) (consumed : ℕ)
-    → FirstFault before [] at ahead answer written consumed → at ≡ Due → ahead ≡ [] → (answer ≡ Short) × (consumed ≡ 0)
+    → FirstFault false before [] at ahead answer written consumed → at ≡ Due → ahead ≡ [] → (answer ≡ Short) × (consumed ≡ 0)
 first_short before at ahead answer written consumed (CutTitle title cut) due none =
     let counted = ap length none in (refl, omega (arith, counted))
 first_short before at ahead answer written consumed (NoTitle title refused) due none =
     absurd (subst BeginsRefused none refused)
+first_short before at ahead answer written consumed (LongTitle header rest d p untaken e) due none = absurd (untaken tt)
 first_short before at ahead answer written consumed (OtherTitle header rest p m e) due none = absurd cc
 first_short before at ahead answer written consumed (DamagedText front rest l damaged e t c) due none = absurd cc
 first_short before at ahead answer written consumed (CutBody front rest l e w a b c) due none = absurd cc

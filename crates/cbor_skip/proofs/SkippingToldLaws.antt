@@ -38,7 +38,7 @@ use Rattle.cbor_skip.proofs.DueLaws.{no_item_fault, no_early_break, no_deep_nest
 -- the row of a text's body that is no text, as a whole or however it goes on
 damage : (before : List ℕ) (len start : ℕ) (read rest behind : List ℕ) → rest ≡ read ++ behind → length read ≤ len
     → ((length read ≡ len) × (IsCharacters read → ⊥)) ⊎ BeginsNoText read
-    → FirstFault before [] (BodyDue Text len start) rest (Syntax start) (with_front [] Text len []) (length read)
+    → FirstFault false before [] (BodyDue Text len start) rest (Syntax start) (with_front [] Text len []) (length read)
 damage before len start read rest behind split within (inl whole) =
     let taken : take len rest ≡ read = front_of len rest read behind split whole.0 in
     let counted = ap length split in
@@ -194,7 +194,7 @@ module _ {R E : Type 0} (source : Ghosts R E) (depth room : ℕ) (old : Decoder 
               consumed = length title;
               reach = reach;
               is = c.parts;
-              fault = OtherTitle header gone.0 pulled.is_title misplaced gone.2;
+              fault = OtherTitle header gone.0 pulled.is_title (inl misplaced) gone.2;
             };
             answered = refl;
             left = gone.1 ∙ ap Some (sym (ap (drop (length title)) gone.2 ∙ drop-append_seam title gone.0));

@@ -25,7 +25,7 @@ pub record HasItemFault (depth : ℕ) (bytes : List ℕ) : Type 0 where
   pub consumed : ℕ
   pub reach : ReachesItem depth before place
   pub is : bytes ≡ before ++ ahead
-  pub fault : FirstFault before [] place ahead answer written consumed
+  pub fault : FirstFault false before [] place ahead answer written consumed
 
 -- behind a beginning of an item a break stands where an item is due, and may not stand in its place (RFC 7049, 2.2.1)
 pub record HasEarlyBreak (depth : ℕ) (bytes : List ℕ) : Type 0 where
