@@ -196,7 +196,7 @@ module _ (count left b : ℕ) (bytes output : List ℕ) (spot : Spot) (state : S
 
   damaged : may_end (after_byte state b) left ≡ false → (y : List ℕ) → (named : ℕ)
       → due.len ≤ length ((due.part ++ (spot.front ++ b ∷ [])) ++ y)
-      → FirstFault (due.before ++ due.title) due.marks (BodyDue Text due.len named)
+      → FirstFault false (due.before ++ due.title) due.marks (BodyDue Text due.len named)
       ((due.part ++ (spot.front ++ b ∷ [])) ++ y) (Syntax named) (with_front due.marks Text due.len due.part) 0
   damaged never y named enough =
       let ahead = due.part ++ (spot.front ++ b ∷ []) in
@@ -237,8 +237,8 @@ module _ (count left b : ℕ) (bytes output : List ℕ) (spot : Spot) (state : S
         more = zeros;
         more_bytes = AreBytes-zeros left;
         consumed = 0;
-        fault = subst (λ (z : List ℕ). FirstFault (due.before ++ due.title) due.marks (BodyDue Text due.len spot.place)
-            (ahead ++ zeros) (Syntax spot.place) z 0) (sym (append-nil output ∙ due.out))
+        fault = subst (λ (z : List ℕ). FirstFault false (due.before ++ due.title) due.marks
+            (BodyDue Text due.len spot.place) (ahead ++ zeros) (Syntax spot.place) z 0) (sym (append-nil output ∙ due.out))
             (damaged never zeros spot.place enough);
       }
 

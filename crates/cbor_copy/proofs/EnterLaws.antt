@@ -1,5 +1,5 @@
 -- Where a whole title, a whole body or a whole element leads.
-use Rattle.std.proofs.Common.{◌≡◌, ℕ, zero, suc, ◌+◌, ◌-◌, ◌<◌, List, [], ◌∷◌, ◌++◌, length, Some, None}
+use Rattle.std.proofs.Common.{◌≡◌, ℕ, zero, suc, ◌+◌, ◌-◌, ◌<◌, false, List, [], ◌∷◌, ◌++◌, length, Some, None}
 use Rattle.std.proofs.Common.{refl, sym, ap, subst, ◌∙◌, arith, inl, append_assoc, append-nil, le-leb}
 use Rattle.ciborium_ll_grammar.specs.declared.hdr.Header.{Header}
 use Rattle.ciborium_ll_grammar.specs.declared.hdr.Header.TheVariants as h
@@ -347,14 +347,13 @@ module _ (phase : Phase) (count left place offset : ℕ) (before title : List �
             answer = Syntax (length before);
             written = spelling marks;
             consumed = length title;
-            fault = OtherTitle header y q bad refl;
+            fault = OtherTitle header y q (inl bad) refl;
           };
           more = [];
           more_bytes = tt;
           consumed = length title;
-          fault = subst (λ (n : ℕ). FirstFault before marks (In (kind_of kind)) (title ++ []) (Syntax n) (spelling
-              marks)
-              (length title)) (sym named) (OtherTitle header [] q bad refl);
+          fault = subst (λ (n : ℕ). FirstFault false before marks (In (kind_of kind)) (title ++ []) (Syntax n)
+              (spelling marks) (length title)) (sym named) (OtherTitle header [] q (inl bad) refl);
         })
 
   closed_titled : (kind : StringKind) (more : ℕ) (o : InOpen (kind_of kind) more count left before marks)

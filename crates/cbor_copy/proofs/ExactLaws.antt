@@ -1,8 +1,8 @@
 -- Where a copy has ended and where there is a fault, in terms of the bytes alone.
-use Rattle.std.proofs.Common.{ℕ, ◌↔◌, List, [], ◌++◌, refl, sym, append-nil}
+use Rattle.std.proofs.Common.{ℕ, ◌↔◌, false, List, [], ◌++◌, refl, sym, append-nil}
 use Rattle.ciborium_ll_grammar.specs.Elements.{Mark, IsRun}
 use Rattle.ciborium_ll_grammar.specs.Faults.{Short, RunInFront}
-use Rattle.ciborium_ll_grammar.proofs.FaultLaws.{no_fault}
+use Rattle.ciborium_ll_grammar.proofs.StrictFaultLaws.{no_fault}
 use Rattle.cbor_copy.specs.declared.phase.Phase.{Phase}
 use Rattle.cbor_copy.specs.declared.phase.Phase.TheVariants as p
 use Rattle.cbor_copy.specs.Spots.{Spot}
@@ -17,18 +17,33 @@ pub told : (count : ℕ) (bytes output : List ℕ) (spot : Spot) → IsFed count
 told count bytes output spot is = told_in spot.phase count bytes output spot (fed_holds count bytes output spot is)
 
 -- so many elements stand in front of themselves
-in_front : (count : ℕ) (bytes : List ℕ) (marks : List Mark) → IsRun count bytes marks → RunInFront count bytes
+in_front : (count : ℕ) (bytes : List ℕ) (marks : List Mark) → IsRun count bytes marks
+    → RunInFront false count bytes
 in_front count bytes marks run =
-    record { elements = bytes; marks = marks; rest = []; run = run; is = sym (append-nil bytes) }
+    record {
+      elements = bytes;
+      marks = marks;
+      rest = [];
+      run = run;
+      is = sym (append-nil bytes);
+      spelled = λ on. absurd cc;
+    }
 
 pub whole_in_front : (count : ℕ) (bytes more : List ℕ) (marks : List Mark) → IsRun count bytes marks
-    → RunInFront count (bytes ++ more)
+    → RunInFront false count (bytes ++ more)
 whole_in_front count bytes more marks run =
-    record { elements = bytes; marks = marks; rest = more; run = run; is = refl }
+    record {
+      elements = bytes;
+      marks = marks;
+      rest = more;
+      run = run;
+      is = refl;
+      spelled = λ on. absurd cc;
+    }
 
 short_none : (count : ℕ) (bytes output : List ℕ) (marks : List Mark) → ComesTo count bytes Short output
     → IsRun count bytes marks → ⊥
-short_none count bytes output marks short run = no_fault count bytes (in_front count bytes marks run) short.fault
+short_none count bytes output marks short run = no_fault false count bytes (in_front count bytes marks run) short.fault
 
 -- ---- an end
 

@@ -1,5 +1,5 @@
 -- What the bytes of a copy have led to, in terms of elements, and what was put out till there.
-use Rattle.std.proofs.Common.{◌≡◌, ℕ, suc, ◌+◌, ◌-◌, ◌<◌, true, List, [], ◌∷◌, ◌++◌, length, Some, ◌⊎◌}
+use Rattle.std.proofs.Common.{◌≡◌, ℕ, suc, ◌+◌, ◌-◌, ◌<◌, true, false, List, [], ◌∷◌, ◌++◌, length, Some, ◌⊎◌}
 use Rattle.ciborium_ll_grammar.specs.declared.hdr.Header.{Header}
 use Rattle.ciborium_ll_grammar.specs.Title.{IsTitle, title_len, IsCutTitle, AreBytes}
 use Rattle.ciborium_ll_grammar.specs.Strings.{Kind, Bytes, Text, kind_header, IsMisplaced, IsWritable}
@@ -106,7 +106,7 @@ pub record SomeFault (before : List ℕ) (marks : List Mark) (at : Place) (ahead
   pub answer : Answer
   pub written : List ℕ
   pub consumed : ℕ
-  pub fault : FirstFault before marks at ahead answer written consumed
+  pub fault : FirstFault false before marks at ahead answer written consumed
 
 -- whatever follows, there is a fault, and something follows with which it is the one at this place
 pub record Broken (place count : ℕ) (bytes output : List ℕ) : Type 0 where
@@ -120,7 +120,7 @@ pub record Broken (place count : ℕ) (bytes output : List ℕ) : Type 0 where
   pub more : List ℕ
   pub more_bytes : AreBytes more
   pub consumed : ℕ
-  pub fault : FirstFault before marks at (ahead ++ more) (Syntax place) output consumed
+  pub fault : FirstFault false before marks at (ahead ++ more) (Syntax place) output consumed
 
 abbrev pub HoldsIn : Phase → ℕ → List ℕ → Spot → List ℕ → Type 0
 HoldsIn p.Title count bytes spot output = Titling count bytes spot output

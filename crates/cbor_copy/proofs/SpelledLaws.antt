@@ -95,7 +95,7 @@ due_by p.Ended count b bytes output more marks told are_bytes run =
     let l = ap length one.0 in
     absurd (omega (arith, l, length-append bytes (b ∷ more)))
 due_by (p.Faulted place) count b bytes output more marks told are_bytes run =
-    absurd (told.0 (b ∷ more) are_bytes (subst (RunInFront count) (append-nil (bytes ++ b ∷ more))
+    absurd (told.0 (b ∷ more) are_bytes (subst (RunInFront false count) (append-nil (bytes ++ b ∷ more))
     (whole_in_front count (bytes ++ b ∷ more) [] marks run)))
 
 -- where so many elements came, their spelling was put out

@@ -1,5 +1,5 @@
 -- What one byte more leads to, in terms of the elements so far.
-use Rattle.std.proofs.Common.{◌≡◌, ℕ, zero, suc, ◌+◌, ◌-◌, ◌%◌, ◌<◌, ◌≤◌, List, [], ◌∷◌, ◌++◌}
+use Rattle.std.proofs.Common.{◌≡◌, ℕ, zero, suc, ◌+◌, ◌-◌, ◌%◌, ◌<◌, ◌≤◌, false, List, [], ◌∷◌, ◌++◌}
 use Rattle.std.proofs.Common.{length, take, drop, Some, None, ◌⊎◌, refl, sym, ap, subst, ◌∙◌, arith, inl, inr}
 use Rattle.std.proofs.Common.{append_assoc, append-nil, length-append, replicate, length-take-le}
 use Rattle.std.proofs.Common.{take-append-drop}
@@ -126,9 +126,9 @@ module _ (count left place : ℕ) (i : Within) (before bytes output : List ℕ) 
   begun_early kind more first front e sound is_cut all whole_is =
       let K = kind_of kind in
       let titles : (y : List ℕ) (o : Continued (first ∷ front) (first ∷ (front ++ y)))
-      → FirstFault before marks (In K) (first ∷ (front ++ y)) (Syntax (length before)) (spelling marks)
+      → FirstFault false before marks (In K) (first ∷ (front ++ y)) (Syntax (length before)) (spelling marks)
       (length ((first ∷ front) ++ o.more)) =
-      λ y o. OtherTitle o.header o.rest o.is_title (all o.more o.header o.is_title) o.is in
+      λ y o. OtherTitle o.header o.rest o.is_title (inl (all o.more o.header o.is_title)) o.is in
       let zeros : List ℕ = replicate 8 0 in
       let end = continued first front zeros sound (AreBytes-zeros 8) is_cut in
       let enough : IsCutTitle (first ∷ (front ++ zeros)) → ⊥ =

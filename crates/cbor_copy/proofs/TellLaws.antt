@@ -1,11 +1,11 @@
 -- What the answer of a copier says of the bytes so far.
-use Rattle.std.proofs.Common.{◌≡◌, ℕ, ◌+◌, ◌<◌, ◌≤◌, ◌^◌, List, [], ◌∷◌, ◌++◌, length, refl, sym, ap, subst}
+use Rattle.std.proofs.Common.{◌≡◌, ℕ, false, ◌+◌, ◌<◌, ◌≤◌, ◌^◌, List, [], ◌∷◌, ◌++◌, length, refl, sym, ap, subst}
 use Rattle.std.proofs.Common.{◌∙◌, arith, inl, inr, append_assoc, append-nil, length-append}
 use Rattle.ciborium_ll_grammar.specs.Title.{IsCutTitle}
 use Rattle.ciborium_ll_grammar.specs.Faults.{Short, Syntax, CutTitle, CutBody}
 use Rattle.ciborium_ll_grammar.specs.Faults.{with_front}
 use Rattle.ciborium_ll_grammar.specs.Elements.{spelling}
-use Rattle.ciborium_ll_grammar.proofs.FaultLaws.{no_fault}
+use Rattle.ciborium_ll_grammar.proofs.StrictFaultLaws.{no_fault}
 use Rattle.cbor_copy.specs.declared.phase.Phase.{Phase}
 use Rattle.cbor_copy.specs.declared.phase.Phase.TheVariants as p
 use Rattle.cbor_copy.specs.declared.phase.StringKind.{StringKind}
@@ -42,6 +42,7 @@ title_short count bytes output spot o = record {
     consumed = _;
     reach = reaches spot.within count spot.left o.before o.marks o.at o.due;
     is = o.is;
+    spelled = λ on. absurd cc;
     fault = CutTitle {place = place_of spot.within} (at_title spot.within)
         (front_cut spot.front spot (length o.before) o.front);
   };
@@ -63,6 +64,7 @@ body_short kind left count bytes output spot o some = record {
     reach = body_reached spot.within kind count spot.left o.len o.before o.title o.marks o.at o.due o.of_kind
         o.is_title;
     is = o.is;
+    spelled = λ on. absurd cc;
     fault = CutBody {kind = kind_of kind} o.part spot.front (omega (arith, o.long, some)) refl o.sound (omega arith)
         (omega arith) (omega (arith, length-append o.part spot.front));
   };
@@ -83,7 +85,7 @@ broken_tells : (place count : ℕ) (bytes output : List ℕ) → Broken place co
 broken_tells place count bytes output o = (
   λ more are_bytes run.
       let f = o.each more are_bytes in
-      no_fault count (bytes ++ more) run (record {
+      no_fault false count (bytes ++ more) run (record {
         before = o.before;
         marks = o.marks;
         place = o.at;
@@ -93,6 +95,7 @@ broken_tells place count bytes output o = (
         consumed = f.consumed;
         reach = o.reach;
         is = ap (λ (z : List ℕ). z ++ more) o.is ∙ append_assoc o.before o.ahead more;
+        spelled = λ on. absurd cc;
         fault = f.fault;
       }),
   record {
@@ -109,6 +112,7 @@ broken_tells place count bytes output o = (
         consumed = o.consumed;
         reach = o.reach;
         is = ap (λ (z : List ℕ). z ++ o.more) o.is ∙ append_assoc o.before o.ahead o.more;
+        spelled = λ on. absurd cc;
         fault = o.fault;
       };
       answered = refl;

@@ -63,7 +63,7 @@ pub record AreSpelled (count : ℕ) (bytes output : List ℕ) : Type 0 where
 
 -- where no more come, a copy of so many elements is at this fault, with this written
 pub record ComesTo (count : ℕ) (bytes : List ℕ) (answer : Answer) (output : List ℕ) : Type 0 where
-  pub fault : HasFault count bytes
+  pub fault : HasFault false count bytes
   pub answered : fault.answer ≡ answer
   pub written : fault.written ≡ output
 
@@ -76,7 +76,7 @@ pub record SomeGoOn (count : ℕ) (bytes : List ℕ) : Type 0 where
 
 -- with no bytes behind them so many elements stand in front
 abbrev pub NoneGoOn : ℕ → List ℕ → Type 0
-NoneGoOn count bytes = (more : List ℕ) → AreBytes more → RunInFront count (bytes ++ more) → ⊥
+NoneGoOn count bytes = (more : List ℕ) → AreBytes more → RunInFront false count (bytes ++ more) → ⊥
 
 -- with some bytes behind them, a copy is at the fault of this place, with this written
 pub record FaultsAt (place count : ℕ) (bytes output : List ℕ) : Type 0 where

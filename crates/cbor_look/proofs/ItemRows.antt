@@ -5,11 +5,12 @@ use Rattle.ciborium_ll.specs.Title.{BeginsRefused}
 use Rattle.ciborium_ll.specs.Strings.{Kind, kind_header}
 use Rattle.ciborium_ll.specs.Items.{AreItems, no_items, more_items}
 use Rattle.ciborium_ll.specs.Faults.{Place, Due, IsInside, opened, deeper, Answer, Short}
-use Rattle.ciborium_ll.specs.Faults.{FirstFault, CutTitle, NoTitle, OtherTitle, DamagedText, CutBody, CutDamagedText}
+use Rattle.ciborium_ll.specs.Faults.{FirstFault, CutTitle, NoTitle, LongTitle, OtherTitle, DamagedText, CutBody}
+use Rattle.ciborium_ll.specs.Faults.{CutDamagedText}
 use Rattle.ciborium_ll.proofs.ItemLaws.{one_item}
 use Rattle.ciborium_ll.proofs.NestLaws.{title_some}
 use Rattle.cbor_skip.specs.Due.{ReachesItem, at_item, at_string, at_body, at_piece}
-use Rattle.cbor_skip.specs.ItemFaults.{ItemInFront, ItemFault, Fault, LongTitle, NestedOpen}
+use Rattle.cbor_skip.specs.ItemFaults.{ItemInFront}
 use Rattle.cbor_skip.proofs.ItemSteps.{item_of}
 
 -- ---- lengths
@@ -74,45 +75,32 @@ due_first s d u at (at_piece {bytes = a} {title = t} {len = l} {kind = k} r p g)
     absurd (omega (arith, counted, title_some t (kind_header k (Some l)) p, length-append a t))
 
 -- where no byte is consumed of what is short there is none
-short_first : (before : List ℕ) (at : Place) (ahead : List ℕ) (answer : Answer) (written : List ℕ) (consumed : ℕ)
-    → FirstFault before [] at ahead answer written consumed → at ≡ Due → answer ≡ Short → consumed ≡ 0 → ahead ≡ []
-short_first before at ahead answer written consumed (CutTitle title cut) due is none = nothing ahead (omega (
+pub fault_first : (s : Bool) (before : List ℕ) (at : Place) (ahead : List ℕ) (answer : Answer) (written : List ℕ)
+    (consumed : ℕ) → FirstFault s before [] at ahead answer written consumed → at ≡ Due → answer ≡ Short → consumed ≡ 0
+    → ahead ≡ []
+fault_first s before at ahead answer written consumed (CutTitle title cut) due is none = nothing ahead (omega (
   arith,
   none,
 ))
-short_first before at ahead answer written consumed (NoTitle title refused) due is none = absurd cc
-short_first before at ahead answer written consumed (OtherTitle header rest p m e) due is none = absurd cc
-short_first before at ahead answer written consumed (DamagedText front rest l damaged e t c) due is none = absurd cc
-short_first before at ahead answer written consumed (CutBody front rest l e w a b c) due is none = absurd cc
-short_first before at ahead answer written consumed (CutDamagedText front rest l damaged e t c) due is none = absurd cc
+fault_first s before at ahead answer written consumed (NoTitle title refused) due is none = absurd cc
+fault_first s before at ahead answer written consumed (LongTitle header rest title p longer e) due is none = absurd cc
+fault_first s before at ahead answer written consumed (OtherTitle header rest p m e) due is none = absurd cc
+fault_first s before at ahead answer written consumed (DamagedText front rest l damaged e t c) due is none = absurd cc
+fault_first s before at ahead answer written consumed (CutBody front rest l e w a b c) due is none = absurd cc
+fault_first s before at ahead answer written consumed (CutDamagedText front rest l damaged e t c) due is none =
+    absurd cc
 
 -- where there is none, it is short, and none is consumed
-first_short : (before : List ℕ) (at : Place) (ahead : List ℕ) (answer : Answer) (written : List ℕ) (consumed : ℕ)
-    → FirstFault before [] at ahead answer written consumed → at ≡ Due → ahead ≡ [] → (answer ≡ Short) × (consumed ≡ 0)
-first_short before at ahead answer written consumed (CutTitle title cut) due none =
-    let counted = ap length none in (refl, omega (arith, counted))
-first_short before at ahead answer written consumed (NoTitle title refused) due none =
-    absurd (subst BeginsRefused none refused)
-first_short before at ahead answer written consumed (OtherTitle header rest p m e) due none = absurd cc
-first_short before at ahead answer written consumed (DamagedText front rest l damaged e t c) due none = absurd cc
-first_short before at ahead answer written consumed (CutBody front rest l e w a b c) due none = absurd cc
-first_short before at ahead answer written consumed (CutDamagedText front rest l damaged e t c) due none = absurd cc
-
--- the same of what stops the read of an item
-pub fault_first : (s : Bool) (before : List ℕ) (at : Place) (ahead : List ℕ) (answer : Answer) (written : List ℕ)
-    (consumed : ℕ)
-    → ItemFault s before at ahead answer written consumed → at ≡ Due → answer ≡ Short → consumed ≡ 0 → ahead ≡ []
-fault_first s before at ahead answer written consumed (Fault f) due is none =
-    short_first before at ahead answer written consumed f due is none
-fault_first s before at ahead answer written consumed (LongTitle header rest on title p longer e) due is none =
-    absurd cc
-fault_first s before at ahead answer written consumed (NestedOpen rest on p e) due is none = absurd cc
-
 pub first_fault : (s : Bool) (before : List ℕ) (at : Place) (ahead : List ℕ) (answer : Answer) (written : List ℕ)
-    (consumed : ℕ)
-    → ItemFault s before at ahead answer written consumed → at ≡ Due → ahead ≡ [] → (answer ≡ Short) × (consumed ≡ 0)
-first_fault s before at ahead answer written consumed (Fault f) due none =
-    first_short before at ahead answer written consumed f due none
-first_fault s before at ahead answer written consumed (LongTitle {title = t} header rest on title p longer e) due none =
+    (consumed : ℕ) → FirstFault s before [] at ahead answer written consumed → at ≡ Due → ahead ≡ []
+    → (answer ≡ Short) × (consumed ≡ 0)
+first_fault s before at ahead answer written consumed (CutTitle title cut) due none =
+    let counted = ap length none in (refl, omega (arith, counted))
+first_fault s before at ahead answer written consumed (NoTitle title refused) due none =
+    absurd (subst BeginsRefused none refused)
+first_fault s before at ahead answer written consumed (LongTitle {title = t} header rest title p longer e) due none =
     let counted = ap length (sym e ∙ none) in absurd (omega (arith, counted, title_some t header p, length-append t rest))
-first_fault s before at ahead answer written consumed (NestedOpen rest on p e) due none = absurd cc
+first_fault s before at ahead answer written consumed (OtherTitle header rest p m e) due none = absurd cc
+first_fault s before at ahead answer written consumed (DamagedText front rest l damaged e t c) due none = absurd cc
+first_fault s before at ahead answer written consumed (CutBody front rest l e w a b c) due none = absurd cc
+first_fault s before at ahead answer written consumed (CutDamagedText front rest l damaged e t c) due none = absurd cc

@@ -7,7 +7,7 @@ use Rattle.ciborium_ll.specs.Title.{IsTitle, IsStrictTitle, shortest_title}
 use Rattle.ciborium_ll.specs.Strings.{Kind, Bytes, Text, kind_header}
 use Rattle.ciborium_ll.specs.Strings.IsString.{definite, indefinite}
 use Rattle.ciborium_ll.specs.Elements.{Mark, Plain, Whole, open_marks, IsElement, plain, string}
-use Rattle.ciborium_ll.specs.Faults.{Place, Due, In, IsAtTitle, Answer}
+use Rattle.ciborium_ll.specs.Faults.{Place, Due, In, IsAtTitle, Answer, FirstFault}
 use Rattle.ciborium_ll.specs.Items.{Completes, positive, negative, float, simple, byte_string, text_string}
 use Rattle.ciborium_ll.specs.Items.{open_bytes, open_text, tag, array, pairs, open_array, open_pairs, AreItems}
 use Rattle.ciborium_ll.specs.Items.{no_items, more_items, IsItem, IsTakenTitle, AreTakenStrings}
@@ -17,14 +17,18 @@ use Rattle.ciborium_ll.proofs.NestLaws.{open_in_range}
 use Rattle.ciborium_ll.proofs.ElementLaws.{bytes_writable}
 use Rattle.ciborium_ll.proofs.ItemLaws.{one_item}
 use Rattle.ciborium_ll.proofs.HaltLaws.{opens_of, stop_bad, halt_bad, element_stops, element_inside}
-use Rattle.ciborium_ll.proofs.FaultLaws.{Stuck, stop, halt, bad_body, stuck}
+use Rattle.ciborium_ll.proofs.FaultLaws.{Stuck, stop, halt, bad_body, Refuses, long, nested, stuck_or_refused}
 use Rattle.cbor_skip.specs.Due.{IsNest, TakesMore, may_close, ItemDue, here, within, ReachesItem, at_item, at_string}
 use Rattle.cbor_skip.specs.Due.{at_body, at_piece, IsTakenInside}
-use Rattle.cbor_skip.specs.ItemFaults.{ItemInFront, HasItemFault, HasEarlyBreak, HasDeepNest, ItemFault, Fault}
-use Rattle.cbor_skip.specs.ItemFaults.{LongTitle, NestedOpen}
+use Rattle.cbor_skip.specs.ItemFaults.{ItemInFront, HasItemFault, HasEarlyBreak, HasDeepNest}
 use Rattle.cbor_skip.proofs.FlatLaws.{break_strict, flat_goes, same_title}
 use Rattle.cbor_skip.proofs.RemainingLaws.{even_pairs}
 use Rattle.cbor_skip.proofs.ItemSteps.{item_of}
+
+-- a title is refused only where the shortest spelling alone is taken
+refuses_on : (strict : Bool) (t : List ℕ) (x : Header) → (IsTakenTitle strict t x → ⊥) → strict ≡ true
+refuses_on true t x untaken = refl
+refuses_on false t x untaken = absurd (untaken tt)
 
 module _ (strict : Bool) where
   -- ---- an item that comes
@@ -320,17 +324,26 @@ module _ (strict : Bool) where
   nested_open on d u at (at_body j reach q g) k is t r p w v i e = absurd cc
   nested_open on d u at (at_piece reach q g) k is t r p w v i e = absurd cc
 
-  -- no item stands in front where it is at fault
+  -- no item stands in front where a title is refused
+  refused_stuck : (d : ℕ) (u : List ℕ) (at : Place) → ReachesItem strict d u at → (ahead : List ℕ)
+      → Refuses strict at ahead → (w v : List ℕ) → IsItem strict d w → u ++ ahead ≡ w ++ v → ⊥
+  refused_stuck d u at reach ahead (long {t = t} x r title p untaken is) w v i e =
+      let on = refuses_on strict t x untaken in
+      let short = long_title on d u at reach title t r x p w v i (sym (ap (λ (z : List ℕ). u ++ z) is) ∙ e) in
+      untaken (subst (λ (b : Bool). IsTakenTitle b t x) (sym on) short)
+  refused_stuck d u at reach ahead (nested {k = k} {t = t} r on p is) w v i e =
+      nested_open on d u at reach k refl t r p w v i (sym (ap (λ (z : List ℕ). u ++ z) is) ∙ e)
+
+  -- nor where it is at fault
   fault_stuck : (d : ℕ) (u : List ℕ) (at : Place) → ReachesItem strict d u at → (ahead : List ℕ) (answer : Answer)
       (written : List ℕ) (consumed : ℕ)
-      → ItemFault strict u at ahead answer written consumed → (w v : List ℕ) → IsItem strict d w
+      → FirstFault strict u [] at ahead answer written consumed → (w v : List ℕ) → IsItem strict d w
       → u ++ ahead ≡ w ++ v → ⊥
-  fault_stuck d u at reach ahead answer written consumed (Fault f) w v i e =
-      item_stuck d u at reach ahead (stuck u [] at ahead answer written consumed f) w v i e
-  fault_stuck d u at reach ahead answer written consumed (LongTitle {title = t} x r on title p longer is) w v i e =
-      longer (long_title on d u at reach title t r x p w v i (sym (ap (λ (z : List ℕ). u ++ z) is) ∙ e))
-  fault_stuck d u at reach ahead answer written consumed (NestedOpen {kind = k} {title = t} r on p is) w v i e =
-      nested_open on d u at reach k refl t r p w v i (sym (ap (λ (z : List ℕ). u ++ z) is) ∙ e)
+  fault_stuck d u at reach ahead answer written consumed f w v i e =
+      elim (stuck_or_refused strict u [] at ahead answer written consumed f) [
+        | inl stopped ↦ item_stuck d u at reach ahead stopped w v i e
+        | inr refused ↦ refused_stuck d u at reach ahead refused w v i e
+      ]
 
   -- where a whole item stands in front, there is no fault
   pub no_item_fault : (d : ℕ) (x : List ℕ) → ItemInFront strict d x → HasItemFault strict d x → ⊥

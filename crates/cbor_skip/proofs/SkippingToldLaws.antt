@@ -15,8 +15,9 @@ use Rattle.ciborium_ll.specs.Title.{IsTitle, BeginsRefused, title_len}
 use Rattle.ciborium_ll.specs.Strings.{Kind, Text, kind_header, IsMisplaced}
 use Rattle.ciborium_ll.specs.Text.{IsCharacters, BeginsNoText}
 use Rattle.ciborium_ll.specs.Faults.{Place, Due, In, BodyDue, IsAtTitle, IsInside, FirstFault, CutTitle, NoTitle}
-use Rattle.ciborium_ll.specs.Faults.{OtherTitle, DamagedText, CutBody, CutDamagedText, Short, Syntax, with_front}
-use Rattle.ciborium_ll.specs.Items.{AreTakenStrings}
+use Rattle.ciborium_ll.specs.Faults.{LongTitle, OtherTitle, DamagedText, CutBody, CutDamagedText, Short, Syntax}
+use Rattle.ciborium_ll.specs.Faults.{with_front}
+use Rattle.ciborium_ll.specs.Items.{AreTakenStrings, IsTakenTitle}
 use Rattle.ciborium_ll.specs.Decoding.{view, next_read, Passes, PullsHeader, PullsTitle, IsSteady, RefusesTitle}
 use Rattle.ciborium_ll.specs.Decoding.{RefusesLonger}
 use Rattle.ciborium_ll.specs.Finishing.{EndsBody, RestFails, RestPasses, RestDamaged}
@@ -32,22 +33,23 @@ use Rattle.ciborium_ll.proofs.DecodingLaws.{Passes-then, Passes-pulled, Passes-n
 use Rattle.cbor_skip.specs.declared.SkipError.{SkipError}
 use Rattle.cbor_skip.specs.declared.SkipError.TheVariants as s
 use Rattle.cbor_skip.specs.Due.{ItemDue, ReachesItem, at_item, at_string, at_body, at_piece}
-use Rattle.cbor_skip.specs.ItemFaults.{ItemInFront, Fault, LongTitle, NestedOpen}
+use Rattle.cbor_skip.specs.ItemFaults.{ItemInFront}
 use Rattle.cbor_skip.specs.Skipping.{SkipsItem, StopsItem, ReadsItem, strictness}
 use Rattle.cbor_skip.specs.SkippingTold.{IsReadyToSkip, SkipsFront, MeetsItemFault, FindsBreak, FindsNest, SkipsTold}
 use Rattle.cbor_skip.proofs.DueLaws.{no_item_fault, no_early_break, no_deep_nest}
 use Rattle.cbor_skip.proofs.StrictnessLaws.{behind_taken, inside_when, strict_by, strict_mode, strict_settled}
 
 -- the row of a text's body that is no text, as a whole or however it goes on
-damage : (before : List ℕ) (len start : ℕ) (read rest behind : List ℕ) → rest ≡ read ++ behind → length read ≤ len
+damage : (strict : Bool) (before : List ℕ) (len start : ℕ) (read rest behind : List ℕ) → rest ≡ read ++ behind
+    → length read ≤ len
     → ((length read ≡ len) × (IsCharacters read → ⊥)) ⊎ BeginsNoText read
-    → FirstFault before [] (BodyDue Text len start) rest (Syntax start) (with_front [] Text len []) (length read)
-damage before len start read rest behind split within (inl whole) =
+    → FirstFault strict before [] (BodyDue Text len start) rest (Syntax start) (with_front [] Text len []) (length read)
+damage strict before len start read rest behind split within (inl whole) =
     let taken : take len rest ≡ read = front_of len rest read behind split whole.0 in
     let counted = ap length split in
     DamagedText [] read (omega (arith, whole.0, counted, length-append read behind))
     (λ text. whole.1 (subst IsCharacters taken text)) taken IsCharacters-nil within
-damage before len start read rest behind split within (inr begins) =
+damage strict before len start read rest behind split within (inr begins) =
     elim (cases_lt (length rest) len) [
       | inl cut ↦ (
           let none = subst BeginsNoText (sym split) (no_text_behind read behind begins) in
@@ -119,7 +121,7 @@ module _ {R E : Type 0} (source : Ghosts R E) (depth room : ℕ) (old : Decoder 
               consumed = 1;
               reach = reach;
               is = c.parts;
-              fault = Fault (NoTitle title (subst BeginsRefused (sym gone.2) refused.refused));
+              fault = NoTitle title (subst BeginsRefused (sym gone.2) refused.refused);
             };
             answered = refl;
             left = gone.1 ∙ ap Some (refused_byte c.rest gone.0 byte gone.2);
@@ -154,8 +156,9 @@ module _ {R E : Type 0} (source : Ghosts R E) (depth room : ℕ) (old : Decoder 
               consumed = length longer.title;
               reach = reach;
               is = c.parts;
-              fault = LongTitle longer.header gone.0 (strictly bytes at passed longer.strict) title longer.is_title
-                  longer.not_strict gone.2;
+              fault = LongTitle longer.header gone.0 title longer.is_title
+                  (subst (λ (b : Bool). IsTakenTitle b longer.title longer.header → ⊥)
+                  (sym (strictly bytes at passed longer.strict)) longer.not_strict) gone.2;
             };
             answered = refl;
             left = gone.1 ∙ ap Some (sym (ap (drop (length longer.title)) gone.2 ∙ drop-append_seam longer.title gone.0));
@@ -184,7 +187,7 @@ module _ {R E : Type 0} (source : Ghosts R E) (depth room : ℕ) (old : Decoder 
               consumed = length title;
               reach = reach;
               is = c.parts;
-              fault = NestedOpen gone.0 (strictly bytes at passed on) (subst (IsTitle title) is pulled.is_title) gone.2;
+              fault = OtherTitle header gone.0 pulled.is_title (inr (strictly bytes at passed on, is)) gone.2;
             };
             answered = refl;
             left = gone.1 ∙ ap Some (sym (ap (drop (length title)) gone.2 ∙ drop-append_seam title gone.0));
@@ -212,7 +215,7 @@ module _ {R E : Type 0} (source : Ghosts R E) (depth room : ℕ) (old : Decoder 
             consumed = min 1 (length c.rest);
             reach = reach;
             is = c.parts;
-            fault = Fault (CutTitle title ends.0);
+            fault = CutTitle title ends.0;
           };
           answered = refl;
           left = gone.1 ∙ ap Some (first_gone c.rest fails.read gone.0 gone.2 ends.1 ∙ sym (first_counted c.rest));
@@ -262,7 +265,7 @@ module _ {R E : Type 0} (source : Ghosts R E) (depth room : ℕ) (old : Decoder 
               consumed = length title;
               reach = reach;
               is = c.parts;
-              fault = Fault (OtherTitle header gone.0 pulled.is_title misplaced gone.2);
+              fault = OtherTitle header gone.0 pulled.is_title (inl misplaced) gone.2;
             };
             answered = refl;
             left = gone.1 ∙ ap Some (sym (ap (drop (length title)) gone.2 ∙ drop-append_seam title gone.0));
@@ -298,11 +301,11 @@ module _ {R E : Type 0} (source : Ghosts R E) (depth room : ℕ) (old : Decoder 
             consumed = length part.read;
             reach = reach;
             is = c.parts;
-            fault = Fault (CutBody part.front (part.left ++ gone.0)
+            fault = CutBody part.front (part.left ++ gone.0)
                 (omega (arith, few, behind, fails.more, length-append part.read gone.0)) split part.sound
                 (omega (arith, parts, length-append part.front part.left))
                 (omega (arith, parts, part.few, length-append part.front part.left))
-                (omega (arith, behind, length-append part.read gone.0)));
+                (omega (arith, behind, length-append part.read gone.0));
           };
           answered = refl;
           left =
@@ -351,7 +354,7 @@ module _ {R E : Type 0} (source : Ghosts R E) (depth room : ℕ) (old : Decoder 
             consumed = length fails.read;
             reach = subst (λ (j : Kind). ReachesItem (strictness old) depth bytes (BodyDue j len start)) fails.textual reach;
             is = c.parts;
-            fault = Fault (damage bytes len start fails.read c.rest gone.0 gone.2 fails.within fails.no_text);
+            fault = damage (strictness old) bytes len start fails.read c.rest gone.0 gone.2 fails.within fails.no_text;
           };
           answered = refl;
           left = gone.1 ∙ ap Some (sym (ap (drop (length fails.read)) gone.2 ∙ drop-append_seam fails.read gone.0));

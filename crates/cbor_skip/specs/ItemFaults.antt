@@ -1,11 +1,10 @@
--- What may stand in front of some bytes, as a read of one item sees it: a whole item, or what stops the read. Each is said
--- of any spelling, or, where only the shortest one is taken, of that.
-use Rattle.std.specs.Prelude.{◌≡◌, ℕ, true, false, Bool, List, [], ◌∷◌, ◌++◌, length, None}
+-- What may stand in front of some bytes, as a read of one item sees it: a whole item, or what stops the read. Each is
+-- said of any spelling, or, where only the shortest one is taken, of that.
+use Rattle.std.specs.Prelude.{◌≡◌, ℕ, false, Bool, List, [], ◌∷◌, ◌++◌}
 use Rattle.ciborium_ll.specs.Types.Header.{Header}
-use Rattle.ciborium_ll.specs.Title.{IsTitle, IsStrictTitle}
-use Rattle.ciborium_ll.specs.Strings.{Kind, kind_header}
+use Rattle.ciborium_ll.specs.Title.{IsTitle}
 use Rattle.ciborium_ll.specs.Items.{IsItem, IsTakenTitle}
-use Rattle.ciborium_ll.specs.Faults.{Place, In, IsAtTitle, Answer, Syntax, FirstFault}
+use Rattle.ciborium_ll.specs.Faults.{Place, Answer, FirstFault}
 use Rattle.cbor_skip.specs.Due.{IsNest, ItemDue, ReachesItem}
 
 -- an item to the depth stands in front of the bytes (RFC 7049, 2.1 to 2.4)
@@ -14,22 +13,6 @@ pub record ItemInFront (strict : Bool) (depth : ℕ) (bytes : List ℕ) : Type 0
   pub rest : List ℕ
   pub is_item : IsItem strict depth item
   pub is : bytes ≡ item ++ rest
-
--- `ItemFault strict before place ahead answer written consumed`: behind the bytes before, the bytes ahead are at fault
--- where the place is due. The faults are those that stop a copy, and where only the shortest spelling is taken two more.
--- Nothing is written here, so what a copy would have written is left open
-pub data ItemFault (strict : Bool) (before : List ℕ) : Place → List ℕ → Answer → List ℕ → ℕ → Type 0 where
-  Fault : {place : Place} {ahead written : List ℕ} {answer : Answer} {consumed : ℕ}
-      → FirstFault before [] place ahead answer written consumed
-      → ItemFault strict before place ahead answer written consumed
-  -- a title is due, and one comes that isn't the shortest, or a small simple value (RFC 7049, 2.3 and 3.9)
-  LongTitle : {place : Place} {title ahead : List ℕ} (header : Header) (rest : List ℕ) → strict ≡ true
-      → IsAtTitle place → IsTitle title header → (IsStrictTitle title header → ⊥) → ahead ≡ title ++ rest
-      → ItemFault strict before place ahead (Syntax (length before)) [] (length title)
-  -- within a string a further open comes (RFC 7049, 2.2.2)
-  NestedOpen : {kind : Kind} {title ahead : List ℕ} (rest : List ℕ) → strict ≡ true
-      → IsTitle title (kind_header kind None) → ahead ≡ title ++ rest
-      → ItemFault strict before (In kind) ahead (Syntax (length before)) [] (length title)
 
 -- Behind a beginning of an item the bytes are at fault: a title is cut off, none, or may not stand within its string,
 -- or a body is cut off or no text; where only the shortest spelling is taken, also a title that isn't the shortest, a
@@ -43,7 +26,7 @@ pub record HasItemFault (strict : Bool) (depth : ℕ) (bytes : List ℕ) : Type 
   pub consumed : ℕ
   pub reach : ReachesItem strict depth before place
   pub is : bytes ≡ before ++ ahead
-  pub fault : ItemFault strict before place ahead answer written consumed
+  pub fault : FirstFault strict before [] place ahead answer written consumed
 
 -- behind a beginning of an item a break stands where an item is due, and may not stand in its place (RFC 7049, 2.2.1)
 pub record HasEarlyBreak (strict : Bool) (depth : ℕ) (bytes : List ℕ) : Type 0 where

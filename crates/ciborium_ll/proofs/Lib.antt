@@ -14,6 +14,7 @@ pub use Rattle.ciborium_ll_grammar.proofs.StringLaws
 pub use Rattle.ciborium_ll_grammar.proofs.ElementLaws
 pub use Rattle.ciborium_ll_grammar.proofs.HaltLaws
 pub use Rattle.ciborium_ll_grammar.proofs.FaultLaws
+pub use Rattle.ciborium_ll_grammar.proofs.StrictFaultLaws
 pub use Rattle.ciborium_ll_grammar.proofs.ItemLaws
 pub use Rattle.ciborium_ll_grammar.proofs.StepLaws
 pub use Rattle.ciborium_ll_encoder.proofs.EncodingLaws

@@ -1,5 +1,5 @@
 -- Pieces written one by one.
-use Rattle.std.proofs.Common.{◌≡◌, ℕ, suc, ◌<◌, ◌≤◌, ◌^◌, List, [], ◌∷◌, ◌++◌, length, Option, Some, None, Result, Ok}
+use Rattle.std.proofs.Common.{◌≡◌, ℕ, suc, false, ◌<◌, ◌≤◌, ◌^◌, List, [], ◌∷◌, ◌++◌, length, Option, Some, None, Result, Ok}
 use Rattle.std.proofs.Common.{IsErr, refl, sym, ap, subst, ◌∙◌, arith, IsOk, ◌↔◌, Err}
 use Rattle.std.proofs.lemmas.List.{append-nil}
 use Rattle.std.proofs.KnownBytes.{Appends-nil}
@@ -243,7 +243,7 @@ module _ {R E W F : Type 0} (source : Reader R E) (sink : Ghosts W F) where
   -- the run in front is the one that stands there
   same_front_copied : (count : ℕ) (marks : List Mark) (rest written : List ℕ) (old new : Decoder R) (writer' : W)
       → IsRun count (spelling marks) marks
-      → CopiesFront source sink count (spelling marks ++ rest) written old (sides new writer')
+      → CopiesFront source sink false count (spelling marks ++ rest) written old (sides new writer')
       → CopiesSame source sink {T = Unit {0}} {X = RecodeError E F} (spelling marks) rest written (Ok (tt {0})) new
       writer'
   same_front_copied count marks rest written old new writer' run copied =
@@ -258,13 +258,13 @@ module _ {R E W F : Type 0} (source : Reader R E) (sink : Ghosts W F) where
 
   pub copied_same : (count : ℕ) (marks : List Mark) (rest written : List ℕ) (old new : Decoder R) (writer' : W)
       (result : Result (Unit {0}) (RecodeError E F))
-      → IsRun count (spelling marks) marks → (IsOk result ↔ RunInFront count (spelling marks ++ rest))
-      → RecodesTold source sink count (spelling marks ++ rest) written old result (sides new writer')
+      → IsRun count (spelling marks) marks → (IsOk result ↔ RunInFront false count (spelling marks ++ rest))
+      → RecodesTold source sink false count (spelling marks ++ rest) written old result (sides new writer')
       → CopiesSame source sink (spelling marks) rest written result new writer'
   copied_same count marks rest written old new writer' (Ok unit) run exactly told =
       same_front_copied count marks rest written old new writer' run told
   copied_same count marks rest written old new writer' (Err error) run exactly told =
-      let front : RunInFront count (spelling marks ++ rest) = record
-      { elements = spelling marks; marks = marks; rest = rest; run = run; is = refl } in
+      let front : RunInFront false count (spelling marks ++ rest) = record
+      { elements = spelling marks; marks = marks; rest = rest; run = run; is = refl; spelled = λ on. absurd cc } in
       let ok : IsOk {T = Unit {0}} {E = RecodeError E F} (Err error) = exactly.1 front in
       absurd cc

@@ -1,5 +1,5 @@
 -- Elements that are their own spelling are those whose titles are all strict, with no open inside another one.
-use Rattle.std.proofs.Common.{◌≡◌, ℕ, ◌≤◌, ◌↔◌, List, [], ◌∷◌, ◌++◌, length, Option, Some, None, refl, sym, ap, subst}
+use Rattle.std.proofs.Common.{◌≡◌, ℕ, ◌≤◌, ◌↔◌, true, false, List, [], ◌∷◌, ◌++◌, length, Option, Some, None, refl, sym, ap, subst}
 use Rattle.std.proofs.Common.{◌∙◌, arith, append-nil, length-append}
 use Rattle.std.specs.List.{AllByRecursion}
 use Rattle.ciborium_ll_grammar.specs.Title.{IsTitle, IsStrictTitle, IsSmallSimple, shortest_title}
@@ -7,17 +7,19 @@ use Rattle.ciborium_ll_grammar.specs.Strings.{Kind, Bytes, Text, kind_header, Ar
 use Rattle.ciborium_ll_grammar.specs.Strings.{none as no_strings, more as more_strings}
 use Rattle.ciborium_ll_grammar.specs.Strings.IsString.{definite, indefinite}
 use Rattle.ciborium_ll_grammar.specs.Elements.{Mark, IsMeant, pieces, spelling, body_spelling, IsElement, IsRun, string}
+use Rattle.ciborium_ll_grammar.specs.Elements.{IsStrictRun}
 use Rattle.ciborium_ll_grammar.specs.Elements.{plain as plain_element, done as run_done, next as run_next}
 use Rattle.ciborium_ll_grammar.specs.Faults.{RunInFront}
 use Rattle.ciborium_ll_grammar.specs.StrictElements.{AreFlat, none, more, IsStrictElement, plain, whole, parts}
 use Rattle.ciborium_ll_grammar.specs.StrictElements.{AreStrictElements, done, next}
-use Rattle.ciborium_ll_decoder.specs.StrictRecoding.{IsStrictRun, StrictRunInFront}
 use Rattle.ciborium_ll_grammar.proofs.TitleLaws.{shortest_no_longer}
 use Rattle.ciborium_ll_grammar.proofs.TightLaws.{tight_title, tight_run}
 use Rattle.ciborium_ll_grammar.proofs.ElementLaws.{respell_all, pieces-append, spelling-append, open_spelled}
 use Rattle.ciborium_ll_grammar.proofs.ElementLaws.{element_again, one_element, one_run}
 use Rattle.ciborium_ll_decoder.proofs.NestLaws.{alone_bytes, open_alone}
 use Rattle.ciborium_ll_decoder.proofs.SpelledLaws.{meant_append, open_meant}
+use Rattle.ciborium_ll_grammar.proofs.FaultLaws.{meant_left, meant_right}
+use Rattle.ciborium_ll_grammar.proofs.StrictFaultLaws.{spelled_alone}
 
 -- ---- from the spelling to the titles
 
@@ -103,22 +105,14 @@ strict_element w ms (string k (indefinite {title = t} {strings = y} {bodies = bs
       length-append (spelling (pieces k bs)) (0xff ∷ []),
     ))) sound
 
-meant_front : (ms ns : List Mark) → AllByRecursion IsMeant (ms ++ ns) → AllByRecursion IsMeant ms
-meant_front [] ns meant = tt
-meant_front (m ∷ ms) ns meant = (meant.0, meant_front ms ns meant.1)
-
-meant_behind : (ms ns : List Mark) → AllByRecursion IsMeant (ms ++ ns) → AllByRecursion IsMeant ns
-meant_behind [] ns meant = meant
-meant_behind (m ∷ ms) ns meant = meant_behind ms ns meant.1
-
 strict_elements : (n : ℕ) (w : List ℕ) (ms : List Mark) → IsRun n w ms → w ≡ spelling ms → AllByRecursion IsMeant ms
     → AreStrictElements n w ms
 strict_elements n w ms run_done same meant = done
 strict_elements n w ms (run_next {count = m} {first = y} {rest = z} {marks = ns} {others = os} e run) same meant =
     let again = element_again y ns e in
     let one = one_element y (spelling ns) z (spelling os) ns ns e again.element (same ∙ spelling-append ns os) in
-    next (strict_element y ns e one.0 (meant_front ns os meant))
-    (strict_elements m z os run one.2 (meant_behind ns os meant))
+    next (strict_element y ns e one.0 (meant_left ns os meant))
+    (strict_elements m z os run one.2 (meant_right ns os meant))
 
 -- ---- and back
 
@@ -182,25 +176,27 @@ titles count bytes marks = (
 )
 
 -- a strict run in front is the one run in front
-pub unchanged : (count : ℕ) (bytes : List ℕ) (front : RunInFront count bytes) → StrictRunInFront count bytes
+pub unchanged : (count : ℕ) (bytes : List ℕ) (front : RunInFront false count bytes) → RunInFront true count bytes
     ↔ ((spelling front.marks ≡ front.elements) × AllByRecursion IsMeant front.marks)
 unchanged count bytes front = (
   λ strict. (
+      let spelled = strict.spelled refl in
       let one = one_run count front.elements front.marks front.run strict.elements front.rest strict.rest strict.marks
-      strict.run.run (sym front.is ∙ strict.is) in (
-        ap spelling one.1 ∙ sym strict.run.same ∙ sym one.0,
-        subst (λ (z : List Mark). AllByRecursion IsMeant z) (sym one.1) strict.run.meant,
+      strict.run (sym front.is ∙ strict.is) in (
+        ap spelling one.1 ∙ sym (spelled_alone strict.elements strict.marks spelled) ∙ sym one.0,
+        subst (λ (z : List Mark). AllByRecursion IsMeant z) (sym one.1) spelled.meant,
       )
       ),
   λ same. record {
     elements = front.elements;
     marks = front.marks;
     rest = front.rest;
-    run = record { run = front.run; same = sym same.0; meant = same.1 };
+    run = front.run;
     is = front.is;
+    spelled = λ on. record { same = sym same.0 ∙ sym (append-nil (spelling front.marks)); meant = same.1 };
   },
 )
 
-pub as_long : (count : ℕ) (bytes : List ℕ) (front : RunInFront count bytes)
+pub as_long : (count : ℕ) (bytes : List ℕ) (front : RunInFront false count bytes)
     → length front.elements ≤ length (spelling front.marks) → spelling front.marks ≡ front.elements
 as_long count bytes front long = sym (tight_run count front.elements front.marks front.run long)

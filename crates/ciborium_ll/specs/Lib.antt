@@ -35,4 +35,3 @@ pub use Rattle.ciborium_ll_decoder.specs.Recoding
 pub use Rattle.ciborium_ll_decoder.specs.RecodingTold
 pub use Rattle.ciborium_ll_decoder.specs.Segments
 pub use Rattle.ciborium_ll_decoder.specs.Sides
-pub use Rattle.ciborium_ll_decoder.specs.StrictRecoding

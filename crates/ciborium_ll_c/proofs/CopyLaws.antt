@@ -1,5 +1,5 @@
 -- What a copy by a fresh decoder says of the bytes ahead.
-use Rattle.std.proofs.Common.{◌≡◌, ℕ, ◌+◌, ◌<◌, ◌≤◌, ◌^◌, ◌∙◌, ◌↔◌, IsTrue, IsOk, Bool, false, max, List, [], ◌++◌}
+use Rattle.std.proofs.Common.{◌≡◌, ℕ, ◌+◌, ◌<◌, ◌≤◌, ◌^◌, ◌∙◌, ◌↔◌, IsTrue, IsOk, Bool, true, false, max, List, [], ◌++◌}
 use Rattle.std.proofs.Common.{take, drop}
 use Rattle.std.proofs.lemmas.List.{take-append-drop}
 use Rattle.std.proofs.Common.{length, Option, Result, Ok, Err, Some, ap, sym, subst, refl, arith, length-append}
@@ -14,10 +14,9 @@ use Rattle.ciborium_ll.specs.Elements.{spelling}
 use Rattle.ciborium_ll.specs.Faults.{Place, Due, In, BodyDue, Syntax}
 use Rattle.ciborium_ll.specs.Decoding.{IsFreshAs, IsSteady, offset_limit}
 use Rattle.ciborium_ll.specs.Recoding.{CopiesElements, StopsWriting}
-use Rattle.ciborium_ll.specs.RecodingTold.{IsReadyAs, IsToldAs, RecodesTold, StopsAt, StopsShort}
+use Rattle.ciborium_ll.specs.RecodingTold.{IsReady, IsTold, RecodesTold, StopsAt, StopsShort}
 use Rattle.ciborium_ll.specs.Sides.{Sides, sides}
 use Rattle.ciborium_ll.specs.Slices.{slice_before, slice_target}
-use Rattle.ciborium_ll.specs.StrictRecoding.{RecodesStrictly}
 use Rattle.ciborium_ll.specs.Transfer.{Target}
 use Rattle.ciborium_ll_c.specs.declared.answer.CllAnswer.{CllAnswer}
 use Rattle.ciborium_ll_c.specs.declared.answer.CllAnswer.TheVariants as a
@@ -66,11 +65,12 @@ module _ {R E W F : Type 0} (source : Reader R E) (sink : Writer W F) where
   pub told_to_copy : (strict : Bool) (reader : R) (decoder : Decoder R) (writer : W) (due : List ℕ)
       → IsFreshAs strict reader 0 decoder
       → source.ahead reader ≡ Some due → sink.written writer ≡ Some []
-      → IsToldAs source sink strict (sides decoder writer) due []
+      → IsTold source sink strict (sides decoder writer) due []
   told_to_copy strict reader decoder writer due fresh ahead output = record {
     mode = fresh.mode;
     due-told = due_ahead source strict reader decoder fresh due ahead;
     written-told = output;
+    none_waits = λ on. fresh.none_waits;
   }
 
   pub ready_to_copy : (strict : Bool) (count size room : ℕ) (reader : R) (decoder : Decoder R) (writer : W)
@@ -78,7 +78,7 @@ module _ {R E W F : Type 0} (source : Reader R E) (sink : Writer W F) where
       → IsFreshAs strict reader 0 decoder → IsTrue (source.steady reader) → source.ahead reader ≡ Some due
       → sink.written writer ≡ Some [] → sink.room writer ≡ Some room → HasRoom count due room
       → length due + 8 < offset_limit → length due + size < offset_limit
-      → IsReadyAs source sink strict count size (sides decoder writer) due []
+      → IsReady source sink strict count size (sides decoder writer) due []
   ready_to_copy strict count size room reader decoder writer due fresh steady ahead output space enough title chunk =
       record {
         steady = still_steady source strict reader decoder fresh steady;
@@ -93,7 +93,7 @@ module _ {R E W F : Type 0} (source : Reader R E) (sink : Writer W F) where
   copy_reported :
       (count : ℕ) (due : List ℕ) (old new : Decoder R) (writer' : W) (result : Result (Unit {0}) (RecodeError E F))
       (report : CllReport) (output before after : List ℕ)
-      → RecodesTold source sink count due [] old result (sides new writer') → old.offset ≡ 0
+      → RecodesTold source sink false count due [] old result (sides new writer') → old.offset ≡ 0
       → sink.written writer' ≡ Some output → ReportsCopy report new.offset (length output) (copy_place result)
       → StandInFront output before after → CopiesInto count due before (copy_answer result) after report
   copy_reported count due old new writer' (Ok done) report output before after told start out reports stands = (
@@ -139,7 +139,7 @@ module _ {R E W F : Type 0} (source : Reader R E) (sink : Writer W F) where
       reports stands = absurd told
 
   -- a writer that tells its room failed where what was due next did not fit
-  room_stops : (count room : ℕ) (due : List ℕ) (old new : Sides R W) → IsToldAs source sink false old due []
+  room_stops : (count room : ℕ) (due : List ℕ) (old new : Sides R W) → IsTold source sink false old due []
       → sink.room old.writer ≡ Some room → StopsWriting source sink count buffer_size old new
       → (stop : StopsForRoom count due room) × (sink.written new.writer ≡ Some stop.written)
       × (new.decoder.offset ≡ old.decoder.offset + (length stop.before + length stop.read))
@@ -182,14 +182,14 @@ module _ {R E W F : Type 0} (source : Reader R E) (sink : Writer W F) where
       (count : ℕ) (due : List ℕ) (old new : Decoder R) (writer writer' : W)
       (result : Result (Unit {0}) (RecodeError E F)) (report : CllReport) (output before after : List ℕ)
       → CopiesElements source sink count buffer_size (sides old writer) result (sides new writer')
-      → IsSteady source old → IsToldAs source sink false (sides old writer) due []
+      → IsSteady source old → IsTold source sink false (sides old writer) due []
       → sink.room writer ≡ Some (length before) → length due < 2 ^ 63 → old.offset ≡ 0
       → sink.written writer' ≡ Some output → ReportsCopy report new.offset (length output) (copy_place result)
       → StandInFront output before after → CopiesAnyhow count due before (copy_answer result) after report
   anyhow_reported count due old new writer writer' (Ok done) report output before after copied steady told space
       object start out reports stands =
       copy_reported count due old new writer' (Ok done) report output before after
-      (recode_anyhow source sink count buffer_size (sides old writer) due [] told refl (sides new writer') (Ok done)
+      (recode_anyhow source sink count buffer_size (sides old writer) due [] told (sides new writer') (Ok done)
       copied)
       start out reports stands
   anyhow_reported count due old new writer writer' (Err (r.Read (e.Io fault))) report output before after copied
@@ -200,13 +200,13 @@ module _ {R E W F : Type 0} (source : Reader R E) (sink : Writer W F) where
   anyhow_reported count due old new writer writer' (Err (r.Read (e.Syntax place))) report output before after copied
       steady told space object start out reports stands =
       copy_reported count due old new writer' (Err (r.Read (e.Syntax place))) report output before after
-      (recode_anyhow source sink count buffer_size (sides old writer) due [] told refl (sides new writer')
+      (recode_anyhow source sink count buffer_size (sides old writer) due [] told (sides new writer')
       (Err (r.Read (e.Syntax place))) copied)
       start out reports stands
   anyhow_reported count due old new writer writer' (Err (r.Read e.TooLong)) report output before after copied steady
       told space object start out reports stands =
       absurd (never_too_long count due old (sides new writer')
-      (recode_anyhow source sink count buffer_size (sides old writer) due [] told refl (sides new writer')
+      (recode_anyhow source sink count buffer_size (sides old writer) due [] told (sides new writer')
       (Err (r.Read e.TooLong)) copied) object start)
   anyhow_reported count due old new writer writer' (Err (r.Read e.Waiting)) report output before after copied steady
       told space object start out reports stands = absurd copied
@@ -225,7 +225,7 @@ module _ {R E W F : Type 0} (source : Reader R E) (sink : Writer W F) where
   pub copy_said :
       (count : ℕ) (due : List ℕ) (old new : Decoder R) (writer' : W) (result : Result (Unit {0}) (RecodeError E F))
       (report : CllReport) (output before after : List ℕ)
-      (answer : CllAnswer) (place behind : ℕ) → RecodesTold source sink count due [] old result (sides new writer')
+      (answer : CllAnswer) (place behind : ℕ) → RecodesTold source sink false count due [] old result (sides new writer')
       → old.offset ≡ 0 → sink.written writer' ≡ Some output → answer ≡ copy_answer result → place ≡ copy_place result
       → behind ≡ new.offset → ReportsCopy report behind (length output) place
       → StandInFront output before after → CopiesInto count due before answer after report
@@ -243,7 +243,7 @@ module _ {R E W F : Type 0} (source : Reader R E) (sink : Writer W F) where
       (result : Result (Unit {0}) (RecodeError E F)) (report : CllReport) (output before after : List ℕ)
       (answer : CllAnswer) (place behind : ℕ)
       → CopiesElements source sink count buffer_size (sides old writer) result (sides new writer')
-      → IsSteady source old → IsToldAs source sink false (sides old writer) due []
+      → IsSteady source old → IsTold source sink false (sides old writer) due []
       → sink.room writer ≡ Some (length before) → length due < 2 ^ 63 → old.offset ≡ 0
       → sink.written writer' ≡ Some output → answer ≡ copy_answer result → place ≡ copy_place result
       → behind ≡ new.offset → ReportsCopy report behind (length output) place
@@ -261,7 +261,7 @@ module _ {R E W F : Type 0} (source : Reader R E) (sink : Writer W F) where
 
   check_reported :
       (count : ℕ) (due : List ℕ) (old new : Decoder R) (writer' : W) (result : Result (Unit {0}) (RecodeError E F))
-      (report : CllReport) → RecodesStrictly source sink count due [] old result (sides new writer') → old.offset ≡ 0
+      (report : CllReport) → RecodesTold source sink true count due [] old result (sides new writer') → old.offset ≡ 0
       → ReportsCopy report new.offset 0 (copy_place result) → Checks count due (copy_answer result) report
   check_reported count due old new writer' (Ok done) report told start reports = (
     told.front,
@@ -298,7 +298,7 @@ module _ {R E W F : Type 0} (source : Reader R E) (sink : Writer W F) where
   pub check_said :
       (count : ℕ) (due : List ℕ) (old new : Decoder R) (writer' : W) (result : Result (Unit {0}) (RecodeError E F))
       (report : CllReport) (answer : CllAnswer) (place behind : ℕ)
-      → RecodesStrictly source sink count due [] old result (sides new writer') → old.offset ≡ 0
+      → RecodesTold source sink true count due [] old result (sides new writer') → old.offset ≡ 0
       → answer ≡ copy_answer result → place ≡ copy_place result → behind ≡ new.offset
       → ReportsCopy report behind 0 place → Checks count due answer report
   check_said count due old new writer' result report answer place behind told start same named at reports =

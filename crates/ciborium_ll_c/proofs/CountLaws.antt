@@ -1,6 +1,6 @@
 -- What the count of a copy by a fresh decoder says of the bytes ahead.
 use Rattle.std.proofs.Common.{◌≡◌, ℕ, suc, ◌<◌, ◌≤◌, ◌^◌, ◌∙◌, Bool, true, false, List, []}
-use Rattle.std.proofs.Common.{length, None, Result, Ok, Err, sym, subst, refl, inl, arith}
+use Rattle.std.proofs.Common.{length, Result, Ok, Err, sym, subst, refl, inl, arith}
 use Rattle.ciborium_ll.specs.Types.Read.{Ghosts as Reader}
 use Rattle.ciborium_ll.specs.Types.Write.{Ghosts as Writer}
 use Rattle.ciborium_ll.specs.Types.Decoder.{Decoder}
@@ -11,42 +11,47 @@ use Rattle.ciborium_ll.specs.Elements.{spelling}
 use Rattle.ciborium_ll.specs.Faults.{RunInFront}
 use Rattle.ciborium_ll.specs.Decoding.{IsSteady}
 use Rattle.ciborium_ll.specs.Recoding.{CopiesElements, CopiesRun}
-use Rattle.ciborium_ll.specs.RecodingTold.{IsReadyAs, IsToldAs}
+use Rattle.ciborium_ll.specs.RecodingTold.{IsReady, IsTold}
 use Rattle.ciborium_ll.specs.Sides.{Sides, sides}
-use Rattle.ciborium_ll.specs.StrictRecoding.{StrictRunInFront}
 use Rattle.ciborium_ll_c.specs.declared.answer.CllAnswer.{CllAnswer}
 use Rattle.ciborium_ll_c.specs.declared.answer.CllReport.{CllReport}
 use Rattle.ciborium_ll_c.specs.Answers.{ReportsElements}
 use Rattle.ciborium_ll_c.specs.Copying.{HasRoom, buffer_size, copy_answer}
 use Rattle.ciborium_ll_c.specs.Counting.{CountsTo, CountsElements, CountsStrictTo, CountsStrictly, CountsCopy}
-use Rattle.ciborium_ll_grammar.proofs.FaultLaws.{no_fault}
+use Rattle.ciborium_ll_grammar.proofs.StrictFaultLaws.{no_fault}
 use Rattle.ciborium_ll.proofs.CopyingTold.{consumes_told}
 use Rattle.ciborium_ll_decoder.proofs.RecodeAnyhowLaws.{recode_anyhow}
-use Rattle.ciborium_ll_decoder.proofs.RecodeReadyLaws.{recode_told, short_told}
+use Rattle.ciborium_ll_decoder.proofs.RecodeReadyLaws.{recode_told, recode_exactly, short_told}
 use Rattle.ciborium_ll_decoder.proofs.CopyLaws.{copies_all}
-use Rattle.ciborium_ll_decoder.proofs.RecodeStrictLaws.{recode_strictly, recode_strictly_exactly}
 use Rattle.ciborium_ll_c.proofs.CopyLaws.{never_too_long}
 
 module _ {R E W F : Type 0} (source : Reader R E) (sink : Writer W F) (count : ℕ) (due : List ℕ)
     (old new : Decoder R) (writer writer' : W) (report : CllReport) where
   -- what a copy needs, whatever the count
   abbrev pub IsReadyFor : Bool → ℕ → Type 0
-  IsReadyFor strict n = IsReadyAs source sink strict n buffer_size (sides old writer) due []
+  IsReadyFor strict n = IsReady source sink strict n buffer_size (sides old writer) due []
 
   -- ---- elements
 
   -- the bytes of those that were copied stand in front
   run_in_front : (strict : Bool) (elements : ℕ) (between : Sides R W)
-      → IsToldAs source sink strict (sides old writer) due []
+      → IsTold source sink strict (sides old writer) due []
       → CopiesRun source sink elements (sides old writer) between → old.offset ≡ 0
-      → (front : RunInFront elements due) × (between.decoder.offset ≡ length front.elements)
+      → (front : RunInFront false elements due) × (between.decoder.offset ≡ length front.elements)
   run_in_front strict elements between told run start =
       let gone = consumes_told _ _ due run.bytes told.due-told run.copied.passed.consumed in (
-        record { elements = run.bytes; marks = run.marks; rest = gone.0; run = run.run; is = gone.2 },
+        record {
+          elements = run.bytes;
+          marks = run.marks;
+          rest = gone.0;
+          run = run.run;
+          is = gone.2;
+          spelled = λ on. absurd cc;
+        },
         omega (arith, run.copied.passed.offset, start),
       )
 
-  module _ (room : ℕ) (steady : IsSteady source old) (told : IsToldAs source sink false (sides old writer) due [])
+  module _ (room : ℕ) (steady : IsSteady source old) (told : IsTold source sink false (sides old writer) due [])
       (ready : (n : ℕ) → HasRoom n due room → IsReadyFor false n) (object : length due < 2 ^ 63)
       (start : old.offset ≡ 0) (whole : report.whole ≡ new.offset → report.whole ≡ report.consumed) where
     -- where the copy of one more stops
@@ -57,19 +62,19 @@ module _ {R E W F : Type 0} (source : Reader R E) (sink : Writer W F) (count : �
     counted_to (Ok done) counted = (counted.ends.0, whole counted.ends.1)
     counted_to (Err (r.Read (e.Io fault))) counted = (
       counted.ends.0,
-      λ more. no_fault (suc report.elements) due more
+      λ more. no_fault false (suc report.elements) due more
           (short_told source sink (suc report.elements) buffer_size (sides old writer) due [] steady told fault
           (sides new writer') counted.ends.1).fault,
     )
     counted_to (Err (r.Read (e.Syntax place))) counted = (
       counted.ends.0,
-      λ more. no_fault (suc report.elements) due more
-          (recode_anyhow source sink (suc report.elements) buffer_size (sides old writer) due [] told refl
+      λ more. no_fault false (suc report.elements) due more
+          (recode_anyhow source sink (suc report.elements) buffer_size (sides old writer) due [] told
           (sides new writer') (Err (r.Read (e.Syntax place))) counted.ends.1).2.fault,
     )
     counted_to (Err (r.Read e.TooLong)) counted = absurd (never_too_long source sink (suc report.elements) due old
         (sides new writer')
-        (recode_anyhow source sink (suc report.elements) buffer_size (sides old writer) due [] told refl
+        (recode_anyhow source sink (suc report.elements) buffer_size (sides old writer) due [] told
         (sides new writer') (Err (r.Read e.TooLong)) counted.ends.1) object start)
     counted_to (Err (r.Read e.Waiting)) counted = absurd counted.ends.1
     counted_to (Err (r.Write fault)) counted = (
@@ -77,7 +82,7 @@ module _ {R E W F : Type 0} (source : Reader R E) (sink : Writer W F) (count : �
       λ more.
           let never : length (spelling more.marks) ≤ room → ⊥ = λ fits.
           recode_told source sink (suc report.elements) buffer_size (sides old writer) due []
-          (ready (suc report.elements) (inl (more, fits))) refl (sides new writer') (Err (r.Write fault))
+          (ready (suc report.elements) (inl (more, fits))) (sides new writer') (Err (r.Write fault))
           counted.ends.1 in
           grind (arith, never),
     )
@@ -98,15 +103,15 @@ module _ {R E W F : Type 0} (source : Reader R E) (sink : Writer W F) (count : �
 
   -- ---- elements in their shortest spelling
 
-  module _ (ready : (n : ℕ) → IsReadyFor true n) (none : old.waiting ≡ None) (start : old.offset ≡ 0)
+  module _ (ready : (n : ℕ) → IsReadyFor true n) (start : old.offset ≡ 0)
       (whole : report.whole ≡ new.offset → report.whole ≡ report.consumed) where
     not_one_more : (error : RecodeError E F)
         → CopiesElements source sink (suc report.elements) buffer_size (sides old writer) (Err error)
         (sides new writer')
-        → StrictRunInFront (suc report.elements) due → ⊥
+        → RunInFront true (suc report.elements) due → ⊥
     not_one_more error stops more =
-        let ok = (recode_strictly_exactly source sink (suc report.elements) buffer_size (sides old writer) due []
-        (ready (suc report.elements)) refl none (sides new writer') (Err error) stops).1 more in
+        let ok = (recode_exactly source sink (suc report.elements) buffer_size (sides old writer) due []
+        (ready (suc report.elements)) (sides new writer') (Err error) stops).1 more in
         cc
 
     strictly_to : (result : Result (Unit {0}) (RecodeError E F))
@@ -133,8 +138,8 @@ module _ {R E W F : Type 0} (source : Reader R E) (sink : Writer W F) (count : �
         let counted : CountsCopy source sink count buffer_size (sides old writer) result (sides new writer')
         report.elements report.whole = rw (reports.elements_is, reports.whole_is) copied in
         let all = copies_all source sink report.elements (sides old writer) counted.between counted.run in
-        let stood = recode_strictly source sink report.elements buffer_size (sides old writer) due []
-        (ready report.elements) refl none counted.between (Ok (tt {0})) all in
+        let stood = recode_told source sink report.elements buffer_size (sides old writer) due []
+        (ready report.elements) counted.between (Ok (tt {0})) all in
         record {
           front = stood.front;
           ends = omega (arith, counted.behind, stood.offset, start);

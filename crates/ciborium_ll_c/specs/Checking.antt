@@ -1,7 +1,6 @@
 -- What `cll_strict` does.
-use Rattle.std.specs.Prelude.{◌≡◌, ℕ, ◌+◌, List, length}
-use Rattle.ciborium_ll.specs.Faults.{Short, Syntax}
-use Rattle.ciborium_ll.specs.StrictRecoding.{StrictRunInFront, HasStrictFault}
+use Rattle.std.specs.Prelude.{◌≡◌, ℕ, true, ◌+◌, List, length}
+use Rattle.ciborium_ll.specs.Faults.{Short, Syntax, RunInFront, HasFault}
 use Rattle.ciborium_ll_c.specs.declared.answer.CllAnswer.{CllAnswer}
 use Rattle.ciborium_ll_c.specs.declared.answer.CllAnswer.TheVariants as a
 use Rattle.ciborium_ll_c.specs.declared.answer.CllReport.{CllReport}
@@ -10,11 +9,11 @@ use Rattle.ciborium_ll_c.specs.Answers.{ReportsCopy}
 -- so many elements in their shortest spelling stand in front, or the first fault of a strict read stands in their
 -- place, by the answer. Nothing is written
 abbrev pub Checks : ℕ → List ℕ → CllAnswer → CllReport → Type 0
-Checks count bytes a.Ok report = (front : StrictRunInFront count bytes) × ReportsCopy report (length front.elements) 0 0
+Checks count bytes a.Ok report = (front : RunInFront true count bytes) × ReportsCopy report (length front.elements) 0 0
 Checks count bytes a.Short report =
-    (fault : HasStrictFault count bytes) × (fault.answer ≡ Short)
+    (fault : HasFault true count bytes) × (fault.answer ≡ Short)
     × ReportsCopy report (length fault.before + fault.consumed) 0 0
 Checks count bytes a.Syntax report =
-    (fault : HasStrictFault count bytes) × (fault.answer ≡ Syntax report.place)
+    (fault : HasFault true count bytes) × (fault.answer ≡ Syntax report.place)
     × ReportsCopy report (length fault.before + fault.consumed) 0 report.place
 Checks count bytes answer report = ⊥

@@ -1,5 +1,5 @@
 -- What `cll_recode` does.
-use Rattle.std.specs.Prelude.{◌≡◌, ℕ, ◌+◌, ◌<◌, ◌≤◌, ◌⊎◌, List, ◌++◌, drop, length, Result, Ok, Err}
+use Rattle.std.specs.Prelude.{◌≡◌, ℕ, false, ◌+◌, ◌<◌, ◌≤◌, ◌⊎◌, List, ◌++◌, drop, length, Result, Ok, Err}
 use Rattle.ciborium_ll.specs.Types.Error.TheVariants as e
 use Rattle.ciborium_ll.specs.Types.RecodeError.{RecodeError}
 use Rattle.ciborium_ll.specs.Types.RecodeError.TheVariants as r
@@ -15,7 +15,7 @@ use Rattle.ciborium_ll_c.specs.Answers.{ReportsCopy}
 -- the room is enough for the spelling of the elements where they stand in front, else for as many bytes as are due
 abbrev pub HasRoom : ℕ → List ℕ → ℕ → Type 0
 HasRoom count bytes room =
-    ((front : RunInFront count bytes) × (length (spelling front.marks) ≤ room)) ⊎ (length bytes ≤ room)
+    ((front : RunInFront false count bytes) × (length (spelling front.marks) ≤ room)) ⊎ (length bytes ≤ room)
 
 -- the bytes stand in front of the output, and behind them it is as it was
 abbrev pub StandInFront : List ℕ → List ℕ → List ℕ → Type 0
@@ -24,20 +24,20 @@ StandInFront bytes old new = new ≡ bytes ++ drop (length bytes) old
 -- so many elements stood in front: all of them were consumed, and their shortest spelling stands in the output
 abbrev pub OutputsElements : ℕ → List ℕ → List ℕ → List ℕ → CllReport → Type 0
 OutputsElements count bytes old new report =
-    (front : RunInFront count bytes) × StandInFront (spelling front.marks) old new
+    (front : RunInFront false count bytes) × StandInFront (spelling front.marks) old new
     × ReportsCopy report (length front.elements) (length (spelling front.marks)) 0
 
 -- the first fault stopped the copy at this place of the bytes, and what was written before stands in the output
 abbrev pub OutputsUpToFault : ℕ → List ℕ → List ℕ → List ℕ → CllReport → Type 0
 OutputsUpToFault count bytes old new report =
-    (fault : HasFault count bytes) × (fault.answer ≡ Syntax report.place) × StandInFront fault.written old new
+    (fault : HasFault false count bytes) × (fault.answer ≡ Syntax report.place) × StandInFront fault.written old new
     × ReportsCopy report (length fault.before + fault.consumed) (length fault.written) report.place
 
 -- a copy where there is room, by the answer: the first fault stops it where so many elements do not stand in front
 abbrev pub CopiesInto : ℕ → List ℕ → List ℕ → CllAnswer → List ℕ → CllReport → Type 0
 CopiesInto count bytes old a.Ok new report = OutputsElements count bytes old new report
 CopiesInto count bytes old a.Short new report =
-    (fault : HasFault count bytes) × (fault.answer ≡ Short) × StandInFront fault.written old new
+    (fault : HasFault false count bytes) × (fault.answer ≡ Short) × StandInFront fault.written old new
     × ReportsCopy report (length fault.before + fault.consumed) (length fault.written) 0
 CopiesInto count bytes old a.Syntax new report = OutputsUpToFault count bytes old new report
 CopiesInto count bytes old answer new report = ⊥

@@ -1,6 +1,6 @@
 -- What `cll_recode` and `cll_strict` count: the elements that were done, each an element of the grammar (RFC 7049, 2.1
 -- and 2.2).
-use Rattle.std.specs.Prelude.{◌≡◌, ℕ, suc, ◌<◌, List, length, Result, Ok, Err}
+use Rattle.std.specs.Prelude.{◌≡◌, ℕ, suc, true, false, ◌<◌, List, length, Result, Ok, Err}
 use Rattle.ciborium_ll.specs.Types.Read.{Ghosts as Reader}
 use Rattle.ciborium_ll.specs.Types.Write.{Ghosts as Writer}
 use Rattle.ciborium_ll.specs.Types.RecodeError.{RecodeError}
@@ -8,7 +8,6 @@ use Rattle.ciborium_ll.specs.Elements.{spelling}
 use Rattle.ciborium_ll.specs.Faults.{RunInFront}
 use Rattle.ciborium_ll.specs.Recoding.{CopiesRun, StopsCopy}
 use Rattle.ciborium_ll.specs.Sides.{Sides}
-use Rattle.ciborium_ll.specs.StrictRecoding.{StrictRunInFront}
 use Rattle.ciborium_ll_c.specs.declared.answer.CllAnswer.{CllAnswer}
 use Rattle.ciborium_ll_c.specs.declared.answer.CllAnswer.TheVariants as a
 use Rattle.ciborium_ll_c.specs.declared.answer.CllReport.{CllReport}
@@ -19,14 +18,14 @@ abbrev pub CountsTo : ℕ → List ℕ → ℕ → CllAnswer → CllReport → T
 CountsTo count bytes room a.Ok report = (report.elements ≡ count) × (report.whole ≡ report.consumed)
 CountsTo count bytes room a.Room report =
     (report.elements < count)
-    × ((more : RunInFront (suc report.elements) bytes) → room < length (spelling more.marks))
+    × ((more : RunInFront false (suc report.elements) bytes) → room < length (spelling more.marks))
 CountsTo count bytes room answer report =
-    (report.elements < count) × (RunInFront (suc report.elements) bytes → ⊥)
+    (report.elements < count) × (RunInFront false (suc report.elements) bytes → ⊥)
 
 -- the elements that were done stand in front, up to the offset that is reported, and no more are done so
 pub record CountsElements (count : ℕ) (bytes : List ℕ) (room : ℕ) (answer : CllAnswer) (report : CllReport)
     : Type 0 where
-  pub front : RunInFront report.elements bytes
+  pub front : RunInFront false report.elements bytes
   pub ends : report.whole ≡ length front.elements
   pub counts : CountsTo count bytes room answer report
 
@@ -34,10 +33,10 @@ pub record CountsElements (count : ℕ) (bytes : List ℕ) (room : ℕ) (answer 
 abbrev pub CountsStrictTo : ℕ → List ℕ → CllAnswer → CllReport → Type 0
 CountsStrictTo count bytes a.Ok report = (report.elements ≡ count) × (report.whole ≡ report.consumed)
 CountsStrictTo count bytes answer report =
-    (report.elements < count) × (StrictRunInFront (suc report.elements) bytes → ⊥)
+    (report.elements < count) × (RunInFront true (suc report.elements) bytes → ⊥)
 
 pub record CountsStrictly (count : ℕ) (bytes : List ℕ) (answer : CllAnswer) (report : CllReport) : Type 0 where
-  pub front : StrictRunInFront report.elements bytes
+  pub front : RunInFront true report.elements bytes
   pub ends : report.whole ≡ length front.elements
   pub counts : CountsStrictTo count bytes answer report
 

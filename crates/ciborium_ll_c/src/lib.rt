@@ -15,7 +15,6 @@ ghost use Rattle.ciborium_ll.specs.Faults.{RunInFront};
 ghost use Rattle.ciborium_ll.specs.Recoding.{CopiesElements};
 ghost use Rattle.ciborium_ll.specs.Sides.{sides};
 ghost use Rattle.ciborium_ll.specs.Slices.{slice_target};
-ghost use Rattle.ciborium_ll.specs.StrictRecoding.{StrictRunInFront};
 ghost use Rattle.ciborium_ll_grammar.specs.Parts.{IsParts, title_bytes};
 ghost use Rattle.ciborium_ll_text.specs.Text.{IsCharacters};
 ghost use Rattle.cbor_skip.specs.ItemFaults.{ItemInFront};
@@ -234,7 +233,7 @@ fn copy(bytes: &[u8], count: usize, out: &mut [u8], report: &mut CllReport) -> C
     ensures copied { HasRoom count bytes.now (length out.old)
         → CopiesInto count bytes.now out.old result out.new report.new }
     ensures exactly { HasRoom count bytes.now (length out.old)
-        → (result ≡ a.Ok ↔ RunInFront count bytes.now) }
+        → (result ≡ a.Ok ↔ RunInFront false count bytes.now) }
     ensures anyhow { CopiesAnyhow count bytes.now out.old result out.new report.new }
     ensures counted { CountsElements count bytes.now (length out.old) result report.new }
 {
@@ -275,7 +274,7 @@ pub extern "C" fn cll_recode(
     ensures copied { HasRoom count bytes.now (length out.old)
         → (answer : CllAnswer) × (result ≡ code answer) × CopiesInto count bytes.now out.old answer out.new report.new }
     ensures exactly { HasRoom count bytes.now (length out.old)
-        → (result ≡ code a.Ok ↔ RunInFront count bytes.now) }
+        → (result ≡ code a.Ok ↔ RunInFront false count bytes.now) }
     ensures anyhow { (answer : CllAnswer) × (result ≡ code answer)
         × CopiesAnyhow count bytes.now out.old answer out.new report.new }
     ensures counted { (answer : CllAnswer) × (result ≡ code answer)
@@ -287,7 +286,7 @@ pub extern "C" fn cll_recode(
 /// Reads so many elements, each in its shortest spelling.
 fn check(bytes: &[u8], count: usize, report: &mut CllReport) -> CllAnswer
     ensures checked { Checks count bytes.now result report.new }
-    ensures exactly { result ≡ a.Ok ↔ StrictRunInFront count bytes.now }
+    ensures exactly { result ≡ a.Ok ↔ RunInFront true count bytes.now }
     ensures counted { CountsStrictly count bytes.now result report.new }
 {
     let mut buffer = [0; BUFFER_SIZE];
@@ -313,7 +312,7 @@ fn check(bytes: &[u8], count: usize, report: &mut CllReport) -> CllAnswer
 #[tactic(auto, using(crate::proofs::PullLaws::code_exactly))]
 pub extern "C" fn cll_strict(bytes: &[u8], count: u64, report: &mut CllReport) -> u32
     ensures checked { (answer : CllAnswer) × (result ≡ code answer) × Checks count bytes.now answer report.new }
-    ensures exactly { result ≡ code a.Ok ↔ StrictRunInFront count bytes.now }
+    ensures exactly { result ≡ code a.Ok ↔ RunInFront true count bytes.now }
     ensures counted { (answer : CllAnswer) × (result ≡ code answer)
         × CountsStrictly count bytes.now answer report.new }
 {
@@ -339,7 +338,7 @@ fn stop_of_skip(skipped: Result<(), SkipError<EndOfFile>>) -> (CllAnswer, usize)
 fn skip(bytes: &[u8], depth: usize, report: &mut CllReport) -> CllAnswer
     requires shallow { depth ≤ 256 }
     ensures skipped { Skips depth bytes.now result report.new }
-    ensures exactly { result ≡ a.Ok ↔ ItemInFront depth bytes.now }
+    ensures exactly { result ≡ a.Ok ↔ ItemInFront false depth bytes.now }
 {
     let mut buffer = [0; BUFFER_SIZE];
     let mut decoder = Decoder::from(SliceReader::new(bytes));
@@ -359,7 +358,7 @@ fn skip(bytes: &[u8], depth: usize, report: &mut CllReport) -> CllAnswer
 pub extern "C" fn cll_skip(bytes: &[u8], depth: u32, report: &mut CllReport) -> u32
     ensures skipped { depth ≤ 256
         → (answer : CllAnswer) × (result ≡ code answer) × Skips depth bytes.now answer report.new }
-    ensures exactly { depth ≤ 256 → (result ≡ code a.Ok ↔ ItemInFront depth bytes.now) }
+    ensures exactly { depth ≤ 256 → (result ≡ code a.Ok ↔ ItemInFront false depth bytes.now) }
     ensures argument { 256 < depth → (result ≡ code a.Argument) × Reports report.new 0 0 0 }
 {
     if depth > 256 {

@@ -14,11 +14,9 @@ pub mod RecodeAnyhowLaws
 pub mod RecodeFaultLaws
 pub mod RecodeLaws
 pub mod RecodeReadyLaws
-pub mod RecodeStrictLaws
 pub mod RoomLaws
 pub mod RunLaws
 pub mod SegmentLaws
 pub mod SpelledLaws
-pub mod StrictFaultLaws
 pub mod StrictLaws
 pub mod WholeBodyLaws

@@ -1,5 +1,5 @@
 -- A copy of elements where bytes are told, whichever side fails.
-use Rattle.std.proofs.Common.{◌≡◌, ℕ, Bool, false, ◌+◌, ◌^◌, ◌≤◌, List, [], ◌++◌, length, take, drop, min, max}
+use Rattle.std.proofs.Common.{◌≡◌, ℕ, Bool, ◌+◌, ◌^◌, ◌≤◌, List, [], ◌++◌, length, take, drop, min, max}
 use Rattle.std.proofs.Common.{Some, None, Result, Ok, Err, refl, sym, ap, ◌∙◌, inl, inr, arith, append_assoc}
 use Rattle.std.proofs.Common.{length-append}
 use Rattle.std.proofs.lemmas.List.{append-nil, take-append-drop}
@@ -20,16 +20,15 @@ use Rattle.ciborium_ll_decoder.specs.Finishing.{BeginsRest}
 use Rattle.ciborium_ll_decoder.specs.Sides.{Sides, sides}
 use Rattle.ciborium_ll_decoder.specs.Recoding.{Copied, CopiesElements, StopsAtTitle, StopsTooDeep, StopsInBody}
 use Rattle.ciborium_ll_decoder.specs.Recoding.{StopsWriting}
-use Rattle.ciborium_ll_decoder.specs.RecodingTold.{IsToldAs, StopsAt, StopsShort, StopsUnwritten, RecodesAnyhow}
+use Rattle.ciborium_ll_decoder.specs.RecodingTold.{IsTold, StopsAt, StopsShort, StopsUnwritten, RecodesAnyhow}
 use Rattle.ciborium_ll_decoder.proofs.CopyingTold.{consumes_told, appends_told, next_read_small}
 use Rattle.ciborium_ll_decoder.proofs.NestLaws.{alone_bytes, open_alone, open_length}
 use Rattle.ciborium_ll_decoder.proofs.RecodeFaultLaws.{came, all_told, no_title_told, other_title_told}
-use Rattle.ciborium_ll_decoder.proofs.RecodeFaultLaws.{refused_leniently, misplaced_leniently, front_output}
-use Rattle.ciborium_ll_decoder.proofs.RecodeFaultLaws.{damaged_told}
+use Rattle.ciborium_ll_decoder.proofs.RecodeFaultLaws.{front_output, damaged_told}
 
 module _ {R E W F : Type 0} {strict : Bool} (source : Reader R E) (sink : Writer W F) (count room : ℕ)
     (old : Sides R W) (due written : List ℕ) where
-  module _ (told : IsToldAs source sink strict old due written) where
+  module _ (told : IsTold source sink strict old due written) where
     at_title : (place : Place) (ahead : List ℕ) (n : ℕ) → IsAtTitle place → n ≤ min 1 (length ahead)
         → StopsAt place ahead [] n
     at_title Due ahead n title less = (refl, less)
@@ -182,26 +181,24 @@ module _ {R E W F : Type 0} {strict : Bool} (source : Reader R E) (sink : Writer
           offset = omega (arith, stops.passed.offset, length-append stops.bytes stops.read);
         }
 
-    pub recode_anyhow : strict ≡ false → (new : Sides R W) (result : Result (Unit {0}) (RecodeError E F))
+    pub recode_anyhow : (new : Sides R W) (result : Result (Unit {0}) (RecodeError E F))
         → CopiesElements source sink count room old result new
-        → RecodesAnyhow source sink count room due written old.decoder result new
-    recode_anyhow off new (Ok unit) all = all_told source sink count room old due written told new all.elements
-    recode_anyhow off new (Err (r.Read (e.Io fault))) (inl stops) = title_fails fault new stops
-    recode_anyhow off new (Err (r.Read (e.Io fault))) (inr stops) =
+        → RecodesAnyhow source sink strict count room due written old.decoder result new
+    recode_anyhow new (Ok unit) all = all_told source sink count room old due written told new all.elements
+    recode_anyhow new (Err (r.Read (e.Io fault))) (inl stops) = title_fails fault new stops
+    recode_anyhow new (Err (r.Read (e.Io fault))) (inr stops) =
         let fails = stops.stopped.ends in
         body_short stops.bytes stops.marks stops.kind stops.len stops.start stops.between stops.titled fails.between
         new stops.reaches stops.copied
         stops.title fails.part stops.stopped.written fails.fails.offset
-    recode_anyhow off new (Err (r.Read (e.Syntax at))) (inl stops) =
+    recode_anyhow new (Err (r.Read (e.Syntax at))) (inl stops) =
         no_title_told source sink count room old due written told at new stops
-        (refused_leniently source sink count room old due written told off at new stops)
-    recode_anyhow off new (Err (r.Read (e.Syntax at))) (inr (inl stops)) =
+    recode_anyhow new (Err (r.Read (e.Syntax at))) (inr (inl stops)) =
         other_title_told source sink count room old due written told at new stops
-        (misplaced_leniently source sink count room old due written told off at new stops)
-    recode_anyhow off new (Err (r.Read (e.Syntax at))) (inr (inr stops)) =
+    recode_anyhow new (Err (r.Read (e.Syntax at))) (inr (inr stops)) =
         damaged_told source sink count room old due written told at new stops
-    recode_anyhow off new (Err (r.Read e.TooLong)) (inl stops) = title_passes new stops
-    recode_anyhow off new (Err (r.Read e.TooLong)) (inr (inl stops)) = opens_pass new stops
-    recode_anyhow off new (Err (r.Read e.TooLong)) (inr (inr stops)) = body_passes new stops
-    recode_anyhow off new (Err (r.Read e.Waiting)) stops = absurd stops
-    recode_anyhow off new (Err (r.Write fault)) stops = unwritten new stops
+    recode_anyhow new (Err (r.Read e.TooLong)) (inl stops) = title_passes new stops
+    recode_anyhow new (Err (r.Read e.TooLong)) (inr (inl stops)) = opens_pass new stops
+    recode_anyhow new (Err (r.Read e.TooLong)) (inr (inr stops)) = body_passes new stops
+    recode_anyhow new (Err (r.Read e.Waiting)) stops = absurd stops
+    recode_anyhow new (Err (r.Write fault)) stops = unwritten new stops

@@ -1,5 +1,5 @@
 -- How far a copy of elements came in bytes that are told, and the fault that it met there.
-use Rattle.std.proofs.Common.{◌≡◌, ℕ, Bool, false, ◌+◌, ◌-◌, ◌≤◌, List, [], ◌∷◌, ◌++◌, length, take, drop, Some, refl}
+use Rattle.std.proofs.Common.{◌≡◌, ℕ, Bool, true, ◌+◌, ◌-◌, ◌≤◌, List, [], ◌∷◌, ◌++◌, length, take, drop, Some, refl}
 use Rattle.std.proofs.Common.{sym, ap, subst, ◌∙◌, inl, inr, arith, append_assoc, length-append}
 use Rattle.std.proofs.Math.Seq.{drop-append_seam}
 use Rattle.std.proofs.lemmas.Bool.{cases_lt}
@@ -7,19 +7,19 @@ use Rattle.ciborium_ll_io.specs.declared.io.Read.{Ghosts as Reader}
 use Rattle.ciborium_ll_io.specs.declared.io.Write.{Ghosts as Writer}
 use Rattle.ciborium_ll_decoder.specs.declared.dec.Error.TheVariants as e
 use Rattle.ciborium_ll_grammar.specs.Title.{shortest_title, BeginsRefused}
-use Rattle.ciborium_ll_grammar.specs.Strings.{Kind, Text, kind_header, IsMisplaced}
+use Rattle.ciborium_ll_grammar.specs.Strings.{Kind, Text, kind_header}
 use Rattle.ciborium_ll_text.specs.Text.{IsCharacters, BeginsNoText}
 use Rattle.ciborium_ll_grammar.specs.Elements.{Mark, spelling, IsStrictSpelling}
-use Rattle.ciborium_ll_grammar.specs.Faults.{In, BodyDue, Reaches, Syntax, NoTitle, OtherTitle, DamagedText}
-use Rattle.ciborium_ll_grammar.specs.Faults.{CutDamagedText, HasFault}
-use Rattle.ciborium_ll_decoder.specs.Decoding.{view, RefusesTitle}
+use Rattle.ciborium_ll_grammar.specs.Items.{IsTakenTitle}
+use Rattle.ciborium_ll_grammar.specs.Faults.{Place, Due, In, BodyDue, IsAtTitle, IsRefusedIn, Reaches, due_title}
+use Rattle.ciborium_ll_grammar.specs.Faults.{Syntax, NoTitle, LongTitle, OtherTitle, DamagedText, CutDamagedText}
+use Rattle.ciborium_ll_grammar.specs.Faults.{HasFault}
+use Rattle.ciborium_ll_decoder.specs.Decoding.{view, RefusesTitle, RefusesLonger}
 use Rattle.ciborium_ll_encoder.specs.Encoding.{WritesAll}
 use Rattle.ciborium_ll_decoder.specs.Finishing.{IsNoText}
 use Rattle.ciborium_ll_decoder.specs.Sides.{Sides, sides}
 use Rattle.ciborium_ll_decoder.specs.Recoding.{Copied, CopiesRun, StopsAtTitle, StopsAtOther, StopsInBody}
-use Rattle.ciborium_ll_decoder.specs.RecodingTold.{IsToldAs, CopiesFront, MeetsFault}
-use Rattle.ciborium_ll_decoder.specs.StrictRecoding.{due_title}
-use Rattle.ciborium_ll_decoder.proofs.DecodingLaws.{lenient_refuses}
+use Rattle.ciborium_ll_decoder.specs.RecodingTold.{IsTold, CopiesFront, MeetsFault}
 use Rattle.ciborium_ll_grammar.proofs.ElementLaws.{run_again}
 use Rattle.ciborium_ll_decoder.proofs.CopyingTold.{consumes_told, appends_told, refused_byte}
 use Rattle.ciborium_ll_decoder.proofs.RecodeLaws.{writes_then}
@@ -27,9 +27,16 @@ use Rattle.ciborium_ll_text.proofs.Lists.{front_of, front_behind}
 use Rattle.ciborium_ll_text.proofs.FrontLaws.{no_text_behind}
 use Rattle.ciborium_ll_decoder.proofs.RunLaws.{run_settled, run_still}
 
+-- where a title is due no body's title is under way
+pub spelled_at : (place : Place) (bytes : List ℕ) (marks : List Mark) → IsAtTitle place
+    → IsStrictSpelling bytes marks [] → IsStrictSpelling bytes marks (due_title place)
+spelled_at Due bytes marks title spelled = spelled
+spelled_at (In kind) bytes marks title spelled = spelled
+spelled_at (BodyDue kind len start) bytes marks title spelled = absurd title
+
 module _ {R E W F : Type 0} {strict : Bool} (source : Reader R E) (sink : Writer W F) (count room : ℕ)
     (old : Sides R W) (due written : List ℕ) where
-  module _ (told : IsToldAs source sink strict old due written) where
+  module _ (told : IsTold source sink strict old due written) where
     -- how far a copy came
     pub record Came (bytes : List ℕ) (marks : List Mark) (now : Sides R W) : Type 0 where
       pub rest : List ℕ
@@ -49,13 +56,20 @@ module _ {R E W F : Type 0} {strict : Bool} (source : Reader R E) (sink : Writer
               told.written-told copied.written.appended;
         }
 
-    pub all_told : (new : Sides R W) → CopiesRun source sink count old new → CopiesFront source sink count due written
+    pub all_told : (new : Sides R W) → CopiesRun source sink count old new → CopiesFront source sink strict count due written
         old.decoder new
     all_told new all =
         let c = came all.bytes all.marks new all.copied in
         let again = run_again count all.bytes all.marks all.run in
         record {
-          front = record { elements = all.bytes; marks = all.marks; rest = c.rest; run = all.run; is = c.parts };
+          front = record {
+            elements = all.bytes;
+            marks = all.marks;
+            rest = c.rest;
+            run = all.run;
+            is = c.parts;
+            spelled = λ on. all.strict (told.mode ∙ on) (told.none_waits on);
+          };
           output = c.output;
           again = again.run;
           left = c.left;
@@ -64,11 +78,11 @@ module _ {R E W F : Type 0} {strict : Bool} (source : Reader R E) (sink : Writer
           still = run_still source count old.decoder new.decoder all.bytes all.marks all.run all.copied.passed;
         }
 
-    unfoldable pub no_title_told : (at : ℕ) (new : Sides R W) (stops : StopsAtTitle source sink count old (e.Syntax at)
-        new)
+    -- a byte with which no title begins
+    refused_told : (at : ℕ) (new : Sides R W) (stops : StopsAtTitle source sink count old (e.Syntax at) new)
         → RefusesTitle source stops.between at new.decoder → (start : ℕ) × (at ≡ old.decoder.offset + start)
-        × MeetsFault source sink count due written (Syntax start) old.decoder new
-    no_title_told at new stops refused =
+        × MeetsFault source sink strict count due written (Syntax start) old.decoder new
+    refused_told at new stops refused =
         let c = came stops.bytes stops.marks (sides stops.between new.writer) stops.copied in
         let byte = refused.byte in
         let gone = consumes_told _ _ c.rest (byte ∷ []) c.left refused.bytes in (
@@ -85,6 +99,8 @@ module _ {R E W F : Type 0} {strict : Bool} (source : Reader R E) (sink : Writer
               consumed = 1;
               reach = stops.reaches;
               is = c.parts;
+              spelled = λ on. spelled_at stops.place stops.bytes stops.marks stops.at_title
+                  (stops.strict (told.mode ∙ on) (told.none_waits on));
               fault = NoTitle stops.at_title (subst BeginsRefused (sym gone.2) refused.refused);
             };
             answered = refl;
@@ -94,13 +110,56 @@ module _ {R E W F : Type 0} {strict : Bool} (source : Reader R E) (sink : Writer
           },
         )
 
-    unfoldable pub other_title_told : (at : ℕ) (new : Sides R W) (stops : StopsAtOther source sink count old at new)
-        → IsMisplaced stops.kind stops.other.header → (start : ℕ) × (at ≡ old.decoder.offset + start)
-        × MeetsFault source sink count due written (Syntax start) old.decoder new
-    other_title_told at new stops other =
+    -- a title that a strict decoder refuses
+    longer_told : (at : ℕ) (new : Sides R W) (stops : StopsAtTitle source sink count old (e.Syntax at) new)
+        → RefusesLonger source stops.between at new.decoder
+        → (start : ℕ) × (at ≡ old.decoder.offset + start) × MeetsFault source sink strict count due written
+        (Syntax start) old.decoder new
+    longer_told at new stops refused =
+        let c = came stops.bytes stops.marks (sides stops.between new.writer) stops.copied in
+        let title = refused.title in
+        let gone = consumes_told _ _ c.rest title c.left refused.bytes in
+        let on : true ≡ strict = sym refused.strict ∙ (stops.copied.passed.mode ∙ told.mode) in (
+          length stops.bytes,
+          refused.place ∙ stops.copied.passed.offset,
+          record {
+            fault = record {
+              before = stops.bytes;
+              marks = stops.marks;
+              place = stops.place;
+              ahead = c.rest;
+              answer = Syntax (length stops.bytes);
+              written = spelling stops.marks;
+              consumed = length title;
+              reach = stops.reaches;
+              is = c.parts;
+              spelled = λ on. spelled_at stops.place stops.bytes stops.marks stops.at_title
+                  (stops.strict (told.mode ∙ on) (told.none_waits on));
+              fault = LongTitle refused.header gone.0 stops.at_title refused.is_title
+                  (subst (λ (b : Bool). IsTakenTitle b title refused.header → ⊥) on refused.not_strict) gone.2;
+            };
+            answered = refl;
+            output = c.output;
+            left = gone.1 ∙ ap Some (sym (ap (drop (length title)) gone.2 ∙ drop-append_seam title gone.0));
+            offset = omega (arith, refused.offset, stops.copied.passed.offset);
+          },
+        )
+
+    pub no_title_told : (at : ℕ) (new : Sides R W) → StopsAtTitle source sink count old (e.Syntax at) new
+        → (start : ℕ) × (at ≡ old.decoder.offset + start)
+        × MeetsFault source sink strict count due written (Syntax start) old.decoder new
+    no_title_told at new stops =
+        elim stops.fails [ inl refused ↦ refused_told at new stops refused | inr longer ↦ longer_told at new stops longer ]
+
+    pub other_title_told : (at : ℕ) (new : Sides R W) → StopsAtOther source sink count old at new
+        → (start : ℕ) × (at ≡ old.decoder.offset + start)
+        × MeetsFault source sink strict count due written (Syntax start) old.decoder new
+    other_title_told at new stops =
         let c = came stops.bytes stops.marks (sides stops.between new.writer) stops.copied in
         let title = stops.other.pulled.title in
-        let gone = consumes_told _ _ c.rest title c.left stops.other.pulled.bytes in (
+        let gone = consumes_told _ _ c.rest title c.left stops.other.pulled.bytes in
+        let refused = subst (λ (b : Bool). IsRefusedIn b stops.kind stops.other.header)
+        (stops.copied.passed.mode ∙ told.mode) stops.other.refused in (
           length stops.bytes,
           stops.other.place ∙ stops.copied.passed.offset,
           record {
@@ -114,7 +173,8 @@ module _ {R E W F : Type 0} {strict : Bool} (source : Reader R E) (sink : Writer
               consumed = length title;
               reach = stops.reaches;
               is = c.parts;
-              fault = OtherTitle stops.other.header gone.0 stops.other.pulled.is_title other gone.2;
+              spelled = λ on. stops.strict (told.mode ∙ on) (told.none_waits on);
+              fault = OtherTitle stops.other.header gone.0 stops.other.pulled.is_title refused gone.2;
             };
             answered = refl;
             output = c.output;
@@ -122,22 +182,6 @@ module _ {R E W F : Type 0} {strict : Bool} (source : Reader R E) (sink : Writer
             offset = omega (arith, stops.other.pulled.offset, stops.copied.passed.offset);
           },
         )
-
-    -- a decoder that isn't strict refuses no more
-    pub refused_leniently : strict ≡ false → (at : ℕ) (new : Sides R W)
-        (stops : StopsAtTitle source sink count old (e.Syntax at) new) → RefusesTitle source stops.between at
-        new.decoder
-    refused_leniently off at new stops =
-        lenient_refuses source stops.between at new.decoder (stops.copied.passed.mode ∙ (told.mode ∙ off)) stops.fails
-
-    pub misplaced_leniently : strict ≡ false → (at : ℕ) (new : Sides R W)
-        (stops : StopsAtOther source sink count old at new) → IsMisplaced stops.kind stops.other.header
-    misplaced_leniently off at new stops =
-        elim stops.other.refused [
-          | inl other ↦ other
-          | inr nested ↦ absurd (let on = nested.0 in let none = stops.copied.passed.mode
-              ∙ (told.mode ∙ off) in cc)
-        ]
 
     -- what is written up to a front of a body
     pub front_output : (marks : List Mark) (bytes front : List ℕ) (k : Kind) (len : ℕ) (between : Sides R W)
@@ -154,15 +198,15 @@ module _ {R E W F : Type 0} {strict : Bool} (source : Reader R E) (sink : Writer
 
     -- the fault of a text's body
     pub damage : (bytes : List ℕ) (marks : List Mark) (len start : ℕ) (read front more : List ℕ) (rest behind : List ℕ)
-        → Reaches count bytes marks (BodyDue Text len start) → due ≡ bytes ++ rest
+        → Reaches count bytes marks (BodyDue Text len start)
+        → (strict ≡ true → IsStrictSpelling bytes marks (shortest_title (kind_header Text (Some len))))
+        → due ≡ bytes ++ rest
         → rest ≡ read ++ behind → read ≡ front ++ more → IsCharacters front → length read ≤ len → IsNoText [] len read
-        → (fault : HasFault count due) × (fault.answer ≡ Syntax start)
+        → (fault : HasFault strict count due) × (fault.answer ≡ Syntax start)
         × (fault.written ≡ spelling marks ++ (shortest_title (kind_header Text (Some len)) ++ front))
         × (fault.before ≡ bytes)
         × (fault.ahead ≡ rest) × (fault.consumed ≡ length read)
-        × (IsStrictSpelling bytes marks (shortest_title (kind_header Text (Some len))) → IsStrictSpelling fault.before
-        fault.marks (due_title fault.place))
-    damage bytes marks len start read front more rest behind reach parts split e text within (inl whole) =
+    damage bytes marks len start read front more rest behind reach spelled parts split e text within (inl whole) =
         let taken : take len rest ≡ read = front_of len rest read behind split whole.0 in
         let counted = ap length split in (
           record {
@@ -175,6 +219,7 @@ module _ {R E W F : Type 0} {strict : Bool} (source : Reader R E) (sink : Writer
             consumed = length read;
             reach = reach;
             is = parts;
+            spelled = spelled;
             fault = DamagedText front more (omega (arith, whole.0, counted, length-append read behind))
                 (λ u. whole.1 (subst IsCharacters taken u)) (taken ∙ e) text within;
           },
@@ -183,9 +228,8 @@ module _ {R E W F : Type 0} {strict : Bool} (source : Reader R E) (sink : Writer
           refl,
           refl,
           refl,
-          λ spelled. spelled,
         )
-    damage bytes marks len start read front more rest behind reach parts split e text within (inr begins) =
+    damage bytes marks len start read front more rest behind reach spelled parts split e text within (inr begins) =
         elim (cases_lt (length rest) len) [
           | inl cut ↦ (
             record {
@@ -198,6 +242,7 @@ module _ {R E W F : Type 0} {strict : Bool} (source : Reader R E) (sink : Writer
               consumed = length read;
               reach = reach;
               is = parts;
+              spelled = spelled;
               fault = CutDamagedText front (more ++ behind) cut
                   (subst BeginsNoText (sym split) (no_text_behind read behind begins))
                   (split ∙ ap (λ (z : List ℕ). z ++ behind) e ∙ append_assoc front more behind) text
@@ -208,7 +253,6 @@ module _ {R E W F : Type 0} {strict : Bool} (source : Reader R E) (sink : Writer
             refl,
             refl,
             refl,
-            λ spelled. spelled,
           )
           | inr all ↦ (
               let taken : take len rest ≡ read ++ take (len - length read) behind = front_behind len rest read behind
@@ -223,6 +267,7 @@ module _ {R E W F : Type 0} {strict : Bool} (source : Reader R E) (sink : Writer
                   consumed = length read;
                   reach = reach;
                   is = parts;
+                  spelled = spelled;
                   fault = DamagedText front (more ++ take (len - length read) behind) all
                       (λ u. begins (take (len - length read) behind) (subst IsCharacters taken u))
                       (taken ∙ ap (λ (z : List ℕ). z ++ take (len - length read) behind) e ∙ append_assoc front more
@@ -233,13 +278,12 @@ module _ {R E W F : Type 0} {strict : Bool} (source : Reader R E) (sink : Writer
                 refl,
                 refl,
                 refl,
-                λ spelled. spelled,
               )
               )
         ]
 
-    unfoldable pub damaged_told : (at : ℕ) (new : Sides R W) → StopsInBody source sink count room old (e.Syntax at) new
-        → (start : ℕ) × (at ≡ old.decoder.offset + start) × MeetsFault source sink count due written (Syntax start)
+    pub damaged_told : (at : ℕ) (new : Sides R W) → StopsInBody source sink count room old (e.Syntax at) new
+        → (start : ℕ) × (at ≡ old.decoder.offset + start) × MeetsFault source sink strict count due written (Syntax start)
         old.decoder new
     damaged_told at new stops =
         let c = came stops.bytes stops.marks stops.between stops.copied in
@@ -247,8 +291,11 @@ module _ {R E W F : Type 0} {strict : Bool} (source : Reader R E) (sink : Writer
         let gone = consumes_told _ _ c.rest body.read c.left body.passed.consumed in
         let reach = subst (λ (k : Kind). Reaches count stops.bytes stops.marks (BodyDue k stops.len stops.start))
         body.textual stops.reaches in
+        let spelled = λ (on : strict ≡ true). subst (λ (k : Kind). IsStrictSpelling stops.bytes stops.marks
+        (shortest_title (kind_header k (Some stops.len)))) body.textual (stops.strict (told.mode ∙ on)
+        (told.none_waits on)) in
         let f = damage stops.bytes stops.marks stops.len stops.start body.read body.front body.left c.rest gone.0 reach
-        c.parts gone.2 body.parts body.sound body.within body.no_text in
+        spelled c.parts gone.2 body.parts body.sound body.within body.no_text in
         let output = front_output stops.marks stops.bytes body.front stops.kind stops.len stops.between stops.titled
         new.writer stops.copied stops.title stops.stopped.written in
         let output-text = subst

@@ -1,5 +1,5 @@
 -- A copy of elements where bytes are told and no side fails by itself: all elements are copied, or a fault stops it.
-use Rattle.std.proofs.Common.{◌≡◌, ℕ, Bool, false, ◌+◌, ◌^◌, ◌<◌, ◌≤◌, List, ◌++◌, length, drop, min, Some, Result}
+use Rattle.std.proofs.Common.{◌≡◌, ℕ, Bool, ◌+◌, ◌^◌, ◌<◌, ◌≤◌, List, ◌++◌, length, drop, min, Some, Result}
 use Rattle.std.proofs.Common.{Ok, Err, IsOk, ◌↔◌, refl, sym, ap, ◌∙◌, inl, inr, arith, append_assoc, length-append}
 use Rattle.std.proofs.lemmas.List.{length-take}
 use Rattle.std.proofs.Math.Seq.{drop-append_seam}
@@ -16,24 +16,23 @@ use Rattle.ciborium_ll_decoder.specs.Decoding.{next_read, IsSteady}
 use Rattle.ciborium_ll_decoder.specs.Sides.{Sides, sides}
 use Rattle.ciborium_ll_decoder.specs.Recoding.{CopiesElements, StopsAtTitle, StopsTooDeep, StopsInBody, StopsCopy}
 use Rattle.ciborium_ll_decoder.specs.Recoding.{StopsWriting}
-use Rattle.ciborium_ll_decoder.specs.RecodingTold.{IsReadyAs, IsToldAs, MeetsFault, RecodesTold}
+use Rattle.ciborium_ll_decoder.specs.RecodingTold.{IsReady, IsTold, MeetsFault, RecodesTold}
 use Rattle.ciborium_ll_grammar.proofs.ElementLaws.{run_again, one_run}
-use Rattle.ciborium_ll_grammar.proofs.FaultLaws.{no_fault}
+use Rattle.ciborium_ll_grammar.proofs.StrictFaultLaws.{no_fault}
 use Rattle.ciborium_ll_decoder.proofs.BodyLaws.{view_none}
 use Rattle.ciborium_ll_decoder.proofs.CopyingTold.{consumes_told, next_read_small, first_gone}
 use Rattle.ciborium_ll_text.proofs.Lists.{first_counted}
 use Rattle.ciborium_ll_decoder.proofs.RunLaws.{way_shorter}
 use Rattle.ciborium_ll_decoder.proofs.RoomLaws.{spelled_within}
 use Rattle.ciborium_ll_decoder.proofs.RecodeFaultLaws.{came, all_told, no_title_told, other_title_told}
-use Rattle.ciborium_ll_decoder.proofs.RecodeFaultLaws.{refused_leniently, misplaced_leniently, front_output}
-use Rattle.ciborium_ll_decoder.proofs.RecodeFaultLaws.{damaged_told}
+use Rattle.ciborium_ll_decoder.proofs.RecodeFaultLaws.{front_output, damaged_told, spelled_at}
 
 module _ {R E W F : Type 0} {strict : Bool} (source : Reader R E) (sink : Writer W F) (count room : ℕ)
     (old : Sides R W) (due written : List ℕ) where
   -- a steady reader fails only where bytes are missing, whatever the writer does
-  module _ (steady : IsSteady source old.decoder) (told : IsToldAs source sink strict old due written) where
-    unfoldable pub cut_title_told : (fault : E) (new : Sides R W) → StopsAtTitle source sink count old (e.Io fault) new
-        → MeetsFault source sink count due written Short old.decoder new
+  module _ (steady : IsSteady source old.decoder) (told : IsTold source sink strict old due written) where
+    pub cut_title_told : (fault : E) (new : Sides R W) → StopsAtTitle source sink count old (e.Io fault) new
+        → MeetsFault source sink strict count due written Short old.decoder new
     cut_title_told fault new stops =
         let c = came source sink count room old due written told stops.bytes stops.marks
         (sides stops.between new.writer) stops.copied in
@@ -51,6 +50,8 @@ module _ {R E W F : Type 0} {strict : Bool} (source : Reader R E) (sink : Writer
             consumed = min 1 (length c.rest);
             reach = stops.reaches;
             is = c.parts;
+            spelled = λ on. spelled_at stops.place stops.bytes stops.marks stops.at_title
+                (stops.strict (told.mode ∙ on) (told.none_waits on));
             fault = CutTitle stops.at_title ends.0;
           };
           answered = refl;
@@ -66,8 +67,8 @@ module _ {R E W F : Type 0} {strict : Bool} (source : Reader R E) (sink : Writer
           ));
         }
 
-    unfoldable pub cut_body_told : (fault : E) (new : Sides R W) → StopsInBody source sink count room old (e.Io fault)
-        new → MeetsFault source sink count due written Short old.decoder new
+    pub cut_body_told : (fault : E) (new : Sides R W) → StopsInBody source sink count room old (e.Io fault)
+        new → MeetsFault source sink strict count due written Short old.decoder new
     cut_body_told fault new stops =
         let c = came source sink count room old due written told stops.bytes stops.marks stops.between
         stops.copied in
@@ -94,6 +95,7 @@ module _ {R E W F : Type 0} {strict : Bool} (source : Reader R E) (sink : Writer
             consumed = length part.read;
             reach = stops.reaches;
             is = c.parts;
+            spelled = λ on. stops.strict (told.mode ∙ on) (told.none_waits on);
             fault = CutBody part.front (part.left ++ gone.0)
                 (omega (arith, few, behind, fails.more, length-append part.read gone.0)) split part.sound
                 (omega (arith, parts, length-append part.front part.left))
@@ -109,11 +111,11 @@ module _ {R E W F : Type 0} {strict : Bool} (source : Reader R E) (sink : Writer
         }
 
     pub short_told : (fault : E) (new : Sides R W) → StopsCopy source sink count room old (r.Read (e.Io fault)) new
-        → MeetsFault source sink count due written Short old.decoder new
+        → MeetsFault source sink strict count due written Short old.decoder new
     short_told fault new (inl stops) = cut_title_told fault new stops
     short_told fault new (inr stops) = cut_body_told fault new stops
 
-  module _ (ready : IsReadyAs source sink strict count room old due written) where
+  module _ (ready : IsReady source sink strict count room old due written) where
     pub title_fits : (new : Sides R W) → StopsAtTitle source sink count old e.TooLong new → ⊥
     title_fits new stops =
         let c = came source sink count room old due written ready.told stops.bytes stops.marks
@@ -240,37 +242,35 @@ module _ {R E W F : Type 0} {strict : Bool} (source : Reader R E) (sink : Writer
               )
         ]
 
-    pub recode_told : strict ≡ false → (new : Sides R W) (result : Result (Unit {0}) (RecodeError E F))
+    pub recode_told : (new : Sides R W) (result : Result (Unit {0}) (RecodeError E F))
         → CopiesElements source sink count room old result new
-        → RecodesTold source sink count due written old.decoder result new
-    recode_told off new (Ok unit) all = all_told source sink count room old due written ready.told new all.elements
-    recode_told off new (Err (r.Read (e.Io fault))) stops = short_told ready.steady ready.told fault new stops
-    recode_told off new (Err (r.Read (e.Syntax at))) (inl stops) =
+        → RecodesTold source sink strict count due written old.decoder result new
+    recode_told new (Ok unit) all = all_told source sink count room old due written ready.told new all.elements
+    recode_told new (Err (r.Read (e.Io fault))) stops = short_told ready.steady ready.told fault new stops
+    recode_told new (Err (r.Read (e.Syntax at))) (inl stops) =
         no_title_told source sink count room old due written ready.told at new stops
-        (refused_leniently source sink count room old due written ready.told off at new stops)
-    recode_told off new (Err (r.Read (e.Syntax at))) (inr (inl stops)) =
+    recode_told new (Err (r.Read (e.Syntax at))) (inr (inl stops)) =
         other_title_told source sink count room old due written ready.told at new stops
-        (misplaced_leniently source sink count room old due written ready.told off at new stops)
-    recode_told off new (Err (r.Read (e.Syntax at))) (inr (inr stops)) =
+    recode_told new (Err (r.Read (e.Syntax at))) (inr (inr stops)) =
         damaged_told source sink count room old due written ready.told at new stops
-    recode_told off new (Err (r.Read e.TooLong)) (inl stops) = absurd (title_fits new stops)
-    recode_told off new (Err (r.Read e.TooLong)) (inr (inl stops)) = absurd (opens_fit new stops)
-    recode_told off new (Err (r.Read e.TooLong)) (inr (inr stops)) = absurd (body_fits new stops)
-    recode_told off new (Err (r.Read e.Waiting)) stops = absurd stops
-    recode_told off new (Err (r.Write fault)) stops = absurd (writer_fits new stops)
+    recode_told new (Err (r.Read e.TooLong)) (inl stops) = absurd (title_fits new stops)
+    recode_told new (Err (r.Read e.TooLong)) (inr (inl stops)) = absurd (opens_fit new stops)
+    recode_told new (Err (r.Read e.TooLong)) (inr (inr stops)) = absurd (body_fits new stops)
+    recode_told new (Err (r.Read e.Waiting)) stops = absurd stops
+    recode_told new (Err (r.Write fault)) stops = absurd (writer_fits new stops)
 
-    exactly_told : (new : Sides R W) (result : Result (Unit {0}) (RecodeError E F)) → RecodesTold source sink count due
-        written old.decoder result new → IsOk result ↔ RunInFront count due
+    exactly_told : (new : Sides R W) (result : Result (Unit {0}) (RecodeError E F)) → RecodesTold source sink strict count due
+        written old.decoder result new → IsOk result ↔ RunInFront strict count due
     exactly_told new (Ok unit) told = (λ ok. told.front, λ front. refl)
     exactly_told new (Err (r.Read (e.Io fault))) told =
-        (λ ok. absurd cc, λ front. absurd (no_fault count due front told.fault))
+        (λ ok. absurd cc, λ front. absurd (no_fault strict count due front told.fault))
     exactly_told new (Err (r.Read (e.Syntax at))) told =
-        (λ ok. absurd cc, λ front. absurd (no_fault count due front told.2.fault))
+        (λ ok. absurd cc, λ front. absurd (no_fault strict count due front told.2.fault))
     exactly_told new (Err (r.Read e.TooLong)) told = absurd told
     exactly_told new (Err (r.Read e.Waiting)) told = absurd told
     exactly_told new (Err (r.Write fault)) told = absurd told
 
-    pub recode_exactly : strict ≡ false → (new : Sides R W) (result : Result (Unit {0}) (RecodeError E F))
+    pub recode_exactly : (new : Sides R W) (result : Result (Unit {0}) (RecodeError E F))
         → CopiesElements source sink count room old result new
-        → IsOk result ↔ RunInFront count due
-    recode_exactly off new result copied = exactly_told new result (recode_told off new result copied)
+        → IsOk result ↔ RunInFront strict count due
+    recode_exactly new result copied = exactly_told new result (recode_told new result copied)

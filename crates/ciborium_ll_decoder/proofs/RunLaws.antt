@@ -14,7 +14,7 @@ use Rattle.ciborium_ll_decoder.specs.Decoding.{Begins, Passes}
 use Rattle.ciborium_ll_decoder.specs.Recoding.{IsUnderWay}
 use Rattle.ciborium_ll_grammar.proofs.TitleLaws.{shortest_no_longer, shortest_some}
 use Rattle.ciborium_ll_grammar.proofs.ElementLaws.{spelling-append, run_again}
-use Rattle.ciborium_ll_decoder.proofs.StrictFaultLaws.{inside_shorter}
+use Rattle.ciborium_ll_grammar.proofs.StrictFaultLaws.{inside_shorter}
 use Rattle.ciborium_ll_decoder.proofs.NestLaws.{title_some}
 
 -- ---- what is written is no longer than what was read

@@ -7,6 +7,7 @@ use Rattle.ciborium_ll_grammar.specs.Strings.{Kind}
 use Rattle.ciborium_ll_grammar.specs.Elements.{Mark, Close, pieces, open_marks, spelling, IsMeant, IsStrictSpelling}
 use Rattle.ciborium_ll_decoder.specs.Decoding.{Passes}
 use Rattle.ciborium_ll_grammar.proofs.ElementLaws.{spelling-append}
+use Rattle.ciborium_ll_grammar.proofs.StrictFaultLaws.{spelled_alone}
 
 pub meant_append : (ms ns : List Mark) → AllByRecursion IsMeant ms → AllByRecursion IsMeant ns
     → AllByRecursion IsMeant (ms ++ ns)
@@ -22,10 +23,6 @@ open_meant k bs = (tt, meant_append (pieces k bs) (Close ∷ []) (pieces_meant k
 
 pub spelled_none : IsStrictSpelling [] [] []
 spelled_none = record { same = refl; meant = tt }
-
--- no more behind the spelling
-pub spelled_alone : (bytes : List ℕ) (marks : List Mark) → IsStrictSpelling bytes marks [] → bytes ≡ spelling marks
-spelled_alone bytes marks s = s.same ∙ append-nil (spelling marks)
 
 -- marks more
 pub spelled_then : (bytes : List ℕ) (marks : List Mark) (more : List ℕ) (others : List Mark)

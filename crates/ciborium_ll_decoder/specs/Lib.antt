@@ -10,4 +10,3 @@ pub mod Recoding
 pub mod RecodingTold
 pub mod Segments
 pub mod Sides
-pub mod StrictRecoding

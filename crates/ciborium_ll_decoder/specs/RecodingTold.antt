@@ -1,5 +1,6 @@
--- What a copy of elements means where the bytes are told: whatever fails, and where no side fails by itself.
-use Rattle.std.specs.Prelude.{◌≡◌, ℕ, Bool, false, ◌+◌, ◌<◌, ◌≤◌, ◌⊎◌, min, max, List, [], ◌++◌, length, drop, None}
+-- What a copy of elements means where the bytes are told: whatever fails, and where no side fails by itself. A strict
+-- decoder takes elements in their shortest spelling alone.
+use Rattle.std.specs.Prelude.{◌≡◌, ℕ, Bool, true, false, ◌+◌, ◌<◌, ◌≤◌, ◌⊎◌, min, max, List, [], ◌++◌, length, drop, None}
 use Rattle.std.specs.Prelude.{Some, Result, Ok, Err}
 use Rattle.ciborium_ll_io.specs.declared.io.Read.{Ghosts as Reader}
 use Rattle.ciborium_ll_io.specs.declared.io.Write.{Ghosts as Writer}
@@ -57,39 +58,34 @@ pub record StopInWriting (count : ℕ) (bytes : List ℕ) : Type 0 where
   pub begun : Begins written (spelling marks ++ more)
 
 module _ {R E W F : Type 0} (source : Reader R E) (sink : Writer W F) where
-  -- the bytes that are due are told, and those that were written
-  pub record IsToldAs (strict : Bool) (now : Sides R W) (due written : List ℕ) : Type 0 where
+  -- the bytes that are due are told, and those that were written. The decoder is strict or not, as given; a header
+  -- that waits on a strict one was never read, so none may
+  pub record IsTold (strict : Bool) (now : Sides R W) (due written : List ℕ) : Type 0 where
     pub mode : now.decoder.strict ≡ strict
     pub due-told : view source now.decoder ≡ Some due
     pub written-told : sink.written now.writer ≡ Some written
-
-  -- they are told, and the decoder isn't strict
-  abbrev pub IsTold : Sides R W → List ℕ → List ℕ → Type 0
-  IsTold now due written = IsToldAs false now due written
+    pub none_waits : strict ≡ true → now.decoder.waiting ≡ None
 
   -- the reader gives the bytes that it tells, the writer has room, and the offset takes every read, through
   -- a buffer of so much room
-  pub record IsReadyAs (strict : Bool) (count room-in : ℕ) (now : Sides R W)
+  pub record IsReady (strict : Bool) (count room-in : ℕ) (now : Sides R W)
       (due written : List ℕ) : Type 0 where
     pub steady : IsSteady source now.decoder
-    pub told : IsToldAs strict now due written
+    pub told : IsTold strict now due written
     pub room : ℕ
     pub room-told : sink.room now.writer ≡ Some room
     -- for the spelling of the elements where they stand in front, else for as many bytes as are due
-    pub enough : ((front : RunInFront count due) × (length (spelling front.marks) ≤ room)) ⊎ (length due ≤ room)
+    pub enough : ((front : RunInFront false count due) × (length (spelling front.marks) ≤ room)) ⊎ (length due ≤ room)
     pub fits-title : now.decoder.offset + length due + 8 < offset_limit
     pub fits-chunk : now.decoder.offset + length due + room-in < offset_limit
-
-  -- all that, and the decoder isn't strict
-  abbrev pub IsReady : ℕ → ℕ → Sides R W → List ℕ → List ℕ → Type 0
-  IsReady count room-in now due written = IsReadyAs false count room-in now due written
 
   -- ---- from the old decoder to both sides: of the old writer it is said what was written
 
   -- that many elements stood in front of what was due: just their shortest spelling was written and just what follows
   -- them is left. The spelling is the same elements again, so a copy of it changes nothing
-  pub record CopiesFront (count : ℕ) (due written : List ℕ) (old : Decoder R) (new : Sides R W) : Type 0 where
-    pub front : RunInFront count due
+  pub record CopiesFront (strict : Bool) (count : ℕ) (due written : List ℕ) (old : Decoder R)
+      (new : Sides R W) : Type 0 where
+    pub front : RunInFront strict count due
     pub output : sink.written new.writer ≡ Some (written ++ spelling front.marks)
     pub again : IsRun count (spelling front.marks) front.marks
     pub left : view source new.decoder ≡ Some front.rest
@@ -99,24 +95,25 @@ module _ {R E W F : Type 0} (source : Reader R E) (sink : Writer W F) where
     pub still : count ≡ 0 → new.decoder.waiting ≡ old.waiting
 
   -- a fault was met: the answer, what was written up to it and what is consumed are its own
-  pub record MeetsFault (count : ℕ) (due written : List ℕ) (answer : Answer) (old : Decoder R) (new : Sides R W) :
-      Type 0 where
-    pub fault : HasFault count due
+  pub record MeetsFault (strict : Bool) (count : ℕ) (due written : List ℕ) (answer : Answer) (old : Decoder R)
+      (new : Sides R W) : Type 0 where
+    pub fault : HasFault strict count due
     pub answered : fault.answer ≡ answer
     pub output : sink.written new.writer ≡ Some (written ++ fault.written)
     pub left : view source new.decoder ≡ Some (drop fault.consumed fault.ahead)
     pub offset : new.decoder.offset ≡ old.offset + length fault.before + fault.consumed
 
   -- `recode`: all elements are copied, or the first fault stops it
-  abbrev pub RecodesTold : ℕ → List ℕ → List ℕ → Decoder R → Result (Unit {0}) (RecodeError E F) → Sides R W
+  abbrev pub RecodesTold : Bool → ℕ → List ℕ → List ℕ → Decoder R → Result (Unit {0}) (RecodeError E F) → Sides R W
       → Type 0
-  RecodesTold count due written old (Ok done) new = CopiesFront count due written old new
-  RecodesTold count due written old (Err (r.Read (e.Io fault))) new = MeetsFault count due written Short old new
-  RecodesTold count due written old (Err (r.Read (e.Syntax place))) new =
-      (start : ℕ) × (place ≡ old.offset + start) × MeetsFault count due written (Syntax start) old new
-  RecodesTold count due written old (Err (r.Read e.TooLong)) new = ⊥
-  RecodesTold count due written old (Err (r.Read e.Waiting)) new = ⊥
-  RecodesTold count due written old (Err (r.Write fault)) new = ⊥
+  RecodesTold strict count due written old (Ok done) new = CopiesFront strict count due written old new
+  RecodesTold strict count due written old (Err (r.Read (e.Io fault))) new =
+      MeetsFault strict count due written Short old new
+  RecodesTold strict count due written old (Err (r.Read (e.Syntax place))) new =
+      (start : ℕ) × (place ≡ old.offset + start) × MeetsFault strict count due written (Syntax start) old new
+  RecodesTold strict count due written old (Err (r.Read e.TooLong)) new = ⊥
+  RecodesTold strict count due written old (Err (r.Read e.Waiting)) new = ⊥
+  RecodesTold strict count due written old (Err (r.Write fault)) new = ⊥
 
   -- ---- where a side may fail by itself
 
@@ -134,13 +131,15 @@ module _ {R E W F : Type 0} (source : Reader R E) (sink : Writer W F) where
     pub offset : new.decoder.offset ≡ old.offset + length stop.before + length stop.read
 
   -- `recode` through a buffer of so much room, whatever fails: `Ok` and `Syntax` mean the same as where nothing does
-  abbrev pub RecodesAnyhow : ℕ → ℕ → List ℕ → List ℕ → Decoder R → Result (Unit {0}) (RecodeError E F)
+  abbrev pub RecodesAnyhow : Bool → ℕ → ℕ → List ℕ → List ℕ → Decoder R → Result (Unit {0}) (RecodeError E F)
       → Sides R W → Type 0
-  RecodesAnyhow count room-in due written old (Ok done) new = CopiesFront count due written old new
-  RecodesAnyhow count room-in due written old (Err (r.Read (e.Io fault))) new = StopsShort count due written old new
-  RecodesAnyhow count room-in due written old (Err (r.Read (e.Syntax place))) new =
-      (start : ℕ) × (place ≡ old.offset + start) × MeetsFault count due written (Syntax start) old new
-  RecodesAnyhow count room-in due written old (Err (r.Read e.TooLong)) new =
+  RecodesAnyhow strict count room-in due written old (Ok done) new = CopiesFront strict count due written old new
+  RecodesAnyhow strict count room-in due written old (Err (r.Read (e.Io fault))) new =
+      StopsShort count due written old new
+  RecodesAnyhow strict count room-in due written old (Err (r.Read (e.Syntax place))) new =
+      (start : ℕ) × (place ≡ old.offset + start) × MeetsFault strict count due written (Syntax start) old new
+  RecodesAnyhow strict count room-in due written old (Err (r.Read e.TooLong)) new =
       StopsShort count due written old new × (offset_limit ≤ new.decoder.offset + max 8 room-in)
-  RecodesAnyhow count room-in due written old (Err (r.Read e.Waiting)) new = ⊥
-  RecodesAnyhow count room-in due written old (Err (r.Write fault)) new = StopsUnwritten count due written old new
+  RecodesAnyhow strict count room-in due written old (Err (r.Read e.Waiting)) new = ⊥
+  RecodesAnyhow strict count room-in due written old (Err (r.Write fault)) new =
+      StopsUnwritten count due written old new

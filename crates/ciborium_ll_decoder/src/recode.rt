@@ -1,14 +1,12 @@
 //! Elements copied from a decoder to an encoder, each in its shortest spelling.
 
-ghost use Rattle.std.specs.Prelude.{◌≡◌, ◌≤◌, ◌↔◌, ℕ, true, List, length, IsOk, None, Some};
+ghost use Rattle.std.specs.Prelude.{◌≡◌, ◌≤◌, ◌↔◌, ℕ, Bool, List, length, IsOk, None, Some};
 ghost use Rattle.ciborium_ll_grammar.specs.Title.{title_len};
 ghost use Rattle.ciborium_ll_grammar.specs.Strings.{kind_header};
 ghost use Rattle.ciborium_ll_decoder.specs.Decoding.{MovesOn, offset_of, waiting_of};
 ghost use Rattle.ciborium_ll_encoder.specs.Encoding.{writer_of};
 ghost use Rattle.ciborium_ll_grammar.specs.Faults.{RunInFront};
-ghost use Rattle.ciborium_ll_decoder.specs.RecodingTold.{IsReady, IsReadyAs, IsTold, IsToldAs, RecodesAnyhow};
-ghost use Rattle.ciborium_ll_decoder.specs.RecodingTold.{RecodesTold};
-ghost use Rattle.ciborium_ll_decoder.specs.StrictRecoding.{RecodesStrictly, RecodesStrictlyAnyhow, StrictRunInFront};
+ghost use Rattle.ciborium_ll_decoder.specs.RecodingTold.{IsReady, IsTold, RecodesAnyhow, RecodesTold};
 ghost use Rattle.ciborium_ll_decoder.specs.Recoding.{CopiesBehind, CopiesElement, CopiesElements};
 ghost use Rattle.ciborium_ll_decoder.specs.Recoding.{CopiesSegments, WritesHeader};
 ghost use Rattle.ciborium_ll_decoder.specs.Sides.{sides_of};
@@ -197,29 +195,16 @@ pub fn recode<R: Read, W: Write>(
     requires room { 4 ≤ length buffer.old }
     ensures copied { CopiesElements R.Read W.Write count (length buffer.old)
         (sides_of decoder.old encoder.old) result (sides_of decoder.new encoder.new) }
-    ensures told { (due written : List ℕ)
-        → IsReady R.Read W.Write count (length buffer.old) (sides_of decoder.old encoder.old) due written
-        → RecodesTold R.Read W.Write count due written decoder.old result
+    ensures told { (strict : Bool) (due written : List ℕ)
+        → IsReady R.Read W.Write strict count (length buffer.old) (sides_of decoder.old encoder.old) due written
+        → RecodesTold R.Read W.Write strict count due written decoder.old result
         (sides_of decoder.new encoder.new) }
-    ensures exactly { (due written : List ℕ)
-        → IsReady R.Read W.Write count (length buffer.old) (sides_of decoder.old encoder.old) due written
-        → (IsOk result ↔ RunInFront count due) }
-    ensures anyhow { (due written : List ℕ) → IsTold R.Read W.Write (sides_of decoder.old encoder.old) due written
-        → RecodesAnyhow R.Read W.Write count (length buffer.old) due written decoder.old result
-        (sides_of decoder.new encoder.new) }
-    ensures strictly { (due written : List ℕ)
-        → IsReadyAs R.Read W.Write true count (length buffer.old) (sides_of decoder.old encoder.old) due written
-        → waiting_of decoder.old ≡ None
-        → RecodesStrictly R.Read W.Write count due written decoder.old result
-        (sides_of decoder.new encoder.new) }
-    ensures strictly_exactly { (due written : List ℕ)
-        → IsReadyAs R.Read W.Write true count (length buffer.old) (sides_of decoder.old encoder.old) due written
-        → waiting_of decoder.old ≡ None
-        → (IsOk result ↔ StrictRunInFront count due) }
-    ensures strictly_anyhow { (due written : List ℕ)
-        → IsToldAs R.Read W.Write true (sides_of decoder.old encoder.old) due written
-        → waiting_of decoder.old ≡ None
-        → RecodesStrictlyAnyhow R.Read W.Write count (length buffer.old) due written decoder.old result
+    ensures exactly { (strict : Bool) (due written : List ℕ)
+        → IsReady R.Read W.Write strict count (length buffer.old) (sides_of decoder.old encoder.old) due written
+        → (IsOk result ↔ RunInFront strict count due) }
+    ensures anyhow { (strict : Bool) (due written : List ℕ)
+        → IsTold R.Read W.Write strict (sides_of decoder.old encoder.old) due written
+        → RecodesAnyhow R.Read W.Write strict count (length buffer.old) due written decoder.old result
         (sides_of decoder.new encoder.new) }
     ensures moves_on { MovesOn R.Read decoder.old decoder.new }
     ensures target { W.target (writer_of encoder.new) ≡ W.target (writer_of encoder.old) }

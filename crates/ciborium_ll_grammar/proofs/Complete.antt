@@ -1,5 +1,5 @@
--- Either n elements stand in front, or a fault stops them.
-use Rattle.std.proofs.Common.{◌≡◌, ℕ, zero, suc, ◌+◌, ◌-◌, ◌%◌, ◌<◌, ◌≤◌, ◌⊎◌, min, List, [], ◌∷◌, ◌++◌, length, take}
+-- Either n elements stand in front, or a fault stops them, where any spelling is taken.
+use Rattle.std.proofs.Common.{◌≡◌, ℕ, zero, suc, ◌+◌, ◌-◌, ◌%◌, ◌<◌, ◌≤◌, ◌⊎◌, false, min, List, [], ◌∷◌, ◌++◌, length, take}
 use Rattle.std.proofs.Common.{drop, Some, None, refl, sym, ap, subst, ◌∙◌, append_assoc, arith, inl, inr}
 use Rattle.std.proofs.lemmas.Bool.{cases_lt}
 use Rattle.std.proofs.lemmas.List.{append-nil, length-append, take-append-drop, length-take, length-take-le}
@@ -53,8 +53,8 @@ data Going (n : ℕ) : List ℕ → Type 0 where
 
 -- what one step over a title comes to: a run, a fault, or fewer bytes ahead
 data Step (n : ℕ) (u s : List ℕ) : Type 0 where
-  whole : RunInFront n (u ++ s) → Step n u s
-  fails : HasFault n (u ++ s) → Step n u s
+  whole : RunInFront false n (u ++ s) → Step n u s
+  fails : HasFault false n (u ++ s) → Step n u s
   goes : (u' s' : List ℕ) → Going n u' → u ++ s ≡ u' ++ s' → length s' < length s → Step n u s
 
 -- a header by what it begins
@@ -125,7 +125,7 @@ part_nil Text = IsCharacters-nil
 
 -- the bytes end within a body
 body_faulty : (n : ℕ) (v s : List ℕ) (ms : List Mark) (k : Kind) (l p : ℕ) → Reaches n v ms (BodyDue k l p)
-    → length s < l → HasFault n (v ++ s)
+    → length s < l → HasFault false n (v ++ s)
 body_faulty n v s ms k l p r lt = record {
   before = v;
   marks = ms;
@@ -136,13 +136,14 @@ body_faulty n v s ms k l p r lt = record {
   consumed = 0;
   reach = r;
   is = refl;
+  spelled = λ on. absurd cc;
   fault = CutBody [] s lt refl (part_nil k) (omega arith) (omega arith) (omega arith);
 }
 
 -- a body of a text is no text
 text_faulty : (n : ℕ) (v s : List ℕ) (ms : List Mark) (k : Kind) (l p : ℕ) → Reaches n v ms (BodyDue k l p) → k ≡ Text
     → l ≤ length s
-    → (IsCharacters (take l s) → ⊥) → HasFault n (v ++ s)
+    → (IsCharacters (take l s) → ⊥) → HasFault false n (v ++ s)
 text_faulty n v s ms k l p r e le un = record {
   before = v;
   marks = ms;
@@ -153,6 +154,7 @@ text_faulty n v s ms k l p r e le un = record {
   consumed = 0;
   reach = subst (λ (j : Kind). Reaches n v ms (BodyDue j l p)) e r;
   is = refl;
+  spelled = λ on. absurd cc;
   fault = DamagedText [] (take l s) le un refl IsCharacters-nil (omega arith);
 }
 
@@ -161,8 +163,8 @@ shift : (u t s rest : List ℕ) → s ≡ t ++ rest → u ++ s ≡ (u ++ t) ++ r
 shift u t s rest e = ap (λ (z : List ℕ). u ++ z) e ∙ sym (append_assoc u t rest)
 
 -- a fault of the same bytes
-moved : (n : ℕ) (x y : List ℕ) → x ≡ y → HasFault n y → HasFault n x
-moved n x y e f = subst (HasFault n) (sym e) f
+moved : (n : ℕ) (x y : List ℕ) → x ≡ y → HasFault false n y → HasFault false n x
+moved n x y e f = subst (HasFault false n) (sym e) f
 
 -- behind a title fewer bytes are ahead
 less : (t rest s : List ℕ) (x : Header) → IsTitle t x → s ≡ t ++ rest → length rest < length s
@@ -182,6 +184,7 @@ due_step n i left u s ms e r (ends c) =
           (length s);
       reach = due (omega arith) r;
       is = refl;
+      spelled = λ on. absurd cc;
       fault = CutTitle tt c;
     })
 due_step n i left u s ms e r (refuses c) =
@@ -196,6 +199,7 @@ due_step n i left u s ms e r (refuses c) =
       consumed = 1;
       reach = due (omega arith) r;
       is = refl;
+      spelled = λ on. absurd cc;
       fault = NoTitle tt c;
     })
 due_step n i left u s ms e r (titled t rest x p q) =
@@ -273,6 +277,7 @@ in_step n i left j u v s ms bs k e r ia ok (ends c) =
           min 1 (length s);
       reach = inside (omega arith) r (counted k (suc j) v bs ia) ok;
       is = refl;
+      spelled = λ on. absurd cc;
       fault = CutTitle tt c;
     })
 in_step n i left j u v s ms bs k e r ia ok (refuses c) =
@@ -289,6 +294,7 @@ in_step n i left j u v s ms bs k e r ia ok (refuses c) =
           1;
       reach = inside (omega arith) r (counted k (suc j) v bs ia) ok;
       is = refl;
+      spelled = λ on. absurd cc;
       fault = NoTitle tt c;
     })
 in_step n i left j u v s ms bs k e r ia ok (titled t rest x p q) =
@@ -307,7 +313,8 @@ in_step n i left j u v s ms bs k e r ia ok (titled t rest x p q) =
         consumed = length t;
         reach = reach;
         is = refl;
-        fault = OtherTitle x rest p f q;
+        spelled = λ on. absurd cc;
+        fault = OtherTitle x rest p (inl f) q;
       })
       | in_break o ↦ break_step n i left j u v s rest ms bs k e r ia ok
           (q ∙ ap (λ (z : List ℕ). z ++ rest) (break_is t x p o))
@@ -344,6 +351,7 @@ step n u (between i zero ms e r) s f =
       run = subst (λ (z : ℕ). IsRun z u ms)
           (let d : i ≡ n = omega arith in d) r;
       is = refl;
+      spelled = λ on. absurd cc;
     })
 step n u (between i (suc left) ms e r) s f = due_step n i left u s ms e r (sight s f)
 step n u (within {u = a} {v} i left j ms bs k e r ia ok) s f = in_step n i left j a v s ms bs k e r ia ok (sight s f)
@@ -356,16 +364,16 @@ AreBytes-rest (x ∷ a) b f = AreBytes-rest a b f.1
 
 -- all steps, by the bytes that are ahead
 all_steps : (fuel n : ℕ) (u s : List ℕ) → length s < fuel → Going n u → AreBytes (u ++ s)
-    → RunInFront n (u ++ s) ⊎ HasFault n (u ++ s)
+    → RunInFront false n (u ++ s) ⊎ HasFault false n (u ++ s)
 all_steps zero n u s l g f = absurd (omega arith)
 all_steps (suc fuel) n u s l g f =
     elim (step n u g s (AreBytes-rest u s f)) [
       | whole r ↦ inl r
       | fails r ↦ inr r
-      | goes u' s' g' e m ↦ subst (λ (z : List ℕ). RunInFront n z ⊎ HasFault n z) (sym e)
+      | goes u' s' g' e m ↦ subst (λ (z : List ℕ). RunInFront false n z ⊎ HasFault false n z) (sym e)
           (all_steps fuel n u' s' (omega arith) g' (subst AreBytes e f))
     ]
 
 -- in any bytes a run of n elements stands in front, or a fault stops it
-pub complete : (n : ℕ) (x : List ℕ) → AreBytes x → RunInFront n x ⊎ HasFault n x
+pub complete : (n : ℕ) (x : List ℕ) → AreBytes x → RunInFront false n x ⊎ HasFault false n x
 complete n x f = all_steps (suc (length x)) n [] x (omega arith) (between 0 n [] (omega arith) done) f

@@ -1,35 +1,86 @@
--- A fault and a run of enough elements exclude each other.
-use Rattle.std.proofs.Common.{◌≡◌, ℕ, ◌<◌, List, ◌++◌, length, refl, sym, ◌∙◌, append_assoc, arith, inl, inr}
-use Rattle.ciborium_ll_grammar.specs.Strings.{Kind, Bytes, Text}
-use Rattle.ciborium_ll_grammar.specs.Elements.{Mark, IsElement, IsRun, done, next}
+-- At a fault what is due can't come, or is refused where only the shortest spelling is taken.
+use Rattle.std.proofs.Common.{◌≡◌, ℕ, ◌<◌, ◌⊎◌, Bool, true, false, List, ◌++◌, length, None, refl, sym, subst, ◌∙◌}
+use Rattle.std.proofs.Common.{[], ◌∷◌, ap, append_assoc, length-append, arith, inl, inr}
+use Rattle.ciborium_ll_grammar.specs.declared.hdr.Header.{Header}
+use Rattle.ciborium_ll_grammar.specs.Title.{IsTitle}
+use Rattle.ciborium_ll_grammar.specs.Strings.{Kind, Bytes, Text, kind_header, IsMisplaced}
+use Rattle.std.specs.List.{AllByRecursion}
+use Rattle.ciborium_ll_grammar.specs.Elements.{Mark, spelling, IsElement, IsRun, done, next, IsMeant}
 use Rattle.ciborium_ll_grammar.specs.Faults.{Place, Due, In, BodyDue, Reaches, due, inside, body, body_inside, Answer}
-use Rattle.ciborium_ll_grammar.specs.Faults.{FirstFault, RunInFront, HasFault, CutTitle, NoTitle, OtherTitle}
-use Rattle.ciborium_ll_grammar.specs.Faults.{DamagedText, CutBody, CutDamagedText}
-use Rattle.ciborium_ll_grammar.proofs.ElementLaws.{one_element}
+use Rattle.ciborium_ll_grammar.specs.Faults.{IsAtTitle, IsRefusedIn, FirstFault, CutTitle, NoTitle, LongTitle}
+use Rattle.ciborium_ll_grammar.specs.Faults.{OtherTitle, DamagedText, CutBody, CutDamagedText}
+use Rattle.ciborium_ll_grammar.specs.Items.{IsTakenTitle}
+use Rattle.ciborium_ll_grammar.proofs.ElementLaws.{one_element, element_again, run_again, spelling-append}
+use Rattle.ciborium_ll_text.proofs.Lists.{same_front}
 use Rattle.ciborium_ll_grammar.proofs.HaltLaws.{IsBad, Halt, halt_cut, halt_refused, halt_misplaced, halt_bad}
 use Rattle.ciborium_ll_grammar.proofs.HaltLaws.{opens_of, Stop, stop_cut, stop_refused, stop_bad, element_stops}
 use Rattle.ciborium_ll_grammar.proofs.HaltLaws.{element_inside}
 
--- the next element of a longer run stands behind a shorter one
-pub record Follows (x : List ℕ) : Type 0 where
+pub meant_left : (ms ns : List Mark) → AllByRecursion IsMeant (ms ++ ns) → AllByRecursion IsMeant ms
+meant_left [] ns p = tt
+meant_left (m ∷ ms) ns p = (p.0, meant_left ms ns p.1)
+
+pub meant_right : (ms ns : List Mark) → AllByRecursion IsMeant (ms ++ ns) → AllByRecursion IsMeant ns
+meant_right [] ns p = p
+meant_right (m ∷ ms) ns p = meant_right ms ns p.1
+
+-- an element and elements behind it that are spelled shortest are so each
+next_same : (x y : List ℕ) (ns os : List Mark) (m : ℕ) → IsElement x ns → IsRun m y os → x ++ y
+    ≡ spelling (ns ++ os) → (x ≡ spelling ns) × (y ≡ spelling os)
+next_same x y ns os m a r e =
+    let b = element_again x ns a in
+    let c = run_again m y os r in
+    let lb = b.shorter in
+    let lc = c.shorter in
+    let s = e ∙ spelling-append ns os in
+    let counted = ap length s in
+    same_front x (spelling ns) y (spelling os) (omega (
+      arith,
+      lb,
+      lc,
+      counted,
+      length-append x y,
+      length-append
+          (spelling ns) (spelling os),
+    )) s
+
+-- the next element of a longer run stands behind a shorter one, and is its own spelling where the run is
+pub record Follows (run : List ℕ) (all : List Mark) (x : List ℕ) : Type 0 where
   pub word : List ℕ
   pub marks : List Mark
   pub ok : IsElement word marks
   pub rest : List ℕ
   pub is : x ≡ word ++ rest
+  pub spelled : run ≡ spelling all → AllByRecursion IsMeant all
+      → (word ≡ spelling marks) × AllByRecursion IsMeant marks
 
 -- of two runs in front of one list the longer goes on with an element
 pub follows : (i : ℕ) (u : List ℕ) (ms : List Mark) → IsRun i u ms → (n : ℕ) (w : List ℕ) (ns : List Mark)
     → IsRun n w ns → i < n
-    → (x v : List ℕ) → u ++ x ≡ w ++ v → Follows x
+    → (x v : List ℕ) → u ++ x ≡ w ++ v → Follows w ns x
 follows i u ms done n w ns done l x v e = absurd (omega arith)
-follows i u ms done n w ns (next {first = a} {rest = b} {marks = os} p r) l x v e =
-    record { word = a; marks = os; ok = p; rest = b ++ v; is = e ∙ append_assoc a b v }
+follows i u ms done n w ns (next {count = j} {first = a} {rest = b} {marks = os} {others = ps} p r) l x v e =
+    record {
+      word = a;
+      marks = os;
+      ok = p;
+      rest = b ++ v;
+      is = e ∙ append_assoc a b v;
+      spelled = λ same meant. ((next_same a b os ps j p r same).0, meant_left os ps meant);
+    }
 follows i u ms (next p r) n w ns done l x v e = absurd (omega arith)
 follows i u ms (next {count = j} {first = a} {rest = b} {marks = os} {others = ps} p r) n w ns
     (next {count = m} {first = a'} {rest = b'} {marks = os'} {others = ps'} p' r') l x v e =
     let o = one_element a a' (b ++ x) (b' ++ v) os os' p p' (sym (append_assoc a b x) ∙ (e ∙ append_assoc a' b' v)) in
-    follows j b ps r m b' ps' r' (omega arith) x v o.2
+    let z = follows j b ps r m b' ps' r' (omega arith) x v o.2 in
+    record {
+      word = z.word;
+      marks = z.marks;
+      ok = z.ok;
+      rest = z.rest;
+      is = z.is;
+      spelled = λ same meant. z.spelled (next_same a' b' os' ps' m p' r' same).1 (meant_right os' ps' meant);
+    }
 
 -- what is due can't come
 pub data Stuck : Place → List ℕ → Type 0 where
@@ -38,7 +89,7 @@ pub data Stuck : Place → List ℕ → Type 0 where
   bad_body : {s : List ℕ} {k : Kind} {l p : ℕ} → IsBad k l s → Stuck (BodyDue k l p) s
 
 -- no run of n elements stands in front where what is due cannot come
-reach_stuck : (n : ℕ) (u : List ℕ) (ms : List Mark) (at : Place) → Reaches n u ms at → (s : List ℕ) → Stuck at s
+pub reach_stuck : (n : ℕ) (u : List ℕ) (ms : List Mark) (at : Place) → Reaches n u ms at → (s : List ℕ) → Stuck at s
     → (w v : List ℕ) (ns : List Mark) → IsRun n w ns → u ++ s ≡ w ++ v → ⊥
 reach_stuck n u ms at (due {before = i} l r) s (stop f) w v ns r' e =
     let z = follows i u ms r n w ns r' l s v e in
@@ -57,24 +108,47 @@ pub too_short : (k : Kind) (l : ℕ) (s : List ℕ) → length s < l → IsBad k
 too_short Bytes l s f = f
 too_short Text l s f = inl f
 
--- at a fault what is due cannot come
-pub stuck : (u : List ℕ) (ms : List Mark) (at : Place) (s : List ℕ) (a : Answer) (out : List ℕ) (c : ℕ)
-    → FirstFault u ms at s a out c
-    → Stuck at s
-stuck u ms at s a out c (CutTitle {place = Due} d f) = stop (stop_cut f)
-stuck u ms at s a out c (CutTitle {place = In k} d f) = halt k (halt_cut f)
-stuck u ms at s a out c (CutTitle {place = BodyDue k l p} d f) = absurd d
-stuck u ms at s a out c (NoTitle {place = Due} d f) = stop (stop_refused f)
-stuck u ms at s a out c (NoTitle {place = In k} d f) = halt k (halt_refused f)
-stuck u ms at s a out c (NoTitle {place = BodyDue k l p} d f) = absurd d
-stuck u ms at s a out c (OtherTitle {kind = k} x r p f e) = halt k (halt_misplaced r x p f e)
-stuck u ms at s a out c (DamagedText b r l f e g m) = bad_body (inr f)
-stuck u ms at s a out c (CutBody {kind = k} {len = l} b r f e g m m2 m3) = bad_body (too_short k l s f)
-stuck u ms at s a out c (CutDamagedText b r f g e p m) = bad_body (inl f)
+-- a title that is refused only where the shortest spelling alone is taken
+pub data Refuses (strict : Bool) : Place → List ℕ → Type 0 where
+  long : {at : Place} {s t : List ℕ} (x : Header) (r : List ℕ) → IsAtTitle at → IsTitle t x
+      → (IsTakenTitle strict t x → ⊥) → s ≡ t ++ r → Refuses strict at s
+  nested : {k : Kind} {s t : List ℕ} (r : List ℕ) → strict ≡ true → IsTitle t (kind_header k None) → s ≡ t ++ r
+      → Refuses strict (In k) s
 
--- where a run of n elements stands in front, there is no fault
-pub no_fault : (n : ℕ) (x : List ℕ) → RunInFront n x → HasFault n x → ⊥
-no_fault n x r f =
-    reach_stuck n f.before f.marks f.place f.reach f.ahead
-    (stuck f.before f.marks f.place f.ahead f.answer f.written f.consumed f.fault)
-    r.elements r.rest r.marks r.run (sym f.is ∙ r.is)
+-- elsewhere none is
+pub none_refused : (at : Place) (s : List ℕ) → Refuses false at s → ⊥
+none_refused at s (long x r d p untaken e) = untaken tt
+none_refused at s (nested r on p e) = absurd (let o = on in cc)
+
+pub lenient_misplaced : (k : Kind) (x : Header) → IsRefusedIn false k x → IsMisplaced k x
+lenient_misplaced k x (inl f) = f
+lenient_misplaced k x (inr further) = absurd (let on = further.0 in cc)
+
+refused_other : (strict : Bool) (k : Kind) (s t r : List ℕ) (x : Header) → IsTitle t x → IsRefusedIn strict k x
+    → s ≡ t ++ r → Stuck (In k) s ⊎ Refuses strict (In k) s
+refused_other strict k s t r x p (inl f) e = inl (halt k (halt_misplaced r x p f e))
+refused_other strict k s t r x p (inr further) e =
+    inr (nested r further.0 (subst (IsTitle t) further.1 p) e)
+
+-- at a fault what is due can't come, or is refused
+pub stuck_or_refused : (strict : Bool) (u : List ℕ) (ms : List Mark) (at : Place) (s : List ℕ) (a : Answer)
+    (out : List ℕ) (c : ℕ) → FirstFault strict u ms at s a out c
+    → Stuck at s ⊎ Refuses strict at s
+stuck_or_refused strict u ms at s a out c (CutTitle {place = Due} d f) = inl (stop (stop_cut f))
+stuck_or_refused strict u ms at s a out c (CutTitle {place = In k} d f) = inl (halt k (halt_cut f))
+stuck_or_refused strict u ms at s a out c (CutTitle {place = BodyDue k l p} d f) = absurd d
+stuck_or_refused strict u ms at s a out c (NoTitle {place = Due} d f) = inl (stop (stop_refused f))
+stuck_or_refused strict u ms at s a out c (NoTitle {place = In k} d f) = inl (halt k (halt_refused f))
+stuck_or_refused strict u ms at s a out c (NoTitle {place = BodyDue k l p} d f) = absurd d
+stuck_or_refused strict u ms at s a out c (LongTitle x r d p untaken e) = inr (long x r d p untaken e)
+stuck_or_refused strict u ms at s a out c (OtherTitle {kind = k} {title = t} x r p f e) =
+    refused_other strict k s t r x p f e
+stuck_or_refused strict u ms at s a out c (DamagedText b r l f e g m) = inl (bad_body (inr f))
+stuck_or_refused strict u ms at s a out c (CutBody {kind = k} {len = l} b r f e g m m2 m3) =
+    inl (bad_body (too_short k l s f))
+stuck_or_refused strict u ms at s a out c (CutDamagedText b r f g e p m) = inl (bad_body (inl f))
+
+pub stuck : (u : List ℕ) (ms : List Mark) (at : Place) (s : List ℕ) (a : Answer) (out : List ℕ) (c : ℕ)
+    → FirstFault false u ms at s a out c → Stuck at s
+stuck u ms at s a out c f = elim (stuck_or_refused false u ms at s a out c f)
+    [ inl halts ↦ halts | inr refuses ↦ absurd (none_refused at s refuses) ]

@@ -1,4 +1,5 @@
 pub mod AffixLaws
+pub mod AloneLaws
 pub mod Complete
 pub mod ElementLaws
 pub mod FaultLaws
@@ -11,6 +12,7 @@ pub mod PartsLaws
 pub mod RefusedBytes
 pub mod StartLaws
 pub mod StepLaws
+pub mod StrictFaultLaws
 pub mod StringLaws
 pub mod TightLaws
 pub mod TitleLaws

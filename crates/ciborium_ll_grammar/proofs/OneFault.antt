@@ -1,14 +1,14 @@
--- The faults in one list of bytes are all at one place.
-use Rattle.std.proofs.Common.{arith, [], ◌≡◌, ℕ, ◌-◌, ◌<◌, ◌⊎◌, List, ◌∷◌, ◌++◌, length, Some, None, refl, sym, ap}
-use Rattle.std.proofs.Common.{subst, ◌∙◌, append_assoc, inl, inr}
+-- The faults in one list of bytes are all at one place, where any spelling is taken.
+use Rattle.std.proofs.Common.{arith, [], ◌≡◌, ℕ, ◌-◌, ◌<◌, ◌⊎◌, false, List, ◌∷◌, ◌++◌, length, Some, None, refl, sym}
+use Rattle.std.proofs.Common.{ap, subst, ◌∙◌, append_assoc, inl, inr}
 use Rattle.std.proofs.lemmas.Bool.{cases_order}
 use Rattle.ciborium_ll_grammar.specs.declared.hdr.Header.{Header}
 use Rattle.ciborium_ll_grammar.specs.Title.{IsTitle, IsCutTitle, BeginsRefused, title_len}
 use Rattle.ciborium_ll_grammar.specs.Strings.{Kind, kind_header, IsString, AreStrings, none, more, IsMisplaced}
 use Rattle.ciborium_ll_grammar.specs.Elements.{AreWritable, Mark, Open, pieces, IsElement, IsRun}
 use Rattle.ciborium_ll_grammar.specs.Faults.{IsInside, Place, Due, In, BodyDue, Reaches, due, inside, body, body_inside}
-use Rattle.ciborium_ll_grammar.specs.Faults.{Answer, FirstFault, HasFault, CutTitle, NoTitle, OtherTitle, DamagedText}
-use Rattle.ciborium_ll_grammar.specs.Faults.{CutBody, CutDamagedText}
+use Rattle.ciborium_ll_grammar.specs.Faults.{Answer, FirstFault, HasFault, CutTitle, NoTitle, LongTitle, OtherTitle}
+use Rattle.ciborium_ll_grammar.specs.Faults.{DamagedText, CutBody, CutDamagedText}
 use Rattle.ciborium_ll_text.specs.Text.{BeginsNoText}
 use Rattle.ciborium_ll_grammar.proofs.TitleLaws.{one_title, title_refused}
 use Rattle.ciborium_ll_grammar.proofs.AffixLaws.{title_not_cut, refused_affix}
@@ -18,7 +18,7 @@ use Rattle.ciborium_ll_grammar.proofs.HaltLaws.{IsBad, Halt, halt_cut, halt_refu
 use Rattle.ciborium_ll_grammar.proofs.HaltLaws.{last, link, opens_of, opens_title, opens_string, opens_halt}
 use Rattle.ciborium_ll_grammar.proofs.HaltLaws.{string_halts, open_halts, Stop, stop_cut, stop_refused, stop_bad}
 use Rattle.ciborium_ll_grammar.proofs.HaltLaws.{halt_of, same_kind, element_stops, element_inside, kind_not_misplaced}
-use Rattle.ciborium_ll_grammar.proofs.FaultLaws.{follows, too_short}
+use Rattle.ciborium_ll_grammar.proofs.FaultLaws.{follows, too_short, lenient_misplaced}
 
 -- a string in front
 record Ahead (k : Kind) (x : List ℕ) : Type 0 where
@@ -240,10 +240,11 @@ place_of (BodyDue j m p) k l u t = Due
 
 -- the body at fault is bad
 bad_of : (k : Kind) (l p : ℕ) (s u : List ℕ) (ms : List Mark) (a : Answer) (out : List ℕ) (c : ℕ)
-    → FirstFault u ms (BodyDue k l p) s a out c
+    → FirstFault false u ms (BodyDue k l p) s a out c
     → IsBad k l s
 bad_of k l p s u ms a out c (CutTitle d f) = absurd d
 bad_of k l p s u ms a out c (NoTitle d f) = absurd d
+bad_of k l p s u ms a out c (LongTitle x r d q untaken e) = absurd d
 bad_of k l p s u ms a out c (DamagedText b r g f e z m) = inr f
 bad_of k l p s u ms a out c (CutBody b r f e g m m2 m3) = too_short k l s f
 bad_of k l p s u ms a out c (CutDamagedText b r f g e z m) = inl f
@@ -257,15 +258,18 @@ data Seen (n : ℕ) : List ℕ → List Mark → Place → List ℕ → Type 0 w
 -- each fault is at a place where a title was due
 seen : (n : ℕ) (u : List ℕ) (ms : List Mark) (at : Place) → Reaches n u ms at
     → (s : List ℕ) (a : Answer) (out : List ℕ) (c : ℕ)
-    → FirstFault u ms at s a out c → Seen n u ms at s
+    → FirstFault false u ms at s a out c → Seen n u ms at s
 seen n u ms at (due l r) s a out c (CutTitle d f) = seen_flat (at_due l r (stop_cut f)) (flat_cut f)
 seen n u ms at (due l r) s a out c (NoTitle d f) = seen_flat (at_due l r (stop_refused f)) (flat_refused f)
 seen n u ms at (inside {kind = k} l r q ok) s a out c (CutTitle d f) =
     seen_flat (at_in l r q ok (halt_cut f)) (flat_cut f)
 seen n u ms at (inside {kind = k} l r q ok) s a out c (NoTitle d f) =
     seen_flat (at_in l r q ok (halt_refused f)) (flat_refused f)
+seen n u ms at (due l r) s a out c (LongTitle x z d p untaken e) = absurd (untaken tt)
+seen n u ms at (inside {kind = k} l r q ok) s a out c (LongTitle x z d p untaken e) = absurd (untaken tt)
 seen n u ms at (inside {kind = k} l r q ok) s a out c (OtherTitle x z p f e) =
-    seen_flat (at_in l r q ok (halt_misplaced z x p f e)) (flat_foreign z x p f e)
+    let other = lenient_misplaced k x f in
+    seen_flat (at_in l r q ok (halt_misplaced z x p other e)) (flat_foreign z x p other e)
 seen n u ms at (body {bytes = b} {title = t} {len = m} k (due l r) p) s a out c f =
     seen_deep k m (at_due l r (stop_bad s k m p (bad_of k m _ s _ _ _ _ _ f) refl)) tt p
 seen n u ms at (body_inside {title = t} {len = m} (inside {kind = k} l r q ok) p) s a out c f =
@@ -295,7 +299,7 @@ one_seen n u ms at s (seen_deep {u = v} {t} {at = p} k l b o q) u' ms' at' s'
     (rw (vv, tt') refl, z.1, rw (pp, kk, ll, vv, tt') refl, g.3)
 
 -- all faults of one list are at one place
-pub one_fault : (n : ℕ) (x : List ℕ) (f g : HasFault n x) → SameBase f.before g.before f.marks g.marks f.place
+pub one_fault : (n : ℕ) (x : List ℕ) (f g : HasFault false n x) → SameBase f.before g.before f.marks g.marks f.place
     g.place f.ahead g.ahead
 one_fault n x f g =
     one_seen n f.before f.marks f.place f.ahead (seen n f.before f.marks f.place f.reach f.ahead f.answer f.written
@@ -313,8 +317,10 @@ cut_not_refused (b ∷ s) c r = omega (arith, refused_affix b r, c)
 
 -- faults at one place have one answer, unless the bytes end within a text that is none
 same_answer : (u : List ℕ) (ms : List Mark) (at : Place) (s : List ℕ) (a : Answer) (out : List ℕ) (c : ℕ)
-    → FirstFault u ms at s a out c
-    → (a' : Answer) (out' : List ℕ) (c' : ℕ) → FirstFault u ms at s a' out' c' → (a ≡ a') ⊎ BeginsNoText s
+    → FirstFault false u ms at s a out c
+    → (a' : Answer) (out' : List ℕ) (c' : ℕ) → FirstFault false u ms at s a' out' c' → (a ≡ a') ⊎ BeginsNoText s
+same_answer u ms at s a out c (LongTitle x r d p untaken e) a' out' c' g = absurd (untaken tt)
+same_answer u ms at s a out c f a' out' c' (LongTitle x r d p untaken e) = absurd (untaken tt)
 same_answer u ms at s a out c (CutTitle d f) a' out' c' (CutTitle d' f') = inl refl
 same_answer u ms at s a out c (CutTitle d f) a' out' c' (NoTitle d' f') = absurd (cut_not_refused s f f')
 same_answer u ms at s a out c (CutTitle d f) a' out' c' (OtherTitle {title = t} x r p m e) =
@@ -352,7 +358,7 @@ same_answer u ms at s a out c (CutDamagedText b r l n e z m) a' out' c' (CutDama
 
 -- a fault at the same place
 same_place : (u u' : List ℕ) (ms ms' : List Mark) (at at' : Place) (s s' : List ℕ) (a : Answer) (out : List ℕ) (c : ℕ)
-    → SameBase u u' ms ms' at at' s s' → FirstFault u' ms' at' s' a out c → FirstFault u ms at s a out c
+    → SameBase u u' ms ms' at at' s s' → FirstFault false u' ms' at' s' a out c → FirstFault false u ms at s a out c
 same_place u u' ms ms' at at' s s' a out c e f =
     let uu : u ≡ u' = e.0 in
     let mm : ms ≡ ms' = e.1 in
@@ -361,7 +367,7 @@ same_place u u' ms ms' at at' s s' a out c e f =
     rw (uu, mm, pp, ss) f
 
 -- the faults of one list have one answer, unless the bytes end within a text that is none
-pub one_answer : (n : ℕ) (x : List ℕ) (f g : HasFault n x) → (f.answer ≡ g.answer) ⊎ BeginsNoText f.ahead
+pub one_answer : (n : ℕ) (x : List ℕ) (f g : HasFault false n x) → (f.answer ≡ g.answer) ⊎ BeginsNoText f.ahead
 one_answer n x f g =
     same_answer f.before f.marks f.place f.ahead f.answer f.written f.consumed f.fault g.answer g.written g.consumed
     (same_place f.before g.before f.marks g.marks f.place g.place f.ahead g.ahead g.answer g.written g.consumed

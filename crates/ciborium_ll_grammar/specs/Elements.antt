@@ -82,3 +82,9 @@ IsMeant mark = Unit {0}
 pub record IsStrictSpelling (bytes : List ℕ) (marks : List Mark) (more : List ℕ) : Type 0 where
   pub same : bytes ≡ spelling marks ++ more
   pub meant : AllByRecursion IsMeant marks
+
+-- so many elements in their shortest spelling, and none a small simple value
+pub record IsStrictRun (count : ℕ) (bytes : List ℕ) (marks : List Mark) : Type 0 where
+  pub run : IsRun count bytes marks
+  pub same : bytes ≡ spelling marks
+  pub meant : AllByRecursion IsMeant marks

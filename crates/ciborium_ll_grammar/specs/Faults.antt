@@ -1,11 +1,13 @@
--- How far a copy of elements comes in bytes, what is due there, and the first fault, which stops it.
-use Rattle.std.specs.Prelude.{◌≡◌, ℕ, ◌+◌, ◌-◌, ◌<◌, ◌≤◌, ◌⊎◌, Bool, true, min, List, ◌∷◌, ◌++◌, length, take, Some}
-use Rattle.std.specs.Prelude.{None}
+-- How far a copy of elements comes in bytes, what is due there, and the first fault, which stops it. Where only the
+-- shortest spelling is taken (`strict`), a few more things are faults, and none of them stands before the first one.
+use Rattle.std.specs.Prelude.{◌≡◌, ℕ, ◌+◌, ◌-◌, ◌<◌, ◌≤◌, ◌⊎◌, Bool, true, min, List, [], ◌∷◌, ◌++◌, length, take}
+use Rattle.std.specs.Prelude.{Some, None}
 use Rattle.ciborium_ll_grammar.specs.declared.hdr.Header.{Header}
 use Rattle.ciborium_ll_grammar.specs.Title.{IsTitle, shortest_title, title_len, IsCutTitle, BeginsRefused}
 use Rattle.ciborium_ll_grammar.specs.Strings.{Kind, Text, kind_header, AreStrings, IsMisplaced, IsWritable, most_kept}
 use Rattle.ciborium_ll_text.specs.Text.{IsCharacters, BeginsNoText}
-use Rattle.ciborium_ll_grammar.specs.Elements.{AreWritable, Mark, Open, pieces, spelling, IsRun}
+use Rattle.ciborium_ll_grammar.specs.Elements.{AreWritable, Mark, Open, pieces, spelling, IsRun, IsStrictSpelling}
+use Rattle.ciborium_ll_grammar.specs.Items.{IsTakenTitle}
 
 -- ---- how far a copy comes
 
@@ -65,50 +67,64 @@ pub data Answer : Type 0 where
 abbrev pub with_front : List Mark → Kind → ℕ → List ℕ → List ℕ
 with_front marks kind len front = spelling marks ++ (shortest_title (kind_header kind (Some len)) ++ front)
 
--- `FirstFault before marks place ahead answer written consumed`: behind the bytes before, which left the marks, the
--- bytes ahead are at fault where the place is due. The answer, what is written in all, and how many bytes ahead are
+-- `FirstFault strict before marks place ahead answer written consumed`: behind the bytes before, which left the marks,
+-- the bytes ahead are at fault where the place is due. The answer, what is written in all, and how many bytes ahead are
 -- consumed
-pub data FirstFault (before : List ℕ) (marks : List Mark) : Place → List ℕ → Answer → List ℕ → ℕ → Type 0 where
+pub data FirstFault (strict : Bool) (before : List ℕ) (marks : List Mark) :
+    Place → List ℕ → Answer → List ℕ → ℕ → Type 0 where
   -- a title is due, and the bytes end before it or within it
   CutTitle : {place : Place} {ahead : List ℕ} → IsAtTitle place → IsCutTitle ahead
-      → FirstFault before marks place ahead Short (spelling marks) (min 1 (length ahead))
+      → FirstFault strict before marks place ahead Short (spelling marks) (min 1 (length ahead))
   -- a title is due, and a byte comes with which none begins
   NoTitle : {place : Place} {ahead : List ℕ} → IsAtTitle place → BeginsRefused ahead
-      → FirstFault before marks place ahead (Syntax (length before)) (spelling marks) 1
+      → FirstFault strict before marks place ahead (Syntax (length before)) (spelling marks) 1
+  -- a title is due, and one comes that isn't the shortest, or a small simple value, where none such is taken
+  LongTitle : {place : Place} {title ahead : List ℕ} (header : Header) (rest : List ℕ) → IsAtTitle place
+      → IsTitle title header → (IsTakenTitle strict title header → ⊥) → ahead ≡ title ++ rest
+      → FirstFault strict before marks place ahead (Syntax (length before)) (spelling marks) (length title)
   -- within a string a title comes that may not stand there
   OtherTitle : {kind : Kind} {title ahead : List ℕ} (header : Header) (rest : List ℕ) → IsTitle title header
-      → IsMisplaced kind header
-      → ahead ≡ title ++ rest → FirstFault before marks (In kind) ahead (Syntax (length before)) (spelling marks)
-      (length title)
+      → IsRefusedIn strict kind header
+      → ahead ≡ title ++ rest
+      → FirstFault strict before marks (In kind) ahead (Syntax (length before)) (spelling marks) (length title)
   -- the whole body of a text is no text
   DamagedText : {len start consumed : ℕ} {ahead : List ℕ} (front rest : List ℕ) → len ≤ length ahead
       → (IsCharacters (take len ahead) → ⊥)
       → take len ahead ≡ front ++ rest → IsCharacters front → consumed ≤ len
-      → FirstFault before marks (BodyDue Text len start) ahead (Syntax start) (with_front marks Text len front) consumed
+      → FirstFault strict before marks (BodyDue Text len start) ahead (Syntax start) (with_front marks Text len front)
+      consumed
   -- the bytes end within a body
   CutBody : {kind : Kind} {len start consumed : ℕ} {ahead : List ℕ} (front rest : List ℕ) → length ahead < len
       → ahead ≡ front ++ rest
       → IsWritable kind front → length front ≤ consumed → consumed ≤ length front + most_kept kind → consumed
       ≤ length ahead
-      → FirstFault before marks (BodyDue kind len start) ahead Short (with_front marks kind len front) consumed
+      → FirstFault strict before marks (BodyDue kind len start) ahead Short (with_front marks kind len front) consumed
   -- the bytes end within the body of a text, and no text begins as they do
   CutDamagedText : {len start consumed : ℕ} {ahead : List ℕ} (front rest : List ℕ) → length ahead < len
       → BeginsNoText ahead
       → ahead ≡ front ++ rest → IsCharacters front → consumed ≤ length ahead
-      → FirstFault before marks (BodyDue Text len start) ahead (Syntax start) (with_front marks Text len front) consumed
+      → FirstFault strict before marks (BodyDue Text len start) ahead (Syntax start) (with_front marks Text len front)
+      consumed
 
 -- ---- both over whole lists
 
--- so many elements stand in front of the bytes
-pub record RunInFront (count : ℕ) (bytes : List ℕ) : Type 0 where
+-- so many elements stand in front of the bytes: where only the shortest spelling is taken, in that
+pub record RunInFront (strict : Bool) (count : ℕ) (bytes : List ℕ) : Type 0 where
   pub elements : List ℕ
   pub marks : List Mark
   pub rest : List ℕ
   pub run : IsRun count elements marks
   pub is : bytes ≡ elements ++ rest
+  pub spelled : strict ≡ true → IsStrictSpelling elements marks []
 
--- a fault stops a copy of so many elements
-pub record HasFault (count : ℕ) (bytes : List ℕ) : Type 0 where
+-- the title of a body that is due, in its shortest spelling
+abbrev pub due_title : Place → List ℕ
+due_title Due = []
+due_title (In kind) = []
+due_title (BodyDue kind len start) = shortest_title (kind_header kind (Some len))
+
+-- a fault stops a copy of so many elements. What stands before it is spelled as they are
+pub record HasFault (strict : Bool) (count : ℕ) (bytes : List ℕ) : Type 0 where
   pub before : List ℕ
   pub marks : List Mark
   pub place : Place
@@ -118,4 +134,5 @@ pub record HasFault (count : ℕ) (bytes : List ℕ) : Type 0 where
   pub consumed : ℕ
   pub reach : Reaches count before marks place
   pub is : bytes ≡ before ++ ahead
-  pub fault : FirstFault before marks place ahead answer written consumed
+  pub spelled : strict ≡ true → IsStrictSpelling before marks (due_title place)
+  pub fault : FirstFault strict before marks place ahead answer written consumed

@@ -81,13 +81,14 @@ module _ {D S E F : Type 0} (source : Reader D E) (sink : Writer S F) where
   -- where no header waits, what is due is what the reader has ahead
   pub told_ahead : (old : Decoder D) (writer : S) (due written : List ℕ) → old.strict ≡ false → old.waiting ≡ None
       → source.ahead old.reader ≡ Some due → sink.written writer ≡ Some written
-      → IsTold source sink (sides old writer) due written
+      → IsTold source sink false (sides old writer) due written
   told_ahead old writer due written lenient none ahead output =
       record {
         mode = lenient;
         due-told = view_none old.waiting (source.ahead old.reader) none
             ∙ ahead;
         written-told = output;
+        none_waits = λ on. none;
       }
 
   -- where no header waited, none waits behind calls that all succeeded
@@ -127,7 +128,7 @@ module _ {D S E F : Type 0} (source : Reader D E) (sink : Writer S F) where
     near offset consumed same full = omega (arith, same, full)
 
     -- all was written, and the flush behind it failed
-    pub raw_unflushed : RecodesAnyhow source sink count 64 due written old (Ok (tt {0})) (sides new writer')
+    pub raw_unflushed : RecodesAnyhow source sink false count 64 due written old (Ok (tt {0})) (sides new writer')
         → WritesShort got count due written flushed
     raw_unflushed told = record {
       stop = record {
@@ -146,7 +147,7 @@ module _ {D S E F : Type 0} (source : Reader D E) (sink : Writer S F) where
 
     -- all was written, and the flush behind it succeeded
     pub raw_all : CopiesElements source sink count 64 (sides old writer) (Ok (tt {0})) (sides new writer')
-        → RecodesAnyhow source sink count 64 due written old (Ok (tt {0})) (sides new writer')
+        → RecodesAnyhow source sink false count 64 due written old (Ok (tt {0})) (sides new writer')
         → CopiesRaw {E = E} {F = F} left got count due written (Ok (tt {0})) reader flushed
     raw_all copied told = record {
       front = told.front;
@@ -156,7 +157,7 @@ module _ {D S E F : Type 0} (source : Reader D E) (sink : Writer S F) where
 
     -- the copy stopped: its answer stands, whatever the flush behind it does
     pub raw_stopped : (error : RecodeError E F) → CopiesElements source sink count 64 (sides old writer) (Err error)
-        (sides new writer') → RecodesAnyhow source sink count 64 due written old (Err error) (sides new writer')
+        (sides new writer') → RecodesAnyhow source sink false count 64 due written old (Err error) (sides new writer')
         → CopiesRaw left got count due written (Err error) reader flushed
     raw_stopped (r.Read (e.Io fault)) copied told = short told
     raw_stopped (r.Read (e.Syntax place)) copied told =
@@ -180,7 +181,7 @@ module _ {D S E F : Type 0} (source : Reader D E) (sink : Writer S F) where
     -- whatever the copy answered
     pub raw_any : (outcome : Result (Unit {0}) (RecodeError E F))
         → CopiesElements source sink count 64 (sides old writer) outcome (sides new writer')
-        → RecodesAnyhow source sink count 64 due written old outcome (sides new writer')
+        → RecodesAnyhow source sink false count 64 due written old outcome (sides new writer')
         → CopiesRaw left got count due written outcome reader flushed
     raw_any (Ok done) copied told = raw_all copied told
     raw_any (Err error) copied told = raw_stopped error copied told

@@ -2,7 +2,7 @@
 --
 -- `got writer bytes` says what the writer has where the copy stopped, and `left reader bytes` what the reader has
 -- still.
-use Rattle.std.specs.Prelude.{◌≡◌, ℕ, ◌+◌, ◌≤◌, List, ◌++◌, length, drop, Option, Some, Result, Ok, Err}
+use Rattle.std.specs.Prelude.{◌≡◌, ℕ, false, ◌+◌, ◌≤◌, List, ◌++◌, length, drop, Option, Some, Result, Ok, Err}
 use Rattle.ciborium_ll.specs.Types.Error.TheVariants as e
 use Rattle.ciborium_ll.specs.Types.RecodeError.{RecodeError}
 use Rattle.ciborium_ll.specs.Types.RecodeError.TheVariants as r
@@ -42,14 +42,14 @@ module _ {W : Type 0} (got : W → List ℕ → Type 0) where
 module _ {R W : Type 0} (left : R → List ℕ → Type 0) (got : W → List ℕ → Type 0) where
   -- a syntax stopped the copy: the writer got what stands before that fault, and what is behind it is left
   pub record MeetsSyntax (count place : ℕ) (due written : List ℕ) (reader : R) (writer : W) : Type 0 where
-    pub fault : HasFault count due
+    pub fault : HasFault false count due
     pub answered : fault.answer ≡ Syntax place
     pub output : got writer (written ++ fault.written)
     pub rest : left reader (drop fault.consumed fault.ahead)
 
   -- all elements were copied: the writer got their shortest spelling, and what follows them is left
   pub record CopiesCount (count : ℕ) (due written : List ℕ) (reader : R) (writer : W) : Type 0 where
-    pub front : RunInFront count due
+    pub front : RunInFront false count due
     pub output : got writer (written ++ spelling front.marks)
     pub rest : left reader front.rest
 

@@ -1,14 +1,14 @@
 -- An item in its shortest spelling, element by element.
 use Rattle.std.proofs.Common.{◌≡◌, ℕ, suc, ◌<◌, List, [], ◌∷◌, ◌++◌, length, take, drop, ◌-◌, None, Some, refl, sym}
-use Rattle.std.proofs.Common.{false}
+use Rattle.std.proofs.Common.{true, false}
 use Rattle.std.proofs.Common.{ap, subst, ◌∙◌, arith, append_assoc, append-nil, length-append, length-drop}
 use Rattle.std.proofs.lemmas.List.{length-take, take-append-drop}
 use Rattle.std.proofs.Math.Seq.{take-append_seam, take-length}
 use Rattle.std.specs.List.{AllByRecursion}
 use Rattle.ciborium_ll.specs.Strings.IsString.{definite, indefinite}
 use Rattle.ciborium_ll.specs.Elements.{Mark, IsElement, plain, string, IsRun, done, next, IsMeant}
-use Rattle.ciborium_ll.specs.Elements.{spelling}
-use Rattle.ciborium_ll.specs.StrictRecoding.{IsStrictRun, StrictRunInFront}
+use Rattle.ciborium_ll.specs.Elements.{spelling, IsStrictRun}
+use Rattle.ciborium_ll.specs.Faults.{RunInFront}
 use Rattle.ciborium_ll.proofs.ElementLaws.{element_again, one_element, spelling-append}
 use Rattle.ciborium_ll.proofs.ItemLaws.{one_item}
 use Rattle.ciborium_ll.proofs.StepLaws.{add_element}
@@ -92,10 +92,20 @@ parts count bytes marks (next {count = n} {first = x} {rest = y} {marks = ns} {o
 -- behind elements in front of a strict run, one of it is next
 pub strict_behind : (front : List ℕ) (marks : List Mark) (seen : ℕ) → IsRun seen front marks
     → (count : ℕ) (bytes : List ℕ) (all : List Mark)
-    → IsStrictRun count bytes all → (rest : List ℕ) → bytes ≡ front ++ rest → 0 < length rest → StrictRunInFront 1 rest
+    → IsStrictRun count bytes all → (rest : List ℕ) → bytes ≡ front ++ rest → 0 < length rest → RunInFront true 1 rest
 strict_behind front marks seen done count bytes all strict rest whole some =
     let p = parts count bytes all strict.run strict.same strict.meant (omega (arith, some, ap length whole)) in
-    record { elements = p.element; marks = p.marks; rest = p.rest; run = p.strict; is = sym whole ∙ p.whole }
+    record {
+      elements = p.element;
+      marks = p.marks;
+      rest = p.rest;
+      run = p.strict.run;
+      is = sym whole ∙ p.whole;
+      spelled = λ on. record {
+        same = p.strict.same ∙ sym (append-nil (spelling p.marks));
+        meant = p.strict.meant;
+      };
+    }
 strict_behind front marks seen (next {count = n} {first = x} {rest = y} {marks = ns} {others = os} e run) count
     bytes all strict rest whole some =
     let longer : 0 < length bytes = omega (arith, some, ap length whole, length-append (x ++ y) rest) in
@@ -166,7 +176,7 @@ shortest_in_front depth bytes rest len front counted so_far none =
 -- no element in its shortest spelling is next
 pub no_shortest : (depth : ℕ) (bytes rest : List ℕ) (len : ℕ) (front : ItemInFront depth bytes) → len
     ≡ length front.item
-    → Spelled (take len bytes) rest → 0 < length rest → (StrictRunInFront 1 rest → ⊥) → (other : ℕ)
+    → Spelled (take len bytes) rest → 0 < length rest → (RunInFront true 1 rest → ⊥) → (other : ℕ)
     → ShortestInFront depth bytes other → ⊥
 no_shortest depth bytes rest len front counted so_far some none other shortest =
     let item = shortest.is_shortest in

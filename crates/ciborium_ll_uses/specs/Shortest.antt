@@ -1,8 +1,7 @@
 -- Items in their shortest spelling.
 use Rattle.std.specs.Prelude.{◌≡◌, ℕ, List, ◌++◌, length, false}
-use Rattle.ciborium_ll.specs.Elements.{Mark}
+use Rattle.ciborium_ll.specs.Elements.{IsStrictRun, Mark}
 use Rattle.ciborium_ll.specs.Items.{IsItem}
-use Rattle.ciborium_ll.specs.StrictRecoding.{IsStrictRun}
 
 -- The bytes are one item, nested to the depth at most (RFC 7049, 2.1 to 2.4), and its elements stand in their shortest
 -- spelling (3.9), with no simple value from 24 to 31 (2.3) and no string of indefinite length inside another (2.2.2)

@@ -1,6 +1,6 @@
 -- What a copy of a stream to its shortest spelling does, where its bytes are told.
-use Rattle.std.specs.Prelude.{◌≡◌, ℕ, ◌+◌, ◌<◌, ◌≤◌, ◌^◌, ◌⊎◌, List, ◌++◌, length, drop, IsTrue, IsSome, Some, Result}
-use Rattle.std.specs.Prelude.{Ok, Err}
+use Rattle.std.specs.Prelude.{◌≡◌, ℕ, ◌+◌, ◌<◌, ◌≤◌, ◌^◌, ◌⊎◌, false, List, ◌++◌, length, drop, IsTrue, IsSome, Some}
+use Rattle.std.specs.Prelude.{Result, Ok, Err}
 use Rattle.ciborium_ll.specs.Types.Read.{Ghosts as Reader}
 use Rattle.ciborium_ll.specs.Types.Write.{Ghosts as Writer}
 use Rattle.ciborium_ll.specs.Types.Error.TheVariants as e
@@ -25,7 +25,7 @@ module _ {R E W F : Type 0} (source : Reader R E) (sink : Writer W F) where
     pub steady : IsTrue (source.steady reader)
     pub room : ℕ
     pub room-told : sink.room writer ≡ Some room
-    pub enough : ((front : RunInFront count due) × (length (spelling front.marks) ≤ room)) ⊎ (length due ≤ room)
+    pub enough : ((front : RunInFront false count due) × (length (spelling front.marks) ≤ room)) ⊎ (length due ≤ room)
     pub fits : length due + 64 < 2 ^ 64
 
   -- ---- the copy
@@ -33,15 +33,15 @@ module _ {R E W F : Type 0} (source : Reader R E) (sink : Writer W F) where
   -- so many elements stood in front: their shortest spelling was appended to what was written, and just what follows
   -- them is left
   pub record CopiesSo (count : ℕ) (due written : List ℕ) (reader : R) (writer : W) : Type 0 where
-    pub front : RunInFront count due
+    pub front : RunInFront false count due
     pub output : sink.written writer ≡ Some (written ++ spelling front.marks)
     pub left : source.ahead reader ≡ Some front.rest
 
   -- fewer did, and the first fault stopped it: what was written up to it, and what is left behind what it consumes
   pub record StopsAtFault (count : ℕ) (due written : List ℕ) (answer : Answer) (reader : R) (writer : W) : Type 0 where
-    pub fault : HasFault count due
+    pub fault : HasFault false count due
     pub answered : fault.answer ≡ answer
-    pub fewer : RunInFront count due → ⊥
+    pub fewer : RunInFront false count due → ⊥
     pub output : sink.written writer ≡ Some (written ++ fault.written)
     pub left : source.ahead reader ≡ Some (drop fault.consumed fault.ahead)
 

@@ -1,6 +1,6 @@
 //! Headers and values written one by one.
 
-ghost use Rattle.std.specs.Prelude.{◌≡◌, ◌≤◌, ◌++◌, ℕ, List, length, Option};
+ghost use Rattle.std.specs.Prelude.{◌≡◌, ◌≤◌, ◌++◌, ℕ, false, List, length, Option};
 ghost use Rattle.std.specs.List.{All};
 ghost use Rattle.ciborium_ll_grammar.specs.Strings.{Bytes, Text};
 ghost use Rattle.ciborium_ll_grammar.specs.Title.{IsInRange};
@@ -112,7 +112,7 @@ pub fn copy_spelled<R: Read, W: Write>(
 ) -> Result<(), RecodeError<R::Error, W::Error>>
     requires room { 4 ≤ length buffer.old }
     ensures same { (marks : List Mark) (rest written : List ℕ) → IsRun count (spelling marks) marks
-        → IsReady R.Read W.Write count (length buffer.old) (sides_of decoder.old encoder.old)
+        → IsReady R.Read W.Write false count (length buffer.old) (sides_of decoder.old encoder.old)
         (spelling marks ++ rest) written
         → CopiesSame R.Read W.Write (spelling marks) rest written result decoder.new (writer_of encoder.new) }
     ensures moves_on { MovesOn R.Read decoder.old decoder.new }

@@ -1,11 +1,10 @@
 //! The law that ties what a strict decoder takes to the copy.
 
-ghost use Rattle.std.specs.Prelude.{◌≡◌, ◌≤◌, ◌↔◌, ℕ, List, length};
+ghost use Rattle.std.specs.Prelude.{◌≡◌, ◌≤◌, ◌↔◌, ℕ, false, true, List, length};
 ghost use Rattle.std.specs.List.{AllByRecursion};
-ghost use Rattle.ciborium_ll_grammar.specs.Elements.{Mark, IsMeant, spelling};
+ghost use Rattle.ciborium_ll_grammar.specs.Elements.{Mark, IsMeant, IsStrictRun, spelling};
 ghost use Rattle.ciborium_ll_grammar.specs.Faults.{RunInFront};
 ghost use Rattle.ciborium_ll_grammar.specs.StrictElements.{AreStrictElements};
-ghost use Rattle.ciborium_ll_decoder.specs.StrictRecoding.{IsStrictRun, StrictRunInFront};
 
 /// A strict decoder takes just the elements that `recode` copies unchanged and among which no simple value from 24 to
 /// 31 is (RFC 7049, 2.3).
@@ -15,10 +14,10 @@ ghost use Rattle.ciborium_ll_decoder.specs.StrictRecoding.{IsStrictRun, StrictRu
 /// and its break are in no spelling, so such elements are longer than theirs. And a copy that is as long as what was
 /// read is unchanged. Only `f8` with a byte from 24 to 31 is its own spelling, and refused.
 pub fn strict_run()
-    ensures unchanged { (count : ℕ) (bytes : List ℕ) (front : RunInFront count bytes) → (StrictRunInFront count bytes
+    ensures unchanged { (count : ℕ) (bytes : List ℕ) (front : RunInFront false count bytes) → (RunInFront true count bytes
         ↔ ((spelling front.marks ≡ front.elements) × AllByRecursion IsMeant front.marks)) }
     ensures titles { (count : ℕ) (bytes : List ℕ) (marks : List Mark)
         → (IsStrictRun count bytes marks ↔ AreStrictElements count bytes marks) }
-    ensures as_long { (count : ℕ) (bytes : List ℕ) (front : RunInFront count bytes)
+    ensures as_long { (count : ℕ) (bytes : List ℕ) (front : RunInFront false count bytes)
         → length front.elements ≤ length (spelling front.marks) → spelling front.marks ≡ front.elements }
 {}

@@ -33,11 +33,11 @@ returns c =
       copied = λ room.
           copy_said _ _ c.args.count due old new behind copied c.say_elements.new.self output_is c.args.out.now _
           stop.result.0 stop.result.1 c.offset.result
-          (recode_told _ _ c.args.count 1024 (sides old writer) due [] (ready room) refl (sides new behind) copied all)
+          (recode_told _ _ c.args.count 1024 (sides old writer) due [] (ready room) (sides new behind) copied all)
           c.from-decoder.ensures.offset output stop.ensures.answer stop.ensures.place c.offset.ensures.value
           c.say_elements.ensures.reports stands;
       exactly = λ room. copy_exactly copied stop.result.0 stop.ensures.answer
-          (recode_exactly _ _ c.args.count 1024 (sides old writer) due [] (ready room) refl (sides new behind) copied
+          (recode_exactly _ _ c.args.count 1024 (sides old writer) due [] (ready room) (sides new behind) copied
           all);
       anyhow =
           anyhow_said _ _ c.args.count due old new writer behind copied c.say_elements.new.self output_is c.args.out.now _

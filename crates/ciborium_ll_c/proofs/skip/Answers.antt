@@ -14,9 +14,9 @@ returns c =
           (c.skip_item-skipped.ensures.told due
           (ready_to_skip _ 1024 c.new.result old due c.from-decoder.ensures refl c.new.ensures.ahead
           (omega arith) (omega arith)))
-          c.from-decoder.ensures.offset stop.ensures.answer stop.ensures.place c.offset.ensures.value c.say.ensures;
-      exactly = skip_exactly skipped stop.result.0 stop.ensures.answer
+          c.from-decoder.ensures.mode c.from-decoder.ensures.offset stop.ensures.answer stop.ensures.place c.offset.ensures.value c.say.ensures;
+      exactly = skip_exactly old.strict c.args.depth due skipped stop.result.0 stop.ensures.answer
           (c.skip_item-skipped.ensures.exactly due
           (ready_to_skip _ 1024 c.new.result old due c.from-decoder.ensures refl c.new.ensures.ahead
-          (omega arith) (omega arith)));
+          (omega arith) (omega arith))) c.from-decoder.ensures.mode;
     }

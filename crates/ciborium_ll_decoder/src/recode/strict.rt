@@ -1,8 +1,8 @@
 //! Whether bytes are elements in the one spelling that a strict decoder takes.
 
-ghost use Rattle.std.specs.Prelude.{◌≤◌, List, length, take, IfSome, IfNone};
-ghost use Rattle.ciborium_ll_grammar.specs.Elements.{Mark};
-ghost use Rattle.ciborium_ll_decoder.specs.StrictRecoding.{IsStrictRun, StrictRunInFront};
+ghost use Rattle.std.specs.Prelude.{◌≤◌, true, List, length, take, IfSome, IfNone};
+ghost use Rattle.ciborium_ll_grammar.specs.Elements.{IsStrictRun, Mark};
+ghost use Rattle.ciborium_ll_grammar.specs.Faults.{RunInFront};
 
 use super::recode;
 use crate::dec::Decoder;
@@ -24,7 +24,7 @@ use ciborium_ll_io::io::{Discard, SliceReader};
 pub fn strict_len(bytes: &[u8], count: usize) -> Option<usize>
     ensures within { IfSome result (λ len. len ≤ length bytes.now) }
     ensures some { IfSome result (λ len. (marks : List Mark) × IsStrictRun count (take len bytes.now) marks) }
-    ensures none { IfNone result (StrictRunInFront count bytes.now → ⊥) }
+    ensures none { IfNone result (RunInFront true count bytes.now → ⊥) }
 {
     let mut decoder = Decoder::strict(SliceReader::new(bytes));
     // What a strict copy writes is what it consumes, so that many bytes are room enough.

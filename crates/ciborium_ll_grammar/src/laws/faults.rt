@@ -1,26 +1,29 @@
 //! Laws of runs and faults.
 
-ghost use Rattle.std.specs.Prelude.{◌≡◌, ℕ, ◌⊎◌, List};
+ghost use Rattle.std.specs.Prelude.{◌≡◌, ℕ, ◌⊎◌, Bool, false, List};
 ghost use Rattle.ciborium_ll_grammar.specs.Title.{AreBytes};
 ghost use Rattle.ciborium_ll_grammar.specs.Faults.{RunInFront, HasFault};
 ghost use Rattle.ciborium_ll_text.specs.Text.{BeginsNoText};
 
-/// Where a run of as many elements stands in front, there is no fault.
+/// Where a run of as many elements stands in front, there is no fault, whether any spelling is taken or the shortest
+/// alone.
 pub fn no_fault()
-    ensures { (count : ℕ) (bytes : List ℕ) → RunInFront count bytes → HasFault count bytes → ⊥ }
+    ensures { (strict : Bool) (count : ℕ) (bytes : List ℕ) → RunInFront strict count bytes
+        → HasFault strict count bytes → ⊥ }
 {}
 
-/// The faults of one list of bytes are all at one place, and have one answer unless the bytes end within a body with
-/// which no text begins.
+/// Where any spelling is taken, the faults of one list of bytes are all at one place, and have one answer unless the
+/// bytes end within a body with which no text begins.
 pub fn one_fault()
-    ensures place { (count : ℕ) (bytes : List ℕ) (fault other : HasFault count bytes)
+    ensures place { (count : ℕ) (bytes : List ℕ) (fault other : HasFault false count bytes)
         → (fault.before ≡ other.before) × (fault.marks ≡ other.marks) × (fault.place ≡ other.place)
         × (fault.ahead ≡ other.ahead) }
-    ensures answer { (count : ℕ) (bytes : List ℕ) (fault other : HasFault count bytes)
+    ensures answer { (count : ℕ) (bytes : List ℕ) (fault other : HasFault false count bytes)
         → (fault.answer ≡ other.answer) ⊎ BeginsNoText fault.ahead }
 {}
 
-/// In any bytes either a run of so many elements stands in front, or a fault stops it.
+/// Where any spelling is taken, in any bytes either a run of so many elements stands in front, or a fault stops it.
 pub fn run_or_fault()
-    ensures { (count : ℕ) (bytes : List ℕ) → AreBytes bytes → RunInFront count bytes ⊎ HasFault count bytes }
+    ensures { (count : ℕ) (bytes : List ℕ) → AreBytes bytes
+        → RunInFront false count bytes ⊎ HasFault false count bytes }
 {}

@@ -6,8 +6,6 @@ use Rattle.ciborium_ll_decoder.proofs.DecodingLaws.{MovesOn-none, MovesOn-then}
 use Rattle.ciborium_ll_decoder.proofs.CopyLaws.{run_none, run_behind, added_run, copies_all}
 use Rattle.ciborium_ll_decoder.proofs.RecodeReadyLaws.{recode_told, recode_exactly}
 use Rattle.ciborium_ll_decoder.proofs.RecodeAnyhowLaws.{recode_anyhow}
-use Rattle.ciborium_ll_decoder.proofs.RecodeStrictLaws.{recode_strictly, recode_strictly_exactly}
-use Rattle.ciborium_ll_decoder.proofs.RecodeStrictLaws.{recode_strictly_anyhow}
 use Rattle.ciborium_ll_decoder.proofs.recode.recode.Goals as goal
 
 pub elements-init : goal.elements-init
@@ -51,18 +49,12 @@ returns-in_err-copy_element g c =
       copied = all;
       moves_on = MovesOn-then g.R.Read _ _ _ c.elements.invariant.moves_on c.copy_element.ensures.moves_on;
       target = c.copy_element.ensures.target ∙ c.elements.invariant.target;
-      told = λ due written ready. recode_told g.R.Read g.W.Write c.args.count (length c.args.buffer.now) old due
-          written ready refl _ c.from_residual.result all;
-      exactly = λ due written ready. recode_exactly g.R.Read g.W.Write c.args.count (length c.args.buffer.now) old due
-          written ready refl _ c.from_residual.result all;
-      anyhow = λ due written told. recode_anyhow g.R.Read g.W.Write c.args.count (length c.args.buffer.now) old due
-          written told refl _ c.from_residual.result all;
-      strictly = λ due written ready none. recode_strictly g.R.Read g.W.Write c.args.count
-          (length c.args.buffer.now) old due written ready refl none _ c.from_residual.result all;
-      strictly_exactly = λ due written ready none. recode_strictly_exactly g.R.Read g.W.Write c.args.count
-          (length c.args.buffer.now) old due written ready refl none _ c.from_residual.result all;
-      strictly_anyhow = λ due written told none. recode_strictly_anyhow g.R.Read g.W.Write c.args.count
-          (length c.args.buffer.now) old due written told refl none _ c.from_residual.result all;
+      told = λ strict due written ready. recode_told g.R.Read g.W.Write c.args.count (length c.args.buffer.now) old due
+          written ready _ c.from_residual.result all;
+      exactly = λ strict due written ready. recode_exactly g.R.Read g.W.Write c.args.count (length c.args.buffer.now) old due
+          written ready _ c.from_residual.result all;
+      anyhow = λ strict due written told. recode_anyhow g.R.Read g.W.Write c.args.count (length c.args.buffer.now) old due
+          written told _ c.from_residual.result all;
     }
 
 pub returns : goal.returns
@@ -77,16 +69,10 @@ returns g c =
       copied = all;
       moves_on = c.elements.invariant.moves_on;
       target = c.elements.invariant.target;
-      told = λ due written ready. recode_told g.R.Read g.W.Write c.args.count (length c.args.buffer.now) old due
-          written ready refl _ (Ok (tt {0})) all;
-      exactly = λ due written ready. recode_exactly g.R.Read g.W.Write c.args.count (length c.args.buffer.now) old due
-          written ready refl _ (Ok (tt {0})) all;
-      anyhow = λ due written told. recode_anyhow g.R.Read g.W.Write c.args.count (length c.args.buffer.now) old due
-          written told refl _ (Ok (tt {0})) all;
-      strictly = λ due written ready none. recode_strictly g.R.Read g.W.Write c.args.count
-          (length c.args.buffer.now) old due written ready refl none _ (Ok (tt {0})) all;
-      strictly_exactly = λ due written ready none. recode_strictly_exactly g.R.Read g.W.Write c.args.count
-          (length c.args.buffer.now) old due written ready refl none _ (Ok (tt {0})) all;
-      strictly_anyhow = λ due written told none. recode_strictly_anyhow g.R.Read g.W.Write c.args.count
-          (length c.args.buffer.now) old due written told refl none _ (Ok (tt {0})) all;
+      told = λ strict due written ready. recode_told g.R.Read g.W.Write c.args.count (length c.args.buffer.now) old due
+          written ready _ (Ok (tt {0})) all;
+      exactly = λ strict due written ready. recode_exactly g.R.Read g.W.Write c.args.count (length c.args.buffer.now) old due
+          written ready _ (Ok (tt {0})) all;
+      anyhow = λ strict due written told. recode_anyhow g.R.Read g.W.Write c.args.count (length c.args.buffer.now) old due
+          written told _ (Ok (tt {0})) all;
     }

@@ -11,7 +11,7 @@ returns-clause-anyhow g c = λ due written tell.
     let old = c.from-decoder.result in
     let new = c.recode-copied.new.decoder in
     let same = c.into_inner-reader.ensures in
-    let anyhow = c.recode-copied.ensures.anyhow due written
+    let anyhow = c.recode-copied.ensures.anyhow _ due written
     (told R W c.args.reader c.args.writer _ _ due written fresh c.from-encoder.ensures tell) in
     elim c.match-copied.branch [
       | in-Ok w ↦ (
@@ -38,7 +38,7 @@ returns-clause-exactly g c = λ due written are.
     let same = c.into_inner-reader.ensures in
     let from_writer = c.from-encoder.ensures in
     let is_ready = ready R W c.args.count c.args.reader c.args.writer _ _ due written fresh from_writer are in
-    let copy = c.recode-copied.ensures.told due written is_ready in
+    let copy = c.recode-copied.ensures.told _ due written is_ready in
     elim c.match-copied.branch [
       | in-Ok w ↦ (
           let copied = rw w.in-Ok.is at copy in

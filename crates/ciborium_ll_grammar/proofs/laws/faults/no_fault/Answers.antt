@@ -1,4 +1,4 @@
-use Rattle.ciborium_ll_grammar.proofs.FaultLaws.{no_fault}
+use Rattle.ciborium_ll_grammar.proofs.StrictFaultLaws.{no_fault}
 use Rattle.ciborium_ll_grammar.proofs.laws.faults.no_fault.Goals as goal
 
 pub returns : goal.returns

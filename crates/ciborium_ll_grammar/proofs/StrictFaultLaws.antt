@@ -1,6 +1,6 @@
--- A strict decoder's fault and a strict run of enough elements exclude each other.
-use Rattle.std.proofs.Common.{◌≡◌, ℕ, ◌+◌, ◌<◌, ◌≤◌, List, [], ◌∷◌, ◌++◌, length, Option, Some, None, refl, sym, ap}
-use Rattle.std.proofs.Common.{subst, ◌∙◌, arith, append_assoc, append-nil, length-append}
+-- A fault and a run of enough elements exclude each other.
+use Rattle.std.proofs.Common.{◌≡◌, ℕ, ◌+◌, ◌≤◌, Bool, true, false, List, [], ◌∷◌, ◌++◌, length, Option, Some, None, refl, sym}
+use Rattle.std.proofs.Common.{ap, subst, inl, inr, ◌∙◌, arith, append_assoc, append-nil, length-append}
 use Rattle.std.specs.List.{AllByRecursion}
 use Rattle.ciborium_ll_grammar.specs.declared.hdr.Header.{Header}
 use Rattle.ciborium_ll_grammar.specs.declared.hdr.Header.TheVariants as h
@@ -8,21 +8,22 @@ use Rattle.ciborium_ll_grammar.specs.Title.{IsTitle, IsSmallSimple, IsStrictTitl
 use Rattle.ciborium_ll_grammar.specs.Strings.{Kind, Bytes, Text, kind_header, IsString, AreStrings, none, more}
 use Rattle.ciborium_ll_grammar.specs.Strings.IsString.{definite, indefinite}
 use Rattle.ciborium_ll_grammar.specs.Elements.{Mark, Open, pieces, spelling, IsElement, plain, string}
-use Rattle.ciborium_ll_grammar.specs.Elements.{IsPlain, IsRun, done, next, IsMeant, IsStrictSpelling}
+use Rattle.ciborium_ll_grammar.specs.Elements.{IsPlain, IsRun, IsMeant, IsStrictSpelling, IsStrictRun}
 use Rattle.ciborium_ll_grammar.specs.Faults.{Place, Due, In, BodyDue, IsAtTitle, IsInside, opened, deeper, Reaches, due}
-use Rattle.ciborium_ll_grammar.specs.Faults.{inside, body, body_inside, Answer}
-use Rattle.ciborium_ll_decoder.specs.StrictRecoding.{due_title, IsStrictRun, StrictRunInFront, StrictlyReaches}
-use Rattle.ciborium_ll_decoder.specs.StrictRecoding.{StrictFault, Fault, LongTitle, NestedOpen, HasStrictFault}
+use Rattle.ciborium_ll_grammar.specs.Faults.{inside, body, body_inside, due_title, RunInFront, HasFault}
 use Rattle.ciborium_ll_text.proofs.Lists.{same_front}
 use Rattle.ciborium_ll_grammar.proofs.TitleLaws.{one_title, shortest_no_longer, IsTitle-shortest}
 use Rattle.ciborium_ll_grammar.proofs.StringLaws.{mixed, not_break, break_title, string_not_break, one_string}
-use Rattle.ciborium_ll_grammar.proofs.ElementLaws.{not_plain, string_fronts, one_element, AreStrings-append}
+use Rattle.ciborium_ll_grammar.proofs.ElementLaws.{not_plain, string_fronts, AreStrings-append}
 use Rattle.ciborium_ll_grammar.proofs.ElementLaws.{pieces-append, spelling-append, respell_one, respell_all}
-use Rattle.ciborium_ll_grammar.proofs.ElementLaws.{open_spelled, element_again, run_again}
-use Rattle.ciborium_ll_decoder.proofs.NestLaws.{alone_bytes, open_alone, open_length, open_in_range, title_some}
+use Rattle.ciborium_ll_grammar.proofs.ElementLaws.{open_spelled, run_again}
+use Rattle.ciborium_ll_grammar.proofs.AloneLaws.{alone_bytes, open_alone, open_length, open_in_range, title_some}
 use Rattle.ciborium_ll_grammar.proofs.TightLaws.{tight_title}
-use Rattle.ciborium_ll_decoder.proofs.SpelledLaws.{spelled_alone}
-use Rattle.ciborium_ll_grammar.proofs.FaultLaws.{no_fault}
+use Rattle.ciborium_ll_grammar.proofs.FaultLaws.{follows, reach_stuck, stuck_or_refused, Refuses, long, nested, none_refused}
+
+-- no more behind the spelling
+pub spelled_alone : (bytes : List ℕ) (marks : List Mark) → IsStrictSpelling bytes marks [] → bytes ≡ spelling marks
+spelled_alone bytes marks s = s.same ∙ append-nil (spelling marks)
 
 -- ---- titles
 
@@ -40,69 +41,6 @@ kind_meant Text o f = f
 open_has_none : (k : Kind) (n : ℕ) → kind_header k None ≡ kind_header k (Some n) → ⊥
 open_has_none Bytes n e = cc
 open_has_none Text n e = cc
-
--- ---- runs
-
-meant_left : (ms ns : List Mark) → AllByRecursion IsMeant (ms ++ ns) → AllByRecursion IsMeant ms
-meant_left [] ns p = tt
-meant_left (m ∷ ms) ns p = (p.0, meant_left ms ns p.1)
-
-meant_right : (ms ns : List Mark) → AllByRecursion IsMeant (ms ++ ns) → AllByRecursion IsMeant ns
-meant_right [] ns p = p
-meant_right (m ∷ ms) ns p = meant_right ms ns p.1
-
--- an element and elements behind it that are spelled shortest are so each
-next_same : (x y : List ℕ) (ns os : List Mark) (m : ℕ) → IsElement x ns → IsRun m y os → x ++ y
-    ≡ spelling (ns ++ os) → (x ≡ spelling ns) × (y ≡ spelling os)
-next_same x y ns os m a r e =
-    let b = element_again x ns a in
-    let c = run_again m y os r in
-    let lb = b.shorter in
-    let lc = c.shorter in
-    let s = e ∙ spelling-append ns os in
-    let counted = ap length s in
-    same_front x (spelling ns) y (spelling os) (omega (
-      arith,
-      lb,
-      lc,
-      counted,
-      length-append x y,
-      length-append
-          (spelling ns) (spelling os),
-    )) s
-
--- the next element of a longer strict run stands behind a shorter run
-record FollowsStrictly (x : List ℕ) : Type 0 where
-  word : List ℕ
-  marks : List Mark
-  ok : IsElement word marks
-  same : word ≡ spelling marks
-  meant : AllByRecursion IsMeant marks
-  rest : List ℕ
-  is : x ≡ word ++ rest
-
-follows_strictly : (i : ℕ) (u : List ℕ) (ms : List Mark) → IsRun i u ms → (n : ℕ) (w : List ℕ) (ns : List Mark)
-    → IsRun n w ns → w ≡ spelling ns → AllByRecursion IsMeant ns → i < n
-    → (x v : List ℕ) → u ++ x ≡ w ++ v → FollowsStrictly x
-follows_strictly i u ms done n w ns done s m l x v e = absurd (omega arith)
-follows_strictly i u ms done n w ns (next {count = j} {first = a} {rest = b} {marks = os} {others = ps} p r) s m l x
-    v e =
-    record {
-      word = a;
-      marks = os;
-      ok = p;
-      same = (next_same a b os ps j p r s).0;
-      meant =
-          meant_left os ps m;
-      rest = b ++ v;
-      is = e ∙ append_assoc a b v;
-    }
-follows_strictly i u ms (next p r) n w ns done s m l x v e = absurd (omega arith)
-follows_strictly i u ms (next {count = j} {first = a} {rest = b} {marks = os} {others = ps} p r) n w ns
-    (next {count = i'} {first = a'} {rest = b'} {marks = os'} {others = ps'} p' r') s m l x v e =
-    let o = one_element a a' (b ++ x) (b' ++ v) os os' p p' (sym (append_assoc a b x) ∙ (e ∙ append_assoc a' b' v)) in
-    follows_strictly j b ps r i' b' ps' r' (next_same a' b' os' ps' i' p' r' s).1 (meant_right os' ps' m)
-    (omega arith) x v o.2
 
 -- ---- where an element is due
 
@@ -299,14 +237,14 @@ title_strictly : (n : ℕ) (u : List ℕ) (ms : List Mark) (at : Place) → Reac
     ≡ spelling ms → (t r : List ℕ) (x : Header) → IsTitle t x
     → (w v : List ℕ) (ns : List Mark) → IsStrictRun n w ns → u ++ (t ++ r) ≡ w ++ v → IsStrictTitle t x × IsNoOpen at x
 title_strictly n u ms at (due {before = i} l q) d s t r x c w v ns run e =
-    let z = follows_strictly i u ms q n w ns run.run run.same run.meant l (t ++ r) v e in
-    (element_begins z.word z.marks z.ok z.same z.meant t r z.rest x c z.is, tt)
+    let z = follows i u ms q n w ns run.run l (t ++ r) v e in
+    let spelled = z.spelled run.same run.meant in
+    (element_begins z.word z.marks z.ok spelled.0 spelled.1 t r z.rest x c z.is, tt)
 title_strictly n u ms at (inside {before = i} {bytes = a} {opens = b} {marks = os} {bodies = bs} {kind = k} l q f
     ok) d s t r x c w v ns run e =
-    let z = follows_strictly i a os q n w ns run.run run.same run.meant l (b ++ (t ++ r)) v
-    (sym (append_assoc a b (t ++ r)) ∙ e) in
+    let z = follows i a os q n w ns run.run l (b ++ (t ++ r)) v (sym (append_assoc a b (t ++ r)) ∙ e) in
     let same = inside_same i k a b os bs q f s in
-    element_goes z.word z.marks z.ok z.same k (spelling (pieces k bs)) bs (inside_strings k b bs f) t r z.rest x c
+    element_goes z.word z.marks z.ok (z.spelled run.same run.meant).0 k (spelling (pieces k bs)) bs (inside_strings k b bs f) t r z.rest x c
     (ap (λ (y : List ℕ). y ++ (t ++ r)) (sym same) ∙ z.is)
 title_strictly n u ms at (body k q p) d s t r x c w v ns run e = absurd d
 title_strictly n u ms at (body_inside q p) d s t r x c w v ns run e = absurd d
@@ -317,33 +255,30 @@ at_title_spelled Due bytes marks d spelled = spelled_alone bytes marks spelled
 at_title_spelled (In k) bytes marks d spelled = spelled_alone bytes marks spelled
 at_title_spelled (BodyDue k len start) bytes marks d spelled = absurd d
 
-strictly_stuck : (n : ℕ) (u : List ℕ) (ms : List Mark) (at : Place) → StrictlyReaches n u ms at
-    → (s : List ℕ) (a : Answer) (out : List ℕ) (c : ℕ) → StrictFault u ms at s a out c
+-- no strict run of n elements stands in front where a title is refused
+strictly_stuck : (n : ℕ) (u : List ℕ) (ms : List Mark) (at : Place) → Reaches n u ms at
+    → IsStrictSpelling u ms (due_title at) → (s : List ℕ) → Refuses true at s
     → (w v : List ℕ) (ns : List Mark) → IsStrictRun n w ns → u ++ s ≡ w ++ v → ⊥
-strictly_stuck n u ms at reach s a out c (Fault f) w v ns run e =
-    no_fault n (w ++ v) (record { elements = w; marks = ns; rest = v; run = run.run; is = refl })
-    (record {
-      before = u;
-      marks = ms;
-      place = at;
-      ahead = s;
-      answer = a;
-      written = out;
-      consumed = c;
-      reach =
-          reach.reaches;
-      is = sym e;
-      fault = f;
-    })
-strictly_stuck n u ms at reach s a out c (LongTitle {title = t} x r d p refuses g) w v ns run e =
-    refuses (title_strictly n u ms at reach.reaches d (at_title_spelled at u ms d reach.spelled) t r x p w v ns run
+strictly_stuck n u ms at reach spelled s (long {t} x r d p untaken g) w v ns run e =
+    untaken (title_strictly n u ms at reach d (at_title_spelled at u ms d spelled) t r x p w v ns run
     (ap (λ (z : List ℕ). u ++ z) (sym g) ∙ e)).0
-strictly_stuck n u ms at reach s a out c (NestedOpen {kind = k} {title = t} r p g) w v ns run e =
-    (title_strictly n u ms (In k) reach.reaches tt (spelled_alone u ms reach.spelled) t r (kind_header k None) p w v
+strictly_stuck n u ms at reach spelled s (nested {k} {t} r on p g) w v ns run e =
+    (title_strictly n u ms (In k) reach tt (spelled_alone u ms spelled) t r (kind_header k None) p w v
     ns run (ap (λ (z : List ℕ). u ++ z) (sym g) ∙ e)).1 refl
 
--- where a strict run of n elements stands in front, there is no strict fault
-pub no_strict_fault : (n : ℕ) (x : List ℕ) → StrictRunInFront n x → HasStrictFault n x → ⊥
-no_strict_fault n x r f =
-    strictly_stuck n f.before f.marks f.place f.reach f.ahead f.answer f.written f.consumed f.fault r.elements
-    r.rest r.marks r.run (sym f.is ∙ r.is)
+refused_none : (strict : Bool) (n : ℕ) (x : List ℕ) (r : RunInFront strict n x) (f : HasFault strict n x)
+    → Refuses strict f.place f.ahead → ⊥
+refused_none false n x r f refuses = none_refused f.place f.ahead refuses
+refused_none true n x r f refuses =
+    let run = r.spelled refl in
+    strictly_stuck n f.before f.marks f.place f.reach (f.spelled refl) f.ahead refuses r.elements r.rest r.marks
+    (record { run = r.run; same = spelled_alone r.elements r.marks run; meant = run.meant }) (sym f.is ∙ r.is)
+
+-- where a run of n elements stands in front, there is no fault
+pub no_fault : (strict : Bool) (n : ℕ) (x : List ℕ) → RunInFront strict n x → HasFault strict n x → ⊥
+no_fault strict n x r f =
+    elim (stuck_or_refused strict f.before f.marks f.place f.ahead f.answer f.written f.consumed f.fault) [
+      | inl halts ↦ reach_stuck n f.before f.marks f.place f.reach f.ahead halts r.elements r.rest r.marks r.run
+          (sym f.is ∙ r.is)
+      | inr refuses ↦ refused_none strict n x r f refuses
+    ]
