@@ -19,7 +19,7 @@ use Rattle.ciborium_ll_grammar.proofs.ElementLaws.{element_again, one_element, o
 use Rattle.ciborium_ll_decoder.proofs.NestLaws.{alone_bytes, open_alone}
 use Rattle.ciborium_ll_decoder.proofs.SpelledLaws.{meant_append, open_meant}
 use Rattle.ciborium_ll_grammar.proofs.FaultLaws.{meant_left, meant_right}
-use Rattle.ciborium_ll_grammar.proofs.StrictFaultLaws.{spelled_alone}
+use Rattle.ciborium_ll_grammar.proofs.SpelledLaws.{spelled_alone}
 
 -- ---- from the spelling to the titles
 

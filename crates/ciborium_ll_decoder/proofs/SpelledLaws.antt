@@ -1,46 +1,11 @@
--- What a strict decoder reads is its own shortest spelling: how it goes on.
-use Rattle.std.proofs.Common.{◌≡◌, ℕ, List, [], ◌∷◌, ◌++◌, None, refl, sym, ap, ◌∙◌, inl, inr, append-nil}
-use Rattle.std.specs.List.{AllByRecursion}
+-- What a strict decoder reads is its own shortest spelling, as the grammar's lemmas say, which are handed on; and none
+-- waits where none waited.
+use Rattle.std.proofs.Common.{◌≡◌, ℕ, List, None, ap, ◌∙◌, inl, inr}
 use Rattle.ciborium_ll_io.specs.declared.io.Read.{Ghosts}
 use Rattle.ciborium_ll_decoder.specs.declared.dec.Decoder.{Decoder}
-use Rattle.ciborium_ll_grammar.specs.Strings.{Kind}
-use Rattle.ciborium_ll_grammar.specs.Elements.{Mark, Close, pieces, open_marks, spelling, IsMeant, IsStrictSpelling}
 use Rattle.ciborium_ll_decoder.specs.Decoding.{Passes}
-use Rattle.ciborium_ll_grammar.proofs.ElementLaws.{spelling-append}
-use Rattle.ciborium_ll_grammar.proofs.StrictFaultLaws.{spelled_alone}
-
-pub meant_append : (ms ns : List Mark) → AllByRecursion IsMeant ms → AllByRecursion IsMeant ns
-    → AllByRecursion IsMeant (ms ++ ns)
-meant_append [] ns p q = q
-meant_append (m ∷ ms) ns p q = (p.0, meant_append ms ns p.1 q)
-
-pub pieces_meant : (k : Kind) (bs : List (List ℕ)) → AllByRecursion IsMeant (pieces k bs)
-pieces_meant k [] = tt
-pieces_meant k (b ∷ bs) = (tt, pieces_meant k bs)
-
-pub open_meant : (k : Kind) (bs : List (List ℕ)) → AllByRecursion IsMeant (open_marks k bs)
-open_meant k bs = (tt, meant_append (pieces k bs) (Close ∷ []) (pieces_meant k bs) (tt, tt))
-
-pub spelled_none : IsStrictSpelling [] [] []
-spelled_none = record { same = refl; meant = tt }
-
--- marks more
-pub spelled_then : (bytes : List ℕ) (marks : List Mark) (more : List ℕ) (others : List Mark)
-    → IsStrictSpelling bytes marks [] → more ≡ spelling others → AllByRecursion IsMeant others
-    → IsStrictSpelling (bytes ++ more) (marks ++ others) []
-spelled_then bytes marks more others s e meant = record {
-  same = ap (λ (z : List ℕ). z ++ more) (spelled_alone bytes marks s) ∙ ap (λ (z : List ℕ). spelling marks ++ z) e
-      ∙ sym (spelling-append marks others) ∙ sym (append-nil (spelling (marks ++ others)));
-  meant = meant_append marks others s.meant meant;
-}
-
--- a title of a body more
-pub spelled_title : (bytes : List ℕ) (marks : List Mark) (title more : List ℕ) → IsStrictSpelling bytes marks []
-    → title ≡ more → IsStrictSpelling (bytes ++ title) marks more
-spelled_title bytes marks title more s e = record {
-  same = ap (λ (z : List ℕ). z ++ title) (spelled_alone bytes marks s) ∙ ap (λ (z : List ℕ). spelling marks ++ z) e;
-  meant = s.meant;
-}
+pub use Rattle.ciborium_ll_grammar.proofs.SpelledLaws.{meant_append, pieces_meant, open_meant, spelled_none}
+pub use Rattle.ciborium_ll_grammar.proofs.SpelledLaws.{spelled_then, spelled_title}
 
 -- where no header waited none waits
 pub passes_settled : {R E : Type 0} (source : Ghosts R E) (old new : Decoder R) (bytes : List ℕ)

@@ -10,6 +10,7 @@ pub mod OneFault
 pub mod OpenStrings
 pub mod PartsLaws
 pub mod RefusedBytes
+pub mod SpelledLaws
 pub mod StartLaws
 pub mod StepLaws
 pub mod StrictFaultLaws

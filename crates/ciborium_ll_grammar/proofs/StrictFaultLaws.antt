@@ -18,12 +18,9 @@ use Rattle.ciborium_ll_grammar.proofs.ElementLaws.{not_plain, string_fronts, Are
 use Rattle.ciborium_ll_grammar.proofs.ElementLaws.{pieces-append, spelling-append, respell_one, respell_all}
 use Rattle.ciborium_ll_grammar.proofs.ElementLaws.{open_spelled, run_again}
 use Rattle.ciborium_ll_grammar.proofs.AloneLaws.{alone_bytes, open_alone, open_length, open_in_range, title_some}
+use Rattle.ciborium_ll_grammar.proofs.SpelledLaws.{spelled_alone}
 use Rattle.ciborium_ll_grammar.proofs.TightLaws.{tight_title}
 use Rattle.ciborium_ll_grammar.proofs.FaultLaws.{follows, reach_stuck, stuck_or_refused, Refuses, long, nested, none_refused}
-
--- no more behind the spelling
-pub spelled_alone : (bytes : List ℕ) (marks : List Mark) → IsStrictSpelling bytes marks [] → bytes ≡ spelling marks
-spelled_alone bytes marks s = s.same ∙ append-nil (spelling marks)
 
 -- ---- titles
 

@@ -22,8 +22,9 @@ pub fn one_fault()
         → (fault.answer ≡ other.answer) ⊎ BeginsNoText fault.ahead }
 {}
 
-/// Where any spelling is taken, in any bytes either a run of so many elements stands in front, or a fault stops it.
+/// In any bytes either a run of so many elements stands in front, or a fault stops it, whether any spelling is taken or
+/// the shortest alone.
 pub fn run_or_fault()
-    ensures { (count : ℕ) (bytes : List ℕ) → AreBytes bytes
-        → RunInFront false count bytes ⊎ HasFault false count bytes }
+    ensures { (strict : Bool) (count : ℕ) (bytes : List ℕ) → AreBytes bytes
+        → RunInFront strict count bytes ⊎ HasFault strict count bytes }
 {}
