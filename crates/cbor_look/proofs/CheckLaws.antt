@@ -49,7 +49,8 @@ deepen {outer = outer} {depth = depth} here deeper count title items header same
     subst (λ (n : ℕ). ItemDue outer n (title ++ items) deeper (may_close header count)) (sym same)
     (subst (λ (z : List ℕ). ItemDue outer (suc deeper) (title ++ z) deeper (may_close header count))
     (append-nil items) one)
-deepen {outer = outer} {depth = depth} (within {title = t} {items = i} {more = m} p' more' are' inner) deeper count title
+deepen {outer = outer} {depth = depth} (within {title = t} {items = i} {more = m} p' more' are' inner) deeper count
+    title
     items header same p more are =
     subst (λ (z : List ℕ). ItemDue outer depth z deeper (may_close header count))
     (sym (append_assoc t (i ++ m) (title ++ items)

@@ -264,7 +264,8 @@ module _ {R E : Type 0} (source : Ghosts R E) where
     count = ends.count;
     some = ends.some;
     more = let more = ends.more in
-        let both = length-append front ends.part.read in more_left len left (length front) (length ends.part.read) ends.count (length (front ++ ends.part.read)) counted both more;
+        let both = length-append front ends.part.read in more_left len left (length front) (length ends.part.read)
+        ends.count (length (front ++ ends.part.read)) counted both more;
     fails = ends.fails;
   }
   part_behind kind len left place front old between new (e.Syntax at) passed written counted ends =
@@ -290,7 +291,8 @@ module _ {R E : Type 0} (source : Ghosts R E) where
     count = ends.count;
     held = ends.held;
     more = let more = ends.more in
-        let both = length-append front ends.part.read in more_left len left (length front) (length ends.part.read) ends.count (length (front ++ ends.part.read)) counted both more;
+        let both = length-append front ends.part.read in more_left len left (length front) (length ends.part.read)
+        ends.count (length (front ++ ends.part.read)) counted both more;
     full = ends.full;
     untouched = ends.untouched;
   }

@@ -32,7 +32,8 @@ use Rattle.cbor_look.proofs.StringLaws.{not_open}
 use Rattle.cbor_look.proofs.PullLaws.{passes_idle, passes_alike}
 
 -- opens of which none is closed
-open_inside : (kind : Kind) (opens : ℕ) (parts : List ℕ) (bodies : List (List ℕ)) → AreOpen kind (suc opens) parts bodies
+open_inside : (kind : Kind) (opens : ℕ) (parts : List ℕ) (bodies : List (List ℕ))
+    → AreOpen kind (suc opens) parts bodies
     → IsInside kind parts bodies
 open_inside kind zero parts bodies
     (more {outer = x} {title = t} {strings = z} {bodies = b} {others = c} o p are) =
@@ -139,7 +140,8 @@ module _ {R E : Type 0} (source : Ghosts R E) where
 
     -- a further open
     pub within_open : (then_drawn : Option (List Line)) (row : List ℕ) (offset : ℕ) (new : Decoder R)
-        → Takes source between row new → (between.waiting ≡ None → Passes source between row new) → offset ≡ between.offset → IsTitle row (kind_header kind None)
+        → Takes source between row new → (between.waiting ≡ None → Passes source between row new)
+        → offset ≡ between.offset → IsTitle row (kind_header kind None)
         → Draws middle then_drawn
         (record { level = inner; offset = offset; bytes = row; meaning = m.Header (kind_header kind None) } ∷ [])
         → Within depth start drawn then_drawn nests items title kind (inner + 1) old new
@@ -162,7 +164,8 @@ module _ {R E : Type 0} (source : Ghosts R E) where
     -- a break that closes one of several
     inner_break : (opens : ℕ) → so_far.opens ≡ suc opens → (then_drawn : Option (List Line)) (row : List ℕ)
         (offset : ℕ) (new : Decoder R)
-        → Takes source between row new → (between.waiting ≡ None → Passes source between row new) → offset ≡ between.offset → IsTitle row h.Break
+        → Takes source between row new → (between.waiting ≡ None → Passes source between row new)
+        → offset ≡ between.offset → IsTitle row h.Break
         → Draws middle then_drawn
         (record { level = inner - 1; offset = offset; bytes = row; meaning = m.Header h.Break } ∷ [])
         → Within depth start drawn then_drawn nests items title kind (inner - 1) old new
@@ -185,7 +188,8 @@ module _ {R E : Type 0} (source : Ghosts R E) where
         }
 
     pub within_break : (then_drawn : Option (List Line)) (row : List ℕ) (offset : ℕ) (new : Decoder R)
-        → Takes source between row new → (between.waiting ≡ None → Passes source between row new) → offset ≡ between.offset → IsTitle row h.Break
+        → Takes source between row new → (between.waiting ≡ None → Passes source between row new)
+        → offset ≡ between.offset → IsTitle row h.Break
         → (inner - 1 ≡ length nests → ⊥)
         → Draws middle then_drawn
         (record { level = inner - 1; offset = offset; bytes = row; meaning = m.Header h.Break } ∷ [])

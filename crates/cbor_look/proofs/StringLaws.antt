@@ -1,6 +1,7 @@
 -- The lines of a string, behind its title.
 use Rattle.std.proofs.Common.{◌≡◌, ℕ, zero, suc, ◌+◌, ◌-◌, ◌≤◌, List, [], ◌∷◌, ◌++◌, length, Option, Some, None}
-use Rattle.std.proofs.Common.{Result, Ok, Err, inr, refl, sym, ap, subst, ◌∙◌, arith, append-nil, append_assoc, length-append}
+use Rattle.std.proofs.Common.{Result, Ok, Err, inr, refl, sym, ap, subst, ◌∙◌, arith, append-nil, append_assoc}
+use Rattle.std.proofs.Common.{length-append}
 use Rattle.ciborium_ll.specs.Types.Read.{Ghosts}
 use Rattle.ciborium_ll.specs.Types.Decoder.{Decoder}
 use Rattle.ciborium_ll.specs.Title.{IsTitle}

@@ -90,7 +90,10 @@ pub walk_line : (depth whole start : ℕ) (old new : Option (List Line)) (before
 walk_line depth whole start old new before title x level place walk due p plain same at drawn =
     let used = due.keeps.used in
     let counted : length due.nests ≡ length due.nests + 0 = omega arith in
-    title_line depth start old new before title x level place due.nests 0 (due_here depth due.nests before (whole, due.within))
+    title_line depth start old new before title x level place due.nests 0 (due_here depth due.nests before (
+      whole,
+      due.within,
+    ))
     p (same ∙ (used ∙ (counted ∙ sym plain))) at drawn
 
 pub break_line : (depth whole start : ℕ) (old new : Option (List Line)) (before title : List ℕ) (level place : ℕ)
@@ -105,7 +108,8 @@ break_line depth whole start old new before title level place closed walk breaks
 -- ---- items
 
 -- an item where one was due
-pub behind_item : (depth whole : ℕ) (walk : Walk) (before item : List ℕ) → IsDue depth whole walk before → walk.used ≤ walk.depth
+pub behind_item : (depth whole : ℕ) (walk : Walk) (before item : List ℕ) → IsDue depth whole walk before
+    → walk.used ≤ walk.depth
     → ((levels : ℕ) → IsItem false levels item) → IsBehindItem depth whole walk (before ++ item)
 behind_item depth whole walk before item due within is_item =
     let used = due.keeps.used in
@@ -183,7 +187,8 @@ module _ {R E : Type 0} (source : Ghosts R E) where
     pub due : IsDue depth 0 walk bytes
 
   -- all up to here was shown, and an item is due
-  pub record UpTo (depth : ℕ) (strict : Bool) (drawn then_drawn : Option (List Line)) (walk : Walk) (old new : Decoder R)
+  pub record UpTo (depth : ℕ) (strict : Bool) (drawn then_drawn : Option (List Line)) (walk : Walk) (old new : Decoder
+      R)
       : Type 0 where
     pub bytes : List ℕ
     pub shows : Shows source depth old.offset drawn then_drawn [] bytes old new
@@ -259,13 +264,15 @@ module _ {R E : Type 0} (source : Ghosts R E) where
       })
 
   -- a title that was read, and what is shown of it and behind it
-  pub up_title : {W : Type 0} (depth whole place : ℕ) (strict : Bool) (header : Header) (drawn middle then_drawn : Option (List Line)) (before : List ℕ)
+  pub up_title : {W : Type 0} (depth whole place : ℕ) (strict : Bool) (header : Header) (drawn middle then_drawn :
+      Option (List Line)) (before : List ℕ)
       (walk : Walk) (row : List ℕ) (result : Result (Unit {0}) (DumpError E W)) (old between titled new : Decoder R)
       → Shows source depth old.offset drawn middle [] before old between → Takes source between row titled
       → (title : ShowsTitle source depth whole old.offset middle then_drawn before row header walk strict place result
       titled new)
       → Shows source depth old.offset drawn then_drawn [] (before ++ (row ++ title.bytes)) old new
-  up_title depth whole place strict header drawn middle then_drawn before walk row result old between titled new shows takes title =
+  up_title depth whole place strict header drawn middle then_drawn before walk row result old between titled new shows
+      takes title =
       shows_then source depth old.offset drawn middle then_drawn [] before (row ++ title.bytes) old between new shows
       (shows_read source depth old.offset middle then_drawn before row title.bytes between titled new takes
       title.shows)

@@ -94,7 +94,8 @@ record Inner (depth whole : ℕ) (nest : Nest) (outer : List Nest) (bytes : List
   are_items : AreItems false levels nest.count items
   is : bytes ≡ before ++ (title ++ items)
 
-inner_of : (depth whole : ℕ) (nest : Nest) (outer : List Nest) (bytes : List ℕ) → StandsBehind depth whole (nest ∷ outer) bytes
+inner_of : (depth whole : ℕ) (nest : Nest) (outer : List Nest) (bytes : List ℕ)
+    → StandsBehind depth whole (nest ∷ outer) bytes
     → Inner depth whole nest outer bytes
 inner_of depth whole nest outer bytes
     (inside {levels = l} {before = b} {title = t} {items = i} w e p more are) = record {
@@ -262,12 +263,14 @@ closes_as_kept depth walk (nest ∷ nests) keeps some =
     let same = takes_more nest.header nest.count (remaining_at walk.levels (length nests)) kept.0 kept.1 in
     same.1 ∙ ap (λ (k : ℕ). closes (remaining_at walk.levels k)) at
 
-pub break_refused : (depth whole : ℕ) (walk : Walk) (before : List ℕ) → IsDue depth whole walk before → (walk.used ≡ 0 → ⊥)
+pub break_refused : (depth whole : ℕ) (walk : Walk) (before : List ℕ) → IsDue depth whole walk before
+    → (walk.used ≡ 0 → ⊥)
     → closes (remaining_at walk.levels (walk.used - 1)) ≡ false → Breaks depth whole false walk before
 break_refused depth whole walk before due some refused =
     breaks_not depth whole walk before due (closes_as_kept depth walk due.nests due.keeps some ∙ refused)
 
-closed_behind : (depth whole : ℕ) (walk new : Walk) (before : List ℕ) (nests : List Nest) → StandsBehind depth whole nests before
+closed_behind : (depth whole : ℕ) (walk new : Walk) (before : List ℕ) (nests : List Nest)
+    → StandsBehind depth whole nests before
     → KeepsNests depth walk nests → (walk.used ≡ 0 → ⊥) → closes (remaining_at walk.levels (walk.used - 1)) ≡ true
     → new.levels ≡ walk.levels → new.used ≡ walk.used - 1 → new.depth ≡ walk.depth
     → IsBehindItem depth whole new (before ++ 0xff ∷ [])
@@ -288,7 +291,8 @@ closed_behind depth whole walk new before (nest ∷ nests) within keeps some may
       room = ap length same ∙ keeps.room;
     })
 
-pub break_closes : (depth whole : ℕ) (walk new : Walk) (before : List ℕ) → IsDue depth whole walk before → (walk.used ≡ 0 → ⊥)
+pub break_closes : (depth whole : ℕ) (walk new : Walk) (before : List ℕ) → IsDue depth whole walk before
+    → (walk.used ≡ 0 → ⊥)
     → closes (remaining_at walk.levels (walk.used - 1)) ≡ true
     → new.levels ≡ walk.levels → new.used ≡ walk.used - 1 → new.depth ≡ walk.depth → Breaks depth whole true new before
 break_closes depth whole walk new before due some may same less deep =
@@ -305,11 +309,15 @@ break_closes depth whole walk new before due some may same less deep =
 -- ---- the end of an item
 
 -- outside of all nests
-outside_more : (depth whole levels : ℕ) (nests : List Nest) (before item : List ℕ) → StandsBehind depth whole nests before
+outside_more : (depth whole levels : ℕ) (nests : List Nest) (before item : List ℕ)
+    → StandsBehind depth whole nests before
     → length nests ≡ 0 → levels ≡ depth → IsItem false levels item → StandsBehind depth (suc whole) [] (before ++ item)
 outside_more depth whole levels nests before item (outside i) none same is_item =
     outside (items_item depth whole before item i (subst (λ (k : ℕ). IsItem false k item) same is_item))
-outside_more depth whole levels nests before item (inside w e p more are) none same is_item = absurd (omega (arith, none))
+outside_more depth whole levels nests before item (inside w e p more are) none same is_item = absurd (omega (
+  arith,
+  none,
+))
 
 pub end_outside : (depth whole : ℕ) (walk : Walk) (bytes : List ℕ) → IsBehindItem depth whole walk bytes → walk.used ≡ 0
     → IsDueBehind depth whole walk bytes
@@ -322,7 +330,8 @@ end_outside depth whole walk bytes behind none =
     due_outside depth whole walk bytes none (record {
       nests = [];
       within = subst (λ (z : List ℕ). StandsBehind depth (suc whole) [] z) (sym behind.is)
-          (outside_more depth whole behind.levels due.nests behind.before behind.item due.within empty same behind.is_item);
+          (outside_more depth whole behind.levels due.nests behind.before behind.item due.within empty same
+          behind.is_item);
       keeps = record {
         kept = tt;
         used = none;
@@ -341,7 +350,8 @@ some_remains depth walk (nest ∷ nests) keeps some =
     let kept = keeps.kept in
     subst (λ (k : ℕ). is_done (remaining_at walk.levels k) ≡ false) at kept.1
 
-pub end_remains : (depth whole : ℕ) (walk : Walk) (bytes : List ℕ) → IsBehindItem depth whole walk bytes → (walk.used ≡ 0 → ⊥)
+pub end_remains : (depth whole : ℕ) (walk : Walk) (bytes : List ℕ) → IsBehindItem depth whole walk bytes
+    → (walk.used ≡ 0 → ⊥)
     → is_done (remaining_at walk.levels (walk.used - 1)) ≡ false
 end_remains depth whole walk bytes behind some = some_remains depth walk behind.due.nests behind.due.keeps some
 
@@ -358,7 +368,8 @@ more_due : (depth whole : ℕ) (walk new : Walk) (after : Remaining) → Steps w
     → (nests : List Nest) (before item : List ℕ) (levels : ℕ) → StandsBehind depth whole nests before
     → KeepsNests depth walk nests → length nests + levels ≡ depth → IsItem false levels item
     → is_done after ≡ false → new.used ≡ walk.used → IsDue depth whole new (before ++ item)
-more_due depth whole walk new after s [] before item levels stands keeps left is_item rest same = absurd (s.some keeps.used)
+more_due depth whole walk new after s [] before item levels stands keeps left is_item rest same = absurd (s.some
+    keeps.used)
 more_due depth whole walk new after s (nest ∷ nests) before item levels stands keeps left is_item rest same =
     let used = keeps.used in
     let few = s.within in
@@ -401,7 +412,8 @@ level_ends : (depth whole : ℕ) (walk new : Walk) (after : Remaining) → Steps
     → (nests : List Nest) (before item : List ℕ) (levels : ℕ) → StandsBehind depth whole nests before
     → KeepsNests depth walk nests → length nests + levels ≡ depth → IsItem false levels item
     → is_done after ≡ true → new.used ≡ walk.used - 1 → IsBehindItem depth whole new (before ++ item)
-level_ends depth whole walk new after s [] before item levels stands keeps left is_item done less = absurd (s.some keeps.used)
+level_ends depth whole walk new after s [] before item levels stands keeps left is_item done less = absurd (s.some
+    keeps.used)
 level_ends depth whole walk new after s (nest ∷ nests) before item levels stands keeps left is_item done less =
     let used = keeps.used in
     let few = s.within in

@@ -32,9 +32,11 @@ module _ {R E : Type 0} (source : Ghosts R E) where
   -- bytes of a text were read, of which so many were left, or the read of them failed as that of the whole body does
   abbrev pub ReadsText : ℕ → List ℕ → Decoder R → Result Bool (Error E) → Decoder R → Type 0
   ReadsText left bytes old (Ok whole) new = Passes source old bytes new × IsSound left bytes whole
-  ReadsText left bytes old (Err error) new = (place : ℕ) → EndsBody source Text [] left most_bytes place old (Err error) new
+  ReadsText left bytes old (Err error) new = (place : ℕ) → EndsBody source Text [] left most_bytes place old (Err
+      error) new
 
   -- the same of either kind
   abbrev pub ReadsPart : Kind → ℕ → ℕ → List ℕ → Decoder R → Result (Unit {0}) (Error E) → Decoder R → Type 0
   ReadsPart kind left place bytes old (Ok done) new = Passes source old bytes new
-  ReadsPart kind left place bytes old (Err error) new = EndsBody source kind [] left most_bytes place old (Err error) new
+  ReadsPart kind left place bytes old (Err error) new = EndsBody source kind [] left most_bytes place old (Err error)
+      new

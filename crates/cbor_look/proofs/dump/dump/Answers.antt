@@ -42,7 +42,8 @@ returns-in-Err g c =
     in
     record {
       shows = λ all. up_ended g.R.Read c.args.depth c.args.strict _ _ _ c.titles.walk row c.offset-place.result
-          c.level-level.result _ _ _ c.in-Err.error c.ended.result up takes place level (c.ended.ensures.draws all) ended;
+          c.level-level.result _ _ _ c.in-Err.error c.ended.result up takes place level (c.ended.ensures.draws all)
+          ended;
       reads = reads;
       told = λ due alike ready all. answers_told g.R.Read c.args.depth c.args.decoder.now due ready c.ended.result _
           (reads alike all);
@@ -93,7 +94,8 @@ returns-in-Err-title g c =
     in
     record {
       shows = λ all.
-          let title = c.in-Err-title.ensures.shows c.args.depth up.whole c.args.decoder.now.offset up.bytes up.due titled
+          let title = c.in-Err-title.ensures.shows c.args.depth up.whole c.args.decoder.now.offset up.bytes up.due
+          titled
           (omega (arith, place, begun)) (omega (arith, place, moved)) all in
           record {
             bytes = up.bytes ++ (row ++ title.bytes);
@@ -118,7 +120,8 @@ titles-smaller g c =
     let place = c.offset-place.ensures.value in
     let titled : IsTitle row c.in-Ok.header = rw c.in-Ok.is at c.read_title.ensures.title in
     let some = title_some row c.in-Ok.header titled in
-    let title = (rw c.in_default.is at c.title.ensures.shows) c.args.depth up.whole c.args.decoder.now.offset up.bytes up.due
+    let title = (rw c.in_default.is at c.title.ensures.shows) c.args.depth up.whole c.args.decoder.now.offset up.bytes
+    up.due
     titled
     (omega (arith, place, begun)) (omega (arith, place, moved)) tt in
     let behind = title.shows.takes.offset in
@@ -134,7 +137,8 @@ titles-preserved g c =
     let begun = up.shows.takes.offset in
     let place = c.offset-place.ensures.value in
     let titled : IsTitle row c.in-Ok.header = rw c.in-Ok.is at c.read_title.ensures.title in
-    let title = (rw c.in_default.is at c.title.ensures.shows) c.args.depth up.whole c.args.decoder.now.offset up.bytes up.due
+    let title = (rw c.in_default.is at c.title.ensures.shows) c.args.depth up.whole c.args.decoder.now.offset up.bytes
+    up.due
     titled
     (omega (arith, place, begun)) (omega (arith, place, moved)) tt in
     record {

@@ -32,6 +32,7 @@ returns-in-None g c = record {
         whole = shows.whole;
         passed = shows.passed;
         stops = λ alike. any_place g.R.Read (kind_of c.args.kind) 0
-            (c.args.decoder.now.offset - title_len (kind_header (kind_of c.args.kind) None)) _ _ c.pieces.result (shows.stops alike);
+            (c.args.decoder.now.offset - title_len (kind_header (kind_of c.args.kind) None)) _ _ c.pieces.result
+            (shows.stops alike);
       });
 }

@@ -58,7 +58,10 @@ returns g c = record {
       let used = due.keeps.used in
       let line = walk_line depth whole start _ _ before row (kind_header k c.args.len) c.level-level.result c.args.place
       c.args.walk.now due p (string_level k c.args.len due.nests 0) c.level-level.ensures.value place drawn in
-      let rest = (rw c.in_default-rest.is at c.rest.ensures.shows) depth start due.nests before row (whole, due.within) p
+      let rest = (rw c.in_default-rest.is at c.rest.ensures.shows) depth start due.nests before row (
+        whole,
+        due.within,
+      ) p
       (c.level-level.ensures.value ∙ used) (omega (arith, place, offset, length-append before row)) tt in
       record {
         bytes = rest.bytes;

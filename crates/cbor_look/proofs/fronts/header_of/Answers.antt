@@ -12,6 +12,7 @@ returns-then-strict c = λ first affix parts long.
 pub returns-else-strict : goal.returns-else-strict
 returns-else-strict c = λ first affix parts long.
     let fresh = c.from.ensures in
-    subst (λ (z : Bool). Means z c.args.title.now c.whole_header-else-strict.result) (fresh.mode ∙ sym c.if-strict.false)
+    subst (λ (z : Bool). Means z c.args.title.now c.whole_header-else-strict.result) (fresh.mode ∙ sym
+    c.if-strict.false)
     (c.whole_header-else-strict.ensures first affix c.args.title.now refl fresh.offset fresh.none_waits
     (rw (fresh.none_waits, fresh.reader) c.new-reader.ensures.ahead) parts long)

@@ -38,8 +38,10 @@ returns-in-Err g c = record {
         passed = λ alike. tt;
         stops = λ alike.
             let fails = (rw (c.offset-place.ensures.same, c.in-Err.is) at c.read_title.ensures.pulls)
-            (alike_here g.R.Read depth start _ _ nests items title (kind_of c.args.kind) c.parts.inner _ _ stands so_far at c.args.strict alike) place in
-            within_no_title g.R.Read depth start _ _ nests items title (kind_of c.args.kind) c.parts.inner _ _ stands so_far at c.args.strict p c.in-Err.error _ fails c.fault.result c.fault.ensures.says
+            (alike_here g.R.Read depth start _ _ nests items title (kind_of c.args.kind) c.parts.inner _ _ stands
+            so_far at c.args.strict alike) place in
+            within_no_title g.R.Read depth start _ _ nests items title (kind_of c.args.kind) c.parts.inner _ _ stands
+            so_far at c.args.strict p c.in-Err.error _ fails c.fault.result c.fault.ensures.says
             alike.none_waits;
       };
 }
@@ -60,8 +62,10 @@ returns-in-Other g c = record {
         passed = λ alike. tt;
         stops = λ alike.
             let pulls = (rw (c.offset-place.ensures.same, c.in-Ok.is) at c.read_title.ensures.pulls)
-            (alike_here g.R.Read depth start _ _ nests items title (kind_of c.args.kind) c.parts.inner _ _ stands so_far at c.args.strict alike) place in
-            within_other g.R.Read depth start _ _ nests items title (kind_of c.args.kind) c.parts.inner _ _ stands so_far at c.args.strict p c.in-Ok.header c.offset-place.result _ pulls.0 c.in-Other.ensures place
+            (alike_here g.R.Read depth start _ _ nests items title (kind_of c.args.kind) c.parts.inner _ _ stands
+            so_far at c.args.strict alike) place in
+            within_other g.R.Read depth start _ _ nests items title (kind_of c.args.kind) c.parts.inner _ _ stands
+            so_far at c.args.strict p c.in-Ok.header c.offset-place.result _ pulls.0 c.in-Other.ensures place
             c.fault-in-Other.result c.fault-in-Other.ensures.says alike;
       };
 }
@@ -85,7 +89,8 @@ returns-in-Err-shown g c = record {
             (ap (λ (n : ℕ). n - 1) inner) (rw is at (c.in-Err-shown.ensures.draws all));
         whole = tt;
         passed = λ alike. tt;
-        stops = λ alike. refusal_stops g.R.Read (kind_of c.args.kind) None 0 _ _ c.in-Err-shown.error c.in-Err-shown.ensures.refusal;
+        stops = λ alike. refusal_stops g.R.Read (kind_of c.args.kind) None 0 _ _ c.in-Err-shown.error
+            c.in-Err-shown.ensures.refusal;
       };
 }
 
@@ -108,7 +113,8 @@ returns-then-inner-level g c = record {
         bytes = so_far.bytes ++ row;
         shows = ends.0;
         whole = ends.1;
-        passed = λ alike. passed_row g.R.Read depth start _ _ nests items title (kind_of c.args.kind) c.parts.inner _ _ stands so_far at row _ went alike.none_waits;
+        passed = λ alike. passed_row g.R.Read depth start _ _ nests items title (kind_of c.args.kind) c.parts.inner _
+            _ stands so_far at row _ went alike.none_waits;
         stops = λ alike. tt;
       };
 }
@@ -163,7 +169,8 @@ returns-in-Err-shown-2 g c = record {
             (rw is at (c.in-Err-shown-2.ensures.draws all));
         whole = tt;
         passed = λ alike. tt;
-        stops = λ alike. refusal_stops g.R.Read (kind_of c.args.kind) None 0 _ _ c.in-Err-shown-2.error c.in-Err-shown-2.ensures.refusal;
+        stops = λ alike. refusal_stops g.R.Read (kind_of c.args.kind) None 0 _ _ c.in-Err-shown-2.error
+            c.in-Err-shown-2.ensures.refusal;
       };
 }
 
@@ -181,7 +188,8 @@ returns-in-Err-body g c = record {
       let inner = so_far.level in
       let due = piece_due g.R.Read depth start _ _ nests items title (kind_of c.args.kind) c.parts.inner _ _ stands
       so_far at in
-      let rest = c.in-Err-body.ensures.shows depth start (suc so_far.opens) nests (items ++ so_far.parts) row c.read_title.new.decoder.strict due
+      let rest = c.in-Err-body.ensures.shows depth start (suc so_far.opens) nests (items ++ so_far.parts) row
+      c.read_title.new.decoder.strict due
       title_row (omega (arith, inner)) (piece_offset g.R.Read depth start _ _ nests items title (kind_of c.args.kind)
       c.parts.inner _ _ stands so_far at row _ takes) all in
       record {
@@ -192,12 +200,14 @@ returns-in-Err-body g c = record {
         whole = tt;
         passed = λ alike. tt;
         stops = λ alike.
-            let here = alike_here g.R.Read depth start _ _ nests items title (kind_of c.args.kind) c.parts.inner _ _ stands so_far at c.args.strict alike in
+            let here = alike_here g.R.Read depth start _ _ nests items title (kind_of c.args.kind) c.parts.inner _ _
+            stands so_far at c.args.strict alike in
             let went = (rw (c.offset-place.ensures.same, c.in-Ok.is) at c.read_title.ensures.passes) here.none_waits in
             let pulls = (rw (c.offset-place.ensures.same, c.in-Ok.is) at c.read_title.ensures.pulls) here place in
             let pulled = subst (λ (x : Header). PullsTitle g.R.Read c.parts.decoder x c.read_title.new.decoder) is
             pulls.0 in
-            within_body g.R.Read depth start _ _ nests items title (kind_of c.args.kind) c.parts.inner _ _ stands so_far at c.args.strict p c.in-Piece.len c.offset-place.result _ _ pulled pulls.1 place
+            within_body g.R.Read depth start _ _ nests items title (kind_of c.args.kind) c.parts.inner _ _ stands
+            so_far at c.args.strict p c.in-Piece.len c.offset-place.result _ _ pulled pulls.1 place
             c.in-Err-body.error
             (rest.stops (record { none_waits = passes_idle g.R.Read _ _ row went here.none_waits; mode = refl }))
             alike.none_waits;
@@ -230,7 +240,8 @@ parts-preserved-in_default-body g c = record {
       let due = piece_due g.R.Read depth start _ _ nests items title (kind_of c.args.kind) c.parts.inner _ _ stands
       so_far at in
       let rest = (rw c.in_default-body.is at c.body.ensures.shows) depth start (suc so_far.opens) nests
-      (items ++ so_far.parts) row c.read_title.new.decoder.strict due title_row (omega (arith, inner)) (piece_offset g.R.Read depth start _ _ nests
+      (items ++ so_far.parts) row c.read_title.new.decoder.strict due title_row (omega (arith, inner)) (piece_offset
+      g.R.Read depth start _ _ nests
       items title (kind_of c.args.kind) c.parts.inner _ _ stands so_far at row _ takes) tt in
       let went = rw (c.offset-place.ensures.same, c.in-Ok.is) at c.read_title.ensures.passes in
       let shows = within_piece g.R.Read depth start _ _ nests items title (kind_of c.args.kind) c.parts.inner _ _
@@ -274,7 +285,8 @@ returns-in-Err-shown-3 g c = record {
             (rw is at (c.in-Err-shown-3.ensures.draws all));
         whole = tt;
         passed = λ alike. tt;
-        stops = λ alike. refusal_stops g.R.Read (kind_of c.args.kind) None 0 _ _ c.in-Err-shown-3.error c.in-Err-shown-3.ensures.refusal;
+        stops = λ alike. refusal_stops g.R.Read (kind_of c.args.kind) None 0 _ _ c.in-Err-shown-3.error
+            c.in-Err-shown-3.ensures.refusal;
       };
 }
 

@@ -1,4 +1,5 @@
-use Rattle.std.proofs.Common.{◌≡◌, ◌<◌, ◌++◌, Bool, true, false, ℕ, List, length, Err, arith, ap, subst, sym, ◌∙◌, length-append}
+use Rattle.std.proofs.Common.{◌≡◌, ◌<◌, ◌++◌, Bool, true, false, ℕ, List, length, Err, arith, ap, subst, sym, ◌∙◌}
+use Rattle.std.proofs.Common.{length-append}
 use Rattle.std.proofs.lemmas.Result.{err_from_is_err_and}
 use Rattle.ciborium_ll.specs.Strings.{Text}
 use Rattle.ciborium_ll_text.specs.States.{after}
@@ -34,7 +35,8 @@ more-preserved g c =
     let reads = c.in_ok-read-2.ensures.reads in
     let counted = reads.counted in
     let inside : is_inside (after Between row) ≡ true =
-    ap (λ (z : List ℕ). is_inside (after Between z)) (sym c.bytes.ensures) ∙ (sym c.is_cut.ensures ∙ c.if-is_cut.true) in
+    ap (λ (z : List ℕ). is_inside (after Between z)) (sym c.bytes.ensures) ∙ (sym c.is_cut.ensures ∙ c.if-is_cut.true)
+    in
     let some = inside_some row inside in
     let room = so_far.room in
     let one : length reads.bytes ≡ 1 = omega (arith, counted, some, room) in
@@ -64,7 +66,8 @@ returns-in_err-read-2-clause-reads g c = λ some none.
     let is_same = from.2 in
     let same : residual.result ≡ Err c.in_err-read-2.field-0.0 = cc in
     let inside : is_inside (after Between row) ≡ true =
-    ap (λ (z : List ℕ). is_inside (after Between z)) (sym c.bytes.ensures) ∙ (sym c.is_cut.ensures ∙ c.if-is_cut.true) in
+    ap (λ (z : List ℕ). is_inside (after Between z)) (sym c.bytes.ensures) ∙ (sym c.is_cut.ensures ∙ c.if-is_cut.true)
+    in
     let due_here = inside_some row inside in
     let room = c.more.invariant.room in
     let value = c.len.ensures.value in

@@ -8,8 +8,10 @@ returns c = λ depth whole before due.
     (sym c.closes.ensures ∙ c.if-not-closes.false) refl refl refl
 
 pub returns-then-self-eq0 : goal.returns-then-self-eq0
-returns-then-self-eq0 c = λ depth whole before due. break_outside depth whole c.args.self.now before due c.if-self-eq0.true
+returns-then-self-eq0 c = λ depth whole before due. break_outside depth whole c.args.self.now before due
+    c.if-self-eq0.true
 
 pub returns-then-not-closes : goal.returns-then-not-closes
 returns-then-not-closes c = λ depth whole before due.
-    break_refused depth whole c.args.self.now before due c.if-self-eq0.false (sym c.closes.ensures ∙ c.if-not-closes.true)
+    break_refused depth whole c.args.self.now before due c.if-self-eq0.false (sym c.closes.ensures ∙
+    c.if-not-closes.true)
