@@ -10,7 +10,7 @@ use Rattle.cbor_look.proofs.TakingLaws.{takes_none, takes_then}
 
 -- ---- lines
 
-draws_none : (old : Option (List Line)) → Draws old old []
+pub draws_none : (old : Option (List Line)) → Draws old old []
 draws_none None = tt
 draws_none (Some lines) = sym (append-nil lines)
 

@@ -2,8 +2,12 @@ pub mod ItemRows
 pub mod SequenceLaws
 pub mod SingleLaws
 pub mod TakingLaws
+pub mod PullLaws
+pub mod PartLaws
 pub mod DumpLaws
 pub mod WalkLaws
 pub mod TitleLaws
 pub mod StringLaws
 pub mod PieceLaws
+pub mod StopLaws
+pub mod CheckLaws

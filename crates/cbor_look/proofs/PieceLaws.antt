@@ -1,22 +1,48 @@
 -- The lines of a string of indefinite length, behind its open.
 use Rattle.std.proofs.Common.{◌≡◌, ℕ, zero, suc, ◌+◌, ◌-◌, List, [], ◌∷◌, ◌++◌, length, Option, Some, None, refl, sym}
-use Rattle.std.proofs.Common.{ap, subst, ◌∙◌, arith, append-nil, append_assoc, length-append, inl}
+use Rattle.std.proofs.Common.{ap, subst, ◌∙◌, arith, append-nil, append_assoc, length-append, inl, inr, Bool, false, Err}
 use Rattle.ciborium_ll.specs.Types.Read.{Ghosts}
 use Rattle.ciborium_ll.specs.Types.Header.{Header}
 use Rattle.ciborium_ll.specs.Types.Header.TheVariants as h
 use Rattle.ciborium_ll.specs.Types.Decoder.{Decoder}
+use Rattle.ciborium_ll.specs.Types.Error.{Error}
+use Rattle.ciborium_ll.specs.Types.Error.TheVariants as e
+use Rattle.ciborium_ll.specs.Decoding.{IsSteady, Passes, PullsHeader, PullsTitle}
+use Rattle.ciborium_ll.specs.Faults.{IsInside, opened, deeper, IsRefusedIn}
+use Rattle.ciborium_ll.specs.Finishing.{EndsBody}
+use Rattle.ciborium_ll.specs.Items.{AreTakenStrings}
+use Rattle.ciborium_ll.specs.Skipping.{SkipsInside, MeetsNoTitle, MeetsBody, StopsInside}
+use Rattle.ciborium_ll.proofs.DecodingLaws.{Passes-none, Passes-then}
+use Rattle.ciborium_ll.proofs.NestLaws.{alone_bytes, open_alone}
+use Rattle.cbor_skip.specs.declared.SkipError.TheVariants as s
+use Rattle.cbor_look.specs.declared.dump.DumpError.{DumpError}
+use Rattle.cbor_look.specs.declared.dump.DumpError.TheVariants as d
 use Rattle.ciborium_ll.specs.Title.{IsTitle}
 use Rattle.ciborium_ll.specs.Strings.{Kind, kind_header, definite, IsWritable}
 use Rattle.ciborium_ll.specs.Elements.{AreWritable}
 use Rattle.ciborium_ll.proofs.ElementLaws.{AreWritable-append}
 use Rattle.cbor_look.specs.declared.rows.Meaning.TheVariants as m
-use Rattle.cbor_look.specs.Takings.{Takes}
-use Rattle.cbor_look.specs.Levels.{Line, Nest, StandsWithin, AreOpen, none, TitleDue, title_level}
-use Rattle.cbor_look.specs.Dumps.{Draws, fault_lines, Shows}
-use Rattle.cbor_look.specs.StringRows.{EndsString}
+use Rattle.cbor_look.specs.Takings.{IsAlike, most_bytes, Takes}
+use Rattle.cbor_look.specs.Levels.{Line, Nest, StandsWithin, AreOpen, none, more, TitleDue, title_level}
+use Rattle.cbor_look.specs.Dumps.{Draws, fault_lines, SaysFault, Shows}
+use Rattle.cbor_look.specs.StringRows.{EndsString, StopsRest}
 use Rattle.cbor_look.proofs.DumpLaws.{shows_none, shows_then}
 use Rattle.cbor_look.proofs.TitleLaws.{title_line, string_level, break_bytes}
 use Rattle.cbor_look.proofs.StringLaws.{lines_fault, next_offset, add_string, add_open, close_inner, close_last}
+use Rattle.cbor_look.proofs.StringLaws.{not_open}
+use Rattle.cbor_look.proofs.PullLaws.{passes_idle, passes_alike}
+
+-- opens of which none is closed
+open_inside : (kind : Kind) (opens : ℕ) (parts : List ℕ) (bodies : List (List ℕ))
+    → AreOpen kind (suc opens) parts bodies
+    → IsInside kind parts bodies
+open_inside kind zero parts bodies
+    (more {outer = x} {title = t} {strings = z} {bodies = b} {others = c} o p are) =
+    let empty = not_open kind zero x b o refl in
+    rw (empty.0, empty.1) (opened p are)
+open_inside kind (suc opens) parts bodies
+    (more {outer = x} {title = t} {strings = z} {bodies = b} {others = c} o p are) =
+    deeper (open_inside kind opens x b o) (opened p are)
 
 module _ {R E : Type 0} (source : Ghosts R E) where
   -- within a string, of which so many opens aren't closed, all up to here was shown
@@ -31,6 +57,7 @@ module _ {R E : Type 0} (source : Ghosts R E) where
     pub level : inner ≡ length nests + suc opens
     pub is : title ++ bytes ≡ parts
     pub shows : Shows source depth start drawn then_drawn (items ++ title) bytes old new
+    pub passed : old.waiting ≡ None → Passes source old bytes new
 
   pub within_first : (depth start : ℕ) (drawn : Option (List Line)) (nests : List Nest) (items title : List ℕ)
       (kind : Kind) (inner : ℕ) (decoder : Decoder R) → IsTitle title (kind_header kind None)
@@ -46,6 +73,7 @@ module _ {R E : Type 0} (source : Ghosts R E) where
     level = level;
     is = append-nil title;
     shows = shows_none source depth start drawn (items ++ title) decoder;
+    passed = λ idle. Passes-none source decoder;
   }
 
   module _ (depth start : ℕ) (drawn middle : Option (List Line)) (nests : List Nest) (items title : List ℕ)
@@ -70,6 +98,15 @@ module _ {R E : Type 0} (source : Ghosts R E) where
       sound = so_far.sound;
       is = before_is;
     }
+
+    pub passed_row : (row : List ℕ) (new : Decoder R) → (between.waiting ≡ None → Passes source between row new)
+        → old.waiting ≡ None → Passes source old (so_far.bytes ++ row) new
+    passed_row row new went idle = Passes-then source old between new so_far.bytes row (so_far.passed idle)
+        (went (passes_idle source old between so_far.bytes (so_far.passed idle) idle))
+
+    pub alike_here : (strict : Bool) → IsAlike strict old → IsAlike strict between
+    alike_here strict alike =
+        passes_alike source strict old between so_far.bytes (so_far.passed alike.none_waits) alike
 
     -- what was read before a fault
     pub within_fails : (then_drawn : Option (List Line)) (row : List ℕ) (offset : ℕ) (new : Decoder R)
@@ -104,11 +141,12 @@ module _ {R E : Type 0} (source : Ghosts R E) where
 
     -- a further open
     pub within_open : (then_drawn : Option (List Line)) (row : List ℕ) (offset : ℕ) (new : Decoder R)
-        → Takes source between row new → offset ≡ between.offset → IsTitle row (kind_header kind None)
+        → Takes source between row new → (between.waiting ≡ None → Passes source between row new)
+        → offset ≡ between.offset → IsTitle row (kind_header kind None)
         → Draws middle then_drawn
         (record { level = inner; offset = offset; bytes = row; meaning = m.Header (kind_header kind None) } ∷ [])
         → Within depth start drawn then_drawn nests items title kind (inner + 1) old new
-    within_open then_drawn row offset new takes at p drawn_line =
+    within_open then_drawn row offset new takes went at p drawn_line =
         let level = so_far.level in
         record {
           opens = suc so_far.opens;
@@ -119,6 +157,7 @@ module _ {R E : Type 0} (source : Ghosts R E) where
           sound = so_far.sound;
           level = omega (arith, level);
           is = parts_then row;
+          passed = passed_row row new went;
           shows = within_title then_drawn row (kind_header kind None) offset inner new takes at p
               (level ∙ sym (string_level kind None nests (suc so_far.opens))) drawn_line;
         }
@@ -126,11 +165,12 @@ module _ {R E : Type 0} (source : Ghosts R E) where
     -- a break that closes one of several
     inner_break : (opens : ℕ) → so_far.opens ≡ suc opens → (then_drawn : Option (List Line)) (row : List ℕ)
         (offset : ℕ) (new : Decoder R)
-        → Takes source between row new → offset ≡ between.offset → IsTitle row h.Break
+        → Takes source between row new → (between.waiting ≡ None → Passes source between row new)
+        → offset ≡ between.offset → IsTitle row h.Break
         → Draws middle then_drawn
         (record { level = inner - 1; offset = offset; bytes = row; meaning = m.Header h.Break } ∷ [])
         → Within depth start drawn then_drawn nests items title kind (inner - 1) old new
-    inner_break opens e then_drawn row offset new takes at p drawn_line =
+    inner_break opens e then_drawn row offset new takes went at p drawn_line =
         let level = so_far.level in
         record {
           opens = opens;
@@ -143,20 +183,22 @@ module _ {R E : Type 0} (source : Ghosts R E) where
           sound = so_far.sound;
           level = omega (arith, level, e);
           is = parts_then row;
+          passed = passed_row row new went;
           shows = within_title then_drawn row h.Break offset (inner - 1) new takes at p
               (ap (λ (n : ℕ). n - 1) level) drawn_line;
         }
 
     pub within_break : (then_drawn : Option (List Line)) (row : List ℕ) (offset : ℕ) (new : Decoder R)
-        → Takes source between row new → offset ≡ between.offset → IsTitle row h.Break
+        → Takes source between row new → (between.waiting ≡ None → Passes source between row new)
+        → offset ≡ between.offset → IsTitle row h.Break
         → (inner - 1 ≡ length nests → ⊥)
         → Draws middle then_drawn
         (record { level = inner - 1; offset = offset; bytes = row; meaning = m.Header h.Break } ∷ [])
         → Within depth start drawn then_drawn nests items title kind (inner - 1) old new
-    within_break then_drawn row offset new takes at p further drawn_line =
+    within_break then_drawn row offset new takes went at p further drawn_line =
         let level = so_far.level in
         let less : so_far.opens ≡ suc (so_far.opens - 1) = omega (arith, level, further) in
-        inner_break (so_far.opens - 1) less then_drawn row offset new takes at p drawn_line
+        inner_break (so_far.opens - 1) less then_drawn row offset new takes went at p drawn_line
 
     -- the break that ends the string
     pub within_ends : (then_drawn : Option (List Line)) (row : List ℕ) (offset : ℕ) (new : Decoder R)
@@ -200,9 +242,10 @@ module _ {R E : Type 0} (source : Ghosts R E) where
 
     pub within_whole : (then_drawn : Option (List Line)) (row body : List ℕ) (len : ℕ) (new : Decoder R)
         → IsTitle row (kind_header kind (Some len)) → length body ≡ len → IsWritable kind body
+        → (between.waiting ≡ None → Passes source between (row ++ body) new)
         → Shows source depth start drawn then_drawn (items ++ title) (so_far.bytes ++ (row ++ body)) old new
         → Within depth start drawn then_drawn nests items title kind inner old new
-    within_whole then_drawn row body len new p long written shows =
+    within_whole then_drawn row body len new p long written went shows =
         let p' = subst (λ (n : ℕ). IsTitle row (kind_header kind (Some n))) (sym long) p in
         record {
           opens = so_far.opens;
@@ -215,6 +258,7 @@ module _ {R E : Type 0} (source : Ghosts R E) where
           level = so_far.level;
           is = parts_then (row ++ body);
           shows = shows;
+          passed = passed_row (row ++ body) new went;
         }
 
     -- a piece's body stands a level deeper
@@ -236,3 +280,89 @@ module _ {R E : Type 0} (source : Ghosts R E) where
         let moved = takes.offset in
         let cut = ap length before_is in
         omega (arith, moved, here, cut, length-append (items ++ so_far.parts) row)
+
+    -- ---- how the read of the string stops
+
+    skips_inside : IsTitle title (kind_header kind None) → old.waiting ≡ None → old.strict ≡ false
+        → SkipsInside source kind old between
+    skips_inside p idle lenient = record {
+      behind = so_far.bytes;
+      bodies = so_far.bodies;
+      inside = subst (λ (z : List ℕ). IsInside kind (z ++ so_far.bytes) so_far.bodies)
+          (alone_bytes title (kind_header kind None) p (open_alone kind))
+          (subst (λ (z : List ℕ). IsInside kind z so_far.bodies) (sym so_far.is)
+          (open_inside kind so_far.opens so_far.parts so_far.bodies so_far.are_open));
+      taken = subst (λ (b : Bool). AreTakenStrings b kind so_far.bytes so_far.bodies) (sym lenient) tt;
+      sound = so_far.sound;
+      passed = so_far.passed idle;
+    }
+
+    no_title_stops : (error : Error E) (new : Decoder R) → MeetsNoTitle source kind old error new
+        → StopsInside source kind most_bytes old error new
+    no_title_stops (e.Io fault) new meets = inl meets
+    no_title_stops (e.Syntax at) new meets = inl meets
+    no_title_stops e.TooLong new meets = inl meets
+    no_title_stops e.Waiting new meets = absurd meets.fails
+
+    body_stops : (error : Error E) (new : Decoder R) → MeetsBody source kind most_bytes old error new
+        → StopsInside source kind most_bytes old error new
+    body_stops (e.Io fault) new meets = inr meets
+    body_stops (e.Syntax at) new meets = inr (inr meets)
+    body_stops e.TooLong new meets = inr meets
+    body_stops e.Waiting new meets = absurd meets.ends
+
+    -- no title came
+    pub within_no_title : {W : Type 0} (strict : Bool) → IsTitle title (kind_header kind None) → (error : Error E)
+        (new : Decoder R) → PullsHeader source between (Err error) new → (why : DumpError E W) → SaysFault error why
+        → IsAlike strict old → old.strict ≡ false → StopsRest source kind None 0 old (Err why) new
+    within_no_title strict p error new fails (d.Item (s.Read other)) says alike lenient =
+        let same : other ≡ error = cc in
+        subst (λ (x : Error E). StopsInside source kind most_bytes old x new) (sym same)
+        (no_title_stops error new (record { between = between; part = skips_inside p alike.none_waits lenient; fails =
+        fails }))
+    within_no_title strict p error new fails (d.Item (s.Break at)) says alike lenient = absurd cc
+    within_no_title strict p error new fails (d.Item (s.Deep at)) says alike lenient = absurd cc
+    within_no_title strict p error new fails (d.Rows fault) says alike lenient = tt
+
+    -- one came that may not stand there
+    pub within_other : {W : Type 0} (strict : Bool) → IsTitle title (kind_header kind None) → (header : Header)
+        (place : ℕ) (new : Decoder R) → PullsTitle source between header new → IsRefusedIn strict kind header
+        → place ≡ between.offset → (why : DumpError E W) → SaysFault (e.Syntax place) why
+        → IsAlike strict old → old.strict ≡ false → StopsRest source kind None 0 old (Err why) new
+    within_other strict p header place new pulled refused at (d.Item (s.Read other)) says alike lenient =
+        let same : other ≡ e.Syntax place = cc in
+        subst (λ (x : Error E). StopsInside source kind most_bytes old x new) (sym same)
+        (inr (inl (record {
+          between = between;
+          part = skips_inside p alike.none_waits lenient;
+          other = record {
+            header = header;
+            pulled = pulled;
+            refused = subst (λ (mode : Bool). IsRefusedIn mode kind header) (sym (alike_here strict alike).mode)
+                refused;
+            place = at;
+          };
+        })))
+    within_other strict p header place new pulled refused at (d.Item (s.Break other)) says alike lenient = absurd cc
+    within_other strict p header place new pulled refused at (d.Item (s.Deep other)) says alike lenient = absurd cc
+    within_other strict p header place new pulled refused at (d.Rows fault) says alike lenient = tt
+
+    -- the body of a piece failed
+    pub within_body : {W : Type 0} (strict : Bool) → IsTitle title (kind_header kind None) → (len place : ℕ)
+        (titled new : Decoder R) → PullsTitle source between (kind_header kind (Some len)) titled
+        → (IsSteady source between → IsSteady source titled) → place ≡ between.offset → (why : DumpError E W)
+        → StopsRest source kind (Some len) place titled (Err why) new → IsAlike strict old → old.strict ≡ false
+        → StopsRest source kind None 0 old (Err why) new
+    within_body strict p len place titled new pulled steady at (d.Item (s.Read error)) stops alike lenient =
+        body_stops error new (record {
+          between = between;
+          part = skips_inside p alike.none_waits lenient;
+          titled = titled;
+          len = len;
+          pulled = pulled;
+          steady = λ holds. steady ((so_far.passed alike.none_waits).steady holds);
+          ends = subst (λ (n : ℕ). EndsBody source kind [] len most_bytes n titled (Err error) new) at stops;
+        })
+    within_body strict p len place titled new pulled steady at (d.Item (s.Break other)) stops alike lenient = absurd stops
+    within_body strict p len place titled new pulled steady at (d.Item (s.Deep other)) stops alike lenient = absurd stops
+    within_body strict p len place titled new pulled steady at (d.Rows fault) stops alike lenient = tt

@@ -1,12 +1,20 @@
 -- The lines of a string, behind its title.
 use Rattle.std.proofs.Common.{◌≡◌, ℕ, zero, suc, ◌+◌, ◌-◌, ◌≤◌, List, [], ◌∷◌, ◌++◌, length, Option, Some, None}
-use Rattle.std.proofs.Common.{inr, refl, sym, ap, subst, ◌∙◌, arith, append-nil, append_assoc, length-append}
+use Rattle.std.proofs.Common.{Result, Ok, Err, inr, refl, sym, ap, subst, ◌∙◌, arith, append-nil, append_assoc}
+use Rattle.std.proofs.Common.{length-append}
 use Rattle.ciborium_ll.specs.Types.Read.{Ghosts}
 use Rattle.ciborium_ll.specs.Types.Decoder.{Decoder}
 use Rattle.ciborium_ll.specs.Title.{IsTitle}
 use Rattle.ciborium_ll.specs.Strings.{Kind, Bytes, Text, kind_header, IsString, indefinite, AreStrings, IsWritable}
 use Rattle.ciborium_ll.specs.Strings.AreStrings.{none as no_strings, more as more_strings}
 use Rattle.ciborium_ll.specs.Elements.{AreWritable}
+use Rattle.ciborium_ll.specs.Types.Error.{Error}
+use Rattle.ciborium_ll.specs.Decoding.{Passes}
+use Rattle.ciborium_ll.specs.Finishing.{EndsBody}
+use Rattle.cbor_skip.specs.declared.SkipError.TheVariants as s
+use Rattle.cbor_look.specs.declared.dump.DumpError.{DumpError}
+use Rattle.cbor_look.specs.declared.dump.DumpError.TheVariants as d
+use Rattle.ciborium_ll.proofs.DecodingLaws.{Passes-then}
 use Rattle.ciborium_ll.proofs.TextLaws.{IsCharacters-append}
 use Rattle.ciborium_ll.proofs.TitleLaws.{one_title}
 use Rattle.ciborium_ll.proofs.ElementLaws.{AreStrings-append}
@@ -14,11 +22,12 @@ use Rattle.cbor_look.specs.declared.rows.Meaning.{Meaning}
 use Rattle.cbor_look.specs.declared.rows.Meaning.TheVariants as m
 use Rattle.cbor_look.specs.declared.strings.Kind.{Kind as CodeKind}
 use Rattle.cbor_look.specs.declared.strings.Kind.TheVariants as k
-use Rattle.cbor_look.specs.Takings.{Takes, Keeps}
+use Rattle.cbor_look.specs.Takings.{most_bytes, Takes, Keeps}
 use Rattle.cbor_look.specs.Levels.{Line, Nest, AreOpen, none, more, TitleDue, HasBody, Stands}
-use Rattle.cbor_look.specs.Dumps.{Draws, fault_lines, Lines, Shows}
-use Rattle.cbor_look.specs.StringRows.{EndsString, kind_of, meaning_of}
+use Rattle.cbor_look.specs.Dumps.{Draws, fault_lines, IsRefusal, Lines, SaysFault, Shows}
+use Rattle.cbor_look.specs.StringRows.{EndsString, StopsRest, kind_of, meaning_of}
 use Rattle.cbor_look.proofs.DumpLaws.{lines_one, shows_then}
+use Rattle.cbor_look.proofs.PullLaws.{passes_idle}
 
 -- ---- what was read before a fault
 
@@ -89,6 +98,7 @@ module _ {R E : Type 0} (source : Ghosts R E) where
     pub shows : Shows source depth start drawn then_drawn before front old new
     pub counted : length front + left ≡ len
     pub written : IsWritable kind front
+    pub passed : old.waiting ≡ None → Passes source old front new
 
   -- where the next line begins
   pub next_offset : (depth start : ℕ) (drawn then_drawn : Option (List Line)) (before bytes : List ℕ)
@@ -128,12 +138,12 @@ module _ {R E : Type 0} (source : Ghosts R E) where
       → old.offset ≡ start + length (outer ++ title)
       → (so_far : SoFar depth start drawn middle (outer ++ title) (kind_of kind) len left old between)
       → Takes source between bytes new → length bytes ≤ left → offset ≡ between.offset
-      → IsWritable (kind_of kind) bytes
+      → IsWritable (kind_of kind) bytes → (between.waiting ≡ None → Passes source between bytes new)
       → Draws middle then_drawn (record { level = level; offset = offset; bytes = bytes; meaning = meaning_of kind } ∷
       [])
       → SoFar depth start drawn then_drawn (outer ++ title) (kind_of kind) len (left - length bytes) old new
   part_shown depth start opens nests outer title kind len left level offset drawn middle then_drawn bytes old between
-      new at begun so_far takes few here written drawn_line =
+      new at begun so_far takes few here written went drawn_line =
       let counted = so_far.counted in
       let fits : length so_far.front + length bytes ≤ len = omega (arith, counted, few) in
       record {
@@ -150,6 +160,8 @@ module _ {R E : Type 0} (source : Ghosts R E) where
             });
         counted = omega (arith, counted, few, length-append so_far.front bytes);
         written = writable_then (kind_of kind) so_far.front bytes so_far.written written;
+        passed = λ none. Passes-then source old between new so_far.front bytes (so_far.passed none)
+            (went (passes_idle source old between so_far.front (so_far.passed none) none));
       }
 
 -- ---- opens
@@ -182,7 +194,7 @@ close_inner kind opens parts bodies (more {outer = x} {title = t} {strings = s} 
     (add_string kind opens x (t ++ (s ++ 0xff ∷ [])) b c o (indefinite p are))
 
 -- the last one
-not_open : (kind : Kind) (opens : ℕ) (parts : List ℕ) (bodies : List (List ℕ)) → AreOpen kind opens parts bodies
+pub not_open : (kind : Kind) (opens : ℕ) (parts : List ℕ) (bodies : List (List ℕ)) → AreOpen kind opens parts bodies
     → opens ≡ 0 → (parts ≡ []) × (bodies ≡ [])
 not_open kind opens parts bodies none e = (refl, refl)
 not_open kind opens parts bodies (more o p are) e = absurd cc
@@ -202,3 +214,32 @@ close_last kind title bytes parts bodies
       sound = subst (λ (z : List (List ℕ)). AreWritable kind z) (ap (λ (z : List (List ℕ)). z ++ c) empty.1) sound;
       is = ap (λ (z : List ℕ). z ++ 0xff ∷ []) both.2;
     }
+
+-- ---- how the read of a body stops
+
+module _ {R E W : Type 0} (source : Ghosts R E) where
+  -- a row was refused
+  pub refusal_stops : (kind : Kind) (len : Option ℕ) (place : ℕ) (old new : Decoder R) (why : DumpError E W)
+      → IsRefusal why → StopsRest source kind len place old (Err why) new
+  refusal_stops kind len place old new (d.Item error) refusal = absurd refusal
+  refusal_stops kind len place old new (d.Rows fault) refusal = tt
+
+  -- the body failed
+  pub body_stops : (kind : Kind) (len place : ℕ) (old new : Decoder R) (error : Error E) (why : DumpError E W)
+      → SaysFault error why → EndsBody source kind [] len most_bytes place old (Err error) new
+      → StopsRest source kind (Some len) place old (Err why) new
+  body_stops kind len place old new error (d.Item (s.Read other)) says ends =
+      let same : other ≡ error = cc in
+      subst (λ (x : Error E). EndsBody source kind [] len most_bytes place old (Err x) new) (sym same) ends
+  body_stops kind len place old new error (d.Item (s.Break at)) says ends = absurd cc
+  body_stops kind len place old new error (d.Item (s.Deep at)) says ends = absurd cc
+  body_stops kind len place old new error (d.Rows fault) says ends = tt
+
+  -- the place is that of a body alone
+  pub any_place : (kind : Kind) (place other : ℕ) (old new : Decoder R) (result : Result (Unit {0}) (DumpError E W))
+      → StopsRest source kind None place old result new → StopsRest source kind None other old result new
+  any_place kind place other old new (Ok done) stops = tt
+  any_place kind place other old new (Err (d.Item (s.Read error))) stops = stops
+  any_place kind place other old new (Err (d.Item (s.Break at))) stops = absurd stops
+  any_place kind place other old new (Err (d.Item (s.Deep at))) stops = absurd stops
+  any_place kind place other old new (Err (d.Rows fault)) stops = tt

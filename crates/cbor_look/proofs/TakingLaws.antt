@@ -1,5 +1,9 @@
 -- The bytes of a row, read by read.
-use Rattle.std.proofs.Common.{◌≡◌, ℕ, ◌+◌, ◌%◌, List, [], ◌∷◌, ◌++◌, length, Err, refl, sym, ap, subst, ◌∙◌}
+use Rattle.std.proofs.Common.{◌≡◌, ℕ, ◌+◌, ◌%◌, ◌^◌, List, [], ◌∷◌, ◌++◌, length, Some, None, Result, Ok, Err, refl}
+use Rattle.std.proofs.Common.{sym, ap, subst}
+use Rattle.std.proofs.Common.{◌∙◌, inl, inr}
+use Rattle.std.specs.Io.KnownBytes.{Consumes}
+use Rattle.std.specs.Result.{result_ok}
 use Rattle.std.proofs.Common.{arith, append_assoc, append-nil, length-append}
 use Rattle.std.proofs.Common.{◌≤◌, take, take_all, get_or, ◌-◌, min}
 use Rattle.std.proofs.lemmas.List.{take-append-le, length-take}
@@ -9,12 +13,13 @@ use Rattle.ciborium_ll.specs.Types.Header.{Header}
 use Rattle.ciborium_ll.specs.Types.Decoder.{Decoder}
 use Rattle.ciborium_ll.specs.Types.Error.{Error}
 use Rattle.ciborium_ll.specs.Types.Error.TheVariants as e
-use Rattle.ciborium_ll.specs.Title.{IsTitle, affix_len}
-use Rattle.ciborium_ll.specs.Decoding.{view, IsSteady, ReadsAll, ReadsBytes, ReadFails, IsUntouched}
-use Rattle.ciborium_ll.proofs.AffixLaws.{announced}
+use Rattle.ciborium_ll.specs.Title.{IsTitle, IsStrictTitle, IsCutTitle, affix_len}
+use Rattle.ciborium_ll.specs.Decoding.{view, next_read, IsSteady, ReadsAll, ReadsBytes, ReadFails, IsUntouched}
+use Rattle.ciborium_ll.specs.Decoding.{PullsHeader, PullsTitle}
+use Rattle.ciborium_ll.proofs.AffixLaws.{announced, refused_affix}
+use Rattle.ciborium_ll.proofs.CopyingTold.{consumes_told, next_read_small}
 use Rattle.cbor_look.proofs.ItemRows.{nothing}
-use Rattle.cbor_look.specs.Fronts.{IsInFront}
-use Rattle.cbor_look.specs.Takings.{Takes, Keeps}
+use Rattle.cbor_look.specs.Takings.{Takes, Keeps, Means}
 
 -- what stands behind a front leaves it
 pub same_front : (n : ℕ) (xs ys : List ℕ) → n ≤ length xs → take n (take n xs ++ ys) ≡ take n xs
@@ -112,36 +117,90 @@ module _ {R E : Type 0} (source : Ghosts R E) where
   }
 
 -- a title in front of a first byte and as many as that announces is the whole
-pub front_is_all : (header : Header) (first : ℕ) (affix bytes : List ℕ) → IsInFront header bytes
-    → bytes ≡ first ∷ affix → length affix ≡ affix_len (first % 32) → IsTitle bytes header
-front_is_all header first affix bytes front e long =
-    let a = announced front.title header front.is_title in
-    let both : a.byte ∷ (a.affix ++ front.rest) ≡ first ∷ affix =
-    sym (ap (λ (z : List ℕ). z ++ front.rest) a.is) ∙ (sym front.is ∙ e) in
+whole_front : (header : Header) (first : ℕ) (affix title rest : List ℕ) → IsTitle title header
+    → first ∷ affix ≡ title ++ rest → length affix ≡ affix_len (first % 32) → title ≡ first ∷ affix
+whole_front header first affix title rest is_title e long =
+    let a = announced title header is_title in
+    let both : a.byte ∷ (a.affix ++ rest) ≡ first ∷ affix =
+    sym (ap (λ (z : List ℕ). z ++ rest) a.is) ∙ sym e in
     let heads : a.byte ≡ first = cc in
-    let tails : a.affix ++ front.rest ≡ affix = cc in
+    let tails : a.affix ++ rest ≡ affix = cc in
     let lengths = ap length tails in
     let announces : affix_len (a.byte % 32) ≡ affix_len (first % 32) =
     ap (λ (z : ℕ). affix_len (z % 32)) heads in
     let many = a.long in
-    let none : length front.rest ≡ 0 =
-    omega (arith, lengths, announces, many, long, length-append a.affix front.rest) in
-    let last = nothing front.rest none in
-    let all : front.title ≡ bytes =
-    sym (front.is ∙ (ap (λ (z : List ℕ). front.title ++ z) last ∙ append-nil front.title)) in
-    subst (λ (z : List ℕ). IsTitle z header) all front.is_title
+    let none : length rest ≡ 0 =
+    omega (arith, lengths, announces, many, long, length-append a.affix rest) in
+    let last = nothing rest none in
+    sym (e ∙ (ap (λ (z : List ℕ). title ++ z) last ∙ append-nil title))
 
 -- a list of one
-one_of : (one : List ℕ) → length one ≡ 1 → one ≡ get_or one 0 0 ∷ []
+pub one_of : (one : List ℕ) → length one ≡ 1 → one ≡ get_or one 0 0 ∷ []
 one_of [] e = absurd (omega (arith, e))
 one_of (byte ∷ more) e = ap (λ (z : List ℕ). byte ∷ z) (nothing more (omega (arith, e)))
 
--- a first byte, and then as many as it announces
-pub title_taken : (header : Header) (one two more : List ℕ) (long : ℕ) → length one ≡ 1 → two ≡ one ++ more
-    → long ≡ affix_len (get_or one 0 0 % 32) → long ≤ 8 → length two ≡ length one + min long (16 - length one)
-    → IsInFront header two → IsTitle two header
-title_taken header one two more long first both announced few counted front =
-    let parts : two ≡ get_or one 0 0 ∷ more = both ∙ ap (λ (z : List ℕ). z ++ more) (one_of one first) in
-    let lengths = ap length both in
-    front_is_all header (get_or one 0 0) more two front parts
-    (omega (arith, lengths, announced, few, counted, first, length-append one more))
+module _ {R E : Type 0} (source : Ghosts R E) (old : Decoder R) (first : ℕ) (affix bytes : List ℕ)
+    (told : view source old ≡ Some bytes) (parts : bytes ≡ first ∷ affix)
+    (long : length affix ≡ affix_len (first % 32)) where
+  -- a title that was pulled is all of them
+  pulled_all : (header : Header) (title : List ℕ) → IsTitle title header → (new : Decoder R)
+      → Consumes (view source old) (view source new) title → title ≡ bytes
+  pulled_all header title is_title new consumed =
+      let gone = consumes_told _ _ bytes title told consumed in
+      whole_front header first affix title gone.0 is_title (sym parts ∙ gone.2) long ∙ sym parts
+
+  pub pull_means : old.waiting ≡ None → (header : Header) (new : Decoder R) → PullsTitle source old header new
+      → Means old.strict bytes (Some header)
+  pull_means none header new pulled =
+      let same = pulled_all header pulled.title pulled.is_title new pulled.bytes in (
+        subst (λ (z : List ℕ). IsTitle z header) same pulled.is_title,
+        λ on. subst (λ (z : List ℕ). IsStrictTitle z header) same (pulled.strict on none),
+      )
+
+  pub fault_means : IsSteady source old → old.offset ≡ 0 → (error : Error E) (new : Decoder R)
+      → PullsHeader source old (Err error) new → Means old.strict bytes None
+  fault_means steady start (e.Io fault) new fails =
+      let cut = (rw told at (fails.steady steady).1).0 in
+      let less : IsCutTitle (first ∷ affix) = subst IsCutTitle parts cut in
+      absurd (omega (arith, less, long))
+  fault_means steady start (e.Syntax place) new (inl refused) =
+      let gone = consumes_told _ _ bytes (refused.byte ∷ []) told refused.bytes in
+      let both : refused.byte ∷ gone.0 ≡ first ∷ affix = sym gone.2 ∙ parts in
+      let heads : refused.byte ≡ first = cc in
+      let none = refused_affix refused.byte refused.refused in
+      let same : affix_len (refused.byte % 32) ≡ affix_len (first % 32) =
+      ap (λ (z : ℕ). affix_len (z % 32)) heads in
+      let last = nothing affix (omega (arith, long, none, same)) in
+      inl (
+        refused.byte,
+        refused.refused,
+        parts ∙ (ap (λ (z : List ℕ). first ∷ z) last ∙ ap (λ (z : ℕ). z ∷ []) (sym heads)),
+      )
+  fault_means steady start (e.Syntax place) new (inr longer) =
+      let same = pulled_all longer.header longer.title longer.is_title new longer.bytes in
+      inr (
+        longer.strict,
+        (
+          longer.header,
+          subst (λ (z : List ℕ). IsTitle z longer.header) same longer.is_title,
+          λ strict. longer.not_strict
+              (subst (λ (z : List ℕ). IsStrictTitle z longer.header) (sym same) strict),
+        ),
+      )
+  fault_means steady start e.TooLong new passes =
+      let full : 2 ^ 64 ≤ new.offset + next_read passes.read = passes.full in
+      absurd (omega (
+        arith,
+        full,
+        start,
+        passes.offset,
+        passes.within_first,
+        next_read_small passes.read,
+      ))
+  fault_means steady start e.Waiting new never = absurd never
+
+  -- what a pull says of them
+  pub whole_means : IsSteady source old → old.offset ≡ 0 → old.waiting ≡ None → (result : Result Header (Error E))
+      → (new : Decoder R) → PullsHeader source old result new → Means old.strict bytes (result_ok result)
+  whole_means steady start none (Ok header) new pulled = pull_means none header new pulled
+  whole_means steady start none (Err error) new fails = fault_means steady start error new fails

@@ -14,8 +14,9 @@ use Rattle.cbor_skip.specs.Remaining.{IsRemaining, is_done, closes}
 use Rattle.cbor_skip.proofs.RemainingLaws.{takes_more}
 use Rattle.cbor_skip.proofs.ItemSteps.{item_of, items_item}
 use Rattle.cbor_look.specs.declared.walk.Walk.{Walk}
-use Rattle.cbor_look.specs.Levels.{Nest, StandsWithin, outside, inside, closes_one, title_level}
-use Rattle.cbor_look.specs.Walks.{remaining_at, AreKept, KeepsNests, IsDue, IsBehindItem, Breaks}
+use Rattle.cbor_look.specs.Levels.{Nest, StandsBehind, outside, inside, closes_one, title_level}
+use Rattle.cbor_look.specs.Walks.{remaining_at, AreKept, KeepsNests, IsDue, IsDueBehind, IsBehindItem, Breaks}
+use Rattle.cbor_look.specs.Walks.{whole_behind, IsDeepest}
 
 -- ---- all items of a nest
 
@@ -81,21 +82,22 @@ kept_more levels nests nest at x end room is some kept =
 -- ---- the innermost nest
 
 -- its title and its items behind what is before it
-record Inner (depth : ℕ) (nest : Nest) (outer : List Nest) (bytes : List ℕ) : Type 0 where
+record Inner (depth whole : ℕ) (nest : Nest) (outer : List Nest) (bytes : List ℕ) : Type 0 where
   before : List ℕ
   title : List ℕ
   items : List ℕ
   levels : ℕ
-  within : StandsWithin depth outer before
+  within : StandsBehind depth whole outer before
   level : length outer + suc levels ≡ depth
   is_title : IsTitle title nest.header
   takes_more : TakesMore nest.header nest.count
   are_items : AreItems false levels nest.count items
   is : bytes ≡ before ++ (title ++ items)
 
-inner_of : (depth : ℕ) (nest : Nest) (outer : List Nest) (bytes : List ℕ) → StandsWithin depth (nest ∷ outer) bytes
-    → Inner depth nest outer bytes
-inner_of depth nest outer bytes
+inner_of : (depth whole : ℕ) (nest : Nest) (outer : List Nest) (bytes : List ℕ)
+    → StandsBehind depth whole (nest ∷ outer) bytes
+    → Inner depth whole nest outer bytes
+inner_of depth whole nest outer bytes
     (inside {levels = l} {before = b} {title = t} {items = i} w e p more are) = record {
       before = b;
       title = t;
@@ -110,26 +112,27 @@ inner_of depth nest outer bytes
     }
 
 -- no item ends a nest of which more is due: it is the same with one more
-goes_on : (depth levels : ℕ) (nest : Nest) (outer : List Nest) (bytes item : List ℕ)
-    → Inner depth nest outer bytes → suc (length outer) + levels ≡ depth → IsItem false levels item
+goes_on : (depth whole levels : ℕ) (nest : Nest) (outer : List Nest) (bytes item : List ℕ)
+    → Inner depth whole nest outer bytes → suc (length outer) + levels ≡ depth → IsItem false levels item
     → TakesMore nest.header (suc nest.count)
-    → StandsWithin depth (record { header = nest.header; count = suc nest.count } ∷ outer) (bytes ++ item)
-goes_on depth levels nest outer bytes item inner level is_item more =
+    → StandsBehind depth whole (record { header = nest.header; count = suc nest.count } ∷ outer) (bytes ++ item)
+goes_on depth whole levels nest outer bytes item inner level is_item more =
     let same : levels ≡ inner.levels = let e = inner.level in omega (arith, e, level) in
-    let whole : inner.before ++ (inner.title ++ (inner.items ++ item)) ≡ bytes ++ item =
+    let all : inner.before ++ (inner.title ++ (inner.items ++ item)) ≡ bytes ++ item =
     sym (ap (λ (z : List ℕ). z ++ item) inner.is ∙ (append_assoc inner.before (inner.title ++ inner.items) item
     ∙ ap (λ (z : List ℕ). inner.before ++ z) (append_assoc inner.title inner.items item))) in
     let item' = subst (λ (n : ℕ). IsItem false n item) same is_item in
-    subst (λ (z : List ℕ). StandsWithin depth (record { header = nest.header; count = suc nest.count } ∷ outer) z) whole
+    subst (λ (z : List ℕ). StandsBehind depth whole (record { header = nest.header; count = suc nest.count } ∷ outer) z)
+    all
     (inside inner.within inner.level inner.is_title more
     (items_item false inner.levels nest.count inner.items item inner.are_items item'))
 
 -- what completes the nest ends an item a level further out
-ends_nest : (depth : ℕ) (nest : Nest) (outer : List Nest) (bytes more rest : List ℕ) (walk : Walk)
-    (inner : Inner depth nest outer bytes) → rest ≡ inner.items ++ more
+ends_nest : (depth whole : ℕ) (nest : Nest) (outer : List Nest) (bytes more rest : List ℕ) (walk : Walk)
+    (inner : Inner depth whole nest outer bytes) → rest ≡ inner.items ++ more
     → Completes false (suc inner.levels) nest.header rest → KeepsNests depth walk outer
-    → IsBehindItem depth walk (bytes ++ more)
-ends_nest depth nest outer bytes more rest walk inner e completes keeps = record {
+    → IsBehindItem depth whole walk (bytes ++ more)
+ends_nest depth whole nest outer bytes more rest walk inner e completes keeps = record {
   before = inner.before;
   item = inner.title ++ rest;
   levels = suc inner.levels;
@@ -144,19 +147,38 @@ ends_nest depth nest outer bytes more rest walk inner e completes keeps = record
 
 -- ---- the walk
 
+-- within a nest no more items are whole
+within_nest : (depth whole used : ℕ) (walk : Walk) (bytes : List ℕ) → walk.used ≡ used → 0 < used
+    → IsDue depth whole walk bytes → IsDueBehind depth whole walk bytes
+within_nest depth whole zero walk bytes same some due = absurd (omega (arith, some))
+within_nest depth whole (suc used) walk bytes same some due =
+    subst (λ (n : ℕ). IsDue depth (whole_behind whole n) walk bytes) (sym same) due
+
+-- outside of all nests one more is
+due_outside : (depth whole : ℕ) (walk : Walk) (bytes : List ℕ) → walk.used ≡ 0
+    → IsDue depth (suc whole) walk bytes → IsDueBehind depth whole walk bytes
+due_outside depth whole walk bytes none due =
+    subst (λ (n : ℕ). IsDue depth (whole_behind whole n) walk bytes) (sym none) due
+
 pub due_first : (depth : ℕ) (walk : Walk) → walk.used ≡ 0 → walk.depth ≡ depth → length walk.levels ≡ 256
-    → IsDue depth walk []
+    → IsDue depth 0 walk []
 due_first depth walk used same room = record {
   nests = [];
   within = outside no_items;
   keeps = record { kept = tt; used = used; same_depth = same; room = room };
 }
 
+-- no level is left
+pub deepest : (depth whole : ℕ) (walk : Walk) (before : List ℕ) → IsDue depth whole walk before
+    → walk.used ≡ walk.depth → IsDeepest depth whole before
+deepest depth whole walk before due full =
+    record { nests = due.nests; within = due.within; full = sym due.keeps.used ∙ (full ∙ due.keeps.same_depth) }
+
 -- a nest with nothing in it is an item
-pub enters_empty : (depth : ℕ) (walk : Walk) (before title : List ℕ) (header : Header) (x : Remaining)
-    → IsDue depth walk before → IsTitle title header → walk.used ≤ walk.depth → (walk.used ≡ walk.depth → ⊥)
-    → IsRemaining header 0 x → is_done x ≡ true → IsBehindItem depth walk (before ++ title)
-enters_empty depth walk before title header x due p within room is done =
+pub enters_empty : (depth whole : ℕ) (walk : Walk) (before title : List ℕ) (header : Header) (x : Remaining)
+    → IsDue depth whole walk before → IsTitle title header → walk.used ≤ walk.depth → (walk.used ≡ walk.depth → ⊥)
+    → IsRemaining header 0 x → is_done x ≡ true → IsBehindItem depth whole walk (before ++ title)
+enters_empty depth whole walk before title header x due p within room is done =
     let levels = depth - suc (length due.nests) in
     let used = due.keeps.used in
     let same = due.keeps.same_depth in
@@ -172,12 +194,12 @@ enters_empty depth walk before title header x due p within room is done =
     }
 
 -- a nest in which something is due is one more
-pub enters_within : (depth : ℕ) (walk new : Walk) (before title : List ℕ) (header : Header) (x : Remaining)
-    → IsDue depth walk before → IsTitle title header → walk.used ≤ walk.depth → walk.depth ≤ 256
+pub enters_within : (depth whole : ℕ) (walk new : Walk) (before title : List ℕ) (header : Header) (x : Remaining)
+    → IsDue depth whole walk before → IsTitle title header → walk.used ≤ walk.depth → walk.depth ≤ 256
     → (walk.used ≡ walk.depth → ⊥) → IsRemaining header 0 x → is_done x ≡ false
     → new.levels ≡ set walk.levels walk.used x → new.used ≡ walk.used + 1 → new.depth ≡ walk.depth
-    → IsDue depth new (before ++ title)
-enters_within depth walk new before title header x due p within shallow room is some written one deep =
+    → IsDueBehind depth whole new (before ++ title)
+enters_within depth whole walk new before title header x due p within shallow room is some written one deep =
     let levels = depth - suc (length due.nests) in
     let used = due.keeps.used in
     let same = due.keeps.same_depth in
@@ -187,9 +209,9 @@ enters_within depth walk new before title header x due p within shallow room is 
     let more = takes_more header 0 x is some in
     let level : length due.nests + suc levels ≡ depth = omega (arith, used, same, within, room) in
     let fits : walk.used < length walk.levels = omega (arith, used, same, within, room, shallow, long) in
-    record {
+    within_nest depth whole new.used new (before ++ title) refl (omega (arith, one)) (record {
       nests = nest ∷ due.nests;
-      within = subst (λ (z : List ℕ). StandsWithin depth (nest ∷ due.nests) z) all
+      within = subst (λ (z : List ℕ). StandsBehind depth whole (nest ∷ due.nests) z) all
           (inside due.within level p more.0 no_items);
       keeps = record {
         kept = subst (λ (z : List Remaining). AreKept z (nest ∷ due.nests)) (sym written)
@@ -198,7 +220,7 @@ enters_within depth walk new before title header x due p within shallow room is 
         same_depth = deep ∙ same;
         room = ap length written ∙ (length-set walk.levels walk.used x ∙ long);
       };
-    }
+    })
 
 -- ---- a break
 
@@ -210,9 +232,9 @@ level_closed : (nests : List Nest) → closes_one nests 0 ≡ true → title_lev
 level_closed nests e =
     ap (λ (b : Bool). cond b ((length nests + 0) - 1) (length nests + 0)) e ∙ omega arith
 
-breaks_not : (depth : ℕ) (walk : Walk) (before : List ℕ) (due : IsDue depth walk before)
-    → closes_one due.nests 0 ≡ false → Breaks depth false walk before
-breaks_not depth walk before due none = record {
+breaks_not : (depth whole : ℕ) (walk : Walk) (before : List ℕ) (due : IsDue depth whole walk before)
+    → closes_one due.nests 0 ≡ false → Breaks depth whole false walk before
+breaks_not depth whole walk before due none = record {
   nests = due.nests;
   within = due.within;
   level = due.keeps.used ∙ sym (level_open due.nests none);
@@ -220,15 +242,15 @@ breaks_not depth walk before due none = record {
   behind = λ e. absurd cc;
 }
 
--- no break may stand where no nest is rest
+-- no break may stand where no nest is open
 outside_no_break : (nests : List Nest) → length nests ≡ 0 → closes_one nests 0 ≡ false
 outside_no_break [] e = refl
 outside_no_break (nest ∷ nests) e = absurd (omega (arith, e))
 
-pub break_outside : (depth : ℕ) (walk : Walk) (before : List ℕ) → IsDue depth walk before → walk.used ≡ 0
-    → Breaks depth false walk before
-break_outside depth walk before due none =
-    breaks_not depth walk before due (outside_no_break due.nests (sym due.keeps.used ∙ none))
+pub break_outside : (depth whole : ℕ) (walk : Walk) (before : List ℕ) → IsDue depth whole walk before → walk.used ≡ 0
+    → Breaks depth whole false walk before
+break_outside depth whole walk before due none =
+    breaks_not depth whole walk before due (outside_no_break due.nests (sym due.keeps.used ∙ none))
 
 -- whether one may is whether the innermost nest takes it
 closes_as_kept : (depth : ℕ) (walk : Walk) (nests : List Nest) → KeepsNests depth walk nests → (walk.used ≡ 0 → ⊥)
@@ -241,36 +263,39 @@ closes_as_kept depth walk (nest ∷ nests) keeps some =
     let same = takes_more nest.header nest.count (remaining_at walk.levels (length nests)) kept.0 kept.1 in
     same.1 ∙ ap (λ (k : ℕ). closes (remaining_at walk.levels k)) at
 
-pub break_refused : (depth : ℕ) (walk : Walk) (before : List ℕ) → IsDue depth walk before → (walk.used ≡ 0 → ⊥)
-    → closes (remaining_at walk.levels (walk.used - 1)) ≡ false → Breaks depth false walk before
-break_refused depth walk before due some refused =
-    breaks_not depth walk before due (closes_as_kept depth walk due.nests due.keeps some ∙ refused)
+pub break_refused : (depth whole : ℕ) (walk : Walk) (before : List ℕ) → IsDue depth whole walk before
+    → (walk.used ≡ 0 → ⊥)
+    → closes (remaining_at walk.levels (walk.used - 1)) ≡ false → Breaks depth whole false walk before
+break_refused depth whole walk before due some refused =
+    breaks_not depth whole walk before due (closes_as_kept depth walk due.nests due.keeps some ∙ refused)
 
-closed_behind : (depth : ℕ) (walk new : Walk) (before : List ℕ) (nests : List Nest) → StandsWithin depth nests before
+closed_behind : (depth whole : ℕ) (walk new : Walk) (before : List ℕ) (nests : List Nest)
+    → StandsBehind depth whole nests before
     → KeepsNests depth walk nests → (walk.used ≡ 0 → ⊥) → closes (remaining_at walk.levels (walk.used - 1)) ≡ true
     → new.levels ≡ walk.levels → new.used ≡ walk.used - 1 → new.depth ≡ walk.depth
-    → IsBehindItem depth new (before ++ 0xff ∷ [])
-closed_behind depth walk new before [] within keeps some may same less deep = absurd (some keeps.used)
-closed_behind depth walk new before (nest ∷ nests) within keeps some may same less deep =
+    → IsBehindItem depth whole new (before ++ 0xff ∷ [])
+closed_behind depth whole walk new before [] within keeps some may same less deep = absurd (some keeps.used)
+closed_behind depth whole walk new before (nest ∷ nests) within keeps some may same less deep =
     let used = keeps.used in
     let kept = keeps.kept in
     let at : walk.used - 1 ≡ length nests = omega (arith, used) in
     let remaining = remaining_at walk.levels (length nests) in
     let closing : closes remaining ≡ true = subst (λ (k : ℕ). closes (remaining_at walk.levels k) ≡ true) at may in
-    let inner = inner_of depth nest nests before within in
+    let inner = inner_of depth whole nest nests before within in
     let completes =
     all_closed nest.header inner.levels nest.count inner.items remaining kept.0 closing inner.are_items in
-    ends_nest depth nest nests before (0xff ∷ []) (inner.items ++ 0xff ∷ []) new inner refl completes (record {
+    ends_nest depth whole nest nests before (0xff ∷ []) (inner.items ++ 0xff ∷ []) new inner refl completes (record {
       kept = subst (λ (z : List Remaining). AreKept z nests) (sym same) kept.2;
       used = less ∙ at;
       same_depth = deep ∙ keeps.same_depth;
       room = ap length same ∙ keeps.room;
     })
 
-pub break_closes : (depth : ℕ) (walk new : Walk) (before : List ℕ) → IsDue depth walk before → (walk.used ≡ 0 → ⊥)
+pub break_closes : (depth whole : ℕ) (walk new : Walk) (before : List ℕ) → IsDue depth whole walk before
+    → (walk.used ≡ 0 → ⊥)
     → closes (remaining_at walk.levels (walk.used - 1)) ≡ true
-    → new.levels ≡ walk.levels → new.used ≡ walk.used - 1 → new.depth ≡ walk.depth → Breaks depth true new before
-break_closes depth walk new before due some may same less deep =
+    → new.levels ≡ walk.levels → new.used ≡ walk.used - 1 → new.depth ≡ walk.depth → Breaks depth whole true new before
+break_closes depth whole walk new before due some may same less deep =
     let closing = closes_as_kept depth walk due.nests due.keeps some ∙ may in
     let used = due.keeps.used in
     record {
@@ -278,37 +303,42 @@ break_closes depth walk new before due some may same less deep =
       within = due.within;
       level = less ∙ (ap (λ (k : ℕ). k - 1) used ∙ sym (level_closed due.nests closing));
       may = closing;
-      behind = λ e. closed_behind depth walk new before due.nests due.within due.keeps some may same less deep;
+      behind = λ e. closed_behind depth whole walk new before due.nests due.within due.keeps some may same less deep;
     }
 
 -- ---- the end of an item
 
 -- outside of all nests
-outside_more : (depth levels : ℕ) (nests : List Nest) (before item : List ℕ) → StandsWithin depth nests before
-    → length nests ≡ 0 → levels ≡ depth → IsItem false levels item → StandsWithin depth [] (before ++ item)
-outside_more depth levels nests before item (outside {count = n} i) none same is_item =
-    outside (items_item false depth n before item i (subst (λ (k : ℕ). IsItem false k item) same is_item))
-outside_more depth levels nests before item (inside w e p more are) none same is_item = absurd (omega (arith, none))
+outside_more : (depth whole levels : ℕ) (nests : List Nest) (before item : List ℕ)
+    → StandsBehind depth whole nests before
+    → length nests ≡ 0 → levels ≡ depth → IsItem false levels item → StandsBehind depth (suc whole) [] (before ++ item)
+outside_more depth whole levels nests before item (outside i) none same is_item =
+    outside (items_item false depth whole before item i (subst (λ (k : ℕ). IsItem false k item) same is_item))
+outside_more depth whole levels nests before item (inside w e p more are) none same is_item = absurd (omega (
+  arith,
+  none,
+))
 
-pub end_outside : (depth : ℕ) (walk : Walk) (bytes : List ℕ) → IsBehindItem depth walk bytes → walk.used ≡ 0
-    → IsDue depth walk bytes
-end_outside depth walk bytes behind none =
+pub end_outside : (depth whole : ℕ) (walk : Walk) (bytes : List ℕ) → IsBehindItem depth whole walk bytes → walk.used ≡ 0
+    → IsDueBehind depth whole walk bytes
+end_outside depth whole walk bytes behind none =
     let due = behind.due in
     let used = due.keeps.used in
     let left = behind.left in
     let empty : length due.nests ≡ 0 = omega (arith, used, none) in
     let same : behind.levels ≡ depth = omega (arith, left, empty) in
-    record {
+    due_outside depth whole walk bytes none (record {
       nests = [];
-      within = subst (λ (z : List ℕ). StandsWithin depth [] z) (sym behind.is)
-          (outside_more depth behind.levels due.nests behind.before behind.item due.within empty same behind.is_item);
+      within = subst (λ (z : List ℕ). StandsBehind depth (suc whole) [] z) (sym behind.is)
+          (outside_more depth whole behind.levels due.nests behind.before behind.item due.within empty same
+          behind.is_item);
       keeps = record {
         kept = tt;
         used = none;
         same_depth = due.keeps.same_depth;
         room = due.keeps.room;
       };
-    }
+    })
 
 -- where a nest is open, something remains of the innermost one
 some_remains : (depth : ℕ) (walk : Walk) (nests : List Nest) → KeepsNests depth walk nests → (walk.used ≡ 0 → ⊥)
@@ -320,9 +350,10 @@ some_remains depth walk (nest ∷ nests) keeps some =
     let kept = keeps.kept in
     subst (λ (k : ℕ). is_done (remaining_at walk.levels k) ≡ false) at kept.1
 
-pub end_remains : (depth : ℕ) (walk : Walk) (bytes : List ℕ) → IsBehindItem depth walk bytes → (walk.used ≡ 0 → ⊥)
+pub end_remains : (depth whole : ℕ) (walk : Walk) (bytes : List ℕ) → IsBehindItem depth whole walk bytes
+    → (walk.used ≡ 0 → ⊥)
     → is_done (remaining_at walk.levels (walk.used - 1)) ≡ false
-end_remains depth walk bytes behind some = some_remains depth walk behind.due.nests behind.due.keeps some
+end_remains depth whole walk bytes behind some = some_remains depth walk behind.due.nests behind.due.keeps some
 
 -- what the end of an item changes: what remains of the innermost nest
 pub record Steps (walk new : Walk) (after : Remaining) : Type 0 where
@@ -333,12 +364,13 @@ pub record Steps (walk new : Walk) (after : Remaining) : Type 0 where
   pub written : new.levels ≡ set walk.levels (walk.used - 1) after
   pub deep : new.depth ≡ walk.depth
 
-more_due : (depth : ℕ) (walk new : Walk) (after : Remaining) → Steps walk new after
-    → (nests : List Nest) (before item : List ℕ) (levels : ℕ) → StandsWithin depth nests before
+more_due : (depth whole : ℕ) (walk new : Walk) (after : Remaining) → Steps walk new after
+    → (nests : List Nest) (before item : List ℕ) (levels : ℕ) → StandsBehind depth whole nests before
     → KeepsNests depth walk nests → length nests + levels ≡ depth → IsItem false levels item
-    → is_done after ≡ false → new.used ≡ walk.used → IsDue depth new (before ++ item)
-more_due depth walk new after s [] before item levels stands keeps left is_item rest same = absurd (s.some keeps.used)
-more_due depth walk new after s (nest ∷ nests) before item levels stands keeps left is_item rest same =
+    → is_done after ≡ false → new.used ≡ walk.used → IsDue depth whole new (before ++ item)
+more_due depth whole walk new after s [] before item levels stands keeps left is_item rest same = absurd (s.some
+    keeps.used)
+more_due depth whole walk new after s (nest ∷ nests) before item levels stands keeps left is_item rest same =
     let used = keeps.used in
     let few = s.within in
     let at : walk.used - 1 ≡ length nests = omega (arith, used) in
@@ -349,11 +381,11 @@ more_due depth walk new after s (nest ∷ nests) before item levels stands keeps
     s.counts nest.header count
     (subst (λ (k : ℕ). IsRemaining nest.header count (remaining_at walk.levels k)) (sym at) kept.0) in
     let next : Nest = record { header = nest.header; count = suc count } in
-    let inner = inner_of depth nest nests before stands in
+    let inner = inner_of depth whole nest nests before stands in
     let more = takes_more nest.header (suc count) after is rest in
     record {
       nests = next ∷ nests;
-      within = goes_on depth levels nest nests before item inner left is_item more.0;
+      within = goes_on depth whole levels nest nests before item inner left is_item more.0;
       keeps = record {
         kept = subst (λ (z : List Remaining). AreKept z (next ∷ nests)) (sym s.written)
             (kept_more walk.levels nests next (walk.used - 1) after at (omega (arith, used, long, few)) is rest
@@ -364,22 +396,25 @@ more_due depth walk new after s (nest ∷ nests) before item levels stands keeps
       };
     }
 
-pub end_goes_on : (depth : ℕ) (walk new : Walk) (after : Remaining) → Steps walk new after → (bytes : List ℕ)
-    → IsBehindItem depth walk bytes → is_done after ≡ false → new.used ≡ walk.used
-    → IsDue depth new bytes
-end_goes_on depth walk new after s bytes behind rest same =
+pub end_goes_on : (depth whole : ℕ) (walk new : Walk) (after : Remaining) → Steps walk new after → (bytes : List ℕ)
+    → IsBehindItem depth whole walk bytes → is_done after ≡ false → new.used ≡ walk.used
+    → IsDueBehind depth whole new bytes
+end_goes_on depth whole walk new after s bytes behind rest same =
     let due = behind.due in
-    subst (λ (z : List ℕ). IsDue depth new z) (sym behind.is)
-    (more_due depth walk new after s due.nests behind.before behind.item behind.levels due.within due.keeps
+    let some = s.some in
+    within_nest depth whole new.used new bytes refl (omega (arith, same, some))
+    (subst (λ (z : List ℕ). IsDue depth whole new z) (sym behind.is)
+    (more_due depth whole walk new after s due.nests behind.before behind.item behind.levels due.within due.keeps
     behind.left behind.is_item rest
-    same)
+    same))
 
-level_ends : (depth : ℕ) (walk new : Walk) (after : Remaining) → Steps walk new after
-    → (nests : List Nest) (before item : List ℕ) (levels : ℕ) → StandsWithin depth nests before
+level_ends : (depth whole : ℕ) (walk new : Walk) (after : Remaining) → Steps walk new after
+    → (nests : List Nest) (before item : List ℕ) (levels : ℕ) → StandsBehind depth whole nests before
     → KeepsNests depth walk nests → length nests + levels ≡ depth → IsItem false levels item
-    → is_done after ≡ true → new.used ≡ walk.used - 1 → IsBehindItem depth new (before ++ item)
-level_ends depth walk new after s [] before item levels stands keeps left is_item done less = absurd (s.some keeps.used)
-level_ends depth walk new after s (nest ∷ nests) before item levels stands keeps left is_item done less =
+    → is_done after ≡ true → new.used ≡ walk.used - 1 → IsBehindItem depth whole new (before ++ item)
+level_ends depth whole walk new after s [] before item levels stands keeps left is_item done less = absurd (s.some
+    keeps.used)
+level_ends depth whole walk new after s (nest ∷ nests) before item levels stands keeps left is_item done less =
     let used = keeps.used in
     let few = s.within in
     let at : walk.used - 1 ≡ length nests = omega (arith, used) in
@@ -388,13 +423,13 @@ level_ends depth walk new after s (nest ∷ nests) before item levels stands kee
     let is : IsRemaining nest.header (suc count) after =
     s.counts nest.header count
     (subst (λ (k : ℕ). IsRemaining nest.header count (remaining_at walk.levels k)) (sym at) kept.0) in
-    let inner = inner_of depth nest nests before stands in
+    let inner = inner_of depth whole nest nests before stands in
     let level = inner.level in
     let same : levels ≡ inner.levels = omega (arith, level, left) in
     let item' = subst (λ (n : ℕ). IsItem false n item) same is_item in
     let all = items_item false inner.levels count inner.items item inner.are_items item' in
     let completes = all_read nest.header inner.levels (suc count) (inner.items ++ item) after is done all in
-    ends_nest depth nest nests before item (inner.items ++ item) new inner refl completes (record {
+    ends_nest depth whole nest nests before item (inner.items ++ item) new inner refl completes (record {
       kept = subst (λ (z : List Remaining). AreKept z nests) (sym s.written)
           (kept_below walk.levels nests (walk.used - 1) after (omega (arith, at)) kept.2);
       used = less ∙ at;
@@ -402,12 +437,12 @@ level_ends depth walk new after s (nest ∷ nests) before item levels stands kee
       room = ap length s.written ∙ (length-set walk.levels (walk.used - 1) after ∙ keeps.room);
     })
 
-pub end_of_level : (depth : ℕ) (walk new : Walk) (after : Remaining) → Steps walk new after → (bytes : List ℕ)
-    → IsBehindItem depth walk bytes → is_done after ≡ true
-    → new.used ≡ walk.used - 1 → IsBehindItem depth new bytes
-end_of_level depth walk new after s bytes behind done less =
+pub end_of_level : (depth whole : ℕ) (walk new : Walk) (after : Remaining) → Steps walk new after → (bytes : List ℕ)
+    → IsBehindItem depth whole walk bytes → is_done after ≡ true
+    → new.used ≡ walk.used - 1 → IsBehindItem depth whole new bytes
+end_of_level depth whole walk new after s bytes behind done less =
     let due = behind.due in
-    subst (λ (z : List ℕ). IsBehindItem depth new z) (sym behind.is)
-    (level_ends depth walk new after s due.nests behind.before behind.item behind.levels due.within due.keeps
+    subst (λ (z : List ℕ). IsBehindItem depth whole new z) (sym behind.is)
+    (level_ends depth whole walk new after s due.nests behind.before behind.item behind.levels due.within due.keeps
     behind.left behind.is_item
     done less)

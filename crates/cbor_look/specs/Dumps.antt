@@ -3,6 +3,9 @@
 use Rattle.std.specs.Prelude.{◌≡◌, ℕ, List, [], ◌∷◌, ◌++◌, Option, Some, None, Result, Ok, Err}
 use Rattle.ciborium_ll.specs.Types.Read.{Ghosts}
 use Rattle.ciborium_ll.specs.Types.Decoder.{Decoder}
+use Rattle.ciborium_ll.specs.Types.Error.{Error}
+use Rattle.ciborium_ll.specs.Types.Error.TheVariants as e
+use Rattle.cbor_skip.specs.declared.SkipError.TheVariants as s
 use Rattle.cbor_look.specs.declared.dump.DumpError.{DumpError}
 use Rattle.cbor_look.specs.declared.dump.DumpError.TheVariants as d
 use Rattle.cbor_look.specs.declared.rows.Meaning.TheVariants as m
@@ -18,6 +21,26 @@ IsTaken (d.Rows fault) = ⊥
 abbrev pub AreTaken : {A E W : Type 0} → Result A (DumpError E W) → Type 0
 AreTaken (Ok value) = Unit {0}
 AreTaken (Err error) = IsTaken error
+
+-- no row was refused: what was answered is this error of the read
+abbrev pub SaysFault : {E W : Type 0} → Error E → DumpError E W → Type 0
+SaysFault error (d.Item why) = why ≡ s.Read error
+SaysFault error (d.Rows fault) = Unit {0}
+
+-- an error is that of a row that was refused
+abbrev pub IsRefusal : {E W : Type 0} → DumpError E W → Type 0
+IsRefusal (d.Item error) = ⊥
+IsRefusal (d.Rows fault) = Unit {0}
+
+-- what the read of a title that failed says: at its end, where outside of all nests no byte of it came, that the
+-- sequence ends, and else why it is at fault
+abbrev pub IsEndOf : {E : Type 0} → Error E → ℕ → ℕ → Type 0
+IsEndOf (e.Io fault) level len = (level ≡ 0) × (len ≡ 0)
+IsEndOf error level len = ⊥
+
+abbrev pub EndsTitles : {E W : Type 0} → Error E → ℕ → ℕ → Result E (DumpError E W) → Type 0
+EndsTitles error level len (Ok fault) = (error ≡ e.Io fault) × (level ≡ 0) × (len ≡ 0)
+EndsTitles error level len (Err why) = SaysFault error why × (IsEndOf error level len → ⊥)
 
 -- the lines so far, where they are told, grow by these
 abbrev pub Draws : Option (List Line) → Option (List Line) → List Line → Type 0

@@ -18,15 +18,19 @@ pub record Nest : Type 0 where
   pub header : Header
   pub count : ℕ
 
--- `StandsWithin depth nests bytes`: the bytes begin a sequence of items to the depth, and behind them an item is due
--- within just these nests, the innermost first: whole items, and then for each nest its title and items of it, of which
--- more are due (RFC 7049, 2.1 to 2.4)
-pub data StandsWithin (depth : ℕ) : List Nest → List ℕ → Type 0 where
-  outside : {count : ℕ} {items : List ℕ} → AreItems false depth count items → StandsWithin depth [] items
+-- `StandsBehind depth whole nests bytes`: the bytes begin a sequence of items to the depth, and behind them an item is
+-- due within just these nests, the innermost first: so many whole items, and then for each nest its title and items of
+-- it, of which more are due (RFC 7049, 2.1 to 2.4)
+pub data StandsBehind (depth whole : ℕ) : List Nest → List ℕ → Type 0 where
+  outside : {items : List ℕ} → AreItems false depth whole items → StandsBehind depth whole [] items
   inside : {levels count : ℕ} {nests : List Nest} {before title items : List ℕ} {header : Header}
-      → StandsWithin depth nests before → length nests + suc levels ≡ depth → IsTitle title header
+      → StandsBehind depth whole nests before → length nests + suc levels ≡ depth → IsTitle title header
       → TakesMore header count → AreItems false levels count items
-      → StandsWithin depth (record { header = header; count = count } ∷ nests) (before ++ (title ++ items))
+      → StandsBehind depth whole (record { header = header; count = count } ∷ nests) (before ++ (title ++ items))
+
+-- the same, behind any number of whole items
+abbrev pub StandsWithin : ℕ → List Nest → List ℕ → Type 0
+StandsWithin depth nests bytes = (whole : ℕ) × StandsBehind depth whole nests bytes
 
 -- `AreOpen kind opens bytes bodies`: the bytes are so many opens of the kind, each with strings behind it, and none
 -- closed. The bodies are those so far (RFC 7049, 2.2.2)

@@ -2,8 +2,9 @@ pub mod Sequences
 pub mod Singles
 pub mod Levels
 pub mod Dumps
-pub mod Fronts
+pub mod Parts
 pub mod StringRows
 pub mod Takings
 pub mod TitleRows
 pub mod Walks
+pub mod Checking

@@ -1,12 +1,18 @@
 -- What the rows of a string show of it.
-use Rattle.std.specs.Prelude.{◌≡◌, ℕ, List, [], ◌∷◌, ◌++◌, length, Option, Some, None, Result, OnOk}
+use Rattle.std.specs.Prelude.{◌≡◌, ℕ, Bool, false, List, [], ◌∷◌, ◌++◌, length, Option, Some, None, Result, Ok, Err, OnOk}
 use Rattle.ciborium_ll.specs.Types.Read.{Ghosts}
 use Rattle.ciborium_ll.specs.Types.Decoder.{Decoder}
 use Rattle.ciborium_ll.specs.Types.Header.{Header}
 use Rattle.ciborium_ll.specs.Types.Header.TheVariants as h
 use Rattle.ciborium_ll.specs.Strings.{Kind, Bytes, Text, kind_header, AreStrings, IsWritable}
 use Rattle.ciborium_ll.specs.Elements.{AreWritable}
+use Rattle.ciborium_ll.specs.Faults.{IsRefusedIn}
+use Rattle.ciborium_ll.specs.Decoding.{Passes}
+use Rattle.ciborium_ll.specs.Finishing.{EndsBody}
+use Rattle.ciborium_ll.specs.Skipping.{StopsInside}
+use Rattle.cbor_skip.specs.declared.SkipError.TheVariants as s
 use Rattle.cbor_look.specs.declared.dump.DumpError.{DumpError}
+use Rattle.cbor_look.specs.declared.dump.DumpError.TheVariants as d
 use Rattle.cbor_look.specs.declared.strings.Kind.{Kind as CodeKind}
 use Rattle.cbor_look.specs.declared.strings.Kind.TheVariants as k
 use Rattle.cbor_look.specs.declared.strings.Part.{Part}
@@ -15,6 +21,7 @@ use Rattle.cbor_look.specs.declared.rows.Meaning.{Meaning}
 use Rattle.cbor_look.specs.declared.rows.Meaning.TheVariants as m
 use Rattle.cbor_look.specs.Levels.{Line}
 use Rattle.cbor_look.specs.Dumps.{Shows}
+use Rattle.cbor_look.specs.Takings.{IsAlike, most_bytes}
 
 -- a kind of string in the code, as the grammar has it
 abbrev pub kind_of : CodeKind → Kind
@@ -26,12 +33,12 @@ abbrev pub meaning_of : CodeKind → Meaning
 meaning_of k.Bytes = m.Bytes
 meaning_of k.Text = m.Text
 
--- what a header is within an open of the kind; a strict read takes it for a fault more often
-abbrev pub IsPart : Kind → Header → Part → Type 0
-IsPart kind header p.Break = header ≡ h.Break
-IsPart kind header (p.Piece len) = header ≡ kind_header kind (Some len)
-IsPart kind header p.Open = header ≡ kind_header kind None
-IsPart kind header p.Other = Unit {0}
+-- what a header is within an open of the kind; a strict read takes a further open for a fault
+abbrev pub IsPart : Bool → Kind → Header → Part → Type 0
+IsPart strict kind header p.Break = header ≡ h.Break
+IsPart strict kind header (p.Piece len) = header ≡ kind_header kind (Some len)
+IsPart strict kind header p.Open = header ≡ kind_header kind None
+IsPart strict kind header p.Other = IsRefusedIn strict kind header
 
 -- the bytes are strings of the kind, each body text where it has to be, and the break behind them (RFC 7049, 2.2.2)
 pub record EndsString (kind : Kind) (bytes : List ℕ) : Type 0 where
@@ -47,10 +54,24 @@ IsRest kind (Some len) bytes = (length bytes ≡ len) × IsWritable kind bytes
 IsRest kind None bytes = EndsString kind bytes
 
 module _ {R E W : Type 0} (source : Ghosts R E) where
+  -- how the read of what follows a string's title stops: as a skip of it does, through a buffer of as much room as a
+  -- row has; the place is that of the title of a body
+  abbrev pub StopsRest : Kind → Option ℕ → ℕ → Decoder R → Result (Unit {0}) (DumpError E W) → Decoder R → Type 0
+  StopsRest kind len place old (Ok done) new = Unit {0}
+  StopsRest kind (Some len) place old (Err (d.Item (s.Read error))) new =
+      EndsBody source kind [] len most_bytes place old (Err error) new
+  StopsRest kind None place old (Err (d.Item (s.Read error))) new = StopsInside source kind most_bytes old error new
+  StopsRest kind len place old (Err (d.Item (s.Break at))) new = ⊥
+  StopsRest kind len place old (Err (d.Item (s.Deep at))) new = ⊥
+  StopsRest kind len place old (Err (d.Rows fault)) new = Unit {0}
+
   -- What follows a string's title was shown, or a beginning of it: of a definite length the body, which is text where
   -- it has to be, and else strings and a break
   pub record ShowsRest (depth start : ℕ) (drawn then_drawn : Option (List Line)) (before : List ℕ) (kind : Kind)
-      (len : Option ℕ) (result : Result (Unit {0}) (DumpError E W)) (old new : Decoder R) : Type 0 where
+      (len : Option ℕ) (strict : Bool) (place : ℕ) (result : Result (Unit {0}) (DumpError E W)) (old new : Decoder R)
+      : Type 0 where
     pub bytes : List ℕ
     pub shows : Shows source depth start drawn then_drawn before bytes old new
     pub whole : OnOk result (IsRest kind len bytes)
+    pub passed : IsAlike strict old → OnOk result (Passes source old bytes new)
+    pub stops : IsAlike strict old → old.strict ≡ false → StopsRest kind len place old result new

@@ -1,16 +1,50 @@
 -- The bytes of a row: just those that were consumed for it.
-use Rattle.std.specs.Prelude.{◌≡◌, ℕ, ◌+◌, List, ◌++◌, length, take, None}
+use Rattle.std.specs.Prelude.{◌≡◌, ℕ, ◌+◌, ◌-◌, min, Bool, IsTrue, List, [], ◌∷◌, ◌++◌, length, take, Option, None}
+use Rattle.std.specs.Prelude.{Some, Result, Ok, Err, OnOk, ◌⊎◌}
 use Rattle.std.specs.Io.KnownBytes.{Consumes}
 use Rattle.ciborium_ll.specs.Types.Read.{Ghosts}
 use Rattle.ciborium_ll.specs.Types.Decoder.{Decoder}
-use Rattle.ciborium_ll.specs.Decoding.{view, IsSteady}
+use Rattle.ciborium_ll.specs.Types.Error.{Error}
+use Rattle.ciborium_ll.specs.Types.Header.{Header}
+use Rattle.ciborium_ll.specs.Title.{IsTitle, IsStrictTitle, IsRefused}
+use Rattle.ciborium_ll.specs.Decoding.{view, IsSteady, PullsHeader, PullsTitle, ReadsBytes}
 use Rattle.cbor_look.specs.declared.taken.Taken.{Taken}
 
 -- the bytes that were read
 abbrev pub taken_bytes : Taken → List ℕ
 taken_bytes taken = take taken.len taken.bytes
 
+-- the most bytes that one row has
+abbrev pub most_bytes : ℕ
+most_bytes = 16
+
+-- what a decoder says of a first byte and as many as that announces, where it is strict or not: they are a title of the
+-- header, and where it is strict one that it takes; or none is, by the first byte or where it is strict by all
+abbrev pub Means : Bool → List ℕ → Option Header → Type 0
+Means strict bytes (Some header) = IsTitle bytes header × (IsTrue strict → IsStrictTitle bytes header)
+Means strict bytes None = ((byte : ℕ) × IsRefused byte × (bytes ≡ byte ∷ []))
+    ⊎ (IsTrue strict × ((header : Header) × IsTitle bytes header × (IsStrictTitle bytes header → ⊥)))
+
+-- no header waits, and the decoder is as strict
+pub record IsAlike {R : Type 0} (strict : Bool) (decoder : Decoder R) : Type 0 where
+  pub none_waits : decoder.waiting ≡ None
+  pub mode : decoder.strict ≡ strict
+
 module _ {R E : Type 0} (source : Ghosts R E) where
+  -- so many bytes were read behind those before, or as many as there was room for
+  pub record ReadsOn (count : ℕ) (before after : List ℕ) (old : Decoder R) (result : Result (Unit {0}) (Error E))
+      (new : Decoder R) : Type 0 where
+    pub bytes : List ℕ
+    pub counted : length bytes ≡ min count (most_bytes - length before)
+    pub reads : ReadsBytes source old result bytes new
+    pub behind : OnOk result (after ≡ before ++ bytes)
+    pub steady : IsSteady source old → IsSteady source new
+
+  -- a title was read as `pull` reads it, by the answer
+  abbrev pub PullsRow : Decoder R → Result Header (Error E) → Decoder R → Type 0
+  PullsRow old (Ok header) new = PullsTitle source old header new × (IsSteady source old → IsSteady source new)
+  PullsRow old (Err error) new = PullsHeader source old (Err error) new
+
   -- the reader fails only where bytes are missing, and no header waits
   pub record IsIdle (decoder : Decoder R) : Type 0 where
     pub steady : IsSteady source decoder

@@ -1,5 +1,5 @@
 -- How a walk keeps which tags, arrays and maps aren't closed, and what is due within each.
-use Rattle.std.specs.Prelude.{◌≡◌, ℕ, ◌+◌, Bool, true, false, List, [], ◌∷◌, ◌++◌, length, slice_index_or}
+use Rattle.std.specs.Prelude.{◌≡◌, ℕ, zero, suc, ◌+◌, Bool, true, false, List, [], ◌∷◌, ◌++◌, length, slice_index_or}
 use Rattle.ciborium_ll.specs.Types.Header.{Header}
 use Rattle.ciborium_ll.specs.Types.Header.TheVariants as h
 use Rattle.ciborium_ll.specs.Items.{IsItem}
@@ -9,7 +9,7 @@ use Rattle.cbor_skip.specs.Remaining.{IsRemaining, is_done}
 use Rattle.cbor_look.specs.declared.walk.Walk.{Walk}
 use Rattle.cbor_look.specs.declared.walk.Entered.{Entered}
 use Rattle.cbor_look.specs.declared.walk.Entered.TheVariants as w
-use Rattle.cbor_look.specs.Levels.{Nest, StandsWithin, closes_one, title_level}
+use Rattle.cbor_look.specs.Levels.{Nest, StandsBehind, closes_one, title_level}
 
 -- a header that is an item by itself (RFC 7049, 2.1 and 2.3)
 abbrev pub IsValue : Header → Type 0
@@ -36,37 +36,52 @@ pub record KeepsNests (depth : ℕ) (walk : Walk) (nests : List Nest) : Type 0 w
   pub same_depth : walk.depth ≡ depth
   pub room : length walk.levels ≡ 256
 
--- behind the bytes an item is due within the nests that the walk keeps
-pub record IsDue (depth : ℕ) (walk : Walk) (bytes : List ℕ) : Type 0 where
+-- behind the bytes, of which so many items are whole, one is due within the nests that the walk keeps
+pub record IsDue (depth whole : ℕ) (walk : Walk) (bytes : List ℕ) : Type 0 where
   pub nests : List Nest
-  pub within : StandsWithin depth nests bytes
+  pub within : StandsBehind depth whole nests bytes
   pub keeps : KeepsNests depth walk nests
 
 -- behind the bytes an item ends that was due so
-pub record IsBehindItem (depth : ℕ) (walk : Walk) (bytes : List ℕ) : Type 0 where
+pub record IsBehindItem (depth whole : ℕ) (walk : Walk) (bytes : List ℕ) : Type 0 where
   pub before : List ℕ
   pub item : List ℕ
   pub levels : ℕ
-  pub due : IsDue depth walk before
+  pub due : IsDue depth whole walk before
   pub left : length due.nests + levels ≡ depth
   pub is_item : IsItem false levels item
   pub is : bytes ≡ before ++ item
 
+-- how many items are whole behind the end of one, where so many levels are open: outside of all one more
+abbrev pub whole_behind : ℕ → ℕ → ℕ
+whole_behind whole zero = suc whole
+whole_behind whole (suc used) = whole
+
+-- behind the bytes an item is due, behind one that has ended or within one that was begun
+abbrev pub IsDueBehind : ℕ → ℕ → Walk → List ℕ → Type 0
+IsDueBehind depth whole walk bytes = IsDue depth (whole_behind whole walk.used) walk bytes
+
+-- behind the bytes an item is due within as many nests as there may be
+pub record IsDeepest (depth whole : ℕ) (bytes : List ℕ) : Type 0 where
+  pub nests : List Nest
+  pub within : StandsBehind depth whole nests bytes
+  pub full : length nests ≡ depth
+
 -- what came of the title of a nest behind the bytes
-abbrev pub Enters : ℕ → Entered → Walk → List ℕ → List ℕ → Type 0
-Enters depth w.Deep walk before title = walk.used ≡ depth
-Enters depth w.Empty walk before title = IsBehindItem depth walk (before ++ title)
-Enters depth w.Within walk before title = IsDue depth walk (before ++ title)
+abbrev pub Enters : ℕ → ℕ → Entered → Walk → List ℕ → List ℕ → Type 0
+Enters depth whole w.Deep walk before title = IsDeepest depth whole before
+Enters depth whole w.Empty walk before title = IsBehindItem depth whole walk (before ++ title)
+Enters depth whole w.Within walk before title = IsDueBehind depth whole walk (before ++ title)
 
 -- what came of a break behind the bytes, and at which level it stands
-pub record Breaks (depth : ℕ) (closed : Bool) (walk : Walk) (before : List ℕ) : Type 0 where
+pub record Breaks (depth whole : ℕ) (closed : Bool) (walk : Walk) (before : List ℕ) : Type 0 where
   pub nests : List Nest
-  pub within : StandsWithin depth nests before
+  pub within : StandsBehind depth whole nests before
   pub level : walk.used ≡ title_level h.Break nests 0
   pub may : closes_one nests 0 ≡ closed
-  pub behind : closed ≡ true → IsBehindItem depth walk (before ++ 0xff ∷ [])
+  pub behind : closed ≡ true → IsBehindItem depth whole walk (before ++ 0xff ∷ [])
 
 -- what came of the end of an item: its level goes on, or ends too
-abbrev pub Ends : ℕ → Bool → Walk → List ℕ → Type 0
-Ends depth true walk bytes = IsBehindItem depth walk bytes
-Ends depth false walk bytes = IsDue depth walk bytes
+abbrev pub Ends : ℕ → ℕ → Bool → Walk → List ℕ → Type 0
+Ends depth whole true walk bytes = IsBehindItem depth whole walk bytes
+Ends depth whole false walk bytes = IsDueBehind depth whole walk bytes

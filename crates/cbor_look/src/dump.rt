@@ -1,11 +1,14 @@
 //! A dump: each title of a sequence of items on a line, and bodies of strings below theirs.
 
-ghost use Rattle.std.specs.Prelude.{◌≡◌, ℕ, ◌+◌, ◌<◌, ◌≤◌, List, [], ◌∷◌, ◌++◌, length};
-ghost use Rattle.ciborium_ll.specs.Title.{IsTitle};
-ghost use Rattle.ciborium_ll.specs.Decoding.{offset_of};
+ghost use Rattle.std.specs.Prelude.{◌≡◌, ℕ, ◌+◌, ◌-◌, ◌<◌, ◌≤◌, ◌↔◌, List, [], ◌∷◌, ◌++◌, length, IfErr, IsOk, false};
+ghost use Rattle.ciborium_ll.specs.Title.{IsTitle, title_len};
+ghost use Rattle.ciborium_ll.specs.Decoding.{offset_of, strict_of};
 ghost use Rattle.cbor_skip.specs.Due.{IsNest};
-ghost use Rattle.cbor_look.specs.Dumps.{AreTaken, Draws, IsTaken, fault_lines};
-ghost use Rattle.cbor_look.specs.Takings.{taken_bytes};
+ghost use Rattle.cbor_skip.specs.SkippingTold.{IsReadyToSkip};
+ghost use Rattle.cbor_look.specs.Checking.{AnswersTold, ReadsAsCheck};
+ghost use Rattle.cbor_look.specs.Dumps.{AreTaken, Draws, EndsTitles, IsRefusal, IsTaken, SaysFault, fault_lines};
+ghost use Rattle.cbor_look.specs.Sequences.{IsSequence};
+ghost use Rattle.cbor_look.specs.Takings.{IsAlike, most_bytes, taken_bytes};
 ghost use Rattle.ciborium_ll.specs.Strings.{kind_header};
 ghost use Rattle.cbor_look.specs.Levels.{Nest, StandsWithin};
 ghost use Rattle.cbor_look.specs.StringRows.{ShowsRest, kind_of};
@@ -45,6 +48,14 @@ where
     requires { depth ≤ 256 }
     ensures shows { AreTaken result
         → ShowsAll R.Read depth (S.drawn rows.old) (S.drawn rows.new) result decoder.old decoder.new }
+    ensures reads { IsAlike strict decoder.old → strict_of decoder.old ≡ false → AreTaken result
+        → ReadsAsCheck R.Read depth most_bytes decoder.old result decoder.new }
+    ensures told { (due : List ℕ) → IsAlike strict decoder.old → strict_of decoder.old ≡ false
+        → IsReadyToSkip R.Read most_bytes decoder.old due → AreTaken result
+        → AnswersTold R.Read depth due decoder.old result decoder.new }
+    ensures exactly { (due : List ℕ) → IsAlike strict decoder.old → strict_of decoder.old ≡ false
+        → IsReadyToSkip R.Read most_bytes decoder.old due → AreTaken result
+        → (IsOk result ↔ IsSequence (strict_of decoder.old) depth due) }
 {
     let mut walk = Walk::new(depth);
     // It ends: each title takes a byte, and no offset is greater than `usize::MAX`.
@@ -54,12 +65,30 @@ where
         let mut taken = Taken::new();
         let header = match taken.read_title(decoder, strict, place) {
             Ok(header) => header,
-            Err(Error::Io(end)) if level == 0 && taken.len() == 0 => return Ok(end),
-            Err(error) => return Err(fault(&taken, error, place, level, rows)),
+            Err(error) => return ended(&taken, error, place, level, rows),
         };
         if let Err(error) = title(decoder, &mut walk, header, &taken, strict, place, rows) {
             return Err(error);
         }
+    }
+}
+
+/// What the read of a title that failed says: where no byte of an item came, that the sequence has ended. Else it shows
+/// what was read, and tells the error of the dump.
+fn ended<E: Drop, S: Rows>(
+    taken: &Taken,
+    error: Error<E>,
+    offset: usize,
+    level: usize,
+    rows: &mut S,
+) -> Result<E, DumpError<E, S::Error>>
+    ensures draws { AreTaken result
+        → Draws (S.drawn rows.old) (S.drawn rows.new) (fault_lines level offset (taken_bytes taken.now)) }
+    ensures ends { EndsTitles error level (length (taken_bytes taken.now)) result }
+{
+    match error {
+        Error::Io(end) if level == 0 && taken.len() == 0 => Ok(end),
+        error => Err(fault(taken, error, offset, level, rows)),
     }
 }
 
@@ -71,8 +100,9 @@ pub(crate) fn fault<E: Drop, S: Rows>(
     level: usize,
     rows: &mut S,
 ) -> DumpError<E, S::Error>
-    ensures { IsTaken result
+    ensures draws { IsTaken result
         → Draws (S.drawn rows.old) (S.drawn rows.new) (fault_lines level offset (taken_bytes taken.now)) }
+    ensures says { SaysFault error result }
 {
     if taken.len() > 0 {
         let row = Row {
@@ -96,8 +126,9 @@ pub(crate) fn shown<E, S: Rows>(
     level: usize,
     rows: &mut S,
 ) -> Result<(), DumpError<E, S::Error>>
-    ensures { AreTaken result → Draws (S.drawn rows.old) (S.drawn rows.new)
+    ensures draws { AreTaken result → Draws (S.drawn rows.old) (S.drawn rows.new)
         (record { level = level; offset = offset; bytes = taken_bytes taken.now; meaning = meaning } ∷ []) }
+    ensures refusal { IfErr result (λ error. IsRefusal error) }
 {
     let row = Row {
         level,
@@ -124,11 +155,11 @@ fn title<R: Read, S: Rows>(
 where
     R::Error: Drop,
     requires behind { walk.old.used < offset_of decoder.old }
-    ensures shows { (depth start : ℕ) (before : List ℕ) → IsDue depth walk.old before
+    ensures shows { (depth whole start : ℕ) (before : List ℕ) → IsDue depth whole walk.old before
         → IsTitle (taken_bytes taken.now) header → place ≡ start + length before
         → offset_of decoder.old ≡ place + length (taken_bytes taken.now) → AreTaken result
-        → ShowsTitle R.Read depth start (S.drawn rows.old) (S.drawn rows.new) before (taken_bytes taken.now) walk.new
-        result decoder.old decoder.new }
+        → ShowsTitle R.Read depth whole start (S.drawn rows.old) (S.drawn rows.new) before (taken_bytes taken.now)
+        header walk.new strict place result decoder.old decoder.new }
 {
     match header {
         Header::Bytes(len) => {
@@ -154,9 +185,10 @@ fn value<E, S: Rows>(
     rows: &mut S,
 ) -> Result<(), DumpError<E, S::Error>>
     requires value { IsValue header }
-    ensures draws { (depth start : ℕ) (before : List ℕ) → IsDue depth walk.old before
+    ensures draws { (depth whole start : ℕ) (before : List ℕ) → IsDue depth whole walk.old before
         → IsTitle (taken_bytes taken.now) header → place ≡ start + length before → AreTaken result
-        → DrawsTitle depth start (S.drawn rows.old) (S.drawn rows.new) before (taken_bytes taken.now) walk.new result }
+        → DrawsTitle depth whole start (S.drawn rows.old) (S.drawn rows.new) before (taken_bytes taken.now) header
+        walk.new place result }
 {
     let level = walk.level();
     if let Err(error) = shown(taken, Meaning::Header(header), place, level, rows) {
@@ -173,9 +205,10 @@ fn break_title<E, S: Rows>(
     place: usize,
     rows: &mut S,
 ) -> Result<(), DumpError<E, S::Error>>
-    ensures draws { (depth start : ℕ) (before : List ℕ) → IsDue depth walk.old before
+    ensures draws { (depth whole start : ℕ) (before : List ℕ) → IsDue depth whole walk.old before
         → IsTitle (taken_bytes taken.now) Header.Break → place ≡ start + length before → AreTaken result
-        → DrawsTitle depth start (S.drawn rows.old) (S.drawn rows.new) before (taken_bytes taken.now) walk.new result }
+        → DrawsTitle depth whole start (S.drawn rows.old) (S.drawn rows.new) before (taken_bytes taken.now) Header.Break
+        walk.new place result }
 {
     let closed = walk.close();
     let level = walk.level();
@@ -199,9 +232,10 @@ fn nest<E, S: Rows>(
     rows: &mut S,
 ) -> Result<(), DumpError<E, S::Error>>
     requires nest { IsNest header }
-    ensures draws { (depth start : ℕ) (before : List ℕ) → IsDue depth walk.old before
+    ensures draws { (depth whole start : ℕ) (before : List ℕ) → IsDue depth whole walk.old before
         → IsTitle (taken_bytes taken.now) header → place ≡ start + length before → AreTaken result
-        → DrawsTitle depth start (S.drawn rows.old) (S.drawn rows.new) before (taken_bytes taken.now) walk.new result }
+        → DrawsTitle depth whole start (S.drawn rows.old) (S.drawn rows.new) before (taken_bytes taken.now) header
+        walk.new place result }
 {
     let level = walk.level();
     if let Err(error) = shown(taken, Meaning::Header(header), place, level, rows) {
@@ -231,11 +265,11 @@ fn string<R: Read, S: Rows>(
 where
     R::Error: Drop,
     requires behind { walk.old.used < offset_of decoder.old }
-    ensures shows { (depth start : ℕ) (before : List ℕ) → IsDue depth walk.old before
+    ensures shows { (depth whole start : ℕ) (before : List ℕ) → IsDue depth whole walk.old before
         → IsTitle (taken_bytes taken.now) (kind_header (kind_of kind) len) → place ≡ start + length before
         → offset_of decoder.old ≡ place + length (taken_bytes taken.now) → AreTaken result
-        → ShowsTitle R.Read depth start (S.drawn rows.old) (S.drawn rows.new) before (taken_bytes taken.now) walk.new
-        result decoder.old decoder.new }
+        → ShowsTitle R.Read depth whole start (S.drawn rows.old) (S.drawn rows.new) before (taken_bytes taken.now)
+        (kind_header (kind_of kind) len) walk.new strict place result decoder.old decoder.new }
 {
     let header = kind.header(len);
     let level = walk.level();
@@ -266,7 +300,7 @@ where
         → IsTitle title (kind_header (kind_of kind) len) → level ≡ length nests
         → offset_of decoder.old ≡ start + length (items ++ title) → AreTaken result
         → ShowsRest R.Read depth start (S.drawn rows.old) (S.drawn rows.new) (items ++ title) (kind_of kind) len
-        result decoder.old decoder.new }
+        strict (offset_of decoder.old - title_len (kind_header (kind_of kind) len)) result decoder.old decoder.new }
 {
     match len {
         Some(len) => {

@@ -2,6 +2,7 @@
 #![tactic(auto)]
 
 pub mod dump;
+mod fronts;
 pub mod rows;
 pub mod sequence;
 pub mod single;

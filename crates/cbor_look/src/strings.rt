@@ -1,11 +1,12 @@
 //! The rows of a string, behind its title.
 
-ghost use Rattle.std.specs.Prelude.{◌≡◌, ℕ, ◌+◌, ◌<◌, ◌≤◌, List, [], ◌++◌, length, IfOk, None, Some};
+ghost use Rattle.std.specs.Prelude.{◌≡◌, ℕ, ◌+◌, ◌<◌, ◌≤◌, Bool, List, [], ◌++◌, length, IfOk, None, Some};
 ghost use Rattle.ciborium_ll.specs.Title.{IsTitle};
 ghost use Rattle.ciborium_ll.specs.Strings.{IsWritable, kind_header};
-ghost use Rattle.ciborium_ll.specs.Decoding.{offset_of};
+ghost use Rattle.ciborium_ll.specs.Decoding.{offset_of, waiting_of};
 ghost use Rattle.cbor_look.specs.Dumps.{AreTaken};
 ghost use Rattle.cbor_look.specs.Levels.{Nest, StandsWithin, TitleDue};
+ghost use Rattle.cbor_look.specs.Parts.{ReadsPart};
 ghost use Rattle.cbor_look.specs.Takings.{Keeps, taken_bytes};
 ghost use Rattle.cbor_look.specs.StringRows.{IsPart, ShowsRest, kind_of, meaning_of};
 
@@ -57,12 +58,12 @@ pub(crate) fn body<R: Read, S: Rows>(
 ) -> Result<(), DumpError<R::Error, S::Error>>
 where
     R::Error: Drop,
-    ensures shows { (depth start opens : ℕ) (nests : List Nest) (outer title : List ℕ)
+    ensures shows { (depth start opens : ℕ) (nests : List Nest) (outer title : List ℕ) (strict : Bool)
         → TitleDue depth nests opens outer → IsTitle title (kind_header (kind_of kind) (Some len))
         → level ≡ length nests + opens + 1
         → offset_of decoder.old ≡ start + length (outer ++ title) → AreTaken result
         → ShowsRest R.Read depth start (S.drawn rows.old) (S.drawn rows.new) (outer ++ title) (kind_of kind) (Some len)
-        result decoder.old decoder.new }
+        strict place result decoder.old decoder.new }
     ensures rises { offset_of decoder.old ≤ offset_of decoder.new }
 {
     let mut left = len;
@@ -93,6 +94,8 @@ fn read_part<R: Read>(
     ensures most { length (taken_bytes taken.new) ≤ left }
     ensures some { IfOk result (λ _. 0 < left → 0 < length (taken_bytes taken.new)) }
     ensures written { IfOk result (λ _. IsWritable (kind_of kind) (taken_bytes taken.new)) }
+    ensures reads { 0 < left → waiting_of decoder.old ≡ None
+        → ReadsPart R.Read (kind_of kind) left place (taken_bytes taken.new) decoder.old result decoder.new }
 {
     match kind {
         Kind::Bytes => taken.read(decoder, left.min(MOST_BYTES)),
@@ -121,7 +124,7 @@ enum Part {
 
 /// What a header is within a string of indefinite length of this kind.
 fn part_of(header: Header, kind: Kind, strict: bool) -> Part
-    ensures { IsPart (kind_of kind) header result }
+    ensures { IsPart strict (kind_of kind) header result }
 {
     let len = match (header, kind) {
         (Header::Break, _) => return Part::Break,
@@ -152,7 +155,7 @@ where
         → IsTitle title (kind_header (kind_of kind) None) → level ≡ length nests
         → offset_of decoder.old ≡ start + length (items ++ title) → AreTaken result
         → ShowsRest R.Read depth start (S.drawn rows.old) (S.drawn rows.new) (items ++ title) (kind_of kind) None
-        result decoder.old decoder.new }
+        strict 0 result decoder.old decoder.new }
 {
     let mut inner = level + 1;
     // It ends: each title takes a byte, and no offset is greater than `usize::MAX`.

@@ -1,13 +1,12 @@
 //! Bytes that were read for one row.
 
-ghost use Rattle.std.specs.Prelude.{◌≡◌, ◌+◌, ◌-◌, ◌%◌, ◌<◌, ◌≤◌, [], length, min, IfErr, IfOk, IfSome, IsTrue};
+ghost use Rattle.std.specs.Prelude.{◌≡◌, ◌+◌, ◌-◌, ◌%◌, ◌<◌, ◌≤◌, [], length, min, IfErr, IfOk, IsTrue, None};
 ghost use Rattle.ciborium_ll.specs.Title.{affix_len};
-ghost use Rattle.ciborium_ll_text.specs.Text.{IsCharacters};
-ghost use Rattle.cbor_look.specs.Fronts.{IsInFront};
+ghost use Rattle.ciborium_ll.specs.Decoding.{offset_of, waiting_of, Passes};
 
-use ciborium_ll::io::{Read, SliceReader};
+use crate::fronts::{header_of, is_cut, is_text};
+use ciborium_ll::io::Read;
 use ciborium_ll::{Decoder, Error, Header};
-use ciborium_ll_text::state::{State, text_front};
 
 /// How many bytes a row has at most.
 pub(crate) const MOST_BYTES: usize = 16;
@@ -23,7 +22,8 @@ pub(crate) struct Taken {
 impl Taken {
     ghost use Rattle.ciborium_ll.specs.Title.{IsTitle};
     ghost use Rattle.ciborium_ll_text.specs.Text.{IsCharacters};
-    ghost use Rattle.cbor_look.specs.Takings.{Keeps, taken_bytes};
+    ghost use Rattle.cbor_look.specs.Takings.{IsAlike, Keeps, PullsRow, ReadsOn, taken_bytes};
+    ghost use Rattle.cbor_look.specs.Parts.{ReadsText};
 
     /// None.
     pub(crate) fn new() -> Taken
@@ -60,6 +60,8 @@ impl Taken {
         ensures all { IfOk result (λ _. length (taken_bytes self.new)
             ≡ length (taken_bytes self.old) + min count (16 - length (taken_bytes self.old))) }
         ensures none { IfErr result (λ _. taken_bytes self.new ≡ taken_bytes self.old) }
+        ensures reads { ReadsOn R.Read count (taken_bytes self.old) (taken_bytes self.new) decoder.old result
+            decoder.new }
     {
         let end = self.len + count.min(MOST_BYTES - self.len);
         decoder.read_exact(&mut self.bytes[self.len..end])?;
@@ -77,6 +79,10 @@ impl Taken {
         requires none { taken_bytes self.old ≡ [] }
         ensures keeps { Keeps R.Read (taken_bytes self.old) (taken_bytes self.new) decoder.old decoder.new }
         ensures title { IfOk result (λ header. IsTitle (taken_bytes self.new) header) }
+        ensures passes { waiting_of decoder.old ≡ None
+            → IfOk result (λ _. Passes R.Read decoder.old (taken_bytes self.new) decoder.new) }
+        ensures pulls { IsAlike strict decoder.old → place ≡ offset_of decoder.old
+            → PullsRow R.Read decoder.old result decoder.new }
     {
         self.read(decoder, 1)?;
         self.read(decoder, affix_len(self.bytes()[0]))?;
@@ -97,12 +103,12 @@ impl Taken {
         ensures most { length (taken_bytes self.new) ≤ left }
         ensures some { IfOk result (λ _. 0 < left → 0 < length (taken_bytes self.new)) }
         ensures text { IfOk result (λ whole. IsTrue whole → IsCharacters (taken_bytes self.new)) }
+        ensures reads { 0 < left → waiting_of decoder.old ≡ None
+            → ReadsText R.Read left (taken_bytes self.new) decoder.old result decoder.new }
     {
         self.read(decoder, left.min(MOST_BYTES - 3))?;
-        'more: for _ in 0..3 {
-            if !is_cut(self.bytes()) || self.len >= left {
-                break;
-            }
+        // There is room: behind the first byte of a character at most three are due.
+        'more: while self.len() < left && is_cut(self.bytes()) {
             self.read(decoder, 1)?;
         }
         Ok(is_text(self.bytes()))
@@ -121,31 +127,4 @@ fn affix_len(first: u8) -> usize
         27 => 8,
         _ => 0,
     }
-}
-
-/// The header of a title that stands in front of the bytes.
-fn header_of(title: &[u8], strict: bool) -> Option<Header>
-    ensures { IfSome result (λ header. IsInFront header title.now) }
-{
-    let reader = SliceReader::new(title);
-    let mut decoder = if strict {
-        Decoder::strict(reader)
-    } else {
-        Decoder::from(reader)
-    };
-    decoder.pull().ok()
-}
-
-/// Whether the bytes are characters.
-fn is_text(bytes: &[u8]) -> bool
-    ensures { IsTrue result → IsCharacters bytes.now }
-{
-    let (front, _) = text_front(bytes, 0, State::Between);
-    front.len() == bytes.len()
-}
-
-/// Whether the bytes are characters and a beginning of one more.
-fn is_cut(bytes: &[u8]) -> bool {
-    let (front, state) = text_front(bytes, 0, State::Between);
-    front.len() < bytes.len() && !matches!(state, State::Damaged)
 }

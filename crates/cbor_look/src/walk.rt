@@ -31,12 +31,12 @@ pub(crate) struct Walk {
 impl Walk {
     ghost use Rattle.ciborium_ll.specs.Title.{IsTitle};
     ghost use Rattle.cbor_skip.specs.Due.{IsNest};
-    ghost use Rattle.cbor_look.specs.Walks.{Breaks, Ends, Enters, IsBehindItem, IsDue};
+    ghost use Rattle.cbor_look.specs.Walks.{Breaks, Ends, Enters, IsBehindItem, IsDue, IsDueBehind};
 
     /// None yet, of at most so many levels.
     pub(crate) fn new(depth: usize) -> Walk
         requires { depth ≤ 256 }
-        ensures { IsDue depth result [] }
+        ensures { IsDue depth 0 result [] }
     {
         Walk {
             levels: [Remaining::Items(0); MOST_LEVELS],
@@ -56,8 +56,8 @@ impl Walk {
     /// The title of a tag, an array or a map came.
     pub(crate) fn enter(&mut self, header: Header) -> Entered
         requires nest { IsNest header }
-        ensures { (depth : ℕ) (before title : List ℕ) → IsDue depth self.old before → IsTitle title header
-            → Enters depth result self.new before title }
+        ensures { (depth whole : ℕ) (before title : List ℕ) → IsDue depth whole self.old before → IsTitle title header
+            → Enters depth whole result self.new before title }
     {
         if self.used == self.depth {
             return Entered::Deep;
@@ -73,7 +73,8 @@ impl Walk {
 
     /// A break came. It tells whether it may stand there, and then the last level is closed.
     pub(crate) fn close(&mut self) -> bool
-        ensures { (depth : ℕ) (before : List ℕ) → IsDue depth self.old before → Breaks depth result self.new before }
+        ensures { (depth whole : ℕ) (before : List ℕ) → IsDue depth whole self.old before
+            → Breaks depth whole result self.new before }
     {
         if self.used == 0 {
             return false;
@@ -87,15 +88,16 @@ impl Walk {
 
     /// An item has ended, and each level that it ends.
     pub(crate) fn item_done(&mut self)
-        ensures { (depth : ℕ) (bytes : List ℕ) → IsBehindItem depth self.old bytes → IsDue depth self.new bytes }
+        ensures { (depth whole : ℕ) (bytes : List ℕ) → IsBehindItem depth whole self.old bytes
+            → IsDueBehind depth whole self.new bytes }
     {
         'levels: while self.ends_level() {}
     }
 
     /// An item has ended. It tells whether it ends the last level, which is then closed.
     fn ends_level(&mut self) -> bool
-        ensures ends { (depth : ℕ) (bytes : List ℕ) → IsBehindItem depth self.old bytes
-            → Ends depth result self.new bytes }
+        ensures ends { (depth whole : ℕ) (bytes : List ℕ) → IsBehindItem depth whole self.old bytes
+            → Ends depth whole result self.new bytes }
         ensures fewer { IsTrue result → self.new.used < self.old.used }
     {
         if self.used == 0 {

@@ -1,41 +1,56 @@
-use Rattle.std.proofs.Common.{◌∙◌, ◌++◌, sym, arith}
+use Rattle.std.proofs.Common.{◌≡◌, [], ◌++◌, length, false, Err, sym, ◌∙◌, arith}
+use Rattle.cbor_look.specs.Checking.{ReadsAsCheck}
+use Rattle.cbor_look.specs.Dumps.{AreTaken, IsTaken}
 use Rattle.ciborium_ll.specs.Title.{IsTitle}
 use Rattle.ciborium_ll.proofs.NestLaws.{title_some}
-use Rattle.cbor_look.specs.Takings.{taken_bytes}
+use Rattle.cbor_look.specs.Takings.{IsAlike, most_bytes, taken_bytes}
 use Rattle.cbor_look.proofs.StringLaws.{taken_all}
-use Rattle.cbor_look.proofs.TitleLaws.{nests_few, walk_ended, up_ends, up_fails, up_title}
+use Rattle.cbor_look.proofs.DumpLaws.{shows_none}
+use Rattle.cbor_look.proofs.PullLaws.{passes_alike}
+use Rattle.cbor_look.proofs.CheckLaws.{comes_first, comes_next, comes_alike, comes_end, comes_title, answers_told}
+use Rattle.cbor_look.proofs.CheckLaws.{answers_exactly}
+use Rattle.cbor_look.proofs.TitleLaws.{nests_few, up_ended, up_title}
 use Rattle.cbor_look.proofs.dump.dump.Goals as goal
 
-pub returns-in-Err : goal.returns-in-Err
-returns-in-Err g c = record {
-  shows = λ all.
-      let row = taken_bytes c.read_title.new.self in
-      let keeps = rw c.offset-place.ensures.same at c.read_title.ensures.keeps in
-      let takes = taken_all g.R.Read _ row _ _ c.new-taken.ensures keeps in
-      let up = c.titles.invariant in
-      record {
-        bytes = up.bytes ++ row;
-        shows = up_fails g.R.Read c.args.depth _ _ _ c.titles.walk row c.offset-place.result _ _ _ _ up takes
-            c.offset-place.ensures.value c.level-level.ensures.value (c.fault.ensures all);
-        whole = tt;
-      };
+pub titles-init : goal.titles-init
+titles-init g c = record {
+  bytes = [];
+  shows = shows_none g.R.Read c.args.depth _ _ [] _;
+  whole = 0;
+  due = c.new-walk.ensures;
+  came = λ alike lenient. comes_first g.R.Read c.args.depth c.new-walk.result c.args.decoder.now c.new-walk.ensures
+      lenient;
 }
 
-pub returns-in-Err-Io : goal.returns-in-Err-Io
-returns-in-Err-Io g c = record {
-  shows = λ all.
-      let row = taken_bytes c.read_title.new.self in
-      let keeps = rw c.offset-place.ensures.same at c.read_title.ensures.keeps in
-      let takes = taken_all g.R.Read _ row _ _ c.new-taken.ensures keeps in
-      let up = c.titles.invariant in
-      record {
-        bytes = up.bytes;
-        shows = up_ends g.R.Read c.args.depth _ _ c.titles.walk row _ _ _ up takes
-            (sym c.len.ensures.value ∙ c.if-len-eq0.true);
-        whole = walk_ended c.args.depth c.titles.walk up.bytes up.due
-            (sym c.level-level.ensures.value ∙ c.if-level-eq0.true);
-      };
-}
+pub returns-in-Err : goal.returns-in-Err
+returns-in-Err g c =
+    let row = taken_bytes c.read_title.new.self in
+    let keeps = rw c.offset-place.ensures.same at c.read_title.ensures.keeps in
+    let takes = taken_all g.R.Read _ row _ _ c.new-taken.ensures keeps in
+    let up = c.titles.invariant in
+    let level = c.level-level.ensures.value in
+    let place = c.offset-place.ensures.value in
+    let ended = c.ended.ensures.ends in
+    let reads : IsAlike c.args.strict c.args.decoder.now → c.args.decoder.now.strict ≡ false → AreTaken c.ended.result
+    → ReadsAsCheck g.R.Read c.args.depth most_bytes c.args.decoder.now c.ended.result c.read_title.new.decoder =
+    λ alike lenient all.
+    let come = up.came alike lenient in
+    let here = comes_alike g.R.Read c.args.depth c.args.strict c.titles.walk _ _ come alike in
+    let fails = (rw (c.offset-place.ensures.same, c.in-Err.is) at c.read_title.ensures.pulls) here place in
+    comes_end g.R.Read c.args.depth c.titles.walk _ _ come c.in-Err.error (length row) _ c.ended.result
+    (let used = come.due.keeps.used in let same = come.due.keeps.same_depth in omega (arith, used, same)) fails
+    takes.offset (rw level at ended) all
+    in
+    record {
+      shows = λ all. up_ended g.R.Read c.args.depth c.args.strict _ _ _ c.titles.walk row c.offset-place.result
+          c.level-level.result _ _ _ c.in-Err.error c.ended.result up takes place level (c.ended.ensures.draws all)
+          ended;
+      reads = reads;
+      told = λ due alike lenient ready all. answers_told g.R.Read c.args.depth c.args.decoder.now due ready c.ended.result _
+          (reads alike lenient all);
+      exactly = λ due alike lenient ready all. answers_exactly g.R.Read c.args.depth c.args.decoder.now due ready
+          c.ended.result _ (reads alike lenient all);
+    }
 
 -- each nest has a title, and the one that was read has a byte
 pub title-requires : goal.title-requires
@@ -47,30 +62,54 @@ title-requires g c =
     let up = c.titles.invariant in
     let begun = up.shows.takes.offset in
     let used = up.due.keeps.used in
-    let few = nests_few c.args.depth up.due.nests up.bytes up.due.within in
+    let few = nests_few c.args.depth up.whole up.due.nests up.bytes up.due.within in
     let titled : IsTitle row c.in-Ok.header = rw c.in-Ok.is at c.read_title.ensures.title in
     let some = title_some row c.in-Ok.header titled in
     record { behind = omega (arith, moved, begun, used, few, some) }
 
 pub returns-in-Err-title : goal.returns-in-Err-title
-returns-in-Err-title g c = record {
-  shows = λ all.
-      let row = taken_bytes c.read_title.new.self in
-      let keeps = rw c.offset-place.ensures.same at c.read_title.ensures.keeps in
-      let takes = taken_all g.R.Read _ row _ _ c.new-taken.ensures keeps in
-      let moved = takes.offset in
-      let up = c.titles.invariant in
-      let begun = up.shows.takes.offset in
-      let place = c.offset-place.ensures.value in
-      let titled : IsTitle row c.in-Ok.header = rw c.in-Ok.is at c.read_title.ensures.title in
-      let title = c.in-Err-title.ensures.shows c.args.depth c.args.decoder.now.offset up.bytes up.due titled
-      (omega (arith, place, begun)) (omega (arith, place, moved)) all in
-      record {
-        bytes = up.bytes ++ (row ++ title.bytes);
-        shows = up_title g.R.Read c.args.depth _ _ _ up.bytes _ row _ _ _ _ _ up.shows takes title;
-        whole = tt;
-      };
-}
+returns-in-Err-title g c =
+    let row = taken_bytes c.read_title.new.self in
+    let keeps = rw c.offset-place.ensures.same at c.read_title.ensures.keeps in
+    let takes = taken_all g.R.Read _ row _ _ c.new-taken.ensures keeps in
+    let moved = takes.offset in
+    let up = c.titles.invariant in
+    let begun = up.shows.takes.offset in
+    let place = c.offset-place.ensures.value in
+    let titled : IsTitle row c.in-Ok.header = rw c.in-Ok.is at c.read_title.ensures.title in
+    let some = title_some row c.in-Ok.header titled in
+    let reads : IsAlike c.args.strict c.args.decoder.now → c.args.decoder.now.strict ≡ false → IsTaken c.in-Err-title.error
+    → ReadsAsCheck g.R.Read c.args.depth most_bytes c.args.decoder.now (Err c.in-Err-title.error)
+    c.title.new.decoder = λ alike lenient all.
+    let come = up.came alike lenient in
+    let here = comes_alike g.R.Read c.args.depth c.args.strict c.titles.walk _ _ come alike in
+    let went = (rw (c.offset-place.ensures.same, c.in-Ok.is) at c.read_title.ensures.passes) here.none_waits in
+    let pulls = (rw (c.offset-place.ensures.same, c.in-Ok.is) at c.read_title.ensures.pulls) here place in
+    let at = come.passed.offset in
+    let title = c.in-Err-title.ensures.shows c.args.depth 0 come.between.offset come.bytes come.due titled
+    (omega (arith, place, at)) (omega (arith, place, moved)) all in
+    let behind = title.shows.takes.offset in
+    comes_title g.R.Read c.args.depth c.titles.walk _ _ come c.in-Err-title.error c.in-Ok.header
+    c.offset-place.result _ _ pulls.0 pulls.1 place (omega (arith, behind)) (omega (arith, moved, some))
+    (title.stops (passes_alike g.R.Read c.args.strict _ _ row went here)
+    (went.mode ∙ (here.mode ∙ (sym alike.mode ∙ lenient)))) all
+    in
+    record {
+      shows = λ all.
+          let title = c.in-Err-title.ensures.shows c.args.depth up.whole c.args.decoder.now.offset up.bytes up.due
+          titled
+          (omega (arith, place, begun)) (omega (arith, place, moved)) all in
+          record {
+            bytes = up.bytes ++ (row ++ title.bytes);
+            shows = up_title g.R.Read c.args.depth up.whole _ _ _ _ _ _ up.bytes _ row _ _ _ _ _ up.shows takes title;
+            whole = tt;
+          };
+      reads = reads;
+      told = λ due alike lenient ready all. answers_told g.R.Read c.args.depth c.args.decoder.now due ready
+          (Err c.in-Err-title.error) _ (reads alike lenient all);
+      exactly = λ due alike lenient ready all. answers_exactly g.R.Read c.args.depth c.args.decoder.now due ready
+          (Err c.in-Err-title.error) _ (reads alike lenient all);
+    }
 
 pub titles-smaller : goal.titles-smaller
 titles-smaller g c =
@@ -83,7 +122,8 @@ titles-smaller g c =
     let place = c.offset-place.ensures.value in
     let titled : IsTitle row c.in-Ok.header = rw c.in-Ok.is at c.read_title.ensures.title in
     let some = title_some row c.in-Ok.header titled in
-    let title = (rw c.in_default.is at c.title.ensures.shows) c.args.depth c.args.decoder.now.offset up.bytes up.due
+    let title = (rw c.in_default.is at c.title.ensures.shows) c.args.depth up.whole c.args.decoder.now.offset up.bytes
+    up.due
     titled
     (omega (arith, place, begun)) (omega (arith, place, moved)) tt in
     let behind = title.shows.takes.offset in
@@ -99,11 +139,22 @@ titles-preserved g c =
     let begun = up.shows.takes.offset in
     let place = c.offset-place.ensures.value in
     let titled : IsTitle row c.in-Ok.header = rw c.in-Ok.is at c.read_title.ensures.title in
-    let title = (rw c.in_default.is at c.title.ensures.shows) c.args.depth c.args.decoder.now.offset up.bytes up.due
+    let title = (rw c.in_default.is at c.title.ensures.shows) c.args.depth up.whole c.args.decoder.now.offset up.bytes
+    up.due
     titled
     (omega (arith, place, begun)) (omega (arith, place, moved)) tt in
     record {
       bytes = up.bytes ++ (row ++ title.bytes);
-      shows = up_title g.R.Read c.args.depth _ _ _ up.bytes _ row _ _ _ _ _ up.shows takes title;
+      shows = up_title g.R.Read c.args.depth up.whole _ _ _ _ _ _ up.bytes _ row _ _ _ _ _ up.shows takes title;
+      whole = _;
       due = title.due;
+      came = λ alike lenient.
+          let come = up.came alike lenient in
+          let here = comes_alike g.R.Read c.args.depth c.args.strict c.titles.walk _ _ come alike in
+          let went = (rw (c.offset-place.ensures.same, c.in-Ok.is) at c.read_title.ensures.passes) here.none_waits in
+          let at = come.passed.offset in
+          let next = (rw c.in_default.is at c.title.ensures.shows) c.args.depth 0 come.between.offset come.bytes
+          come.due titled (omega (arith, place, at)) (omega (arith, place, moved)) tt in
+          comes_next g.R.Read c.args.depth c.titles.walk _ _ _ _ _ come row next.bytes went
+          (next.passed (passes_alike g.R.Read c.args.strict _ _ row went here)) next.due;
     }

@@ -1,8 +1,11 @@
-use Rattle.std.proofs.Common.{[], ◌++◌, arith}
+use Rattle.std.proofs.Common.{[], ◌++◌, Some, arith}
 use Rattle.cbor_look.specs.Takings.{taken_bytes}
 use Rattle.cbor_look.specs.StringRows.{kind_of}
 use Rattle.cbor_look.proofs.DumpLaws.{shows_none}
-use Rattle.cbor_look.proofs.StringLaws.{taken_all, part_fails, part_shown, writable_none}
+use Rattle.ciborium_ll.proofs.DecodingLaws.{Passes-none}
+use Rattle.cbor_look.proofs.StringLaws.{taken_all, part_fails, part_shown, writable_none, body_stops, refusal_stops}
+use Rattle.cbor_look.proofs.PullLaws.{passes_idle}
+use Rattle.cbor_look.proofs.PartLaws.{part_behind}
 use Rattle.cbor_look.proofs.strings.body.Goals as goal
 
 pub rows-init : goal.rows-init
@@ -12,13 +15,14 @@ rows-init g c = record {
     shows = shows_none g.R.Read depth start _ (outer ++ title) _;
     counted = omega arith;
     written = writable_none (kind_of c.args.kind);
+    passed = λ none. Passes-none g.R.Read c.args.decoder.now;
   };
   rises = omega arith;
 }
 
 pub returns-in-Err : goal.returns-in-Err
 returns-in-Err g c = record {
-  shows = λ depth start opens nests outer title due p level at all.
+  shows = λ depth start opens nests outer title strict due p level at all.
       let so_far = c.rows.invariant.so_far depth start opens nests outer title due p level at in
       let row = taken_bytes c.read_part.new.taken in
       let keeps = rw c.offset-offset.ensures.same at c.read_part.ensures.keeps in
@@ -27,8 +31,18 @@ returns-in-Err g c = record {
         bytes = so_far.front ++ row;
         shows = part_fails g.R.Read depth start opens nests outer title (kind_of c.args.kind) c.args.len c.rows.left
             c.args.level c.offset-offset.result _ _ _ row _ _ _ (record { due = due; is_title = p; below = level }) at
-            so_far takes c.read_part.ensures.most c.offset-offset.ensures.value (c.fault.ensures all);
+            so_far takes c.read_part.ensures.most c.offset-offset.ensures.value (c.fault.ensures.draws all);
         whole = tt;
+        passed = λ alike. tt;
+        stops = λ alike lenient.
+            let idle = alike.none_waits in
+            let passed = so_far.passed idle in
+            let between = passes_idle g.R.Read _ _ so_far.front passed idle in
+            let error = rw (c.offset-offset.ensures.same, c.in-Err.is) at c.read_part.ensures.reads in
+            body_stops g.R.Read (kind_of c.args.kind) c.args.len c.args.place _ _ c.in-Err.error c.fault.result
+            c.fault.ensures.says
+            (part_behind g.R.Read (kind_of c.args.kind) c.args.len c.rows.left c.args.place so_far.front _ _ _
+            c.in-Err.error passed so_far.written so_far.counted (error c.rows-test.true between));
       };
   rises =
       let keeps = rw c.offset-offset.ensures.same at c.read_part.ensures.keeps in
@@ -39,18 +53,26 @@ returns-in-Err g c = record {
 
 pub returns-in-Err-shown : goal.returns-in-Err-shown
 returns-in-Err-shown g c = record {
-  shows = λ depth start opens nests outer title due p level at all.
+  shows = λ depth start opens nests outer title strict due p level at all.
       let so_far = c.rows.invariant.so_far depth start opens nests outer title due p level at in
       let row = taken_bytes c.read_part.new.taken in
       let keeps = rw c.offset-offset.ensures.same at c.read_part.ensures.keeps in
       let takes = taken_all g.R.Read _ row _ _ c.new-taken.ensures keeps in
       let ok = rw c.in_default.is at c.read_part.ensures.written in
+      let went = (rw (c.offset-offset.ensures.same, c.in_default.is) at c.read_part.ensures.reads) c.rows-test.true in
       let shown = part_shown g.R.Read depth start opens nests outer title c.args.kind c.args.len c.rows.left
       c.args.level
       c.offset-offset.result _ _ _ row _ _ _ (record { due = due; is_title = p; below = level }) at so_far takes
-      c.read_part.ensures.most c.offset-offset.ensures.value ok
-      (rw c.meaning.ensures at (c.in-Err-shown.ensures all)) in
-      record { bytes = shown.front; shows = shown.shows; whole = tt };
+      c.read_part.ensures.most c.offset-offset.ensures.value ok went
+      (rw c.meaning.ensures at (c.in-Err-shown.ensures.draws all)) in
+      record {
+        bytes = shown.front;
+        shows = shown.shows;
+        whole = tt;
+        passed = λ alike. tt;
+        stops = λ alike lenient. refusal_stops g.R.Read (kind_of c.args.kind) (Some c.args.len) c.args.place _ _
+            c.in-Err-shown.error c.in-Err-shown.ensures.refusal;
+      };
   rises =
       let keeps = rw c.offset-offset.ensures.same at c.read_part.ensures.keeps in
       let moved = keeps.takes.offset in
@@ -66,11 +88,12 @@ rows-preserved g c = record {
       let keeps = rw c.offset-offset.ensures.same at c.read_part.ensures.keeps in
       let takes = taken_all g.R.Read _ row _ _ c.new-taken.ensures keeps in
       let ok = rw c.in_default.is at c.read_part.ensures.written in
+      let went = (rw (c.offset-offset.ensures.same, c.in_default.is) at c.read_part.ensures.reads) c.rows-test.true in
       let shown = part_shown g.R.Read depth start opens nests outer title c.args.kind c.args.len c.rows.left
       c.args.level
       c.offset-offset.result _ _ _ row _ _ _ (record { due = due; is_title = p; below = level }) at so_far takes
-      c.read_part.ensures.most c.offset-offset.ensures.value ok
-      (rw c.meaning.ensures at ((rw c.in_default-shown.is at c.shown.ensures) tt)) in
+      c.read_part.ensures.most c.offset-offset.ensures.value ok went
+      (rw c.meaning.ensures at ((rw c.in_default-shown.is at c.shown.ensures.draws) tt)) in
       rw c.len-left.ensures.value shown;
   rises =
       let keeps = rw c.offset-offset.ensures.same at c.read_part.ensures.keeps in
@@ -81,9 +104,15 @@ rows-preserved g c = record {
 
 pub returns : goal.returns
 returns g c = record {
-  shows = λ depth start opens nests outer title due p level at all.
+  shows = λ depth start opens nests outer title strict due p level at all.
       let so_far = c.rows.invariant.so_far depth start opens nests outer title due p level at in
       let counted = so_far.counted in
-      record { bytes = so_far.front; shows = so_far.shows; whole = (omega (arith, counted), so_far.written) };
+      record {
+        bytes = so_far.front;
+        shows = so_far.shows;
+        whole = (omega (arith, counted), so_far.written);
+        passed = λ alike. so_far.passed alike.none_waits;
+        stops = λ alike lenient. tt;
+      };
   rises = c.rows.invariant.rises;
 }

@@ -1,10 +1,14 @@
-use Rattle.std.proofs.Common.{◌≡◌, ℕ, ◌++◌, subst, sym, ap, suc, ◌-◌, Some, None, ◌∙◌, arith}
+use Rattle.std.proofs.Common.{◌≡◌, ℕ, ◌++◌, subst, sym, ap, suc, ◌-◌, Some, None, ◌∙◌, refl, arith}
+use Rattle.ciborium_ll.specs.Decoding.{PullsTitle}
+use Rattle.ciborium_ll.proofs.DecodingLaws.{Passes-then}
 use Rattle.ciborium_ll.specs.Types.Header.{Header}
 use Rattle.ciborium_ll.specs.Title.{IsTitle}
 use Rattle.ciborium_ll.proofs.NestLaws.{title_some}
 use Rattle.cbor_look.specs.Takings.{taken_bytes}
 use Rattle.cbor_look.specs.StringRows.{kind_of}
-use Rattle.cbor_look.proofs.StringLaws.{taken_all}
+use Rattle.cbor_look.proofs.StringLaws.{taken_all, refusal_stops}
+use Rattle.cbor_look.proofs.PullLaws.{passes_idle}
+use Rattle.cbor_look.proofs.PieceLaws.{alike_here, passed_row, within_no_title, within_other, within_body}
 use Rattle.cbor_look.proofs.PieceLaws.{within_first, within_fails, within_open, within_break, within_ends, within_title}
 use Rattle.cbor_look.proofs.PieceLaws.{within_piece, within_whole, piece_due, piece_offset}
 use Rattle.cbor_look.proofs.TitleLaws.{string_level}
@@ -29,8 +33,16 @@ returns-in-Err g c = record {
       record {
         bytes = so_far.bytes ++ row;
         shows = within_fails g.R.Read depth start _ _ nests items title (kind_of c.args.kind) c.parts.inner _ _ stands
-            so_far at _ row c.offset-place.result _ takes place (c.fault.ensures all);
+            so_far at _ row c.offset-place.result _ takes place (c.fault.ensures.draws all);
         whole = tt;
+        passed = λ alike. tt;
+        stops = λ alike lenient.
+            let fails = (rw (c.offset-place.ensures.same, c.in-Err.is) at c.read_title.ensures.pulls)
+            (alike_here g.R.Read depth start _ _ nests items title (kind_of c.args.kind) c.parts.inner _ _ stands
+            so_far at c.args.strict alike) place in
+            within_no_title g.R.Read depth start _ _ nests items title (kind_of c.args.kind) c.parts.inner _ _ stands
+            so_far at c.args.strict p c.in-Err.error _ fails c.fault.result c.fault.ensures.says
+            alike lenient;
       };
 }
 
@@ -45,8 +57,16 @@ returns-in-Other g c = record {
       record {
         bytes = so_far.bytes ++ row;
         shows = within_fails g.R.Read depth start _ _ nests items title (kind_of c.args.kind) c.parts.inner _ _ stands
-            so_far at _ row c.offset-place.result _ takes place (c.fault-in-Other.ensures all);
+            so_far at _ row c.offset-place.result _ takes place (c.fault-in-Other.ensures.draws all);
         whole = tt;
+        passed = λ alike. tt;
+        stops = λ alike lenient.
+            let pulls = (rw (c.offset-place.ensures.same, c.in-Ok.is) at c.read_title.ensures.pulls)
+            (alike_here g.R.Read depth start _ _ nests items title (kind_of c.args.kind) c.parts.inner _ _ stands
+            so_far at c.args.strict alike) place in
+            within_other g.R.Read depth start _ _ nests items title (kind_of c.args.kind) c.parts.inner _ _ stands
+            so_far at c.args.strict p c.in-Ok.header c.offset-place.result _ pulls.0 c.in-Other.ensures place
+            c.fault-in-Other.result c.fault-in-Other.ensures.says alike lenient;
       };
 }
 
@@ -66,8 +86,11 @@ returns-in-Err-shown g c = record {
         bytes = so_far.bytes ++ row;
         shows = within_title g.R.Read depth start _ _ nests items title (kind_of c.args.kind) c.parts.inner _ _ stands
             so_far at _ row _ c.offset-place.result (c.parts.inner - 1) _ takes place title_row
-            (ap (λ (n : ℕ). n - 1) inner) (rw is at (c.in-Err-shown.ensures all));
+            (ap (λ (n : ℕ). n - 1) inner) (rw is at (c.in-Err-shown.ensures.draws all));
         whole = tt;
+        passed = λ alike. tt;
+        stops = λ alike lenient. refusal_stops g.R.Read (kind_of c.args.kind) None 0 _ _ c.in-Err-shown.error
+            c.in-Err-shown.ensures.refusal;
       };
 }
 
@@ -84,8 +107,16 @@ returns-then-inner-level g c = record {
       let title_row = subst (λ (x : Header). IsTitle row x) is titled in
       let ends = within_ends g.R.Read depth start _ _ nests items title (kind_of c.args.kind) c.parts.inner _ _ stands
       so_far at _ row c.offset-place.result _ p takes place title_row
-      (c.if-inner-level.true ∙ level) (rw is at ((rw c.in_default.is at c.shown.ensures) tt)) in
-      record { bytes = so_far.bytes ++ row; shows = ends.0; whole = ends.1 };
+      (c.if-inner-level.true ∙ level) (rw is at ((rw c.in_default.is at c.shown.ensures.draws) tt)) in
+      let went = rw (c.offset-place.ensures.same, c.in-Ok.is) at c.read_title.ensures.passes in
+      record {
+        bytes = so_far.bytes ++ row;
+        shows = ends.0;
+        whole = ends.1;
+        passed = λ alike. passed_row g.R.Read depth start _ _ nests items title (kind_of c.args.kind) c.parts.inner _
+            _ stands so_far at row _ went alike.none_waits;
+        stops = λ alike lenient. tt;
+      };
 }
 
 pub parts-preserved-else-inner-level : goal.parts-preserved-else-inner-level
@@ -99,9 +130,10 @@ parts-preserved-else-inner-level g c = record {
       let titled : IsTitle row c.in-Ok.header = rw c.in-Ok.is at c.read_title.ensures.title in
       let is = c.in-Break.ensures in
       let title_row = subst (λ (x : Header). IsTitle row x) is titled in
+      let went = rw (c.offset-place.ensures.same, c.in-Ok.is) at c.read_title.ensures.passes in
       within_break g.R.Read depth start _ _ nests items title (kind_of c.args.kind) c.parts.inner _ _ stands so_far at
-      _ row c.offset-place.result _ takes place title_row
-      (λ e. c.if-inner-level.false (e ∙ sym level)) (rw is at ((rw c.in_default.is at c.shown.ensures) tt));
+      _ row c.offset-place.result _ takes went place title_row
+      (λ e. c.if-inner-level.false (e ∙ sym level)) (rw is at ((rw c.in_default.is at c.shown.ensures.draws) tt));
   above =
       let inner = c.parts.invariant.above in
       let other : c.parts.inner - 1 ≡ c.args.level → ⊥ = c.if-inner-level.false in
@@ -134,8 +166,11 @@ returns-in-Err-shown-2 g c = record {
         shows = within_title g.R.Read depth start _ _ nests items title (kind_of c.args.kind) c.parts.inner _ _ stands
             so_far at _ row _ c.offset-place.result c.parts.inner _ takes place title_row
             (inner ∙ sym (string_level (kind_of c.args.kind) (Some c.in-Piece.len) nests (suc so_far.opens)))
-            (rw is at (c.in-Err-shown-2.ensures all));
+            (rw is at (c.in-Err-shown-2.ensures.draws all));
         whole = tt;
+        passed = λ alike. tt;
+        stops = λ alike lenient. refusal_stops g.R.Read (kind_of c.args.kind) None 0 _ _ c.in-Err-shown-2.error
+            c.in-Err-shown-2.ensures.refusal;
       };
 }
 
@@ -153,15 +188,29 @@ returns-in-Err-body g c = record {
       let inner = so_far.level in
       let due = piece_due g.R.Read depth start _ _ nests items title (kind_of c.args.kind) c.parts.inner _ _ stands
       so_far at in
-      let rest = c.in-Err-body.ensures.shows depth start (suc so_far.opens) nests (items ++ so_far.parts) row due
+      let rest = c.in-Err-body.ensures.shows depth start (suc so_far.opens) nests (items ++ so_far.parts) row
+      c.read_title.new.decoder.strict due
       title_row (omega (arith, inner)) (piece_offset g.R.Read depth start _ _ nests items title (kind_of c.args.kind)
       c.parts.inner _ _ stands so_far at row _ takes) all in
       record {
         bytes = so_far.bytes ++ (row ++ rest.bytes);
         shows = within_piece g.R.Read depth start _ _ nests items title (kind_of c.args.kind) c.parts.inner _ _ stands
             so_far at _ _ row rest.bytes c.in-Piece.len c.offset-place.result _ _ takes place
-            title_row (rw is at ((rw c.in_default-shown.is at c.shown-in-Piece.ensures) tt)) rest.shows;
+            title_row (rw is at ((rw c.in_default-shown.is at c.shown-in-Piece.ensures.draws) tt)) rest.shows;
         whole = tt;
+        passed = λ alike. tt;
+        stops = λ alike lenient.
+            let here = alike_here g.R.Read depth start _ _ nests items title (kind_of c.args.kind) c.parts.inner _ _
+            stands so_far at c.args.strict alike in
+            let went = (rw (c.offset-place.ensures.same, c.in-Ok.is) at c.read_title.ensures.passes) here.none_waits in
+            let pulls = (rw (c.offset-place.ensures.same, c.in-Ok.is) at c.read_title.ensures.pulls) here place in
+            let pulled = subst (λ (x : Header). PullsTitle g.R.Read c.parts.decoder x c.read_title.new.decoder) is
+            pulls.0 in
+            within_body g.R.Read depth start _ _ nests items title (kind_of c.args.kind) c.parts.inner _ _ stands
+            so_far at c.args.strict p c.in-Piece.len c.offset-place.result _ _ pulled pulls.1 place
+            c.in-Err-body.error
+            (rest.stops (record { none_waits = passes_idle g.R.Read _ _ row went here.none_waits; mode = refl })
+            (went.mode ∙ (here.mode ∙ (sym alike.mode ∙ lenient)))) alike lenient;
       };
 }
 
@@ -191,13 +240,18 @@ parts-preserved-in_default-body g c = record {
       let due = piece_due g.R.Read depth start _ _ nests items title (kind_of c.args.kind) c.parts.inner _ _ stands
       so_far at in
       let rest = (rw c.in_default-body.is at c.body.ensures.shows) depth start (suc so_far.opens) nests
-      (items ++ so_far.parts) row due title_row (omega (arith, inner)) (piece_offset g.R.Read depth start _ _ nests
+      (items ++ so_far.parts) row c.read_title.new.decoder.strict due title_row (omega (arith, inner)) (piece_offset
+      g.R.Read depth start _ _ nests
       items title (kind_of c.args.kind) c.parts.inner _ _ stands so_far at row _ takes) tt in
+      let went = rw (c.offset-place.ensures.same, c.in-Ok.is) at c.read_title.ensures.passes in
       let shows = within_piece g.R.Read depth start _ _ nests items title (kind_of c.args.kind) c.parts.inner _ _
       stands so_far at _ _ row rest.bytes c.in-Piece.len c.offset-place.result _ _ takes place
-      title_row (rw is at ((rw c.in_default-shown.is at c.shown-in-Piece.ensures) tt)) rest.shows in
+      title_row (rw is at ((rw c.in_default-shown.is at c.shown-in-Piece.ensures.draws) tt)) rest.shows in
       within_whole g.R.Read depth start _ _ nests items title (kind_of c.args.kind) c.parts.inner _ _ stands so_far at
-      _ row rest.bytes c.in-Piece.len _ title_row rest.whole.0 rest.whole.1 shows;
+      _ row rest.bytes c.in-Piece.len _ title_row rest.whole.0 rest.whole.1
+      (λ idle. let first = went idle in
+      Passes-then g.R.Read _ _ _ row rest.bytes first
+      (rest.passed (record { none_waits = passes_idle g.R.Read _ _ row first idle; mode = refl }))) shows;
   above = c.parts.invariant.above;
   below =
       let row = taken_bytes c.read_title.new.self in
@@ -228,8 +282,11 @@ returns-in-Err-shown-3 g c = record {
         shows = within_title g.R.Read depth start _ _ nests items title (kind_of c.args.kind) c.parts.inner _ _ stands
             so_far at _ row _ c.offset-place.result c.parts.inner _ takes place title_row
             (inner ∙ sym (string_level (kind_of c.args.kind) None nests (suc so_far.opens)))
-            (rw is at (c.in-Err-shown-3.ensures all));
+            (rw is at (c.in-Err-shown-3.ensures.draws all));
         whole = tt;
+        passed = λ alike. tt;
+        stops = λ alike lenient. refusal_stops g.R.Read (kind_of c.args.kind) None 0 _ _ c.in-Err-shown-3.error
+            c.in-Err-shown-3.ensures.refusal;
       };
 }
 
@@ -244,9 +301,10 @@ parts-preserved g c = record {
       let titled : IsTitle row c.in-Ok.header = rw c.in-Ok.is at c.read_title.ensures.title in
       let is = c.in-Open.ensures in
       let title_row = subst (λ (x : Header). IsTitle row x) is titled in
+      let went = rw (c.offset-place.ensures.same, c.in-Ok.is) at c.read_title.ensures.passes in
       within_open g.R.Read depth start _ _ nests items title (kind_of c.args.kind) c.parts.inner _ _ stands so_far at
-      _ row c.offset-place.result _ takes place title_row
-      (rw is at ((rw c.in_default-shown-2.is at c.shown-in-Open.ensures) tt));
+      _ row c.offset-place.result _ takes went place title_row
+      (rw is at ((rw c.in_default-shown-2.is at c.shown-in-Open.ensures.draws) tt));
   above = let inner = c.parts.invariant.above in omega (arith, inner);
   below =
       let row = taken_bytes c.read_title.new.self in

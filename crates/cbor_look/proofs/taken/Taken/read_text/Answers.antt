@@ -1,6 +1,98 @@
+use Rattle.std.proofs.Common.{◌≡◌, ◌<◌, ◌++◌, Bool, true, false, ℕ, List, length, Err, arith, ap, subst, sym, ◌∙◌}
+use Rattle.std.proofs.Common.{length-append}
+use Rattle.std.proofs.lemmas.Result.{err_from_is_err_and}
+use Rattle.ciborium_ll.specs.Strings.{Text}
+use Rattle.ciborium_ll_text.specs.States.{after}
+use Rattle.ciborium_ll_text.specs.declared.state.State.TheVariants.{Between}
+use Rattle.ciborium_ll_text.proofs.LastEndLaws.{due}
+use Rattle.cbor_look.specs.Parts.{is_inside, is_between}
+use Rattle.cbor_look.specs.Takings.{taken_bytes}
 use Rattle.cbor_look.proofs.TakingLaws.{keeps_then}
+use Rattle.cbor_look.proofs.PartLaws.{first_part, next_part, state_due, inside_some, between_text, sound_of}
+use Rattle.cbor_look.proofs.PullLaws.{passes_idle, more_passed}
+use Rattle.cbor_look.proofs.taken.Taken.read_text.Goals.{then-more-test+else-is_cut, else-more-test}
 use Rattle.cbor_look.proofs.taken.Taken.read_text.Goals as goal
 
 pub returns-in_err-read-2-clause-keeps : goal.returns-in_err-read-2-clause-keeps
 returns-in_err-read-2-clause-keeps g c =
     keeps_then g.R.Read _ _ _ _ _ _ c.more.invariant.keeps c.read-in-more.ensures.keeps
+
+pub returns-in_err-read-clause-reads : goal.returns-in_err-read-clause-reads
+returns-in_err-read-clause-reads g c = λ some none.
+    let reads = c.in_err-read.ensures.reads in
+    let from = err_from_is_err_and c.from_residual.result c.from_residual.ensures.1 in
+    let is_error = from.1 in
+    let is_same = from.2 in
+    let same : c.from_residual.result ≡ Err c.in_err-read.field-0.0 = cc in
+    rw same (λ place. first_part g.R.Read Text c.args.left place c.min.result _ _ _ _ _ c.requires.none none some
+    (omega (arith, some)) (omega arith) reads)
+
+pub more-preserved : goal.more-preserved
+more-preserved g c =
+    let row = taken_bytes c.more.self in
+    let next = taken_bytes c.read-in-more.new.self in
+    let so_far = c.more.invariant in
+    let reads = c.in_ok-read-2.ensures.reads in
+    let counted = reads.counted in
+    let inside : is_inside (after Between row) ≡ true =
+    ap (λ (z : List ℕ). is_inside (after Between z)) (sym c.bytes.ensures) ∙ (sym c.is_cut.ensures ∙ c.if-is_cut.true)
+    in
+    let some = inside_some row inside in
+    let room = so_far.room in
+    let one : length reads.bytes ≡ 1 = omega (arith, counted, some, room) in
+    let less = state_due row reads.bytes inside one in
+    let moved : due (after Between next) ≡ due (after Between (row ++ reads.bytes)) =
+    ap (λ (z : List ℕ). due (after Between z)) reads.behind in
+    let long = ap length reads.behind in
+    let both = length-append row reads.bytes in
+    let value = c.len.ensures.value in
+    let test = c.more-test.true in
+    record {
+      keeps = keeps_then g.R.Read _ _ _ _ _ _ so_far.keeps c.read-in-more.ensures.keeps;
+      most = omega (arith, long, both, one, value, test);
+      some = λ any. omega (arith, long, both, one);
+      room = omega (arith, long, both, one, moved, less, room);
+      passed = λ none.
+          let passed = so_far.passed none in
+          more_passed g.R.Read 1 row next _ _ _ passed (passes_idle g.R.Read _ _ _ passed none) reads;
+    }
+
+pub returns-in_err-read-2-clause-reads : goal.returns-in_err-read-2-clause-reads
+returns-in_err-read-2-clause-reads g c = λ some none.
+    let row = taken_bytes c.more.self in
+    let residual = c.from_residual-in_err-read-2 in
+    let from = err_from_is_err_and residual.result residual.ensures.1 in
+    let is_error = from.1 in
+    let is_same = from.2 in
+    let same : residual.result ≡ Err c.in_err-read-2.field-0.0 = cc in
+    let inside : is_inside (after Between row) ≡ true =
+    ap (λ (z : List ℕ). is_inside (after Between z)) (sym c.bytes.ensures) ∙ (sym c.is_cut.ensures ∙ c.if-is_cut.true)
+    in
+    let due_here = inside_some row inside in
+    let room = c.more.invariant.room in
+    let value = c.len.ensures.value in
+    let test = c.more-test.true in
+    rw same (λ place. next_part g.R.Read c.args.left place row _ _ _ _ _ (c.more.invariant.passed none) none
+    (omega (arith, value, test)) (omega (arith, due_here, room)) inside c.in_err-read-2.ensures.reads)
+
+pub returns-clause-text : goal.returns-clause-text
+returns-clause-text g c = λ is.
+    let row = taken_bytes c.more.self in
+    let same : c.is_text.result ≡ is_between (after Between row) =
+    c.is_text.ensures ∙ ap (λ (z : List ℕ). is_between (after Between z)) c.bytes-2.ensures in
+    between_text row (sym same ∙ is)
+
+pub returns-clause-reads : goal.returns-clause-reads
+returns-clause-reads g c = λ some none.
+    let row = taken_bytes c.more.self in
+    let same : c.is_text.result ≡ is_between (after Between row) =
+    c.is_text.ensures ∙ ap (λ (z : List ℕ). is_between (after Between z)) c.bytes-2.ensures in (
+      c.more.invariant.passed none,
+      sound_of c.args.left row c.is_text.result same c.more.invariant.most (λ less.
+          elim c.more-test.branch [
+            | then-more-test+else-is_cut w ↦ ap (λ (z : List ℕ). is_inside (after Between z)) (sym w.bytes.ensures)
+                ∙ (sym w.is_cut.ensures ∙ w.if-is_cut.false)
+            | else-more-test w ↦ absurd
+                (let value = c.len.ensures.value in let test = w.more-test.false in omega (arith, value, test, less))
+          ]),
+    )

@@ -1,0 +1,318 @@
+-- A dump reads as a check does: where it stops a check would stop, for the same reason.
+use Rattle.std.proofs.Common.{◌≡◌, ℕ, zero, suc, ◌+◌, ◌-◌, ◌<◌, ◌≤◌, Bool, true, false, List, [], ◌∷◌, ◌++◌, length}
+use Rattle.std.proofs.Common.{Option, Some, Result, Ok, Err, IsOk, ◌↔◌, refl, sym, ap, subst, ◌∙◌, inl, inr, arith}
+use Rattle.std.proofs.Common.{append_assoc, append-nil, length-append}
+use Rattle.ciborium_ll.specs.Types.Read.{Ghosts}
+use Rattle.ciborium_ll.specs.Types.Header.{Header}
+use Rattle.ciborium_ll.specs.Types.Header.TheVariants as h
+use Rattle.ciborium_ll.specs.Types.Decoder.{Decoder}
+use Rattle.ciborium_ll.specs.Types.Error.{Error}
+use Rattle.ciborium_ll.specs.Types.Error.TheVariants as e
+use Rattle.ciborium_ll.specs.Title.{IsTitle}
+use Rattle.ciborium_ll.specs.Strings.{kind_header}
+use Rattle.ciborium_ll.specs.Items.{AreItems, no_items, more_items, IsItem}
+use Rattle.ciborium_ll.specs.Decoding.{IsSteady, Passes, PullsHeader, PullsTitle}
+use Rattle.ciborium_ll.proofs.DecodingLaws.{Passes-none, Passes-then}
+use Rattle.cbor_skip.specs.declared.SkipError.{SkipError}
+use Rattle.cbor_skip.specs.declared.SkipError.TheVariants as s
+use Rattle.cbor_skip.specs.Due.{IsNest, TakesMore, may_close, ItemDue, here, within}
+use Rattle.cbor_skip.specs.Skipping.{StopsDue, StopsItem}
+use Rattle.cbor_skip.specs.SkippingTold.{IsReadyToSkip}
+use Rattle.cbor_look.specs.declared.dump.DumpError.{DumpError}
+use Rattle.cbor_look.specs.declared.dump.DumpError.TheVariants as d
+use Rattle.cbor_look.specs.declared.sequence.Sequence.{Sequence}
+use Rattle.cbor_look.specs.declared.sequence.Stopped.{Stopped}
+use Rattle.cbor_look.specs.declared.walk.Walk.{Walk}
+use Rattle.cbor_look.specs.Takings.{IsAlike, most_bytes}
+use Rattle.cbor_look.specs.Levels.{Nest, StandsBehind, outside, inside, closes_one}
+use Rattle.cbor_look.specs.Dumps.{AreTaken, IsEndOf, IsTaken, EndsTitles, SaysFault}
+use Rattle.cbor_look.specs.Walks.{IsDue, IsDueBehind, whole_behind}
+use Rattle.cbor_look.specs.TitleRows.{StopsTitle}
+use Rattle.cbor_look.specs.Sequences.{IsSequence, IsEnd, ReadsItems}
+use Rattle.cbor_look.specs.Checking.{AnswersAs, AnswersTold, ReadsAsCheck}
+use Rattle.cbor_look.proofs.SequenceLaws.{one_more, check_told, check_exactly}
+use Rattle.cbor_look.proofs.TitleLaws.{Comes, walk_ended, nests_few}
+use Rattle.cbor_look.proofs.WalkLaws.{due_first}
+use Rattle.cbor_look.proofs.ItemRows.{nothing}
+use Rattle.cbor_look.proofs.PullLaws.{passes_alike}
+use Rattle.cbor_skip.proofs.StrictnessLaws.{strict_lenient}
+
+-- ---- where an item is due
+
+-- a nest within which an item is due, where an item was due
+deepen : {outer closable : Bool} {depth levels : ℕ} {bytes : List ℕ} → ItemDue false outer depth bytes levels closable
+    → (deeper count : ℕ) (title items : List ℕ) (header : Header) → levels ≡ suc deeper → IsTitle title header
+    → TakesMore header count → AreItems false deeper count items
+    → ItemDue false outer depth (bytes ++ (title ++ items)) deeper (may_close header count)
+deepen {outer = outer} {depth = depth} here deeper count title items header same p more are =
+    let one : ItemDue false outer (suc deeper) (title ++ (items ++ [])) deeper (may_close header count) =
+    within p tt more are here in
+    subst (λ (n : ℕ). ItemDue false outer n (title ++ items) deeper (may_close header count)) (sym same)
+    (subst (λ (z : List ℕ). ItemDue false outer (suc deeper) (title ++ z) deeper (may_close header count))
+    (append-nil items) one)
+deepen {outer = outer} {depth = depth} (within {title = t} {items = i} {more = m} p' taken more' are' inner) deeper count
+    title
+    items header same p more are =
+    subst (λ (z : List ℕ). ItemDue false outer depth z deeper (may_close header count))
+    (sym (append_assoc t (i ++ m) (title ++ items)
+    ∙ ap (λ (z : List ℕ). t ++ z) (append_assoc i m (title ++ items))))
+    (within p' tt more' are' (deepen inner deeper count title items header same p more are))
+
+no_item : (depth : ℕ) (items : List ℕ) → AreItems false depth 0 items → items ≡ []
+no_item depth items no_items = refl
+
+-- the innermost nest first, and the outermost first
+pub stands_due : (depth : ℕ) (nests : List Nest) (bytes : List ℕ) → StandsBehind depth 0 nests bytes → (levels : ℕ)
+    → length nests + levels ≡ depth → ItemDue false false depth bytes levels (closes_one nests 0)
+stands_due depth nests bytes (outside are) levels left =
+    let same : depth ≡ levels = omega (arith, left) in
+    subst (λ (n : ℕ). ItemDue false false depth bytes n false) same
+    (subst (λ (z : List ℕ). ItemDue false false depth z depth false) (sym (no_item depth bytes are)) here)
+stands_due depth nests bytes
+    (inside {levels = l} {count = n} {nests = outer} {before = b} {title = t} {items = i} {header = x} w e p more are)
+    levels left =
+    let same : l ≡ levels = omega (arith, e, left) in
+    subst (λ (k : ℕ). ItemDue false false depth (b ++ (t ++ i)) k (may_close x n)) same
+    (deepen (stands_due depth outer b w (suc l) e) l n t i x refl p more are)
+
+-- there are no more nests than levels
+stands_few : (depth : ℕ) (nests : List Nest) (bytes : List ℕ) → StandsBehind depth 0 nests bytes
+    → length nests + (depth - length nests) ≡ depth
+stands_few depth nests bytes (outside are) = omega arith
+stands_few depth nests bytes (inside w e p more are) = omega (arith, e)
+
+-- ---- answers
+
+both_ok : {E W : Type 0} (checked : Result (Sequence E) (Stopped E)) (result : Result E (DumpError E W))
+    → AnswersAs checked result → IsOk result → IsOk checked
+both_ok (Ok sequence) result answers ok = refl
+both_ok (Err stopped) (Ok fault) answers ok = absurd answers
+both_ok (Err stopped) (Err error) answers ok = absurd cc
+
+ok_both : {E W : Type 0} (checked : Result (Sequence E) (Stopped E)) (result : Result E (DumpError E W))
+    → AnswersAs checked result → IsOk checked → IsOk result
+ok_both checked (Ok fault) answers ok = refl
+ok_both (Ok sequence) (Err (d.Item error)) answers ok = absurd answers
+ok_both (Ok sequence) (Err (d.Rows fault)) answers ok = absurd answers
+ok_both (Err stopped) (Err error) answers ok = absurd cc
+
+-- bytes were read
+further : {R E : Type 0} (error : SkipError E) (between new : Decoder R) → between.offset < new.offset
+    → IsEnd error between.offset new.offset → ⊥
+further (s.Read (e.Io fault)) between new some still = omega (arith, some, still)
+further (s.Read (e.Syntax place)) between new some still = still
+further (s.Read e.TooLong) between new some still = still
+further (s.Read e.Waiting) between new some still = still
+further (s.Break at) between new some still = still
+further (s.Deep at) between new some still = still
+
+module _ {R E : Type 0} (source : Ghosts R E) where
+  -- ---- the walk of a dump
+
+  pub comes_first : (depth : ℕ) (walk : Walk) (decoder : Decoder R) → IsDue depth 0 walk [] → decoder.strict ≡ false
+      → Comes source depth walk decoder decoder
+  comes_first depth walk decoder due lenient = record {
+    count = 0;
+    between = decoder;
+    reads = record { bytes = []; are_items = no_items; passed = Passes-none source decoder };
+    bytes = [];
+    passed = Passes-none source decoder;
+    due = due;
+    lenient = lenient;
+  }
+
+  -- a title and what follows it
+  comes_by : (depth used : ℕ) (walk new_walk : Walk) (old now new : Decoder R) (come : Comes source depth walk old now)
+      → (more : List ℕ) → Passes source now more new → new_walk.used ≡ used
+      → IsDueBehind depth 0 new_walk (come.bytes ++ more) → Comes source depth new_walk old new
+  comes_by depth zero walk new_walk old now new come more passed same due =
+      let all = come.bytes ++ more in
+      let whole : IsDue depth 1 new_walk all =
+      subst (λ (n : ℕ). IsDue depth (whole_behind 0 n) new_walk all) same due in
+      let items = walk_ended depth 1 new_walk all whole same in
+      let behind = Passes-then source come.between now new come.bytes more come.passed passed in
+      let items' = subst (λ (b : Bool). IsItem b depth all) (sym (strict_lenient come.between.waiting
+      come.between.strict come.lenient)) items in
+      record {
+        count = suc come.count;
+        between = new;
+        reads = one_more source depth come.count old come.between new come.reads
+            (record { item = all; is_item = items'; passed = behind });
+        bytes = [];
+        passed = Passes-none source new;
+        due = due_first depth new_walk same whole.keeps.same_depth whole.keeps.room;
+        lenient = behind.mode ∙ come.lenient;
+      }
+  comes_by depth (suc used) walk new_walk old now new come more passed same due = record {
+    count = come.count;
+    between = come.between;
+    reads = come.reads;
+    bytes = come.bytes ++ more;
+    passed = Passes-then source come.between now new come.bytes more come.passed passed;
+    due = subst (λ (n : ℕ). IsDue depth (whole_behind 0 n) new_walk (come.bytes ++ more)) same due;
+    lenient = come.lenient;
+  }
+
+  pub comes_next : (depth : ℕ) (walk new_walk : Walk) (old now titled new : Decoder R)
+      (come : Comes source depth walk old now) (row bytes : List ℕ) → Passes source now row titled
+      → Passes source titled bytes new → IsDueBehind depth 0 new_walk (come.bytes ++ (row ++ bytes))
+      → Comes source depth new_walk old new
+  comes_next depth walk new_walk old now titled new come row bytes one two due =
+      comes_by depth new_walk.used walk new_walk old now new come (row ++ bytes)
+      (Passes-then source now titled new row bytes one two) refl due
+
+  pub comes_alike : (depth : ℕ) (strict : Bool) (walk : Walk) (old now : Decoder R)
+      → Comes source depth walk old now → IsAlike strict old → IsAlike strict now
+  comes_alike depth strict walk old now come alike =
+      passes_alike source strict come.between now come.bytes come.passed
+      (passes_alike source strict old come.between come.reads.bytes come.reads.passed alike)
+
+  -- ---- where it stops
+
+  module _ (depth : ℕ) (walk : Walk) (old now : Decoder R) (come : Comes source depth walk old now) where
+    -- within these nests
+    stops_in : (nests : List Nest) → StandsBehind depth 0 nests come.bytes → (levels : ℕ)
+        → length nests + levels ≡ depth → (error : SkipError E) (new : Decoder R)
+        → StopsDue source levels (closes_one nests 0) most_bytes now error new
+        → StopsItem source false depth most_bytes come.between error new
+    stops_in nests stands levels left error new stops = record {
+      bytes = come.bytes;
+      levels = levels;
+      closable = closes_one nests 0;
+      due = subst (λ (b : Bool). ItemDue b false depth come.bytes levels (closes_one nests 0))
+          (sym (strict_lenient come.between.waiting come.between.strict come.lenient))
+          (stands_due depth nests come.bytes stands levels left);
+      between = now;
+      passed = come.passed;
+      stops = stops;
+    }
+
+    -- where no byte of a further item came, no level was open and none of a title
+    not_ended : (error : Error E) (len : ℕ) (new : Decoder R) → new.offset ≡ now.offset + len
+        → (IsEndOf error walk.used len → ⊥) → IsEnd (s.Read error) come.between.offset new.offset → ⊥
+    not_ended (e.Io fault) len new moved not still =
+        let at = come.passed.offset in
+        let few = nests_few depth 0 come.due.nests come.bytes come.due.within in
+        let used = come.due.keeps.used in
+        not (omega (arith, at, moved, still, few, used), omega (arith, at, moved, still))
+    not_ended (e.Syntax place) len new moved not still = still
+    not_ended e.TooLong len new moved not still = still
+    not_ended e.Waiting len new moved not still = still
+
+    -- the end of it all, by the error of the title
+    pub comes_end : {W : Type 0} (error : Error E) (len : ℕ) (new : Decoder R) (result : Result E (DumpError E W))
+        → walk.used ≤ depth → PullsHeader source now (Err error) new → new.offset ≡ now.offset + len
+        → EndsTitles error walk.used len result → AreTaken result
+        → ReadsAsCheck source depth most_bytes old result new
+    comes_end error len new (Ok fault) few fails moved says taken =
+        let used = come.due.keeps.used in
+        let items = walk_ended depth 0 walk come.bytes come.due says.1 in
+        let none = no_item depth come.bytes items in
+        let stopped = stops_in come.due.nests come.due.within (depth - length come.due.nests)
+        (omega (arith, used, few)) (s.Read error) new (inl fails) in
+        let counted = ap length none in
+        let at = come.passed.offset in
+        let here = says.2 in
+        record {
+          checked = Ok (record { items = come.count; bytes = length come.reads.bytes; «end» = fault });
+          answers = refl;
+          checks = record {
+            between = come.between;
+            reads = come.reads;
+            counted = refl;
+            fails = subst (λ (x : Error E). StopsItem source false depth most_bytes come.between (s.Read x) new)
+                says.0 stopped;
+            still = omega (arith, moved, counted, at, here);
+          };
+        }
+    comes_end error len new (Err (d.Item why)) few fails moved says taken =
+        let used = come.due.keeps.used in
+        let stopped = stops_in come.due.nests come.due.within (depth - length come.due.nests)
+        (omega (arith, used, few)) (s.Read error) new (inl fails) in
+        record {
+          checked = Err (record { items = come.count; place = come.between.offset; error = why });
+          answers = refl;
+          checks = record {
+            between = come.between;
+            reads = come.reads;
+            place = refl;
+            fails = subst (λ (x : SkipError E). StopsItem source false depth most_bytes come.between x new)
+                (sym says.0) stopped;
+            no_end = λ is_end. not_ended error len new moved says.1
+                (subst (λ (x : SkipError E). IsEnd x come.between.offset new.offset) says.0 is_end);
+          };
+        }
+    comes_end error len new (Err (d.Rows fault)) few fails moved says taken = absurd taken
+
+    -- a title that was read, or the string behind it, by its error
+    title_stops : (error : SkipError E) (W : Type 0) (header : Header) (place : ℕ) (titled new : Decoder R)
+        → PullsTitle source now header titled → (IsSteady source now → IsSteady source titled) → place ≡ now.offset
+        → StopsTitle {R = R} {E = E} {W = W} source depth 0 header place come.bytes titled (Err (d.Item error)) new
+        → StopsItem source false depth most_bytes come.between error new
+    title_stops (s.Read error) W header place titled new pulled steady at stops =
+        let due = stops.2 in
+        stops_in due.nests due.within (depth - length due.nests) (stands_few depth due.nests come.bytes due.within)
+        (s.Read error) new (inr (record {
+          kind = stops.0;
+          len = stops.1;
+          titled = titled;
+          pulled = subst (λ (x : Header). PullsTitle source now x titled) due.is pulled;
+          steady = steady;
+          fails = stops.3;
+        }))
+    title_stops (s.Break at) W header place titled new pulled steady same stops =
+        let due = stops.0 in
+        stops_in due.nests due.within (depth - length due.nests) (stands_few depth due.nests come.bytes due.within)
+        (s.Break at) new (record {
+          not_closable = due.not_closable;
+          place = stops.2 ∙ same;
+          pulled = subst (λ (x : Decoder R). PullsTitle source now h.Break x) (sym stops.3)
+              (subst (λ (x : Header). PullsTitle source now x titled) stops.1 pulled);
+        })
+    title_stops (s.Deep at) W header place titled new pulled steady same stops =
+        let due = stops.0 in
+        stops_in due.nests due.within 0 (let full = due.full in omega (arith, full)) (s.Deep at) new (record {
+          none_left = refl;
+          place = stops.2 ∙ same;
+          header = header;
+          is_nest = stops.1;
+          pulled = subst (λ (x : Decoder R). PullsTitle source now header x) (sym stops.3) pulled;
+        })
+
+    pub comes_title : {W : Type 0} (error : DumpError E W) (header : Header) (place : ℕ) (titled new : Decoder R)
+        → PullsTitle source now header titled → (IsSteady source now → IsSteady source titled) → place ≡ now.offset
+        → titled.offset ≤ new.offset → now.offset < titled.offset
+        → StopsTitle source depth 0 header place come.bytes titled (Err error) new → IsTaken error
+        → ReadsAsCheck source depth most_bytes old (Err error) new
+    comes_title {W = W} (d.Item why) header place titled new pulled steady at rises some stops taken = record {
+      checked = Err (record { items = come.count; place = come.between.offset; error = why });
+      answers = refl;
+      checks = record {
+        between = come.between;
+        reads = come.reads;
+        place = refl;
+        fails = title_stops why W header place titled new pulled steady at stops;
+        no_end = let moved = come.passed.offset in further why come.between new (omega (arith, moved, rises, some));
+      };
+    }
+    comes_title (d.Rows fault) header place titled new pulled steady at rises some stops taken = absurd taken
+
+  -- ---- where the bytes are told
+
+  module _ (depth : ℕ) (old : Decoder R) (due : List ℕ) (ready : IsReadyToSkip source most_bytes old due) where
+    pub answers_told : {W : Type 0} (result : Result E (DumpError E W)) (new : Decoder R)
+        → ReadsAsCheck source depth most_bytes old result new → AnswersTold source depth due old result new
+    answers_told result new reads = record {
+      checked = reads.checked;
+      answers = reads.answers;
+      told = check_told source depth most_bytes old due ready new reads.checked reads.checks;
+    }
+
+    -- the answers are of one kind
+    pub answers_exactly : {W : Type 0} (result : Result E (DumpError E W)) (new : Decoder R)
+        → ReadsAsCheck source depth most_bytes old result new → IsOk result ↔ IsSequence old.strict depth due
+    answers_exactly result new reads =
+        let exactly = check_exactly source depth most_bytes old due ready new reads.checked reads.checks in (
+          λ ok. exactly.0 (both_ok reads.checked result reads.answers ok),
+          λ is. ok_both reads.checked result reads.answers (exactly.1 is),
+        )

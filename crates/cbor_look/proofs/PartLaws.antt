@@ -1,0 +1,308 @@
+-- A part of a body that was read, as a skip of the body reads it.
+use Rattle.std.proofs.Common.{◌≡◌, ℕ, ◌+◌, ◌-◌, ◌<◌, ◌≤◌, ◌⊎◌, min, Bool, true, false, List, [], ◌∷◌, ◌++◌, length}
+use Rattle.std.proofs.Common.{Result, Ok, Err, inl, inr, refl, sym, ap, subst, ◌∙◌, arith, append_assoc, append-nil}
+use Rattle.std.proofs.Common.{length-append, None}
+use Rattle.std.proofs.lemmas.Bool.{cases_lt}
+use Rattle.ciborium_ll.specs.Types.Read.{Ghosts}
+use Rattle.ciborium_ll.specs.Types.Decoder.{Decoder}
+use Rattle.ciborium_ll.specs.Types.Error.{Error}
+use Rattle.ciborium_ll.specs.Types.Error.TheVariants as e
+use Rattle.ciborium_ll.specs.Strings.{Kind, Bytes, Text, IsWritable, most_kept}
+use Rattle.ciborium_ll.specs.Decoding.{IsSteady, Passes, ReadsBytes}
+use Rattle.ciborium_ll.specs.Finishing.{BeginsRest, RestFails, RestPasses, RestDamaged, EndsBody, IsNoText}
+use Rattle.ciborium_ll.proofs.DecodingLaws.{Passes-none, Passes-then}
+use Rattle.ciborium_ll.proofs.BodyLaws.{Passes-read}
+use Rattle.ciborium_ll.proofs.TextLaws.{IsCharacters-append, IsCharacters-rest, IsCharacters-nil, some_front}
+use Rattle.ciborium_ll.proofs.TextLaws.{no_text_begins}
+use Rattle.ciborium_ll_text.specs.States.{after, after_byte}
+use Rattle.ciborium_ll_text.specs.Text.{IsCharacters, IsFront, BeginsNoText}
+use Rattle.ciborium_ll_text.specs.declared.state.State.{State}
+use Rattle.ciborium_ll_text.specs.declared.state.State.TheVariants as t
+use Rattle.ciborium_ll_text.proofs.StateLaws.{after-append, text_ends, text_from, none_goes_on, some_goes_on}
+use Rattle.ciborium_ll_text.proofs.LastEndLaws.{due, due-le, back, Back, begins, goes_on, inside_due}
+use Rattle.cbor_look.specs.Takings.{most_bytes, ReadsOn}
+use Rattle.cbor_look.specs.Parts.{is_between, is_inside, IsSound, ReadsPart, ReadsText}
+use Rattle.cbor_look.proofs.PullLaws.{passes_idle, first_passed}
+
+-- ---- states
+
+between_of : (state : State) → is_between state ≡ true → state ≡ t.Between
+between_of t.Between is = refl
+between_of t.OneDue is = absurd cc
+between_of t.TwoDue is = absurd cc
+between_of t.ThreeDue is = absurd cc
+between_of t.BehindE0 is = absurd cc
+between_of t.BehindEd is = absurd cc
+between_of t.BehindF0 is = absurd cc
+between_of t.BehindF4 is = absurd cc
+between_of t.Damaged is = absurd cc
+
+damaged_of : (state : State) → is_inside state ≡ false → is_between state ≡ false → state ≡ t.Damaged
+damaged_of t.Between out not = absurd cc
+damaged_of t.OneDue out not = absurd cc
+damaged_of t.TwoDue out not = absurd cc
+damaged_of t.ThreeDue out not = absurd cc
+damaged_of t.BehindE0 out not = absurd cc
+damaged_of t.BehindEd out not = absurd cc
+damaged_of t.BehindF0 out not = absurd cc
+damaged_of t.BehindF4 out not = absurd cc
+damaged_of t.Damaged out not = refl
+
+inside_not : (state : State) → is_inside state ≡ true → (0 < due state) × (state ≡ t.Damaged → ⊥)
+inside_not t.Between is = absurd cc
+inside_not t.OneDue is = (omega arith, λ e. absurd cc)
+inside_not t.TwoDue is = (omega arith, λ e. absurd cc)
+inside_not t.ThreeDue is = (omega arith, λ e. absurd cc)
+inside_not t.BehindE0 is = (omega arith, λ e. absurd cc)
+inside_not t.BehindEd is = (omega arith, λ e. absurd cc)
+inside_not t.BehindF0 is = (omega arith, λ e. absurd cc)
+inside_not t.BehindF4 is = (omega arith, λ e. absurd cc)
+inside_not t.Damaged is = absurd cc
+
+-- inside a character one byte less is due behind a further one
+due_step : (state : State) (byte : ℕ) → 0 < due state → due (after_byte state byte) < due state
+due_step state byte some =
+    elim (cases_lt 0 (due (after_byte state byte))) [
+      | inl more ↦ go (due (after_byte state byte)) (back state byte more)
+      | inr none ↦ omega (arith, none, some)
+    ]
+  where
+    go : (left : ℕ) → Back state byte left → left < due state
+    go left (begins high is) = absurd (let none = ap due is in omega (arith, none, some))
+    go left (goes_on low is) = omega (arith, is)
+
+pub state_due : (bytes more : List ℕ) → is_inside (after t.Between bytes) ≡ true → length more ≡ 1
+    → due (after t.Between (bytes ++ more)) < due (after t.Between bytes)
+state_due bytes [] is one = absurd (omega (arith, one))
+state_due bytes (byte ∷ []) is one =
+    subst (λ (z : State). due z < due (after t.Between bytes)) (sym (after-append t.Between bytes (byte ∷ [])))
+    (due_step (after t.Between bytes) byte (inside_not (after t.Between bytes) is).0)
+state_due bytes (byte ∷ (other ∷ more)) is one = absurd (omega (arith, one))
+
+pub state_room : (bytes : List ℕ) → due (after t.Between bytes) ≤ 3
+state_room bytes = due-le (after t.Between bytes)
+
+pub inside_some : (bytes : List ℕ) → is_inside (after t.Between bytes) ≡ true → 0 < due (after t.Between bytes)
+inside_some bytes is = (inside_not (after t.Between bytes) is).0
+
+-- the state behind bytes is that behind what follows their longest front
+pub front_state : (bytes front rest : List ℕ) (state : State) → IsFront bytes front rest
+    → state ≡ after t.Between rest → state ≡ after t.Between bytes
+front_state bytes front rest state is same =
+    same ∙ sym (ap (λ (z : List ℕ). after t.Between z) is.parts ∙ (after-append t.Between front rest
+    ∙ ap (λ (z : State). after z rest) (text_ends front is.text)))
+
+-- ---- what the states say of a text
+
+pub between_text : (bytes : List ℕ) → is_between (after t.Between bytes) ≡ true → IsCharacters bytes
+between_text bytes is = text_from bytes (between_of (after t.Between bytes) is)
+
+-- the bytes are characters and a beginning of one more
+record IsCut (bytes : List ℕ) : Type 0 where
+  front : List ℕ
+  left : List ℕ
+  parts : bytes ≡ front ++ left
+  few : length left ≤ 3
+  text : IsCharacters front
+
+cut_of : (bytes : List ℕ) → is_inside (after t.Between bytes) ≡ true → IsCut bytes
+cut_of bytes is =
+    let f = some_front bytes in
+    let more = some_goes_on bytes (inside_not (after t.Between bytes) is).1 in
+    elim (cases_lt 3 (length f.1)) [
+      | inl much ↦ absurd (no_text_begins bytes f.0 f.1 more.0 f.2 much more.1)
+      | inr few ↦ record { front = f.0; left = f.1; parts = f.2.parts; few = few; text = f.2.text }
+    ]
+
+-- where no more is read the bytes are all that was left, or they are cut nowhere
+pub sound_of : (left : ℕ) (bytes : List ℕ) (whole : Bool) → whole ≡ is_between (after t.Between bytes)
+    → length bytes ≤ left → (length bytes < left → is_inside (after t.Between bytes) ≡ false) → IsSound left bytes whole
+sound_of left bytes true is most ends = between_text bytes (sym is)
+sound_of left bytes false is most ends =
+    elim (cases_lt (length bytes) left) [
+      | inl less ↦ inr (λ more text. none_goes_on bytes more
+          (damaged_of (after t.Between bytes) (ends less) (sym is)) text)
+      | inr all ↦ inl (
+        omega (arith, most, all),
+        λ text. (let ended = ap is_between (text_ends bytes text) in absurd cc),
+      )
+    ]
+
+-- ---- fronts of a body
+
+writable_first : (kind : Kind) → IsWritable kind []
+writable_first Bytes = tt
+writable_first Text = IsCharacters-nil
+
+writable_behind : (kind : Kind) (front behind : List ℕ) → IsWritable kind front → IsWritable kind behind
+    → IsWritable kind (front ++ behind)
+writable_behind Bytes front behind a b = tt
+writable_behind Text front behind a b = IsCharacters-append front behind a b
+
+no_text_then : (len left : ℕ) (front read : List ℕ) → IsCharacters front → length front + left ≡ len
+    → IsNoText [] left read → IsNoText [] len (front ++ read)
+no_text_then len left front read text counted (inl whole) = inl (
+  let all = whole.0 in omega (arith, all, counted, length-append front read),
+  λ both. whole.1 (IsCharacters-rest front read text both),
+)
+no_text_then len left front read text counted (inr never) =
+    inr (λ more both. never more (IsCharacters-rest front (read ++ more) text
+    (subst IsCharacters (append_assoc front read more) both)))
+
+more_left : (len left front read count both : ℕ) → front + left ≡ len → both ≡ front + read → read + count ≤ left
+    → both + count ≤ len
+more_left len left front read count both counted split more = omega (arith, counted, split, more)
+
+module _ {R E : Type 0} (source : Ghosts R E) where
+  -- of so much that is left these bytes were read, and of a text they are characters but for up to three
+  abbrev begun : (kind : Kind) (left : ℕ) (old new : Decoder R) (read front behind : List ℕ) → read ≡ front ++ behind
+      → length behind ≤ most_kept kind → IsWritable kind front → length read ≤ left → Passes source old read new
+      → BeginsRest source kind [] left old new
+  begun kind left old new read front behind parts few sound most passed = record {
+    read = read;
+    front = front;
+    left = behind;
+    parts = parts;
+    few = few;
+    sound = sound;
+    within = most;
+    passed = passed;
+  }
+
+  -- and then a read of more failed
+  part_fails : (kind : Kind) (left place : ℕ) (old between new : Decoder R) (bytes : List ℕ) (error : Error E)
+      → (part : BeginsRest source kind [] left old between) → between.waiting ≡ None → 0 < length bytes
+      → length bytes ≤ 16 → length part.read + length bytes ≤ left → ReadsBytes source between (Err error) bytes new
+      → EndsBody source kind [] left most_bytes place old (Err error) new
+  part_fails kind left place old between new bytes (e.Io fault) part none some few more fails = record {
+    between = between;
+    part = part;
+    count = length bytes;
+    some = some;
+    more = more;
+    fails = fails;
+  }
+  part_fails kind left place old between new bytes (e.Syntax at) part none some few more fails = absurd fails
+  part_fails kind left place old between new bytes e.TooLong part none some few more fails = record {
+    between = between;
+    part = part;
+    count = length bytes;
+    held = few;
+    more = more;
+    full = fails.1;
+    untouched = fails.2;
+  }
+  part_fails kind left place old between new bytes e.Waiting part none some few more fails =
+      absurd (let waits = rw none at fails.0 in cc)
+
+  -- the first read of a part
+  pub first_part : (kind : Kind) (left place count : ℕ) (before row : List ℕ) (old new : Decoder R) (error : Error E)
+      → before ≡ [] → old.waiting ≡ None → 0 < left → 0 < count → count ≤ left
+      → ReadsOn source count before row old (Err error) new
+      → EndsBody source kind [] left most_bytes place old (Err error) new
+  first_part kind left place count before row old new error empty none some any most reads =
+      let counted = reads.counted in
+      let zero = ap length empty in
+      part_fails kind left place old old new reads.bytes error
+      (begun kind left old old [] [] [] refl (omega arith) (writable_first kind) (omega arith) (Passes-none source old))
+      none (omega (arith, counted, zero, any)) (omega (arith, counted)) (omega (arith, counted, most)) reads.reads
+
+  -- a further one, behind bytes of a text that are cut
+  pub next_part : (left place : ℕ) (row next : List ℕ) (old between new : Decoder R) (error : Error E)
+      → Passes source old row between → old.waiting ≡ None → length row < left → length row < 16
+      → is_inside (after t.Between row) ≡ true → ReadsOn source 1 row next between (Err error) new
+      → EndsBody source Text [] left most_bytes place old (Err error) new
+  next_part left place row next old between new error passed none more room inside reads =
+      let cut = cut_of row inside in
+      let counted = reads.counted in
+      part_fails Text left place old between new reads.bytes error
+      (begun Text left old between row cut.front cut.left cut.parts cut.few cut.text (omega (arith, more)) passed)
+      (passes_idle source old between row passed none) (omega (arith, counted, room)) (omega (arith, counted))
+      (omega (arith, counted, more)) reads.reads
+
+  -- the bytes of a text that is none
+  pub part_damaged : (left place : ℕ) (row : List ℕ) (old new : Decoder R) → Passes source old row new
+      → length row ≤ left → IsSound left row false
+      → EndsBody source Text [] left most_bytes place old (Err (e.Syntax place)) new
+  part_damaged left place row old new passed most none = (
+    refl,
+    record {
+      textual = refl;
+      read = row;
+      front = [];
+      left = row;
+      parts = refl;
+      sound = IsCharacters-nil;
+      within = most;
+      no_text = none;
+      passed = passed;
+    },
+  )
+
+  abbrev begins_behind : (kind : Kind) (len left : ℕ) (front : List ℕ) (old between new : Decoder R)
+      → Passes source old front between → IsWritable kind front → length front + left ≡ len
+      → BeginsRest source kind [] left between new → BeginsRest source kind [] len old new
+  begins_behind kind len left front old between new passed written counted part = record {
+    read = front ++ part.read;
+    front = front ++ part.front;
+    left = part.left;
+    parts = ap (λ (z : List ℕ). front ++ z) part.parts ∙ sym (append_assoc front part.front part.left);
+    few = part.few;
+    sound = writable_behind kind front part.front written part.sound;
+    within = let within = part.within in omega (arith, within, counted, length-append front part.read);
+    passed = Passes-then source old between new front part.read passed part.passed;
+  }
+
+  -- a part behind a front
+  pub part_behind : (kind : Kind) (len left place : ℕ) (front : List ℕ) (old between new : Decoder R)
+      (error : Error E) → Passes source old front between → IsWritable kind front → length front + left ≡ len
+      → EndsBody source kind [] left most_bytes place between (Err error) new
+      → EndsBody source kind [] len most_bytes place old (Err error) new
+  part_behind kind len left place front old between new (e.Io fault) passed written counted ends = record {
+    between = ends.between;
+    part = begins_behind kind len left front old between ends.between passed written counted ends.part;
+    count = ends.count;
+    some = ends.some;
+    more = let more = ends.more in
+        let both = length-append front ends.part.read in more_left len left (length front) (length ends.part.read)
+        ends.count (length (front ++ ends.part.read)) counted both more;
+    fails = ends.fails;
+  }
+  part_behind kind len left place front old between new (e.Syntax at) passed written counted ends =
+      let damaged = ends.1 in (
+        ends.0,
+        record {
+          textual = damaged.textual;
+          read = front ++ damaged.read;
+          front = front ++ damaged.front;
+          left = damaged.left;
+          parts = ap (λ (z : List ℕ). front ++ z) damaged.parts ∙ sym (append_assoc front damaged.front damaged.left);
+          sound = IsCharacters-append front damaged.front
+              (subst (λ (k : Kind). IsWritable k front) damaged.textual written) damaged.sound;
+          within = let within = damaged.within in omega (arith, within, counted, length-append front damaged.read);
+          no_text = no_text_then len left front damaged.read
+              (subst (λ (k : Kind). IsWritable k front) damaged.textual written) counted damaged.no_text;
+          passed = Passes-then source old between new front damaged.read passed damaged.passed;
+        },
+      )
+  part_behind kind len left place front old between new e.TooLong passed written counted ends = record {
+    between = ends.between;
+    part = begins_behind kind len left front old between ends.between passed written counted ends.part;
+    count = ends.count;
+    held = ends.held;
+    more = let more = ends.more in
+        let both = length-append front ends.part.read in more_left len left (length front) (length ends.part.read)
+        ends.count (length (front ++ ends.part.read)) counted both more;
+    full = ends.full;
+    untouched = ends.untouched;
+  }
+  part_behind kind len left place front old between new e.Waiting passed written counted ends = absurd ends
+
+  -- a part of the body of a byte string
+  pub bytes_part : (left place count : ℕ) (before row : List ℕ) (old new : Decoder R)
+      (result : Result (Unit {0}) (Error E)) → before ≡ [] → old.waiting ≡ None → 0 < left → 0 < count → count ≤ left
+      → ReadsOn source count before row old result new → ReadsPart source Bytes left place row old result new
+  bytes_part left place count before row old new (Ok done) empty none some any most reads =
+      first_passed source count before row old new empty none reads
+  bytes_part left place count before row old new (Err error) empty none some any most reads =
+      first_part Bytes left place count before row old new error empty none some any most reads

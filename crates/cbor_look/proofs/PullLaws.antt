@@ -1,0 +1,229 @@
+-- A title that was read byte by byte, as `pull` reads it.
+use Rattle.std.proofs.Common.{◌≡◌, ℕ, ◌+◌, ◌<◌, ◌%◌, Bool, IsTrue, List, [], ◌∷◌, ◌++◌, length, take, Option, Some}
+use Rattle.std.proofs.Common.{None}
+use Rattle.std.proofs.Common.{IfSome, Result, Ok, Err, ◌⊎◌, inl, inr, refl, sym, ap, subst, ◌∙◌, arith}
+use Rattle.std.proofs.KnownBytes.{Consumes-nil}
+use Rattle.std.specs.Io.KnownBytes.{Consumes}
+use Rattle.ciborium_ll.specs.Types.Read.{Ghosts}
+use Rattle.ciborium_ll.specs.Types.Header.{Header}
+use Rattle.ciborium_ll.specs.Types.Decoder.{Decoder}
+use Rattle.ciborium_ll.specs.Types.Error.{Error}
+use Rattle.ciborium_ll.specs.Types.Error.TheVariants as e
+use Rattle.ciborium_ll.specs.Title.{IsTitle, IsStrictTitle, IsCutTitle, affix_len}
+use Rattle.ciborium_ll.specs.Decoding.{view, Begins, IsSteady, IsUntouched, Passes, PullsHeader, PullsTitle, ReadsAll}
+use Rattle.ciborium_ll.specs.Decoding.{ReadsBytes}
+use Rattle.ciborium_ll.proofs.DecodingLaws.{IfSome-all, Passes-none}
+use Rattle.ciborium_ll.proofs.BodyLaws.{view_none, Passes-read}
+use Rattle.ciborium_ll.proofs.NestLaws.{title_some}
+use Rattle.cbor_look.specs.Takings.{IsAlike, Means, PullsRow, ReadsOn}
+use Rattle.cbor_look.proofs.ItemRows.{nothing}
+
+-- ---- bytes that are told
+
+begins_none : (due : List ℕ) → Begins [] due
+begins_none due = (due, refl)
+
+cut_none : (due : List ℕ) → length due < 1 → IsCutTitle due × ([] ≡ take 1 due)
+cut_none due less = rw (nothing due (omega (arith, less))) (tt, refl)
+
+cut_here : (known : Option (List ℕ)) → IfSome known (λ due. length due < 1)
+    → IfSome known (λ due. IsCutTitle due × ([] ≡ take 1 due))
+cut_here None less = tt
+cut_here (Some due) less = cut_none due less
+
+begins_of : (known known' : Option (List ℕ)) (bytes : List ℕ) → Consumes known known' bytes
+    → IfSome known (Begins bytes)
+begins_of None known' bytes c = tt
+begins_of (Some due) None bytes c = absurd c
+begins_of (Some due) (Some rest) bytes c = (rest, c)
+
+cut_behind : (known known' : Option (List ℕ)) (byte : ℕ) → Consumes known known' (byte ∷ [])
+    → IfSome known' (λ due. length due < affix_len (byte % 32))
+    → IfSome known (λ due. IsCutTitle due × (byte ∷ [] ≡ take 1 due))
+cut_behind None known' byte c less = tt
+cut_behind (Some due) None byte c less = absurd c
+cut_behind (Some due) (Some rest) byte c less =
+    subst (λ (z : List ℕ). IsCutTitle z × (byte ∷ [] ≡ take 1 z)) (sym c) (less, refl)
+
+module _ {R E : Type 0} (source : Ghosts R E) where
+  -- ---- behind what passed
+
+  -- no header waits
+  pub passes_idle : (old new : Decoder R) (bytes : List ℕ) → Passes source old bytes new → old.waiting ≡ None
+      → new.waiting ≡ None
+  passes_idle old new bytes passed none =
+      elim passed.waiting [
+        | inl same ↦ ap (λ (d : Decoder R). d.waiting) same.1 ∙ none
+        | inr idle ↦ idle
+      ]
+
+  pub passes_alike : (strict : Bool) (old new : Decoder R) (bytes : List ℕ) → Passes source old bytes new
+      → IsAlike strict old → IsAlike strict new
+  passes_alike strict old new bytes passed alike = record {
+    none_waits = passes_idle old new bytes passed alike.none_waits;
+    mode = passed.mode ∙ alike.mode;
+  }
+
+  -- one read
+  pub passes_one : (old new : Decoder R) (bytes : List ℕ) → ReadsAll source old bytes new
+      → (IsSteady source old → IsSteady source new) → Passes source old bytes new
+  passes_one old new bytes all steady =
+      Passes-read source old old new [] bytes (Passes-none source old) all steady
+
+  -- bytes behind others
+  pub more_passed : (count : ℕ) (before row : List ℕ) (old between new : Decoder R) → Passes source old before between
+      → between.waiting ≡ None → ReadsOn source count before row between (Ok tt) new
+      → Passes source old row new
+  more_passed count before row old between new passed none reads =
+      subst (λ (z : List ℕ). Passes source old z new) (sym reads.behind)
+      (Passes-read source old between new before reads.bytes passed reads.reads reads.steady)
+
+  -- the first bytes of a row
+  pub first_passed : (count : ℕ) (before row : List ℕ) (old new : Decoder R) → before ≡ [] → old.waiting ≡ None
+      → ReadsOn source count before row old (Ok tt) new → Passes source old row new
+  first_passed count before row old new empty none reads =
+      more_passed count before row old old new
+      (subst (λ (z : List ℕ). Passes source old z old) (sym empty) (Passes-none source old)) none reads
+
+  -- ---- a read that fails
+
+  -- nothing was consumed
+  pub untouched_view : (old new : Decoder R) → IsUntouched old new → view source new ≡ view source old
+  untouched_view old new same = rw (same.waiting, same.reader) refl
+
+  -- that of the first byte
+  pub first_fails : (error : Error E) (old new : Decoder R) (bytes : List ℕ) → old.waiting ≡ None
+      → length bytes ≡ 1 → ReadsBytes source old (Err error) bytes new → PullsHeader source old (Err error) new
+  first_fails (e.Io fault) old new bytes none one fails =
+      let ahead = view_none old.waiting (source.ahead old.reader) none in
+      let behind = view_none new.waiting (source.ahead new.reader) fails.none_waits in
+      record {
+        read = [];
+        within_first = omega arith;
+        began = IfSome-all (view source old) (Begins []) begins_none;
+        offset = let moved = fails.offset in omega (arith, moved);
+        fitted = let fits = fails.fitted in let moved = fails.offset in omega (arith, fits, moved, one);
+        none_waited = none;
+        none_waits = fails.none_waits;
+        failures = fails.failures;
+        steady = λ steady.
+            let still = fails.steady steady in (
+              rw (ahead, behind, still.0) (Consumes-nil (source.ahead old.reader)),
+              cut_here (view source old) (subst (λ (z : Option (List ℕ)). IfSome z (λ due. length due < 1)) (sym ahead)
+                  (subst (λ (n : ℕ). IfSome (source.ahead old.reader) (λ due. length due < n)) one still.1)),
+            );
+      }
+  first_fails (e.Syntax place) old new bytes none one fails = absurd fails
+  first_fails e.TooLong old new bytes none one fails =
+      let same = fails.2 in
+      record {
+        read = [];
+        within_first = omega arith;
+        bytes = rw (untouched_view old new same) (Consumes-nil (view source old));
+        offset = let moved = same.offset in omega (arith, moved);
+        full = let full = fails.1 in let moved = same.offset in omega (arith, full, moved, one);
+        untouched = λ empty. same.reader;
+        none_waited = none;
+        none_waits = same.waiting ∙ none;
+        failures = ap source.failures same.reader;
+      }
+  first_fails e.Waiting old new bytes none one fails = absurd (let waits = rw none at fails.0 in cc)
+
+  -- that of the affix
+  pub affix_fails : (error : Error E) (old between new : Decoder R) (byte : ℕ) (bytes : List ℕ)
+      → ReadsAll source old (byte ∷ []) between → (IsSteady source old → IsSteady source between)
+      → length bytes ≡ affix_len (byte % 32) → ReadsBytes source between (Err error) bytes new
+      → PullsHeader source old (Err error) new
+  affix_fails (e.Io fault) old between new byte bytes first steady long fails =
+      let passed = passes_one old between (byte ∷ []) first steady in
+      let middle = view_none between.waiting (source.ahead between.reader) first.none_waits in
+      let behind = view_none new.waiting (source.ahead new.reader) fails.none_waits in
+      let moved = first.offset in
+      let still = fails.offset in
+      record {
+        read = byte ∷ [];
+        within_first = omega arith;
+        began = begins_of (view source old) (view source between) (byte ∷ []) passed.consumed;
+        offset = omega (arith, moved, still);
+        fitted = let fits = fails.fitted in omega (arith, fits, still, long);
+        none_waited = first.none_waited;
+        none_waits = fails.none_waits;
+        failures = let one = first.failures in let two = fails.failures in omega (arith, one, two);
+        steady = λ holds.
+            let kept = fails.steady (steady holds) in (
+              subst (λ (z : Option (List ℕ)). Consumes (view source old) z (byte ∷ []))
+                  (middle ∙ (sym kept.0 ∙ sym behind)) passed.consumed,
+              cut_behind (view source old) (view source between) byte passed.consumed
+                  (subst (λ (z : Option (List ℕ)). IfSome z (λ due. length due < affix_len (byte % 32))) (sym middle)
+                  (subst (λ (n : ℕ). IfSome (source.ahead between.reader) (λ due. length due < n)) long kept.1)),
+            );
+      }
+  affix_fails (e.Syntax place) old between new byte bytes first steady long fails = absurd fails
+  affix_fails e.TooLong old between new byte bytes first steady long fails =
+      let passed = passes_one old between (byte ∷ []) first steady in
+      let same = fails.2 in
+      let moved = first.offset in
+      let still = same.offset in
+      record {
+        read = byte ∷ [];
+        within_first = omega arith;
+        bytes = subst (λ (z : Option (List ℕ)). Consumes (view source old) z (byte ∷ []))
+            (sym (untouched_view between new same)) passed.consumed;
+        offset = omega (arith, moved, still);
+        full = let full = fails.1 in omega (arith, full, still, long);
+        untouched = λ empty. absurd cc;
+        none_waited = first.none_waited;
+        none_waits = same.waiting ∙ first.none_waits;
+        failures = ap source.failures same.reader ∙ first.failures;
+      }
+  affix_fails e.Waiting old between new byte bytes first steady long fails =
+      absurd (let waits = rw first.none_waits at fails.0 in cc)
+
+  -- ---- a title that was read whole
+
+  module _ (strict : Bool) (old new : Decoder R) (row : List ℕ) (alike : IsAlike strict old)
+      (passed : Passes source old row new) where
+    behind_row : new.waiting ≡ None
+    behind_row = passes_idle old new row passed alike.none_waits
+
+    pub row_pulled : (header : Header) → Means strict row (Some header) → PullsRow source old (Ok header) new
+    row_pulled header means = (
+      record {
+        title = row;
+        is_title = means.0;
+        bytes = passed.consumed;
+        offset = passed.offset;
+        none_waits = behind_row;
+        failures = passed.failures;
+        waited = rw alike.none_waits tt;
+        mode = passed.mode;
+        strict = λ on none. means.1 (subst IsTrue alike.mode on);
+      },
+      passed.steady,
+    )
+
+    pub row_refused : (place : ℕ) → place ≡ old.offset → Means strict row None
+        → PullsRow source old (Err (e.Syntax place)) new
+    row_refused place at (inl refused) = inl (record {
+      byte = refused.0;
+      refused = refused.1;
+      place = at;
+      bytes = subst (λ (z : List ℕ). Consumes (view source old) (view source new) z) refused.2 passed.consumed;
+      offset = let moved = passed.offset in let one = ap length refused.2 in omega (arith, moved, one);
+      none_waited = alike.none_waits;
+      none_waits = behind_row;
+      failures = passed.failures;
+    })
+    row_refused place at (inr longer) = inr (record {
+      strict = subst IsTrue (sym alike.mode) longer.0;
+      header = longer.1.0;
+      title = row;
+      is_title = longer.1.1;
+      not_strict = longer.1.2;
+      place = at;
+      bytes = passed.consumed;
+      offset = passed.offset;
+      none_waited = alike.none_waits;
+      none_waits = behind_row;
+      failures = passed.failures;
+    })

@@ -1,0 +1,42 @@
+-- What the read of a part of a body does, as a skip of the string does it.
+use Rattle.std.specs.Prelude.{◌≡◌, ℕ, Bool, true, false, List, [], ◌++◌, length, Option, Some, None, Result, Ok, Err}
+use Rattle.ciborium_ll.specs.Types.Read.{Ghosts}
+use Rattle.ciborium_ll.specs.Types.Decoder.{Decoder}
+use Rattle.ciborium_ll.specs.Types.Error.{Error}
+use Rattle.ciborium_ll.specs.Types.Error.TheVariants as e
+use Rattle.ciborium_ll.specs.Strings.{Kind, Text}
+use Rattle.ciborium_ll.specs.Decoding.{Passes}
+use Rattle.ciborium_ll.specs.Finishing.{EndsBody, IsNoText}
+use Rattle.ciborium_ll_text.specs.Text.{IsCharacters}
+use Rattle.ciborium_ll_text.specs.declared.state.State.{State}
+use Rattle.ciborium_ll_text.specs.declared.state.State.TheVariants as t
+use Rattle.cbor_look.specs.Takings.{most_bytes}
+
+-- the bytes so far end between two characters (Unicode, Table 3-7)
+abbrev pub is_between : State → Bool
+is_between t.Between = true
+is_between state = false
+
+-- they end inside one
+abbrev pub is_inside : State → Bool
+is_inside t.Between = false
+is_inside t.Damaged = false
+is_inside state = true
+
+-- the bytes are characters, or of a body of which so much is left they are no beginning of a text
+abbrev pub IsSound : ℕ → List ℕ → Bool → Type 0
+IsSound left bytes true = IsCharacters bytes
+IsSound left bytes false = IsNoText [] left bytes
+
+module _ {R E : Type 0} (source : Ghosts R E) where
+  -- bytes of a text were read, of which so many were left, or the read of them failed as that of the whole body does
+  abbrev pub ReadsText : ℕ → List ℕ → Decoder R → Result Bool (Error E) → Decoder R → Type 0
+  ReadsText left bytes old (Ok whole) new = Passes source old bytes new × IsSound left bytes whole
+  ReadsText left bytes old (Err error) new = (place : ℕ) → EndsBody source Text [] left most_bytes place old (Err
+      error) new
+
+  -- the same of either kind
+  abbrev pub ReadsPart : Kind → ℕ → ℕ → List ℕ → Decoder R → Result (Unit {0}) (Error E) → Decoder R → Type 0
+  ReadsPart kind left place bytes old (Ok done) new = Passes source old bytes new
+  ReadsPart kind left place bytes old (Err error) new = EndsBody source kind [] left most_bytes place old (Err error)
+      new
