@@ -1,5 +1,5 @@
 -- What a skip by a fresh decoder says of the bytes ahead.
-use Rattle.std.proofs.Common.{◌≡◌, ℕ, ◌+◌, ◌<◌, ◌∙◌, ◌↔◌, IsTrue, IsOk, false, List, length, Result, Ok, Err, Some}
+use Rattle.std.proofs.Common.{◌≡◌, ℕ, ◌+◌, ◌<◌, ◌∙◌, ◌↔◌, IsTrue, IsOk, Bool, false, List, length, Result, Ok, Err, Some}
 use Rattle.std.proofs.Common.{ap, sym, subst, refl, arith}
 use Rattle.ciborium_ll.specs.Types.Read.{Ghosts}
 use Rattle.ciborium_ll.specs.Types.Decoder.{Decoder}
@@ -21,7 +21,7 @@ module _ {R E : Type 0} (source : Ghosts R E) where
       → IsTrue (source.steady reader) → source.ahead reader ≡ Some due
       → length due + 8 < offset_limit → length due + room < offset_limit → IsReadyToSkip source room decoder due
   ready_to_skip room reader decoder due fresh steady ahead title chunk = record {
-    lenient = fresh.mode;
+    none_waits = λ on. fresh.none_waits;
     steady = still_steady source false reader decoder fresh steady;
     told = due_ahead source false reader decoder fresh due ahead;
     fits-title = omega (arith, fresh.offset, title);
@@ -29,7 +29,7 @@ module _ {R E : Type 0} (source : Ghosts R E) where
   }
 
   pub skip_reported : (depth : ℕ) (due : List ℕ) (old new : Decoder R) (result : Result (Unit {0}) (SkipError E))
-      (report : CllReport) → SkipsTold source depth due old result new → old.offset ≡ 0
+      (report : CllReport) → SkipsTold source false depth due old result new → old.offset ≡ 0
       → Reports report new.offset 0 (skip_place result) → Skips depth due (skip_answer result) report
   skip_reported depth due old new (Ok done) report told start reports = (
     told.front,
@@ -89,11 +89,13 @@ module _ {R E : Type 0} (source : Ghosts R E) where
   )
 
   pub skip_said : (depth : ℕ) (due : List ℕ) (old new : Decoder R) (result : Result (Unit {0}) (SkipError E))
-      (report : CllReport) (answer : CllAnswer) (place count : ℕ) → SkipsTold source depth due old result new
+      (report : CllReport) (answer : CllAnswer) (place count : ℕ) → SkipsTold source old.strict depth due old result new
+      → old.strict ≡ false
       → old.offset ≡ 0 → answer ≡ skip_answer result → place ≡ skip_place result → count ≡ new.offset
       → Reports report count 0 place → Skips depth due answer report
-  skip_said depth due old new result report answer place count told start same named behind reports =
-      let said = skip_reported depth due old new result report told start record {
+  skip_said depth due old new result report answer place count told mode start same named behind reports =
+      let said = skip_reported depth due old new result report
+      (subst (λ (b : Bool). SkipsTold source b depth due old result new) mode told) start record {
         consumed_is = reports.consumed_is ∙ behind;
         written_is = reports.written_is;
         none_counted = reports.none_counted;

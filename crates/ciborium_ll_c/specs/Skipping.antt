@@ -1,5 +1,5 @@
 -- What `cll_skip` does.
-use Rattle.std.specs.Prelude.{◌≡◌, ℕ, ◌+◌, List, length, Result, Ok, Err}
+use Rattle.std.specs.Prelude.{◌≡◌, ℕ, ◌+◌, false, List, length, Result, Ok, Err}
 use Rattle.ciborium_ll.specs.Types.Error.TheVariants as e
 use Rattle.ciborium_ll.specs.Faults.{Short, Syntax}
 use Rattle.cbor_skip.specs.declared.SkipError.{SkipError}
@@ -12,17 +12,17 @@ use Rattle.ciborium_ll_c.specs.Answers.{Reports}
 
 -- the item in front, or what stops the read of it, by the answer. Nothing is written
 abbrev pub Skips : ℕ → List ℕ → CllAnswer → CllReport → Type 0
-Skips depth bytes a.Ok report = (front : ItemInFront depth bytes) × Reports report (length front.item) 0 0
+Skips depth bytes a.Ok report = (front : ItemInFront false depth bytes) × Reports report (length front.item) 0 0
 Skips depth bytes a.Short report =
-    (fault : HasItemFault depth bytes) × (fault.answer ≡ Short)
+    (fault : HasItemFault false depth bytes) × (fault.answer ≡ Short)
     × Reports report (length fault.before + fault.consumed) 0 0
 Skips depth bytes a.Syntax report =
-    (fault : HasItemFault depth bytes) × (fault.answer ≡ Syntax report.place)
+    (fault : HasItemFault false depth bytes) × (fault.answer ≡ Syntax report.place)
     × Reports report (length fault.before + fault.consumed) 0 report.place
 Skips depth bytes a.BreakDue report =
-    (fault : HasEarlyBreak depth bytes) × Reports report (length fault.before + 1) 0 (length fault.before)
+    (fault : HasEarlyBreak false depth bytes) × Reports report (length fault.before + 1) 0 (length fault.before)
 Skips depth bytes a.TooDeep report =
-    (fault : HasDeepNest depth bytes)
+    (fault : HasDeepNest false depth bytes)
     × Reports report (length fault.before + length fault.title) 0 (length fault.before)
 Skips depth bytes answer report = ⊥
 

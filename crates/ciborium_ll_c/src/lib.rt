@@ -329,7 +329,7 @@ fn stop_of_skip(skipped: Result<(), SkipError<EndOfFile>>) -> (CllAnswer, usize)
 fn skip(bytes: &[u8], depth: usize, report: &mut CllReport) -> CllAnswer
     requires shallow { depth ≤ 256 }
     ensures skipped { Skips depth bytes.now result report.new }
-    ensures exactly { result ≡ a.Ok ↔ ItemInFront depth bytes.now }
+    ensures exactly { result ≡ a.Ok ↔ ItemInFront false depth bytes.now }
 {
     let mut buffer = [0; BUFFER_SIZE];
     let mut decoder = Decoder::from(SliceReader::new(bytes));
@@ -349,7 +349,7 @@ fn skip(bytes: &[u8], depth: usize, report: &mut CllReport) -> CllAnswer
 pub extern "C" fn cll_skip(bytes: &[u8], depth: u32, report: &mut CllReport) -> u32
     ensures skipped { depth ≤ 256
         → (answer : CllAnswer) × (result ≡ code answer) × Skips depth bytes.now answer report.new }
-    ensures exactly { depth ≤ 256 → (result ≡ code a.Ok ↔ ItemInFront depth bytes.now) }
+    ensures exactly { depth ≤ 256 → (result ≡ code a.Ok ↔ ItemInFront false depth bytes.now) }
     ensures argument { 256 < depth → (result ≡ code a.Argument) × Reports report.new 0 0 0 }
 {
     if depth > 256 {

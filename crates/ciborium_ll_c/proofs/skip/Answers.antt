@@ -1,4 +1,5 @@
-use Rattle.std.proofs.Common.{refl, arith}
+use Rattle.std.proofs.Common.{◌↔◌, Bool, IsOk, refl, subst, arith}
+use Rattle.cbor_skip.specs.ItemFaults.{ItemInFront}
 use Rattle.ciborium_ll_c.proofs.SkipLaws.{ready_to_skip, skip_exactly, skip_said}
 use Rattle.ciborium_ll_c.proofs.skip.Goals as goal
 
@@ -14,9 +15,10 @@ returns c =
           (c.skip_item-skipped.ensures.told due
           (ready_to_skip _ 1024 c.new.result old due c.from-decoder.ensures refl c.new.ensures.ahead
           (omega arith) (omega arith)))
-          c.from-decoder.ensures.offset stop.ensures.answer stop.ensures.place c.offset.ensures.value c.say.ensures;
+          c.from-decoder.ensures.mode c.from-decoder.ensures.offset stop.ensures.answer stop.ensures.place c.offset.ensures.value c.say.ensures;
       exactly = skip_exactly skipped stop.result.0 stop.ensures.answer
+          (subst (λ (b : Bool). IsOk skipped ↔ ItemInFront b c.args.depth due) c.from-decoder.ensures.mode
           (c.skip_item-skipped.ensures.exactly due
           (ready_to_skip _ 1024 c.new.result old due c.from-decoder.ensures refl c.new.ensures.ahead
-          (omega arith) (omega arith)));
+          (omega arith) (omega arith))));
     }
