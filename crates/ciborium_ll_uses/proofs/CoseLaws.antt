@@ -13,7 +13,8 @@ use Rattle.ciborium_ll.specs.Items.{IsItem, AreItems, more_items}
 use Rattle.ciborium_ll.specs.Decoding.{view, IsSteady, Passes, PullsTitle, TakesBack, Begins, behind_waiting}
 use Rattle.ciborium_ll.proofs.DecodingLaws.{IfSome-at, Passes-none}
 use Rattle.ciborium_ll.proofs.NestLaws.{title_some}
-use Rattle.cbor_skip.specs.Skipping.{ReadsItem}
+use Rattle.cbor_skip.specs.Skipping.{ReadsItem, strictness}
+use Rattle.cbor_skip.proofs.StrictnessLaws.{items_looser}
 use Rattle.ciborium_ll_uses.specs.declared.cose.Span.{Span}
 use Rattle.ciborium_ll_uses.specs.declared.cose.TheConstants.{MAP_DEPTH}
 use Rattle.ciborium_ll_uses.specs.declared.cose.CoseError.{CoseError}
@@ -100,18 +101,19 @@ module _ {R E : Type 0} (source : Ghosts R E) where
       → TookMap source old span new
   took_map old pulled pushed new len span strict none pulls back reads start end =
       let took = took_pull old pulled (h.Map len) strict none pulls in
-      let begins = map_begins MAP_DEPTH pushed new reads.item (h.Map len) reads.is_item reads.passed back.waits in
+      let is_item = items_looser false (strictness pushed) (λ on. absurd cc) MAP_DEPTH 1 reads.item reads.is_item in
+      let begins = map_begins MAP_DEPTH pushed new reads.item (h.Map len) is_item reads.passed back.waits in
       let whole : Took source old reads.item new = record {
         consumed = pushed_back _ _ _ _ (shortest_title (h.Map len)) reads.item took.consumed back.due
             reads.passed.consumed;
         offset = omega (arith, took.offset, back.offset, reads.passed.offset);
-        none_waits = settled MAP_DEPTH pushed new reads.item reads.is_item reads.passed;
+        none_waits = settled MAP_DEPTH pushed new reads.item is_item reads.passed;
         mode = reads.passed.mode ∙ back.mode ∙ took.mode;
       } in
       record {
         bytes = reads.item;
         is_map = record {
-          is_item = reads.is_item;
+          is_item = is_item;
           len = len;
           rest = begins.0;
           is = begins.1;

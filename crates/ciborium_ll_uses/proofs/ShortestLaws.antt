@@ -1,6 +1,6 @@
 -- An item in its shortest spelling, element by element.
 use Rattle.std.proofs.Common.{◌≡◌, ℕ, suc, ◌<◌, List, [], ◌∷◌, ◌++◌, length, take, drop, ◌-◌, None, Some, refl, sym}
-use Rattle.std.proofs.Common.{true, false}
+use Rattle.std.proofs.Common.{Bool, true, false}
 use Rattle.std.proofs.Common.{ap, subst, ◌∙◌, arith, append_assoc, append-nil, length-append, length-drop}
 use Rattle.std.proofs.lemmas.List.{length-take, take-append-drop}
 use Rattle.std.proofs.Math.Seq.{take-append_seam, take-length}
@@ -16,6 +16,7 @@ use Rattle.ciborium_ll.specs.Strings.{kind_header}
 use Rattle.ciborium_ll.proofs.NestLaws.{title_some}
 use Rattle.ciborium_ll.proofs.Lists.{length_zero}
 use Rattle.cbor_skip.specs.ItemFaults.{ItemInFront}
+use Rattle.cbor_skip.proofs.StrictnessLaws.{items_looser}
 use Rattle.ciborium_ll_uses.specs.Shortest.{ShortestInFront}
 
 -- ---- facts of each member
@@ -151,8 +152,18 @@ taken bytes item behind len split counted =
     ap (λ (z : List ℕ). take len z) split ∙ ap (λ (n : ℕ). take n (item ++ behind)) counted
     ∙ take-append_seam item behind
 
+-- an item in front, in whatever spelling
+abbrev pub any_front : (strict : Bool) (depth : ℕ) (bytes : List ℕ) → ItemInFront strict depth bytes
+    → ItemInFront false depth bytes
+any_front strict depth bytes front = record {
+  item = front.item;
+  rest = front.rest;
+  is_item = items_looser false strict (λ on. absurd cc) depth 1 front.item front.is_item;
+  is = front.is;
+}
+
 -- all of the item was read
-pub shortest_in_front : (depth : ℕ) (bytes rest : List ℕ) (len : ℕ) (front : ItemInFront depth bytes) → len
+pub shortest_in_front : (depth : ℕ) (bytes rest : List ℕ) (len : ℕ) (front : ItemInFront false depth bytes) → len
     ≡ length front.item
     → Spelled (take len bytes) rest → length rest ≡ 0 → ShortestInFront depth bytes len
 shortest_in_front depth bytes rest len front counted so_far none =
@@ -174,7 +185,7 @@ shortest_in_front depth bytes rest len front counted so_far none =
     }
 
 -- no element in its shortest spelling is next
-pub no_shortest : (depth : ℕ) (bytes rest : List ℕ) (len : ℕ) (front : ItemInFront depth bytes) → len
+pub no_shortest : (depth : ℕ) (bytes rest : List ℕ) (len : ℕ) (front : ItemInFront false depth bytes) → len
     ≡ length front.item
     → Spelled (take len bytes) rest → 0 < length rest → (RunInFront true 1 rest → ⊥) → (other : ℕ)
     → ShortestInFront depth bytes other → ⊥

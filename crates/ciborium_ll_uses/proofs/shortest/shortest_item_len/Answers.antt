@@ -1,6 +1,6 @@
 use Rattle.std.proofs.Common.{rules, ℕ, length, ap, sym, arith, length-append, length-take-le}
 use Rattle.ciborium_ll_uses.proofs.ShortestLaws.{spelled_none, spelled_more, shortest_in_front, no_shortest}
-use Rattle.ciborium_ll_uses.proofs.ShortestLaws.{takes_some, split_rest}
+use Rattle.ciborium_ll_uses.proofs.ShortestLaws.{any_front, takes_some, split_rest}
 use Rattle.ciborium_ll_uses.proofs.shortest.shortest_item_len.Goals as goal
 
 pub elements-init : goal.elements-init
@@ -30,14 +30,14 @@ elements-preserved c =
 pub returns : goal.returns
 returns c =
     let front = c.skip_item.ensures.front c.args.bytes.now (search rules) (sym c.in_ok-ok.ensures.variant) in
-    shortest_in_front _ c.args.bytes.now c.elements.rest.now c.offset-len.result front.front
+    shortest_in_front _ c.args.bytes.now c.elements.rest.now c.offset-len.result (any_front _ _ _ front.front)
     (omega (arith, c.offset-len.ensures.value, front.offset, c.from-decoder.ensures.offset)) c.elements.invariant
     (search rules)
 
 pub returns-in_default : goal.returns-in_default
 returns-in_default c =
     let front = c.skip_item.ensures.front c.args.bytes.now (search rules) (sym c.in_ok-ok.ensures.variant) in
-    no_shortest _ c.args.bytes.now c.elements.rest.now c.offset-len.result front.front
+    no_shortest _ c.args.bytes.now c.elements.rest.now c.offset-len.result (any_front _ _ _ front.front)
     (omega (arith, c.offset-len.ensures.value, front.offset, c.from-decoder.ensures.offset)) c.elements.invariant
     (search rules)
     c.in_default.ensures.none
