@@ -318,8 +318,12 @@ module _ {R E : Type 0} (source : Ghosts R E) where
     within_no_title strict p error new fails (d.Item (s.Read other)) says alike lenient =
         let same : other ≡ error = cc in
         subst (λ (x : Error E). StopsInside source kind most_bytes old x new) (sym same)
-        (no_title_stops error new (record { between = between; part = skips_inside p alike.none_waits lenient; fails =
-        fails }))
+        (no_title_stops error new (record {
+          between = between;
+          part = skips_inside p alike.none_waits lenient;
+          fails =
+              fails;
+        }))
     within_no_title strict p error new fails (d.Item (s.Break at)) says alike lenient = absurd cc
     within_no_title strict p error new fails (d.Item (s.Deep at)) says alike lenient = absurd cc
     within_no_title strict p error new fails (d.Rows fault) says alike lenient = tt
