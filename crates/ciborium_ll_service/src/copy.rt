@@ -21,18 +21,13 @@ pub fn elements<T: Write>(
     length: usize,
     sink: &mut T,
 ) -> fmt::Result {
-    let mut buffer = [0; BUFFER_SIZE];
     // No element has a longer spelling than the one that it is read from.
     let mut space = vec![in alloc; 0u8; length]?;
     let mut encoder = Encoder::from(SliceWriter::new(space.as_mut_slice()));
-    let outcome = recode(&mut decoder, &mut encoder, count, &mut buffer);
-    let offset = decoder.offset();
-    let last = match outcome {
-        Ok(()) => None,
-        Err(RecodeError::Read(Error::Syntax(place))) => Some(Last::Syntax(place)),
-        Err(RecodeError::Read(Error::Io(_))) => Some(Last::Short(offset)),
-        Err(_) => return writeln!(sink, "{}", Last::Room),
-    };
+    let last = copied(&mut decoder, &mut encoder, count);
+    if let Some(Last::Room) = last {
+        return writeln!(sink, "{}", Last::Room);
+    }
     let writer = encoder.into_inner();
     let output = word_of(alloc, writer.written())?;
     if let Some(last) = last {
@@ -41,4 +36,20 @@ pub fn elements<T: Write>(
     let reader = decoder.into_inner();
     let rest = word_of(alloc, reader.left())?;
     writeln!(sink, "{output} rest {rest}")
+}
+
+/// Copies so many elements, and says why the copy stopped before, if it did. Its contract says nothing of the copy:
+/// else whoever calls it proves each further step with all of that in view.
+fn copied(
+    decoder: &mut Decoder<SliceReader<'_>>,
+    encoder: &mut Encoder<SliceWriter<'_>>,
+    count: usize,
+) -> Option<Last> {
+    let mut buffer = [0; BUFFER_SIZE];
+    match recode(decoder, encoder, count, &mut buffer) {
+        Ok(()) => None,
+        Err(RecodeError::Read(Error::Syntax(place))) => Some(Last::Syntax(place)),
+        Err(RecodeError::Read(Error::Io(_))) => Some(Last::Short(decoder.offset())),
+        Err(_) => Some(Last::Room),
+    }
 }
