@@ -4,23 +4,13 @@
 //! well-formed, `dump` shows them title by title, and `diag` writes them in diagnostic notation.
 #![tactic(auto)]
 
-mod arguments;
-mod check;
-mod diag;
-mod digits;
-mod dump;
-mod progress;
-#[cfg(test)]
-mod tests;
-mod verdict;
-
-use crate::arguments::{Asked, Colors, Options, View, Word, asked_by};
-use crate::check::check_input;
-use crate::diag::diag_input;
-use crate::digits::Digits;
-use crate::dump::dump_input;
-use crate::progress::Watched;
-use crate::verdict::{Status, Verdict};
+use cbor_look_service::arguments::{Asked, Colors, Options, View, Word, asked_by};
+use cbor_look_service::check::check_input;
+use cbor_look_service::diag::diag_input;
+use cbor_look_service::digits::Digits;
+use cbor_look_service::dump::dump_input;
+use cbor_look_service::progress::Watched;
+use cbor_look_service::verdict::{Status, Verdict};
 use std::env::VarError;
 use std::fs::File;
 use std::io::{BufWriter, IsTerminal};

@@ -1,0 +1,8 @@
+use Rattle.cbor_look_service.proofs.FoundLaws.{sequence_found}
+use Rattle.cbor_look_service.proofs.check.all.Goals as goal
+
+pub returns-clause-told : goal.returns-clause-told
+returns-clause-told g c = λ due ready.
+    rw (c.sequence_verdict.ensures, c.offset.ensures.value)
+    (sequence_found g.R.Read c.args.depth due c.args.decoder.now c.check-answer.new.decoder c.check-answer.result
+    (c.check-answer.ensures.told due ready))

@@ -1,0 +1,155 @@
+//! The word `dump`.
+
+ghost use Rattle.std.specs.Prelude.{◌≡◌, ◌≤◌, length};
+ghost use Rattle.cbor_look_service.specs.Checking.{dump_said};
+
+use crate::arguments::Options;
+use crate::check::{ROOM, end_verdict, failed_or, fault_of};
+use crate::verdict::Verdict;
+use cbor_look::dump::{DumpError, dump};
+use cbor_look::rows::{Meaning, Row, Rows};
+use ciborium_ll::Decoder;
+use ciborium_ll::io::{BufferedReader, ReadFault};
+use std::alloc::{AllocError, Global};
+use std::fmt::Write;
+use std::io;
+
+/// Prints rows, each as a line.
+#[derive(Drop)]
+struct Printer<W> {
+    line: String,
+    writer: W,
+    offsets: bool,
+    colors: bool,
+}
+
+/// The escape sequence in front of what a title or a part of a text means.
+const MEANING: &[u8] = b"\x1b[36m";
+
+/// The one in front of bytes at fault, and of what is said of them.
+const FAULT: &[u8] = b"\x1b[31m";
+
+/// The one behind either.
+const PLAIN: &[u8] = b"\x1b[0m";
+
+impl<W: io::Write> Printer<W> {
+    /// Makes the line of a row.
+    fn set_line(&mut self, row: Row<'_>) -> Result<(), AllocError> {
+        self.line.clear();
+        if self.offsets {
+            write!(self.line, "{:6}  ", row.offset)?;
+        }
+        write!(self.line, "{row}")
+    }
+
+    /// Prints the line. Where colors are wanted, what stands from the first `#` on is in one, or all of a fault.
+    fn put(&mut self, is_fault: bool) -> io::Result<()> {
+        let line = self.line.as_bytes();
+        let (at, color) = if is_fault {
+            (0, FAULT)
+        } else {
+            (first_hash(line), MEANING)
+        };
+        if self.colors && at < line.len() {
+            self.writer.write_all(&line[..at])?;
+            self.writer.write_all(color)?;
+            self.writer.write_all(&line[at..])?;
+            self.writer.write_all(PLAIN)?;
+        } else {
+            self.writer.write_all(line)?;
+        }
+        self.writer.write_all(b"\n")
+    }
+
+    /// Prints what is found at the end, behind the rows.
+    fn end(&mut self, verdict: &Verdict) -> io::Result<()> {
+        self.line.clear();
+        match write!(self.line, "# {verdict}") {
+            Ok(()) => self.put(true),
+            Err(_) => Err(io::Error::from(io::ErrorKind::OutOfMemory)),
+        }
+    }
+}
+
+impl<W: io::Write> Rows for Printer<W> {
+    ghost use Rattle.std.specs.Prelude.{None};
+
+    type Error = io::Error;
+
+    ghost drawn = { λ _. None };
+
+    /// The error is that of the writer, or says that there is no memory for the line.
+    fn row(&mut self, row: Row<'_>) -> io::Result<()> {
+        match self.set_line(row) {
+            Ok(()) => self.put(matches!(row.meaning, Meaning::Fault)),
+            Err(_) => Err(io::Error::from(io::ErrorKind::OutOfMemory)),
+        }
+    }
+}
+
+/// Where the first `#` stands, or the length of the line where none does.
+fn first_hash(line: &[u8]) -> usize
+    ensures { result ≤ length line.now }
+{
+    for (at, byte) in line.iter().enumerate() {
+        if *byte == b'#' {
+            return at;
+        }
+    }
+    line.len()
+}
+
+/// Dumps what a reader gives, up to its end. Behind a fault a line says what it is. Colors change no byte of the lines:
+/// they are escape sequences between them.
+pub fn dump_input<R: io::Read + Drop, W: io::Write + Drop>(
+    alloc: Global,
+    reader: R,
+    writer: W,
+    options: Options,
+    colors: bool,
+) -> Result<(), Verdict> {
+    let mut printer = Printer {
+        line: String::new(alloc),
+        writer,
+        offsets: options.offsets,
+        colors,
+    };
+    let outcome = dumped(reader, &mut printer, options);
+    let ended = match &outcome {
+        Ok(()) | Err(Verdict::Output(_)) => Ok(()),
+        Err(verdict) => printer.end(verdict),
+    };
+    match (ended, printer.writer.flush()) {
+        (Ok(()), Ok(())) => outcome,
+        (Err(error), _) | (Ok(()), Err(error)) => Err(Verdict::Output(error)),
+    }
+}
+
+/// Prints the rows.
+fn dumped<R: io::Read + Drop, W: io::Write>(
+    reader: R,
+    printer: &mut Printer<W>,
+    options: Options,
+) -> Result<(), Verdict> {
+    let mut ahead = [0; ROOM];
+    let mut decoder = Decoder::from(BufferedReader::new(reader, &mut ahead));
+    let outcome = dump(&mut decoder, options.depth, options.strict, printer);
+    let offset = decoder.offset();
+    let (_, _, fault) = decoder.into_inner().into_parts();
+    dump_verdict(outcome, fault, offset)
+}
+
+/// What is found by a dump, of which a read that failed stopped at this offset, with this fault.
+fn dump_verdict<E: Drop>(
+    outcome: Result<E, DumpError<E, io::Error>>,
+    fault: Option<ReadFault>,
+    offset: usize,
+) -> Result<(), Verdict>
+    ensures { result ≡ dump_said outcome fault offset }
+{
+    match outcome {
+        Ok(_) => end_verdict(fault),
+        Err(DumpError::Rows(error)) => Err(Verdict::Output(error)),
+        Err(DumpError::Item(error)) => Err(failed_or(fault, fault_of(error, offset))),
+    }
+}

@@ -1,0 +1,11 @@
+//! What the program that looks at files does: `check` says whether bytes are well-formed, `dump` shows them title by
+//! title, and `diag` writes them in diagnostic notation, over any reader and writer of std.
+#![tactic(auto)]
+
+pub mod arguments;
+pub mod check;
+pub mod diag;
+pub mod digits;
+pub mod dump;
+pub mod progress;
+pub mod verdict;
