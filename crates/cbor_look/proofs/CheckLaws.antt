@@ -1,7 +1,7 @@
 -- A dump reads as a check does: where it stops a check would stop, for the same reason.
-use Rattle.std.proofs.Common.{◌≡◌, ℕ, zero, suc, ◌+◌, ◌-◌, ◌<◌, ◌≤◌, Bool, true, false, List, [], ◌∷◌, ◌++◌, length}
-use Rattle.std.proofs.Common.{Option, Some, Result, Ok, Err, IsOk, ◌↔◌, refl, sym, ap, subst, ◌∙◌, inl, inr, arith}
-use Rattle.std.proofs.Common.{append_assoc, append-nil, length-append}
+use Rattle.std.proofs.Common.{◌≡◌, ℕ, zero, suc, ◌+◌, ◌-◌, ◌<◌, ◌≤◌, Bool, false, List, [], ◌++◌, length}
+use Rattle.std.proofs.Common.{Result, Ok, Err, IsOk, ◌↔◌, refl, sym, ap, subst, ◌∙◌, inl, inr, arith}
+use Rattle.std.proofs.Common.{append_assoc, append-nil}
 use Rattle.ciborium_ll.specs.Types.Read.{Ghosts}
 use Rattle.ciborium_ll.specs.Types.Header.{Header}
 use Rattle.ciborium_ll.specs.Types.Header.TheVariants as h
@@ -9,13 +9,12 @@ use Rattle.ciborium_ll.specs.Types.Decoder.{Decoder}
 use Rattle.ciborium_ll.specs.Types.Error.{Error}
 use Rattle.ciborium_ll.specs.Types.Error.TheVariants as e
 use Rattle.ciborium_ll.specs.Title.{IsTitle}
-use Rattle.ciborium_ll.specs.Strings.{kind_header}
-use Rattle.ciborium_ll.specs.Items.{AreItems, no_items, more_items, IsItem, IsTakenTitle}
+use Rattle.ciborium_ll.specs.Items.{AreItems, no_items, IsItem, IsTakenTitle}
 use Rattle.ciborium_ll.specs.Decoding.{IsSteady, Passes, PullsHeader, PullsTitle}
 use Rattle.ciborium_ll.proofs.DecodingLaws.{Passes-none, Passes-then}
 use Rattle.cbor_skip.specs.declared.SkipError.{SkipError}
 use Rattle.cbor_skip.specs.declared.SkipError.TheVariants as s
-use Rattle.cbor_skip.specs.Due.{IsNest, TakesMore, may_close, ItemDue, here, within}
+use Rattle.cbor_skip.specs.Due.{TakesMore, may_close, ItemDue, here, within}
 use Rattle.cbor_skip.specs.Skipping.{StopsDue, StopsItem, strictness}
 use Rattle.cbor_skip.specs.SkippingTold.{IsReadyToSkip}
 use Rattle.cbor_look.specs.declared.dump.DumpError.{DumpError}
@@ -25,15 +24,14 @@ use Rattle.cbor_look.specs.declared.sequence.Stopped.{Stopped}
 use Rattle.cbor_look.specs.declared.walk.Walk.{Walk}
 use Rattle.cbor_look.specs.Takings.{IsAlike, most_bytes}
 use Rattle.cbor_look.specs.Levels.{Nest, StandsBehind, outside, inside, closes_one}
-use Rattle.cbor_look.specs.Dumps.{AreTaken, IsEndOf, IsTaken, EndsTitles, SaysFault}
+use Rattle.cbor_look.specs.Dumps.{AreTaken, IsEndOf, IsTaken, EndsTitles}
 use Rattle.cbor_look.specs.Walks.{IsDue, IsDueBehind, whole_behind}
 use Rattle.cbor_look.specs.TitleRows.{StopsTitle}
-use Rattle.cbor_look.specs.Sequences.{IsSequence, IsEnd, ReadsItems}
+use Rattle.cbor_look.specs.Sequences.{IsSequence, IsEnd}
 use Rattle.cbor_look.specs.Checking.{AnswersAs, AnswersTold, ReadsAsCheck}
 use Rattle.cbor_look.proofs.SequenceLaws.{one_more, check_told, check_exactly}
 use Rattle.cbor_look.proofs.TitleLaws.{Comes, walk_ended, nests_few}
 use Rattle.cbor_look.proofs.WalkLaws.{due_first}
-use Rattle.cbor_look.proofs.ItemRows.{nothing}
 use Rattle.cbor_look.proofs.PullLaws.{passes_alike}
 use Rattle.cbor_skip.proofs.StrictnessLaws.{strict_settled}
 

@@ -1,18 +1,14 @@
 -- How a title ends a dump, or the string that it begins.
-use Rattle.std.proofs.Common.{◌≡◌, ℕ, ◌-◌, Bool, List, Option, Some, None, Err}
+use Rattle.std.proofs.Common.{ℕ, ◌-◌, Bool, List, Option, Some, None, Err}
 use Rattle.ciborium_ll.specs.Types.Read.{Ghosts}
 use Rattle.ciborium_ll.specs.Types.Header.{Header}
 use Rattle.ciborium_ll.specs.Types.Decoder.{Decoder}
-use Rattle.ciborium_ll.specs.Types.Error.{Error}
-use Rattle.ciborium_ll.specs.Types.Error.TheVariants as e
 use Rattle.ciborium_ll.specs.Title.{title_len}
 use Rattle.ciborium_ll.specs.Strings.{Kind, kind_header}
-use Rattle.ciborium_ll.specs.Skipping.{SkipsString}
 use Rattle.cbor_skip.specs.declared.SkipError.TheVariants as s
 use Rattle.cbor_look.specs.declared.dump.DumpError.{DumpError}
 use Rattle.cbor_look.specs.declared.dump.DumpError.TheVariants as d
 use Rattle.cbor_look.specs.Dumps.{IsRefusal}
-use Rattle.cbor_look.specs.Takings.{most_bytes}
 use Rattle.cbor_look.specs.StringRows.{StopsRest}
 use Rattle.cbor_look.specs.TitleRows.{IsStringDue, StopsAlone, StopsTitle}
 

@@ -31,7 +31,6 @@ use Rattle.cbor_look.specs.Takings.{IsAlike}
 use Rattle.cbor_look.specs.Walks.{IsValue, IsDue, IsBehindItem, Breaks}
 use Rattle.cbor_look.proofs.ItemRows.{nothing}
 use Rattle.cbor_look.proofs.WalkLaws.{stands_any}
-use Rattle.cbor_look.proofs.TakingLaws.{takes_then}
 use Rattle.cbor_look.proofs.StringLaws.{lines_fault}
 use Rattle.cbor_look.proofs.DumpLaws.{lines_one, lines_then, shows_none, shows_then, shows_read}
 

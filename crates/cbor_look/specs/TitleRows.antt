@@ -1,9 +1,7 @@
 -- What the rows of a title show, and of the string that it begins.
-use Rattle.std.specs.Prelude.{◌≡◌, ℕ, ◌-◌, Bool, false, List, [], ◌++◌, length, Option, Result, Ok, Err, OnOk}
+use Rattle.std.specs.Prelude.{◌≡◌, ℕ, Bool, false, List, [], ◌++◌, Option, Result, Ok, Err, OnOk}
 use Rattle.ciborium_ll.specs.Types.Read.{Ghosts}
 use Rattle.ciborium_ll.specs.Types.Decoder.{Decoder}
-use Rattle.ciborium_ll.specs.Types.Error.{Error}
-use Rattle.ciborium_ll.specs.Types.Error.TheVariants as e
 use Rattle.ciborium_ll.specs.Types.Header.{Header}
 use Rattle.ciborium_ll.specs.Types.Header.TheVariants as h
 use Rattle.ciborium_ll.specs.Strings.{Kind, kind_header}
@@ -29,9 +27,9 @@ pub record IsUnclosed (strict : Bool) (depth whole : ℕ) (before : List ℕ) : 
 -- behind the bytes an item is due, and the header that came is that of a string
 pub record IsStringDue (strict : Bool) (depth whole : ℕ) (before : List ℕ) (header : Header) (kind : Kind)
     (len : Option ℕ) : Type 0 where
-    pub nests : List Nest
-    pub within : StandsBehind strict depth whole nests before
-    pub is : header ≡ kind_header kind len
+  pub nests : List Nest
+  pub within : StandsBehind strict depth whole nests before
+  pub is : header ≡ kind_header kind len
 
 module _ {E W : Type 0} where
   -- how a title that is no string's ends a dump, at its place: a break where none may stand, or a nest too deep

@@ -102,7 +102,7 @@ returns-in-Err-title g c =
           record {
             bytes = up.bytes ++ (row ++ title.bytes);
             shows = up_title g.R.Read c.args.strict c.args.depth up.whole _ _ _ _ _ up.bytes _ row _ _ _ _ _ up.shows
-        takes title;
+                takes title;
             whole = tt;
           };
       reads = reads;
@@ -145,7 +145,7 @@ titles-preserved g c =
     record {
       bytes = up.bytes ++ (row ++ title.bytes);
       shows = up_title g.R.Read c.args.strict c.args.depth up.whole _ _ _ _ _ up.bytes _ row _ _ _ _ _ up.shows
-        takes title;
+          takes title;
       whole = _;
       due = title.due;
       came = λ alike.
