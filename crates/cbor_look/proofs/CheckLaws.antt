@@ -1,7 +1,7 @@
 -- A dump reads as a check does: where it stops a check would stop, for the same reason.
-use Rattle.std.proofs.Common.{◌≡◌, ℕ, zero, suc, ◌+◌, ◌-◌, ◌<◌, ◌≤◌, Bool, true, false, List, [], ◌∷◌, ◌++◌, length}
-use Rattle.std.proofs.Common.{Option, Some, Result, Ok, Err, IsOk, ◌↔◌, refl, sym, ap, subst, ◌∙◌, inl, inr, arith}
-use Rattle.std.proofs.Common.{append_assoc, append-nil, length-append}
+use Rattle.std.proofs.Common.{◌≡◌, ℕ, zero, suc, ◌+◌, ◌-◌, ◌<◌, ◌≤◌, Bool, false, List, [], ◌++◌, length}
+use Rattle.std.proofs.Common.{Result, Ok, Err, IsOk, ◌↔◌, refl, sym, ap, subst, ◌∙◌, inl, inr, arith}
+use Rattle.std.proofs.Common.{append_assoc, append-nil}
 use Rattle.ciborium_ll.specs.Types.Read.{Ghosts}
 use Rattle.ciborium_ll.specs.Types.Header.{Header}
 use Rattle.ciborium_ll.specs.Types.Header.TheVariants as h
@@ -9,14 +9,13 @@ use Rattle.ciborium_ll.specs.Types.Decoder.{Decoder}
 use Rattle.ciborium_ll.specs.Types.Error.{Error}
 use Rattle.ciborium_ll.specs.Types.Error.TheVariants as e
 use Rattle.ciborium_ll.specs.Title.{IsTitle}
-use Rattle.ciborium_ll.specs.Strings.{kind_header}
-use Rattle.ciborium_ll.specs.Items.{AreItems, no_items, more_items, IsItem}
+use Rattle.ciborium_ll.specs.Items.{AreItems, no_items, IsItem, IsTakenTitle}
 use Rattle.ciborium_ll.specs.Decoding.{IsSteady, Passes, PullsHeader, PullsTitle}
 use Rattle.ciborium_ll.proofs.DecodingLaws.{Passes-none, Passes-then}
 use Rattle.cbor_skip.specs.declared.SkipError.{SkipError}
 use Rattle.cbor_skip.specs.declared.SkipError.TheVariants as s
-use Rattle.cbor_skip.specs.Due.{IsNest, TakesMore, may_close, ItemDue, here, within}
-use Rattle.cbor_skip.specs.Skipping.{StopsDue, StopsItem}
+use Rattle.cbor_skip.specs.Due.{TakesMore, may_close, ItemDue, here, within}
+use Rattle.cbor_skip.specs.Skipping.{StopsDue, StopsItem, strictness}
 use Rattle.cbor_skip.specs.SkippingTold.{IsReadyToSkip}
 use Rattle.cbor_look.specs.declared.dump.DumpError.{DumpError}
 use Rattle.cbor_look.specs.declared.dump.DumpError.TheVariants as d
@@ -25,61 +24,62 @@ use Rattle.cbor_look.specs.declared.sequence.Stopped.{Stopped}
 use Rattle.cbor_look.specs.declared.walk.Walk.{Walk}
 use Rattle.cbor_look.specs.Takings.{IsAlike, most_bytes}
 use Rattle.cbor_look.specs.Levels.{Nest, StandsBehind, outside, inside, closes_one}
-use Rattle.cbor_look.specs.Dumps.{AreTaken, IsEndOf, IsTaken, EndsTitles, SaysFault}
+use Rattle.cbor_look.specs.Dumps.{AreTaken, IsEndOf, IsTaken, EndsTitles}
 use Rattle.cbor_look.specs.Walks.{IsDue, IsDueBehind, whole_behind}
 use Rattle.cbor_look.specs.TitleRows.{StopsTitle}
-use Rattle.cbor_look.specs.Sequences.{IsSequence, IsEnd, ReadsItems}
+use Rattle.cbor_look.specs.Sequences.{IsSequence, IsEnd}
 use Rattle.cbor_look.specs.Checking.{AnswersAs, AnswersTold, ReadsAsCheck}
 use Rattle.cbor_look.proofs.SequenceLaws.{one_more, check_told, check_exactly}
 use Rattle.cbor_look.proofs.TitleLaws.{Comes, walk_ended, nests_few}
 use Rattle.cbor_look.proofs.WalkLaws.{due_first}
-use Rattle.cbor_look.proofs.ItemRows.{nothing}
 use Rattle.cbor_look.proofs.PullLaws.{passes_alike}
-use Rattle.cbor_skip.proofs.StrictnessLaws.{strict_lenient}
+use Rattle.cbor_skip.proofs.StrictnessLaws.{strict_settled}
 
 -- ---- where an item is due
 
 -- a nest within which an item is due, where an item was due
-deepen : {outer closable : Bool} {depth levels : ℕ} {bytes : List ℕ} → ItemDue false outer depth bytes levels closable
-    → (deeper count : ℕ) (title items : List ℕ) (header : Header) → levels ≡ suc deeper → IsTitle title header
-    → TakesMore header count → AreItems false deeper count items
-    → ItemDue false outer depth (bytes ++ (title ++ items)) deeper (may_close header count)
-deepen {outer = outer} {depth = depth} here deeper count title items header same p more are =
-    let one : ItemDue false outer (suc deeper) (title ++ (items ++ [])) deeper (may_close header count) =
-    within p tt more are here in
-    subst (λ (n : ℕ). ItemDue false outer n (title ++ items) deeper (may_close header count)) (sym same)
-    (subst (λ (z : List ℕ). ItemDue false outer (suc deeper) (title ++ z) deeper (may_close header count))
+deepen : {strict outer closable : Bool} {depth levels : ℕ} {bytes : List ℕ}
+    → ItemDue strict outer depth bytes levels closable → (deeper count : ℕ) (title items : List ℕ) (header : Header)
+    → levels ≡ suc deeper → IsTitle title header → IsTakenTitle strict title header
+    → TakesMore header count → AreItems strict deeper count items
+    → ItemDue strict outer depth (bytes ++ (title ++ items)) deeper (may_close header count)
+deepen {strict = strict} {outer = outer} {depth = depth} here deeper count title items header same p g more are =
+    let one : ItemDue strict outer (suc deeper) (title ++ (items ++ [])) deeper (may_close header count) =
+    within p g more are here in
+    subst (λ (n : ℕ). ItemDue strict outer n (title ++ items) deeper (may_close header count)) (sym same)
+    (subst (λ (z : List ℕ). ItemDue strict outer (suc deeper) (title ++ z) deeper (may_close header count))
     (append-nil items) one)
-deepen {outer = outer} {depth = depth} (within {title = t} {items = i} {more = m} p' taken more' are' inner) deeper count
-    title
-    items header same p more are =
-    subst (λ (z : List ℕ). ItemDue false outer depth z deeper (may_close header count))
+deepen {strict = strict} {outer = outer} {depth = depth}
+    (within {title = t} {items = i} {more = m} p' g' more' are' inner) deeper count title items header same p g more
+    are =
+    subst (λ (z : List ℕ). ItemDue strict outer depth z deeper (may_close header count))
     (sym (append_assoc t (i ++ m) (title ++ items)
     ∙ ap (λ (z : List ℕ). t ++ z) (append_assoc i m (title ++ items))))
-    (within p' tt more' are' (deepen inner deeper count title items header same p more are))
+    (within p' g' more' are' (deepen inner deeper count title items header same p g more are))
 
-no_item : (depth : ℕ) (items : List ℕ) → AreItems false depth 0 items → items ≡ []
-no_item depth items no_items = refl
+no_item : (strict : Bool) (depth : ℕ) (items : List ℕ) → AreItems strict depth 0 items → items ≡ []
+no_item strict depth items no_items = refl
 
 -- the innermost nest first, and the outermost first
-pub stands_due : (depth : ℕ) (nests : List Nest) (bytes : List ℕ) → StandsBehind depth 0 nests bytes → (levels : ℕ)
-    → length nests + levels ≡ depth → ItemDue false false depth bytes levels (closes_one nests 0)
-stands_due depth nests bytes (outside are) levels left =
+pub stands_due : (strict : Bool) (depth : ℕ) (nests : List Nest) (bytes : List ℕ)
+    → StandsBehind strict depth 0 nests bytes → (levels : ℕ) → length nests + levels ≡ depth
+    → ItemDue strict false depth bytes levels (closes_one nests 0)
+stands_due strict depth nests bytes (outside are) levels left =
     let same : depth ≡ levels = omega (arith, left) in
-    subst (λ (n : ℕ). ItemDue false false depth bytes n false) same
-    (subst (λ (z : List ℕ). ItemDue false false depth z depth false) (sym (no_item depth bytes are)) here)
-stands_due depth nests bytes
-    (inside {levels = l} {count = n} {nests = outer} {before = b} {title = t} {items = i} {header = x} w e p more are)
+    subst (λ (n : ℕ). ItemDue strict false depth bytes n false) same
+    (subst (λ (z : List ℕ). ItemDue strict false depth z depth false) (sym (no_item strict depth bytes are)) here)
+stands_due strict depth nests bytes
+    (inside {levels = l} {count = n} {nests = outer} {before = b} {title = t} {items = i} {header = x} w e p g more are)
     levels left =
     let same : l ≡ levels = omega (arith, e, left) in
-    subst (λ (k : ℕ). ItemDue false false depth (b ++ (t ++ i)) k (may_close x n)) same
-    (deepen (stands_due depth outer b w (suc l) e) l n t i x refl p more are)
+    subst (λ (k : ℕ). ItemDue strict false depth (b ++ (t ++ i)) k (may_close x n)) same
+    (deepen (stands_due strict depth outer b w (suc l) e) l n t i x refl p g more are)
 
 -- there are no more nests than levels
-stands_few : (depth : ℕ) (nests : List Nest) (bytes : List ℕ) → StandsBehind depth 0 nests bytes
-    → length nests + (depth - length nests) ≡ depth
-stands_few depth nests bytes (outside are) = omega arith
-stands_few depth nests bytes (inside w e p more are) = omega (arith, e)
+stands_few : (strict : Bool) (depth : ℕ) (nests : List Nest) (bytes : List ℕ)
+    → StandsBehind strict depth 0 nests bytes → length nests + (depth - length nests) ≡ depth
+stands_few strict depth nests bytes (outside are) = omega arith
+stands_few strict depth nests bytes (inside w e p g more are) = omega (arith, e)
 
 -- ---- answers
 
@@ -106,33 +106,39 @@ further (s.Read e.Waiting) between new some still = still
 further (s.Break at) between new some still = still
 further (s.Deep at) between new some still = still
 
+-- as strict as the dump
+strict_alike : {R : Type 0} (strict : Bool) (decoder : Decoder R) → IsAlike strict decoder → strictness decoder ≡ strict
+strict_alike strict decoder alike =
+    strict_settled decoder.waiting decoder.strict alike.none_waits ∙ alike.mode
+
 module _ {R E : Type 0} (source : Ghosts R E) where
   -- ---- the walk of a dump
 
-  pub comes_first : (depth : ℕ) (walk : Walk) (decoder : Decoder R) → IsDue depth 0 walk [] → decoder.strict ≡ false
-      → Comes source depth walk decoder decoder
-  comes_first depth walk decoder due lenient = record {
+  pub comes_first : (strict : Bool) (depth : ℕ) (walk : Walk) (decoder : Decoder R) → IsDue strict depth 0 walk []
+      → IsAlike strict decoder → Comes source strict depth walk decoder decoder
+  comes_first strict depth walk decoder due alike = record {
     count = 0;
     between = decoder;
     reads = record { bytes = []; are_items = no_items; passed = Passes-none source decoder };
     bytes = [];
     passed = Passes-none source decoder;
     due = due;
-    lenient = lenient;
+    alike = alike;
   }
 
   -- a title and what follows it
-  comes_by : (depth used : ℕ) (walk new_walk : Walk) (old now new : Decoder R) (come : Comes source depth walk old now)
-      → (more : List ℕ) → Passes source now more new → new_walk.used ≡ used
-      → IsDueBehind depth 0 new_walk (come.bytes ++ more) → Comes source depth new_walk old new
-  comes_by depth zero walk new_walk old now new come more passed same due =
+  comes_by : (strict : Bool) (depth used : ℕ) (walk new_walk : Walk) (old now new : Decoder R)
+      (come : Comes source strict depth walk old now) → (more : List ℕ) → Passes source now more new
+      → new_walk.used ≡ used → IsDueBehind strict depth 0 new_walk (come.bytes ++ more)
+      → Comes source strict depth new_walk old new
+  comes_by strict depth zero walk new_walk old now new come more passed same due =
       let all = come.bytes ++ more in
-      let whole : IsDue depth 1 new_walk all =
-      subst (λ (n : ℕ). IsDue depth (whole_behind 0 n) new_walk all) same due in
-      let items = walk_ended depth 1 new_walk all whole same in
+      let whole : IsDue strict depth 1 new_walk all =
+      subst (λ (n : ℕ). IsDue strict depth (whole_behind 0 n) new_walk all) same due in
+      let items = walk_ended strict depth 1 new_walk all whole same in
       let behind = Passes-then source come.between now new come.bytes more come.passed passed in
-      let items' = subst (λ (b : Bool). IsItem b depth all) (sym (strict_lenient come.between.waiting
-      come.between.strict come.lenient)) items in
+      let items' = subst (λ (b : Bool). IsItem b depth all) (sym (strict_alike strict come.between come.alike))
+      items in
       record {
         count = suc come.count;
         between = new;
@@ -140,38 +146,38 @@ module _ {R E : Type 0} (source : Ghosts R E) where
             (record { item = all; is_item = items'; passed = behind });
         bytes = [];
         passed = Passes-none source new;
-        due = due_first depth new_walk same whole.keeps.same_depth whole.keeps.room;
-        lenient = behind.mode ∙ come.lenient;
+        due = due_first strict depth new_walk same whole.keeps.same_depth whole.keeps.room;
+        alike = passes_alike source strict come.between new all behind come.alike;
       }
-  comes_by depth (suc used) walk new_walk old now new come more passed same due = record {
+  comes_by strict depth (suc used) walk new_walk old now new come more passed same due = record {
     count = come.count;
     between = come.between;
     reads = come.reads;
     bytes = come.bytes ++ more;
     passed = Passes-then source come.between now new come.bytes more come.passed passed;
-    due = subst (λ (n : ℕ). IsDue depth (whole_behind 0 n) new_walk (come.bytes ++ more)) same due;
-    lenient = come.lenient;
+    due = subst (λ (n : ℕ). IsDue strict depth (whole_behind 0 n) new_walk (come.bytes ++ more)) same due;
+    alike = come.alike;
   }
 
-  pub comes_next : (depth : ℕ) (walk new_walk : Walk) (old now titled new : Decoder R)
-      (come : Comes source depth walk old now) (row bytes : List ℕ) → Passes source now row titled
-      → Passes source titled bytes new → IsDueBehind depth 0 new_walk (come.bytes ++ (row ++ bytes))
-      → Comes source depth new_walk old new
-  comes_next depth walk new_walk old now titled new come row bytes one two due =
-      comes_by depth new_walk.used walk new_walk old now new come (row ++ bytes)
+  pub comes_next : (strict : Bool) (depth : ℕ) (walk new_walk : Walk) (old now titled new : Decoder R)
+      (come : Comes source strict depth walk old now) (row bytes : List ℕ) → Passes source now row titled
+      → Passes source titled bytes new → IsDueBehind strict depth 0 new_walk (come.bytes ++ (row ++ bytes))
+      → Comes source strict depth new_walk old new
+  comes_next strict depth walk new_walk old now titled new come row bytes one two due =
+      comes_by strict depth new_walk.used walk new_walk old now new come (row ++ bytes)
       (Passes-then source now titled new row bytes one two) refl due
 
-  pub comes_alike : (depth : ℕ) (strict : Bool) (walk : Walk) (old now : Decoder R)
-      → Comes source depth walk old now → IsAlike strict old → IsAlike strict now
-  comes_alike depth strict walk old now come alike =
-      passes_alike source strict come.between now come.bytes come.passed
-      (passes_alike source strict old come.between come.reads.bytes come.reads.passed alike)
+  pub comes_alike : (strict : Bool) (depth : ℕ) (walk : Walk) (old now : Decoder R)
+      → Comes source strict depth walk old now → IsAlike strict now
+  comes_alike strict depth walk old now come =
+      passes_alike source strict come.between now come.bytes come.passed come.alike
 
   -- ---- where it stops
 
-  module _ (depth : ℕ) (walk : Walk) (old now : Decoder R) (come : Comes source depth walk old now) where
+  module _ (strict : Bool) (depth : ℕ) (walk : Walk) (old now : Decoder R)
+      (come : Comes source strict depth walk old now) where
     -- within these nests
-    stops_in : (nests : List Nest) → StandsBehind depth 0 nests come.bytes → (levels : ℕ)
+    stops_in : (nests : List Nest) → StandsBehind strict depth 0 nests come.bytes → (levels : ℕ)
         → length nests + levels ≡ depth → (error : SkipError E) (new : Decoder R)
         → StopsDue source levels (closes_one nests 0) most_bytes now error new
         → StopsItem source false depth most_bytes come.between error new
@@ -180,8 +186,8 @@ module _ {R E : Type 0} (source : Ghosts R E) where
       levels = levels;
       closable = closes_one nests 0;
       due = subst (λ (b : Bool). ItemDue b false depth come.bytes levels (closes_one nests 0))
-          (sym (strict_lenient come.between.waiting come.between.strict come.lenient))
-          (stands_due depth nests come.bytes stands levels left);
+          (sym (strict_alike strict come.between come.alike))
+          (stands_due strict depth nests come.bytes stands levels left);
       between = now;
       passed = come.passed;
       stops = stops;
@@ -192,7 +198,7 @@ module _ {R E : Type 0} (source : Ghosts R E) where
         → (IsEndOf error walk.used len → ⊥) → IsEnd (s.Read error) come.between.offset new.offset → ⊥
     not_ended (e.Io fault) len new moved not still =
         let at = come.passed.offset in
-        let few = nests_few depth 0 come.due.nests come.bytes come.due.within in
+        let few = nests_few strict depth 0 come.due.nests come.bytes come.due.within in
         let used = come.due.keeps.used in
         not (omega (arith, at, moved, still, few, used), omega (arith, at, moved, still))
     not_ended (e.Syntax place) len new moved not still = still
@@ -206,8 +212,8 @@ module _ {R E : Type 0} (source : Ghosts R E) where
         → ReadsAsCheck source depth most_bytes old result new
     comes_end error len new (Ok fault) few fails moved says taken =
         let used = come.due.keeps.used in
-        let items = walk_ended depth 0 walk come.bytes come.due says.1 in
-        let none = no_item depth come.bytes items in
+        let items = walk_ended strict depth 0 walk come.bytes come.due says.1 in
+        let none = no_item strict depth come.bytes items in
         let stopped = stops_in come.due.nests come.due.within (depth - length come.due.nests)
         (omega (arith, used, few)) (s.Read error) new (inl fails) in
         let counted = ap length none in
@@ -247,11 +253,11 @@ module _ {R E : Type 0} (source : Ghosts R E) where
     -- a title that was read, or the string behind it, by its error
     title_stops : (error : SkipError E) (W : Type 0) (header : Header) (place : ℕ) (titled new : Decoder R)
         → PullsTitle source now header titled → (IsSteady source now → IsSteady source titled) → place ≡ now.offset
-        → StopsTitle {R = R} {E = E} {W = W} source depth 0 header place come.bytes titled (Err (d.Item error)) new
+        → StopsTitle {R = R} {E = E} {W = W} source strict depth 0 header place come.bytes titled (Err (d.Item error)) new
         → StopsItem source false depth most_bytes come.between error new
     title_stops (s.Read error) W header place titled new pulled steady at stops =
         let due = stops.2 in
-        stops_in due.nests due.within (depth - length due.nests) (stands_few depth due.nests come.bytes due.within)
+        stops_in due.nests due.within (depth - length due.nests) (stands_few strict depth due.nests come.bytes due.within)
         (s.Read error) new (inr (record {
           kind = stops.0;
           len = stops.1;
@@ -262,7 +268,7 @@ module _ {R E : Type 0} (source : Ghosts R E) where
         }))
     title_stops (s.Break at) W header place titled new pulled steady same stops =
         let due = stops.0 in
-        stops_in due.nests due.within (depth - length due.nests) (stands_few depth due.nests come.bytes due.within)
+        stops_in due.nests due.within (depth - length due.nests) (stands_few strict depth due.nests come.bytes due.within)
         (s.Break at) new (record {
           not_closable = due.not_closable;
           place = stops.2 ∙ same;
@@ -282,7 +288,7 @@ module _ {R E : Type 0} (source : Ghosts R E) where
     pub comes_title : {W : Type 0} (error : DumpError E W) (header : Header) (place : ℕ) (titled new : Decoder R)
         → PullsTitle source now header titled → (IsSteady source now → IsSteady source titled) → place ≡ now.offset
         → titled.offset ≤ new.offset → now.offset < titled.offset
-        → StopsTitle source depth 0 header place come.bytes titled (Err error) new → IsTaken error
+        → StopsTitle source strict depth 0 header place come.bytes titled (Err error) new → IsTaken error
         → ReadsAsCheck source depth most_bytes old (Err error) new
     comes_title {W = W} (d.Item why) header place titled new pulled steady at rises some stops taken = record {
       checked = Err (record { items = come.count; place = come.between.offset; error = why });

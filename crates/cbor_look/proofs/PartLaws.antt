@@ -1,6 +1,6 @@
 -- A part of a body that was read, as a skip of the body reads it.
-use Rattle.std.proofs.Common.{◌≡◌, ℕ, ◌+◌, ◌-◌, ◌<◌, ◌≤◌, ◌⊎◌, min, Bool, true, false, List, [], ◌∷◌, ◌++◌, length}
-use Rattle.std.proofs.Common.{Result, Ok, Err, inl, inr, refl, sym, ap, subst, ◌∙◌, arith, append_assoc, append-nil}
+use Rattle.std.proofs.Common.{◌≡◌, ℕ, ◌+◌, ◌<◌, ◌≤◌, Bool, true, false, List, [], ◌∷◌, ◌++◌, length}
+use Rattle.std.proofs.Common.{Result, Ok, Err, inl, inr, refl, sym, ap, subst, ◌∙◌, arith, append_assoc}
 use Rattle.std.proofs.Common.{length-append, None}
 use Rattle.std.proofs.lemmas.Bool.{cases_lt}
 use Rattle.ciborium_ll.specs.Types.Read.{Ghosts}
@@ -8,20 +8,19 @@ use Rattle.ciborium_ll.specs.Types.Decoder.{Decoder}
 use Rattle.ciborium_ll.specs.Types.Error.{Error}
 use Rattle.ciborium_ll.specs.Types.Error.TheVariants as e
 use Rattle.ciborium_ll.specs.Strings.{Kind, Bytes, Text, IsWritable, most_kept}
-use Rattle.ciborium_ll.specs.Decoding.{IsSteady, Passes, ReadsBytes}
-use Rattle.ciborium_ll.specs.Finishing.{BeginsRest, RestFails, RestPasses, RestDamaged, EndsBody, IsNoText}
+use Rattle.ciborium_ll.specs.Decoding.{Passes, ReadsBytes}
+use Rattle.ciborium_ll.specs.Finishing.{BeginsRest, EndsBody, IsNoText}
 use Rattle.ciborium_ll.proofs.DecodingLaws.{Passes-none, Passes-then}
-use Rattle.ciborium_ll.proofs.BodyLaws.{Passes-read}
 use Rattle.ciborium_ll.proofs.TextLaws.{IsCharacters-append, IsCharacters-rest, IsCharacters-nil, some_front}
 use Rattle.ciborium_ll.proofs.TextLaws.{no_text_begins}
 use Rattle.ciborium_ll_text.specs.States.{after, after_byte}
-use Rattle.ciborium_ll_text.specs.Text.{IsCharacters, IsFront, BeginsNoText}
+use Rattle.ciborium_ll_text.specs.Text.{IsCharacters, IsFront}
 use Rattle.ciborium_ll_text.specs.declared.state.State.{State}
 use Rattle.ciborium_ll_text.specs.declared.state.State.TheVariants as t
 use Rattle.ciborium_ll_text.proofs.StateLaws.{after-append, text_ends, text_from, none_goes_on, some_goes_on}
-use Rattle.ciborium_ll_text.proofs.LastEndLaws.{due, due-le, back, Back, begins, goes_on, inside_due}
+use Rattle.ciborium_ll_text.proofs.LastEndLaws.{due, due-le, back, Back, begins, goes_on}
 use Rattle.cbor_look.specs.Takings.{most_bytes, ReadsOn}
-use Rattle.cbor_look.specs.Parts.{is_between, is_inside, IsSound, ReadsPart, ReadsText}
+use Rattle.cbor_look.specs.Parts.{is_between, is_inside, IsSound, ReadsPart}
 use Rattle.cbor_look.proofs.PullLaws.{passes_idle, first_passed}
 
 -- ---- states

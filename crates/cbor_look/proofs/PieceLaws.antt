@@ -1,6 +1,7 @@
 -- The lines of a string of indefinite length, behind its open.
 use Rattle.std.proofs.Common.{◌≡◌, ℕ, zero, suc, ◌+◌, ◌-◌, List, [], ◌∷◌, ◌++◌, length, Option, Some, None, refl, sym}
-use Rattle.std.proofs.Common.{ap, subst, ◌∙◌, arith, append-nil, append_assoc, length-append, inl, inr, Bool, false, Err}
+use Rattle.std.proofs.Common.{ap, subst, ◌∙◌, arith, append-nil, append_assoc, length-append, inl, inr, Bool, true, false, Err}
+use Rattle.std.proofs.lemmas.Bool.{false_from_ne_true}
 use Rattle.ciborium_ll.specs.Types.Read.{Ghosts}
 use Rattle.ciborium_ll.specs.Types.Header.{Header}
 use Rattle.ciborium_ll.specs.Types.Header.TheVariants as h
@@ -10,7 +11,7 @@ use Rattle.ciborium_ll.specs.Types.Error.TheVariants as e
 use Rattle.ciborium_ll.specs.Decoding.{IsSteady, Passes, PullsHeader, PullsTitle}
 use Rattle.ciborium_ll.specs.Faults.{IsInside, opened, deeper, IsRefusedIn}
 use Rattle.ciborium_ll.specs.Finishing.{EndsBody}
-use Rattle.ciborium_ll.specs.Items.{AreTakenStrings}
+use Rattle.ciborium_ll.specs.Items.{AreTakenStrings, IsTakenTitle}
 use Rattle.ciborium_ll.specs.Skipping.{SkipsInside, MeetsNoTitle, MeetsBody, StopsInside}
 use Rattle.ciborium_ll.proofs.DecodingLaws.{Passes-none, Passes-then}
 use Rattle.ciborium_ll.proofs.NestLaws.{alone_bytes, open_alone}
@@ -29,7 +30,7 @@ use Rattle.cbor_look.specs.StringRows.{EndsString, StopsRest}
 use Rattle.cbor_look.proofs.DumpLaws.{shows_none, shows_then}
 use Rattle.cbor_look.proofs.TitleLaws.{title_line, string_level, break_bytes}
 use Rattle.cbor_look.proofs.StringLaws.{lines_fault, next_offset, add_string, add_open, close_inner, close_last}
-use Rattle.cbor_look.proofs.StringLaws.{not_open}
+use Rattle.cbor_look.proofs.StringLaws.{not_open, taken_any, taken_none, taken_then}
 use Rattle.cbor_look.proofs.PullLaws.{passes_idle, passes_alike}
 
 -- opens of which none is closed
@@ -46,7 +47,7 @@ open_inside kind (suc opens) parts bodies
 
 module _ {R E : Type 0} (source : Ghosts R E) where
   -- within a string, of which so many opens aren't closed, all up to here was shown
-  pub record Within (depth start : ℕ) (drawn then_drawn : Option (List Line)) (nests : List Nest)
+  pub record Within (strict : Bool) (depth start : ℕ) (drawn then_drawn : Option (List Line)) (nests : List Nest)
       (items title : List ℕ) (kind : Kind) (inner : ℕ) (old new : Decoder R) : Type 0 where
     pub opens : ℕ
     pub parts : List ℕ
@@ -54,31 +55,35 @@ module _ {R E : Type 0} (source : Ghosts R E) where
     pub bytes : List ℕ
     pub are_open : AreOpen kind (suc opens) parts bodies
     pub sound : AreWritable kind bodies
+    pub taken : AreTakenStrings strict kind bytes bodies
+    pub one : strict ≡ true → opens ≡ zero
     pub level : inner ≡ length nests + suc opens
     pub is : title ++ bytes ≡ parts
     pub shows : Shows source depth start drawn then_drawn (items ++ title) bytes old new
     pub passed : old.waiting ≡ None → Passes source old bytes new
 
-  pub within_first : (depth start : ℕ) (drawn : Option (List Line)) (nests : List Nest) (items title : List ℕ)
+  pub within_first : (strict : Bool) (depth start : ℕ) (drawn : Option (List Line)) (nests : List Nest) (items title : List ℕ)
       (kind : Kind) (inner : ℕ) (decoder : Decoder R) → IsTitle title (kind_header kind None)
       → inner ≡ length nests + 1
-      → Within depth start drawn drawn nests items title kind inner decoder decoder
-  within_first depth start drawn nests items title kind inner decoder p level = record {
+      → Within strict depth start drawn drawn nests items title kind inner decoder decoder
+  within_first strict depth start drawn nests items title kind inner decoder p level = record {
     opens = zero;
     parts = title;
     bodies = [];
     bytes = [];
     are_open = add_open kind zero [] title [] none p;
     sound = tt;
+    taken = taken_none strict kind;
+    one = λ on. refl;
     level = level;
     is = append-nil title;
     shows = shows_none source depth start drawn (items ++ title) decoder;
     passed = λ idle. Passes-none source decoder;
   }
 
-  module _ (depth start : ℕ) (drawn middle : Option (List Line)) (nests : List Nest) (items title : List ℕ)
+  module _ (strict : Bool) (depth start : ℕ) (drawn middle : Option (List Line)) (nests : List Nest) (items title : List ℕ)
       (kind : Kind) (inner : ℕ) (old between : Decoder R) (stands : StandsWithin depth nests items)
-      (so_far : Within depth start drawn middle nests items title kind inner old between)
+      (so_far : Within strict depth start drawn middle nests items title kind inner old between)
       (begun : old.offset ≡ start + length (items ++ title)) where
     -- what is before, as it is cut
     before_is : (items ++ title) ++ so_far.bytes ≡ items ++ so_far.parts
@@ -104,8 +109,8 @@ module _ {R E : Type 0} (source : Ghosts R E) where
     passed_row row new went idle = Passes-then source old between new so_far.bytes row (so_far.passed idle)
         (went (passes_idle source old between so_far.bytes (so_far.passed idle) idle))
 
-    pub alike_here : (strict : Bool) → IsAlike strict old → IsAlike strict between
-    alike_here strict alike =
+    pub alike_here : IsAlike strict old → IsAlike strict between
+    alike_here alike =
         passes_alike source strict old between so_far.bytes (so_far.passed alike.none_waits) alike
 
     -- what was read before a fault
@@ -141,12 +146,12 @@ module _ {R E : Type 0} (source : Ghosts R E) where
 
     -- a further open
     pub within_open : (then_drawn : Option (List Line)) (row : List ℕ) (offset : ℕ) (new : Decoder R)
-        → Takes source between row new → (between.waiting ≡ None → Passes source between row new)
+        → strict ≡ false → Takes source between row new → (between.waiting ≡ None → Passes source between row new)
         → offset ≡ between.offset → IsTitle row (kind_header kind None)
         → Draws middle then_drawn
         (record { level = inner; offset = offset; bytes = row; meaning = m.Header (kind_header kind None) } ∷ [])
-        → Within depth start drawn then_drawn nests items title kind (inner + 1) old new
-    within_open then_drawn row offset new takes went at p drawn_line =
+        → Within strict depth start drawn then_drawn nests items title kind (inner + 1) old new
+    within_open then_drawn row offset new any takes went at p drawn_line =
         let level = so_far.level in
         record {
           opens = suc so_far.opens;
@@ -155,6 +160,8 @@ module _ {R E : Type 0} (source : Ghosts R E) where
           bytes = so_far.bytes ++ row;
           are_open = add_open kind (suc so_far.opens) so_far.parts row so_far.bodies so_far.are_open p;
           sound = so_far.sound;
+          taken = taken_any strict kind (so_far.bytes ++ row) so_far.bodies any;
+          one = λ on. absurd cc;
           level = omega (arith, level);
           is = parts_then row;
           passed = passed_row row new went;
@@ -162,15 +169,19 @@ module _ {R E : Type 0} (source : Ghosts R E) where
               (level ∙ sym (string_level kind None nests (suc so_far.opens))) drawn_line;
         }
 
+    -- where there are several opens, any spelling is taken
+    several : (opens : ℕ) → so_far.opens ≡ suc opens → strict ≡ false
+    several opens e = false_from_ne_true strict (λ on. let none = so_far.one on in omega (arith, none, e))
+
     -- a break that closes one of several
-    inner_break : (opens : ℕ) → so_far.opens ≡ suc opens → (then_drawn : Option (List Line)) (row : List ℕ)
+    inner_break : (opens : ℕ) → so_far.opens ≡ suc opens → strict ≡ false → (then_drawn : Option (List Line)) (row : List ℕ)
         (offset : ℕ) (new : Decoder R)
         → Takes source between row new → (between.waiting ≡ None → Passes source between row new)
         → offset ≡ between.offset → IsTitle row h.Break
         → Draws middle then_drawn
         (record { level = inner - 1; offset = offset; bytes = row; meaning = m.Header h.Break } ∷ [])
-        → Within depth start drawn then_drawn nests items title kind (inner - 1) old new
-    inner_break opens e then_drawn row offset new takes went at p drawn_line =
+        → Within strict depth start drawn then_drawn nests items title kind (inner - 1) old new
+    inner_break opens e any then_drawn row offset new takes went at p drawn_line =
         let level = so_far.level in
         record {
           opens = opens;
@@ -181,6 +192,8 @@ module _ {R E : Type 0} (source : Ghosts R E) where
               (sym (break_bytes row p)) (close_inner kind opens so_far.parts so_far.bodies
               (subst (λ (n : ℕ). AreOpen kind (suc n) so_far.parts so_far.bodies) e so_far.are_open));
           sound = so_far.sound;
+          taken = taken_any strict kind (so_far.bytes ++ row) so_far.bodies any;
+          one = λ on. absurd cc;
           level = omega (arith, level, e);
           is = parts_then row;
           passed = passed_row row new went;
@@ -194,11 +207,11 @@ module _ {R E : Type 0} (source : Ghosts R E) where
         → (inner - 1 ≡ length nests → ⊥)
         → Draws middle then_drawn
         (record { level = inner - 1; offset = offset; bytes = row; meaning = m.Header h.Break } ∷ [])
-        → Within depth start drawn then_drawn nests items title kind (inner - 1) old new
+        → Within strict depth start drawn then_drawn nests items title kind (inner - 1) old new
     within_break then_drawn row offset new takes went at p further drawn_line =
         let level = so_far.level in
         let less : so_far.opens ≡ suc (so_far.opens - 1) = omega (arith, level, further) in
-        inner_break (so_far.opens - 1) less then_drawn row offset new takes went at p drawn_line
+        inner_break (so_far.opens - 1) less (several (so_far.opens - 1) less) then_drawn row offset new takes went at p drawn_line
 
     -- the break that ends the string
     pub within_ends : (then_drawn : Option (List Line)) (row : List ℕ) (offset : ℕ) (new : Decoder R)
@@ -207,16 +220,16 @@ module _ {R E : Type 0} (source : Ghosts R E) where
         → Draws middle then_drawn
         (record { level = inner - 1; offset = offset; bytes = row; meaning = m.Header h.Break } ∷ [])
         → Shows source depth start drawn then_drawn (items ++ title) (so_far.bytes ++ row) old new
-        × EndsString kind (so_far.bytes ++ row)
+        × EndsString strict kind (so_far.bytes ++ row)
     within_ends then_drawn row offset new q takes at p last drawn_line =
         let level = so_far.level in
         let one : so_far.opens ≡ zero = omega (arith, level, last) in (
           within_title then_drawn row h.Break offset (inner - 1) new takes at p (ap (λ (n : ℕ). n - 1) level)
               drawn_line,
-          subst (λ (z : List ℕ). EndsString kind (so_far.bytes ++ z)) (sym (break_bytes row p))
-              (close_last kind title so_far.bytes so_far.parts so_far.bodies
+          subst (λ (z : List ℕ). EndsString strict kind (so_far.bytes ++ z)) (sym (break_bytes row p))
+              (close_last strict kind title so_far.bytes so_far.parts so_far.bodies
               (subst (λ (n : ℕ). AreOpen kind (suc n) so_far.parts so_far.bodies) one so_far.are_open) q so_far.is
-              so_far.sound),
+              so_far.sound so_far.taken),
         )
 
     -- a piece: its title, and then its body
@@ -241,12 +254,14 @@ module _ {R E : Type 0} (source : Ghosts R E) where
         titled new first second)
 
     pub within_whole : (then_drawn : Option (List Line)) (row body : List ℕ) (len : ℕ) (new : Decoder R)
-        → IsTitle row (kind_header kind (Some len)) → length body ≡ len → IsWritable kind body
+        → IsTitle row (kind_header kind (Some len)) → IsTakenTitle strict row (kind_header kind (Some len))
+        → length body ≡ len → IsWritable kind body
         → (between.waiting ≡ None → Passes source between (row ++ body) new)
         → Shows source depth start drawn then_drawn (items ++ title) (so_far.bytes ++ (row ++ body)) old new
-        → Within depth start drawn then_drawn nests items title kind inner old new
-    within_whole then_drawn row body len new p long written went shows =
+        → Within strict depth start drawn then_drawn nests items title kind inner old new
+    within_whole then_drawn row body len new p g long written went shows =
         let p' = subst (λ (n : ℕ). IsTitle row (kind_header kind (Some n))) (sym long) p in
+        let g' = subst (λ (n : ℕ). IsTakenTitle strict row (kind_header kind (Some n))) (sym long) g in
         record {
           opens = so_far.opens;
           parts = so_far.parts ++ (row ++ body);
@@ -255,6 +270,8 @@ module _ {R E : Type 0} (source : Ghosts R E) where
           are_open = add_string kind so_far.opens so_far.parts (row ++ body) so_far.bodies (body ∷ []) so_far.are_open
               (definite p');
           sound = AreWritable-append kind so_far.bodies (body ∷ []) so_far.sound (written, tt);
+          taken = taken_then strict kind so_far.bytes row body so_far.bodies so_far.taken p' g';
+          one = so_far.one;
           level = so_far.level;
           is = parts_then (row ++ body);
           shows = shows;
@@ -283,18 +300,18 @@ module _ {R E : Type 0} (source : Ghosts R E) where
 
     -- ---- how the read of the string stops
 
-    skips_inside : IsTitle title (kind_header kind None) → old.waiting ≡ None → old.strict ≡ false
-        → SkipsInside source kind old between
-    skips_inside p idle lenient = record {
+    skips_inside : IsTitle title (kind_header kind None) → IsAlike strict old → SkipsInside source kind old between
+    skips_inside p alike = record {
       behind = so_far.bytes;
       bodies = so_far.bodies;
       inside = subst (λ (z : List ℕ). IsInside kind (z ++ so_far.bytes) so_far.bodies)
           (alone_bytes title (kind_header kind None) p (open_alone kind))
           (subst (λ (z : List ℕ). IsInside kind z so_far.bodies) (sym so_far.is)
           (open_inside kind so_far.opens so_far.parts so_far.bodies so_far.are_open));
-      taken = subst (λ (b : Bool). AreTakenStrings b kind so_far.bytes so_far.bodies) (sym lenient) tt;
+      taken = subst (λ (mode : Bool). AreTakenStrings mode kind so_far.bytes so_far.bodies) (sym alike.mode)
+          so_far.taken;
       sound = so_far.sound;
-      passed = so_far.passed idle;
+      passed = so_far.passed alike.none_waits;
     }
 
     no_title_stops : (error : Error E) (new : Decoder R) → MeetsNoTitle source kind old error new
@@ -312,61 +329,60 @@ module _ {R E : Type 0} (source : Ghosts R E) where
     body_stops e.Waiting new meets = absurd meets.ends
 
     -- no title came
-    pub within_no_title : {W : Type 0} (strict : Bool) → IsTitle title (kind_header kind None) → (error : Error E)
+    pub within_no_title : {W : Type 0} → IsTitle title (kind_header kind None) → (error : Error E)
         (new : Decoder R) → PullsHeader source between (Err error) new → (why : DumpError E W) → SaysFault error why
-        → IsAlike strict old → old.strict ≡ false → StopsRest source kind None 0 old (Err why) new
-    within_no_title strict p error new fails (d.Item (s.Read other)) says alike lenient =
+        → IsAlike strict old → StopsRest source kind None 0 old (Err why) new
+    within_no_title p error new fails (d.Item (s.Read other)) says alike =
         let same : other ≡ error = cc in
         subst (λ (x : Error E). StopsInside source kind most_bytes old x new) (sym same)
         (no_title_stops error new (record {
           between = between;
-          part = skips_inside p alike.none_waits lenient;
-          fails =
-              fails;
+          part = skips_inside p alike;
+          fails = fails;
         }))
-    within_no_title strict p error new fails (d.Item (s.Break at)) says alike lenient = absurd cc
-    within_no_title strict p error new fails (d.Item (s.Deep at)) says alike lenient = absurd cc
-    within_no_title strict p error new fails (d.Rows fault) says alike lenient = tt
+    within_no_title p error new fails (d.Item (s.Break at)) says alike = absurd cc
+    within_no_title p error new fails (d.Item (s.Deep at)) says alike = absurd cc
+    within_no_title p error new fails (d.Rows fault) says alike = tt
 
     -- one came that may not stand there
-    pub within_other : {W : Type 0} (strict : Bool) → IsTitle title (kind_header kind None) → (header : Header)
+    pub within_other : {W : Type 0} → IsTitle title (kind_header kind None) → (header : Header)
         (place : ℕ) (new : Decoder R) → PullsTitle source between header new → IsRefusedIn strict kind header
         → place ≡ between.offset → (why : DumpError E W) → SaysFault (e.Syntax place) why
-        → IsAlike strict old → old.strict ≡ false → StopsRest source kind None 0 old (Err why) new
-    within_other strict p header place new pulled refused at (d.Item (s.Read other)) says alike lenient =
+        → IsAlike strict old → StopsRest source kind None 0 old (Err why) new
+    within_other p header place new pulled refused at (d.Item (s.Read other)) says alike =
         let same : other ≡ e.Syntax place = cc in
         subst (λ (x : Error E). StopsInside source kind most_bytes old x new) (sym same)
         (inr (inl (record {
           between = between;
-          part = skips_inside p alike.none_waits lenient;
+          part = skips_inside p alike;
           other = record {
             header = header;
             pulled = pulled;
-            refused = subst (λ (mode : Bool). IsRefusedIn mode kind header) (sym (alike_here strict alike).mode)
+            refused = subst (λ (mode : Bool). IsRefusedIn mode kind header) (sym (alike_here alike).mode)
                 refused;
             place = at;
           };
         })))
-    within_other strict p header place new pulled refused at (d.Item (s.Break other)) says alike lenient = absurd cc
-    within_other strict p header place new pulled refused at (d.Item (s.Deep other)) says alike lenient = absurd cc
-    within_other strict p header place new pulled refused at (d.Rows fault) says alike lenient = tt
+    within_other p header place new pulled refused at (d.Item (s.Break other)) says alike = absurd cc
+    within_other p header place new pulled refused at (d.Item (s.Deep other)) says alike = absurd cc
+    within_other p header place new pulled refused at (d.Rows fault) says alike = tt
 
     -- the body of a piece failed
-    pub within_body : {W : Type 0} (strict : Bool) → IsTitle title (kind_header kind None) → (len place : ℕ)
+    pub within_body : {W : Type 0} → IsTitle title (kind_header kind None) → (len place : ℕ)
         (titled new : Decoder R) → PullsTitle source between (kind_header kind (Some len)) titled
         → (IsSteady source between → IsSteady source titled) → place ≡ between.offset → (why : DumpError E W)
-        → StopsRest source kind (Some len) place titled (Err why) new → IsAlike strict old → old.strict ≡ false
+        → StopsRest source kind (Some len) place titled (Err why) new → IsAlike strict old
         → StopsRest source kind None 0 old (Err why) new
-    within_body strict p len place titled new pulled steady at (d.Item (s.Read error)) stops alike lenient =
+    within_body p len place titled new pulled steady at (d.Item (s.Read error)) stops alike =
         body_stops error new (record {
           between = between;
-          part = skips_inside p alike.none_waits lenient;
+          part = skips_inside p alike;
           titled = titled;
           len = len;
           pulled = pulled;
           steady = λ holds. steady ((so_far.passed alike.none_waits).steady holds);
           ends = subst (λ (n : ℕ). EndsBody source kind [] len most_bytes n titled (Err error) new) at stops;
         })
-    within_body strict p len place titled new pulled steady at (d.Item (s.Break other)) stops alike lenient = absurd stops
-    within_body strict p len place titled new pulled steady at (d.Item (s.Deep other)) stops alike lenient = absurd stops
-    within_body strict p len place titled new pulled steady at (d.Rows fault) stops alike lenient = tt
+    within_body p len place titled new pulled steady at (d.Item (s.Break other)) stops alike = absurd stops
+    within_body p len place titled new pulled steady at (d.Item (s.Deep other)) stops alike = absurd stops
+    within_body p len place titled new pulled steady at (d.Rows fault) stops alike = tt

@@ -1,7 +1,7 @@
 -- A title that was read byte by byte, as `pull` reads it.
-use Rattle.std.proofs.Common.{◌≡◌, ℕ, ◌+◌, ◌<◌, ◌%◌, Bool, IsTrue, List, [], ◌∷◌, ◌++◌, length, take, Option, Some}
+use Rattle.std.proofs.Common.{◌≡◌, ℕ, ◌<◌, ◌%◌, Bool, IsTrue, List, [], ◌∷◌, length, take, Option, Some}
 use Rattle.std.proofs.Common.{None}
-use Rattle.std.proofs.Common.{IfSome, Result, Ok, Err, ◌⊎◌, inl, inr, refl, sym, ap, subst, ◌∙◌, arith}
+use Rattle.std.proofs.Common.{IfSome, Ok, Err, inl, inr, refl, sym, ap, subst, ◌∙◌, arith}
 use Rattle.std.proofs.KnownBytes.{Consumes-nil}
 use Rattle.std.specs.Io.KnownBytes.{Consumes}
 use Rattle.ciborium_ll.specs.Types.Read.{Ghosts}
@@ -9,12 +9,11 @@ use Rattle.ciborium_ll.specs.Types.Header.{Header}
 use Rattle.ciborium_ll.specs.Types.Decoder.{Decoder}
 use Rattle.ciborium_ll.specs.Types.Error.{Error}
 use Rattle.ciborium_ll.specs.Types.Error.TheVariants as e
-use Rattle.ciborium_ll.specs.Title.{IsTitle, IsStrictTitle, IsCutTitle, affix_len}
-use Rattle.ciborium_ll.specs.Decoding.{view, Begins, IsSteady, IsUntouched, Passes, PullsHeader, PullsTitle, ReadsAll}
+use Rattle.ciborium_ll.specs.Title.{IsCutTitle, affix_len}
+use Rattle.ciborium_ll.specs.Decoding.{view, Begins, IsSteady, IsUntouched, Passes, PullsHeader, ReadsAll}
 use Rattle.ciborium_ll.specs.Decoding.{ReadsBytes}
 use Rattle.ciborium_ll.proofs.DecodingLaws.{IfSome-all, Passes-none}
 use Rattle.ciborium_ll.proofs.BodyLaws.{view_none, Passes-read}
-use Rattle.ciborium_ll.proofs.NestLaws.{title_some}
 use Rattle.cbor_look.specs.Takings.{IsAlike, Means, PullsRow, ReadsOn}
 use Rattle.cbor_look.proofs.ItemRows.{nothing}
 

@@ -1,43 +1,40 @@
 -- How a title ends a dump, or the string that it begins.
-use Rattle.std.proofs.Common.{◌≡◌, ℕ, ◌-◌, List, Option, Some, None, Err}
+use Rattle.std.proofs.Common.{ℕ, ◌-◌, Bool, List, Option, Some, None, Err}
 use Rattle.ciborium_ll.specs.Types.Read.{Ghosts}
 use Rattle.ciborium_ll.specs.Types.Header.{Header}
 use Rattle.ciborium_ll.specs.Types.Decoder.{Decoder}
-use Rattle.ciborium_ll.specs.Types.Error.{Error}
-use Rattle.ciborium_ll.specs.Types.Error.TheVariants as e
 use Rattle.ciborium_ll.specs.Title.{title_len}
 use Rattle.ciborium_ll.specs.Strings.{Kind, kind_header}
-use Rattle.ciborium_ll.specs.Skipping.{SkipsString}
 use Rattle.cbor_skip.specs.declared.SkipError.TheVariants as s
 use Rattle.cbor_look.specs.declared.dump.DumpError.{DumpError}
 use Rattle.cbor_look.specs.declared.dump.DumpError.TheVariants as d
 use Rattle.cbor_look.specs.Dumps.{IsRefusal}
-use Rattle.cbor_look.specs.Takings.{most_bytes}
 use Rattle.cbor_look.specs.StringRows.{StopsRest}
 use Rattle.cbor_look.specs.TitleRows.{IsStringDue, StopsAlone, StopsTitle}
 
 -- a row was refused
-pub refused_alone : {E W : Type 0} (depth whole : ℕ) (header : Header) (place : ℕ) (before : List ℕ)
-    (why : DumpError E W) → IsRefusal why → StopsAlone depth whole header place before (Err why)
-refused_alone depth whole header place before (d.Item error) refusal = absurd refusal
-refused_alone depth whole header place before (d.Rows fault) refusal = tt
+pub refused_alone : {E W : Type 0} (strict : Bool) (depth whole : ℕ) (header : Header) (place : ℕ) (before : List ℕ)
+    (why : DumpError E W) → IsRefusal why → StopsAlone strict depth whole header place before (Err why)
+refused_alone strict depth whole header place before (d.Item error) refusal = absurd refusal
+refused_alone strict depth whole header place before (d.Rows fault) refusal = tt
 
 module _ {R E W : Type 0} (source : Ghosts R E) where
-  pub refused_title : (depth whole : ℕ) (header : Header) (place : ℕ) (before : List ℕ) (old new : Decoder R)
-      (why : DumpError E W) → IsRefusal why → StopsTitle source depth whole header place before old (Err why) new
-  refused_title depth whole header place before old new (d.Item error) refusal = absurd refusal
-  refused_title depth whole header place before old new (d.Rows fault) refusal = tt
+  pub refused_title : (strict : Bool) (depth whole : ℕ) (header : Header) (place : ℕ) (before : List ℕ)
+      (old new : Decoder R) (why : DumpError E W) → IsRefusal why
+      → StopsTitle source strict depth whole header place before old (Err why) new
+  refused_title strict depth whole header place before old new (d.Item error) refusal = absurd refusal
+  refused_title strict depth whole header place before old new (d.Rows fault) refusal = tt
 
   -- the rest of a string stopped as a skip of it does
-  pub rest_stops : (depth whole : ℕ) (kind : Kind) (len : Option ℕ) (place : ℕ) (before : List ℕ)
-      (old new : Decoder R) (why : DumpError E W) → IsStringDue depth whole before (kind_header kind len) kind len
+  pub rest_stops : (strict : Bool) (depth whole : ℕ) (kind : Kind) (len : Option ℕ) (place : ℕ) (before : List ℕ)
+      (old new : Decoder R) (why : DumpError E W) → IsStringDue strict depth whole before (kind_header kind len) kind len
       → StopsRest source kind len (old.offset - title_len (kind_header kind len)) old (Err why) new
-      → StopsTitle source depth whole (kind_header kind len) place before old (Err why) new
-  rest_stops depth whole kind None place before old new (d.Item (s.Read error)) due stops = (kind, None, due, stops)
-  rest_stops depth whole kind (Some len) place before old new (d.Item (s.Read error)) due stops =
+      → StopsTitle source strict depth whole (kind_header kind len) place before old (Err why) new
+  rest_stops strict depth whole kind None place before old new (d.Item (s.Read error)) due stops = (kind, None, due, stops)
+  rest_stops strict depth whole kind (Some len) place before old new (d.Item (s.Read error)) due stops =
       (kind, Some len, due, stops)
-  rest_stops depth whole kind None place before old new (d.Item (s.Break at)) due stops = absurd stops
-  rest_stops depth whole kind (Some len) place before old new (d.Item (s.Break at)) due stops = absurd stops
-  rest_stops depth whole kind None place before old new (d.Item (s.Deep at)) due stops = absurd stops
-  rest_stops depth whole kind (Some len) place before old new (d.Item (s.Deep at)) due stops = absurd stops
-  rest_stops depth whole kind len place before old new (d.Rows fault) due stops = tt
+  rest_stops strict depth whole kind None place before old new (d.Item (s.Break at)) due stops = absurd stops
+  rest_stops strict depth whole kind (Some len) place before old new (d.Item (s.Break at)) due stops = absurd stops
+  rest_stops strict depth whole kind None place before old new (d.Item (s.Deep at)) due stops = absurd stops
+  rest_stops strict depth whole kind (Some len) place before old new (d.Item (s.Deep at)) due stops = absurd stops
+  rest_stops strict depth whole kind len place before old new (d.Rows fault) due stops = tt

@@ -1,13 +1,15 @@
 -- The lines of a string, behind its title.
 use Rattle.std.proofs.Common.{◌≡◌, ℕ, zero, suc, ◌+◌, ◌-◌, ◌≤◌, List, [], ◌∷◌, ◌++◌, length, Option, Some, None}
 use Rattle.std.proofs.Common.{Result, Ok, Err, inr, refl, sym, ap, subst, ◌∙◌, arith, append-nil, append_assoc}
-use Rattle.std.proofs.Common.{length-append}
+use Rattle.std.proofs.Common.{length-append, Bool, true, false}
 use Rattle.ciborium_ll.specs.Types.Read.{Ghosts}
 use Rattle.ciborium_ll.specs.Types.Decoder.{Decoder}
-use Rattle.ciborium_ll.specs.Title.{IsTitle}
+use Rattle.ciborium_ll.specs.Title.{IsTitle, IsStrictTitle}
 use Rattle.ciborium_ll.specs.Strings.{Kind, Bytes, Text, kind_header, IsString, indefinite, AreStrings, IsWritable}
 use Rattle.ciborium_ll.specs.Strings.AreStrings.{none as no_strings, more as more_strings}
 use Rattle.ciborium_ll.specs.Elements.{AreWritable}
+use Rattle.ciborium_ll.specs.Items.{AreTakenStrings, IsTakenTitle}
+use Rattle.ciborium_ll.specs.StrictElements.{AreFlat, none as no_flat, more as more_flat}
 use Rattle.ciborium_ll.specs.Types.Error.{Error}
 use Rattle.ciborium_ll.specs.Decoding.{Passes}
 use Rattle.ciborium_ll.specs.Finishing.{EndsBody}
@@ -178,6 +180,33 @@ add_string kind opens parts string bodies others
     rw (append-nil string, append-nil others) at strings' in
     rw (append_assoc x (t ++ s) string, append_assoc t s string, append_assoc b c others) (more o p strings)
 
+-- a string of a definite length behind others
+flat_then : (kind : Kind) (strings title body : List ℕ) (bodies : List (List ℕ)) → AreFlat kind strings bodies
+    → IsTitle title (kind_header kind (Some (length body))) → IsStrictTitle title (kind_header kind (Some (length body)))
+    → AreFlat kind (strings ++ (title ++ body)) (bodies ++ (body ∷ []))
+flat_then kind strings title body bodies no_flat p g =
+    subst (λ (z : List ℕ). AreFlat kind z (body ∷ [])) (append-nil (title ++ body)) (more_flat p g no_flat)
+flat_then kind strings title body bodies (more_flat {title = t} {body = b} {rest = z} {bodies = c} q f flat) p g =
+    subst (λ (y : List ℕ). AreFlat kind y (b ∷ (c ++ (body ∷ [])))) (sym (append_assoc (t ++ b) z (title ++ body)))
+    (more_flat q f (flat_then kind z title body c flat p g))
+
+pub taken_then : (strict : Bool) (kind : Kind) (strings title body : List ℕ) (bodies : List (List ℕ))
+    → AreTakenStrings strict kind strings bodies → IsTitle title (kind_header kind (Some (length body)))
+    → IsTakenTitle strict title (kind_header kind (Some (length body)))
+    → AreTakenStrings strict kind (strings ++ (title ++ body)) (bodies ++ (body ∷ []))
+taken_then true kind strings title body bodies taken p g = flat_then kind strings title body bodies taken p g
+taken_then false kind strings title body bodies taken p g = tt
+
+-- in any spelling
+pub taken_any : (strict : Bool) (kind : Kind) (strings : List ℕ) (bodies : List (List ℕ)) → strict ≡ false
+    → AreTakenStrings strict kind strings bodies
+taken_any true kind strings bodies any = absurd cc
+taken_any false kind strings bodies any = tt
+
+pub taken_none : (strict : Bool) (kind : Kind) → AreTakenStrings strict kind [] []
+taken_none true kind = no_flat
+taken_none false kind = tt
+
 -- an open within others
 pub add_open : (kind : Kind) (opens : ℕ) (parts title : List ℕ) (bodies : List (List ℕ))
     → AreOpen kind opens parts bodies → IsTitle title (kind_header kind None)
@@ -199,19 +228,23 @@ pub not_open : (kind : Kind) (opens : ℕ) (parts : List ℕ) (bodies : List (Li
 not_open kind opens parts bodies none e = (refl, refl)
 not_open kind opens parts bodies (more o p are) e = absurd cc
 
-pub close_last : (kind : Kind) (title bytes parts : List ℕ) (bodies : List (List ℕ))
+pub close_last : (strict : Bool) (kind : Kind) (title bytes parts : List ℕ) (bodies : List (List ℕ))
     → AreOpen kind (suc zero) parts bodies → IsTitle title (kind_header kind None) → title ++ bytes ≡ parts
-    → AreWritable kind bodies → EndsString kind (bytes ++ 0xff ∷ [])
-close_last kind title bytes parts bodies
-    (more {outer = x} {title = t} {strings = s} {bodies = b} {others = c} o p are) q e sound =
+    → AreWritable kind bodies → AreTakenStrings strict kind bytes bodies
+    → EndsString strict kind (bytes ++ 0xff ∷ [])
+close_last strict kind title bytes parts bodies
+    (more {outer = x} {title = t} {strings = s} {bodies = b} {others = c} o p are) q e sound taken =
     let empty = not_open kind zero x b o refl in
     let same : title ++ bytes ≡ t ++ s = e ∙ ap (λ (z : List ℕ). z ++ (t ++ s)) empty.0 in
     let both = one_title title t bytes s (kind_header kind None) (kind_header kind None) q p same in
+    let all : b ++ c ≡ c = ap (λ (z : List (List ℕ)). z ++ c) empty.1 in
     record {
       strings = s;
       bodies = c;
       are_strings = are;
-      sound = subst (λ (z : List (List ℕ)). AreWritable kind z) (ap (λ (z : List (List ℕ)). z ++ c) empty.1) sound;
+      taken = subst (λ (z : List ℕ). AreTakenStrings strict kind z c) both.2
+          (subst (λ (z : List (List ℕ)). AreTakenStrings strict kind bytes z) all taken);
+      sound = subst (λ (z : List (List ℕ)). AreWritable kind z) all sound;
       is = ap (λ (z : List ℕ). z ++ 0xff ∷ []) both.2;
     }
 

@@ -5,7 +5,7 @@ use Rattle.std.proofs.Common.{◌∙◌, inl, inr}
 use Rattle.std.specs.Io.KnownBytes.{Consumes}
 use Rattle.std.specs.Result.{result_ok}
 use Rattle.std.proofs.Common.{arith, append_assoc, append-nil, length-append}
-use Rattle.std.proofs.Common.{◌≤◌, take, take_all, get_or, ◌-◌, min}
+use Rattle.std.proofs.Common.{◌≤◌, take, take_all, get_or}
 use Rattle.std.proofs.lemmas.List.{take-append-le, length-take}
 use Rattle.std.proofs.KnownBytes.{Consumes-nil, Consumes-trans}
 use Rattle.ciborium_ll.specs.Types.Read.{Ghosts}

@@ -1,6 +1,6 @@
 -- The lines of titles, and what is due behind them.
 use Rattle.std.proofs.Common.{◌≡◌, ℕ, ◌+◌, ◌-◌, ◌≤◌, List, [], ◌∷◌, ◌++◌, length, Option, Some, None, refl, sym}
-use Rattle.std.proofs.Common.{ap, subst, ◌∙◌, arith, append-nil, length-append, Bool, false, Result, Ok, Err, OnOk, inl}
+use Rattle.std.proofs.Common.{ap, subst, ◌∙◌, arith, append-nil, length-append, Bool, Result, Ok, Err, OnOk, inl}
 use Rattle.ciborium_ll.specs.Types.Read.{Ghosts}
 use Rattle.ciborium_ll.specs.Types.Decoder.{Decoder}
 use Rattle.ciborium_ll.specs.Types.Header.{Header}
@@ -8,7 +8,7 @@ use Rattle.ciborium_ll.specs.Types.Header.TheVariants as h
 use Rattle.ciborium_ll.specs.Title.{IsTitle}
 use Rattle.ciborium_ll.specs.Strings.{Kind, Bytes, Text, kind_header}
 use Rattle.ciborium_ll.specs.Items.{Completes, positive, negative, float, simple, byte_string, text_string, open_bytes}
-use Rattle.ciborium_ll.specs.Items.{open_text, AreItems, IsItem}
+use Rattle.ciborium_ll.specs.Items.{open_text, AreItems, IsItem, IsTakenTitle}
 use Rattle.ciborium_ll.proofs.NestLaws.{alone_bytes, title_some}
 use Rattle.cbor_skip.specs.Due.{IsNest}
 use Rattle.cbor_skip.proofs.ItemSteps.{item_of}
@@ -30,7 +30,7 @@ use Rattle.cbor_look.specs.TitleRows.{DrawsTitle, ShowsAll, ShowsTitle, StopsAlo
 use Rattle.cbor_look.specs.Takings.{IsAlike}
 use Rattle.cbor_look.specs.Walks.{IsValue, IsDue, IsBehindItem, Breaks}
 use Rattle.cbor_look.proofs.ItemRows.{nothing}
-use Rattle.cbor_look.proofs.TakingLaws.{takes_then}
+use Rattle.cbor_look.proofs.WalkLaws.{stands_any}
 use Rattle.cbor_look.proofs.StringLaws.{lines_fault}
 use Rattle.cbor_look.proofs.DumpLaws.{lines_one, lines_then, shows_none, shows_then, shows_read}
 
@@ -82,36 +82,34 @@ title_line depth start old new before title x level place nests opens due p same
     (record { nests = nests; opens = opens; due = due; is_title = p; level = same })
 
 -- outside of strings, where the level is that of the walk
-pub walk_line : (depth whole start : ℕ) (old new : Option (List Line)) (before title : List ℕ) (x : Header)
-    (level place : ℕ) (walk : Walk) (due : IsDue depth whole walk before) → IsTitle title x
+pub walk_line : (strict : Bool) (depth whole start : ℕ) (old new : Option (List Line)) (before title : List ℕ) (x : Header)
+    (level place : ℕ) (walk : Walk) (due : IsDue strict depth whole walk before) → IsTitle title x
     → title_level x due.nests 0 ≡ length due.nests + 0 → level ≡ walk.used → place ≡ start + length before
     → Draws old new (record { level = level; offset = place; bytes = title; meaning = m.Header x } ∷ [])
     → Lines depth start old new before title
-walk_line depth whole start old new before title x level place walk due p plain same at drawn =
+walk_line strict depth whole start old new before title x level place walk due p plain same at drawn =
     let used = due.keeps.used in
     let counted : length due.nests ≡ length due.nests + 0 = omega arith in
-    title_line depth start old new before title x level place due.nests 0 (due_here depth due.nests before (
-      whole,
-      due.within,
-    ))
-    p (same ∙ (used ∙ (counted ∙ sym plain))) at drawn
+    title_line depth start old new before title x level place due.nests 0
+    (due_here depth due.nests before (whole, stands_any strict depth whole due.nests before due.within)) p (same ∙ (used ∙ (counted ∙ sym plain))) at drawn
 
-pub break_line : (depth whole start : ℕ) (old new : Option (List Line)) (before title : List ℕ) (level place : ℕ)
-    (closed : Bool) (walk : Walk) → Breaks depth whole closed walk before → IsTitle title h.Break → level ≡ walk.used
+pub break_line : (strict : Bool) (depth whole start : ℕ) (old new : Option (List Line)) (before title : List ℕ) (level place : ℕ)
+    (closed : Bool) (walk : Walk) → Breaks strict depth whole closed walk before → IsTitle title h.Break → level ≡ walk.used
     → place ≡ start + length before
     → Draws old new (record { level = level; offset = place; bytes = title; meaning = m.Header h.Break } ∷ [])
     → Lines depth start old new before title
-break_line depth whole start old new before title level place closed walk breaks p same at drawn =
+break_line strict depth whole start old new before title level place closed walk breaks p same at drawn =
     title_line depth start old new before title h.Break level place breaks.nests 0
-    (due_here depth breaks.nests before (whole, breaks.within)) p (same ∙ breaks.level) at drawn
+    (due_here depth breaks.nests before (whole, stands_any strict depth whole breaks.nests before breaks.within)) p
+    (same ∙ breaks.level) at drawn
 
 -- ---- items
 
 -- an item where one was due
-pub behind_item : (depth whole : ℕ) (walk : Walk) (before item : List ℕ) → IsDue depth whole walk before
-    → walk.used ≤ walk.depth
-    → ((levels : ℕ) → IsItem false levels item) → IsBehindItem depth whole walk (before ++ item)
-behind_item depth whole walk before item due within is_item =
+pub behind_item : (strict : Bool) (depth whole : ℕ) (walk : Walk) (before item : List ℕ)
+    → IsDue strict depth whole walk before → walk.used ≤ walk.depth
+    → ((levels : ℕ) → IsItem strict levels item) → IsBehindItem strict depth whole walk (before ++ item)
+behind_item strict depth whole walk before item due within is_item =
     let used = due.keeps.used in
     let same = due.keeps.same_depth in
     record {
@@ -124,78 +122,81 @@ behind_item depth whole walk before item due within is_item =
       is = refl;
     }
 
-value_completes : (x : Header) → IsValue x → (levels : ℕ) → Completes false levels x []
-value_completes (h.Positive n) value levels = positive
-value_completes (h.Negative n) value levels = negative
-value_completes (h.Float n) value levels = float
-value_completes (h.Simple n) value levels = simple
-value_completes x value levels = absurd value
+value_completes : (strict : Bool) (x : Header) → IsValue x → (levels : ℕ) → Completes strict levels x []
+value_completes strict (h.Positive n) value levels = positive
+value_completes strict (h.Negative n) value levels = negative
+value_completes strict (h.Float n) value levels = float
+value_completes strict (h.Simple n) value levels = simple
+value_completes strict x value levels = absurd value
 
-pub value_item : (x : Header) (title : List ℕ) → IsValue x → IsTitle title x → (levels : ℕ) → IsItem false levels title
-value_item x title value p levels =
-    subst (λ (z : List ℕ). IsItem false levels z) (append-nil title)
-    (item_of false levels title [] x p tt (value_completes x value levels))
+pub value_item : (strict : Bool) (x : Header) (title : List ℕ) → IsValue x → IsTitle title x
+    → IsTakenTitle strict title x → (levels : ℕ) → IsItem strict levels title
+value_item strict x title value p g levels =
+    subst (λ (z : List ℕ). IsItem strict levels z) (append-nil title)
+    (item_of strict levels title [] x p g (value_completes strict x value levels))
 
-rest_completes : (k : Kind) (len : Option ℕ) (bytes : List ℕ) → IsRest k len bytes → (levels : ℕ)
-    → Completes false levels (kind_header k len) bytes
-rest_completes Bytes (Some n) bytes rest levels = byte_string rest.0
-rest_completes Text (Some n) bytes rest levels = text_string rest.0 rest.1
-rest_completes Bytes None bytes rest levels =
-    subst (λ (z : List ℕ). Completes false levels (h.Bytes None) z) (sym rest.is) (open_bytes rest.are_strings tt)
-rest_completes Text None bytes rest levels =
-    subst (λ (z : List ℕ). Completes false levels (h.Text None) z) (sym rest.is)
-    (open_text rest.are_strings tt rest.sound)
+rest_completes : (strict : Bool) (k : Kind) (len : Option ℕ) (bytes : List ℕ) → IsRest strict k len bytes
+    → (levels : ℕ) → Completes strict levels (kind_header k len) bytes
+rest_completes strict Bytes (Some n) bytes rest levels = byte_string rest.0
+rest_completes strict Text (Some n) bytes rest levels = text_string rest.0 rest.1
+rest_completes strict Bytes None bytes rest levels =
+    subst (λ (z : List ℕ). Completes strict levels (h.Bytes None) z) (sym rest.is)
+    (open_bytes rest.are_strings rest.taken)
+rest_completes strict Text None bytes rest levels =
+    subst (λ (z : List ℕ). Completes strict levels (h.Text None) z) (sym rest.is)
+    (open_text rest.are_strings rest.taken rest.sound)
 
-pub string_item : (k : Kind) (len : Option ℕ) (title bytes : List ℕ) → IsTitle title (kind_header k len)
-    → IsRest k len bytes → (levels : ℕ) → IsItem false levels (title ++ bytes)
-string_item k len title bytes p rest levels =
-    item_of false levels title bytes (kind_header k len) p tt (rest_completes k len bytes rest levels)
+pub string_item : (strict : Bool) (k : Kind) (len : Option ℕ) (title bytes : List ℕ)
+    → IsTitle title (kind_header k len) → IsTakenTitle strict title (kind_header k len) → IsRest strict k len bytes
+    → (levels : ℕ) → IsItem strict levels (title ++ bytes)
+string_item strict k len title bytes p g rest levels =
+    item_of strict levels title bytes (kind_header k len) p g (rest_completes strict k len bytes rest levels)
 
 -- a break has one title
 pub break_bytes : (title : List ℕ) → IsTitle title h.Break → title ≡ 0xff ∷ []
 break_bytes title p = alone_bytes title h.Break p refl
 
 -- outside of all nests the bytes are items
-outside_items : (depth whole : ℕ) (nests : List Nest) (before : List ℕ) → StandsBehind depth whole nests before
-    → length nests ≡ 0 → AreItems false depth whole before
-outside_items depth whole nests before (outside i) empty = i
-outside_items depth whole nests before (inside w e p more are) empty = absurd (omega (arith, empty))
+outside_items : (strict : Bool) (depth whole : ℕ) (nests : List Nest) (before : List ℕ)
+    → StandsBehind strict depth whole nests before → length nests ≡ 0 → AreItems strict depth whole before
+outside_items strict depth whole nests before (outside i) empty = i
+outside_items strict depth whole nests before (inside w e p g more are) empty = absurd (omega (arith, empty))
 
-pub walk_ended : (depth whole : ℕ) (walk : Walk) (before : List ℕ) → IsDue depth whole walk before → walk.used ≡ 0
-    → AreItems false depth whole before
-walk_ended depth whole walk before due empty =
-    outside_items depth whole due.nests before due.within (sym due.keeps.used ∙ empty)
+pub walk_ended : (strict : Bool) (depth whole : ℕ) (walk : Walk) (before : List ℕ)
+    → IsDue strict depth whole walk before → walk.used ≡ 0 → AreItems strict depth whole before
+walk_ended strict depth whole walk before due empty =
+    outside_items strict depth whole due.nests before due.within (sym due.keeps.used ∙ empty)
 
 -- each nest has a title
-pub nests_few : (depth whole : ℕ) (nests : List Nest) (before : List ℕ) → StandsBehind depth whole nests before
-    → length nests ≤ length before
-nests_few depth whole nests before (outside i) = omega arith
-nests_few depth whole nests before
-    (inside {nests = outer} {before = b} {title = t} {items = i} {header = x} w e p more are) =
-    let few = nests_few depth whole outer b w in
+pub nests_few : (strict : Bool) (depth whole : ℕ) (nests : List Nest) (before : List ℕ)
+    → StandsBehind strict depth whole nests before → length nests ≤ length before
+nests_few strict depth whole nests before (outside i) = omega arith
+nests_few strict depth whole nests before
+    (inside {nests = outer} {before = b} {title = t} {items = i} {header = x} w e p g more are) =
+    let few = nests_few strict depth whole outer b w in
     let some = title_some t x p in
     omega (arith, few, some, length-append b (t ++ i), length-append t i)
 
 module _ {R E : Type 0} (source : Ghosts R E) where
   -- so many items were read, and behind them a beginning of one, behind which an item is due
-  pub record Comes (depth : ℕ) (walk : Walk) (old new : Decoder R) : Type 0 where
+  pub record Comes (strict : Bool) (depth : ℕ) (walk : Walk) (old new : Decoder R) : Type 0 where
     pub count : ℕ
     pub between : Decoder R
     pub reads : ReadsItems source depth count old between
     pub bytes : List ℕ
     pub passed : Passes source between bytes new
-    pub due : IsDue depth 0 walk bytes
-    pub lenient : between.strict ≡ false
+    pub due : IsDue strict depth 0 walk bytes
+    pub alike : IsAlike strict between
 
   -- all up to here was shown, and an item is due
-  pub record UpTo (depth : ℕ) (strict : Bool) (drawn then_drawn : Option (List Line)) (walk : Walk) (old new : Decoder
+  pub record UpTo (strict : Bool) (depth : ℕ) (drawn then_drawn : Option (List Line)) (walk : Walk) (old new : Decoder
       R)
       : Type 0 where
     pub bytes : List ℕ
     pub shows : Shows source depth old.offset drawn then_drawn [] bytes old new
     pub whole : ℕ
-    pub due : IsDue depth whole walk bytes
-    pub came : IsAlike strict old → old.strict ≡ false → Comes depth walk old new
+    pub due : IsDue strict depth whole walk bytes
+    pub came : IsAlike strict old → Comes strict depth walk old new
 
   pub title_then : (depth start : ℕ) (drawn middle then_drawn : Option (List Line)) (before title bytes : List ℕ)
       (old new : Decoder R) → Lines depth start drawn middle before title
@@ -213,16 +214,16 @@ module _ {R E : Type 0} (source : Ghosts R E) where
       title_then depth start drawn then_drawn then_drawn before title [] decoder decoder first
       (shows_none source depth start then_drawn (before ++ title) decoder)
 
-  alone_stops : {W : Type 0} (depth whole : ℕ) (header : Header) (place : ℕ) (before : List ℕ) (decoder : Decoder R)
-      (result : Result (Unit {0}) (DumpError E W)) → StopsAlone depth whole header place before result
-      → StopsTitle source depth whole header place before decoder result decoder
-  alone_stops depth whole header place before decoder (Ok done) stops = tt
-  alone_stops depth whole header place before decoder (Err (d.Item (s.Read error))) stops = absurd stops
-  alone_stops depth whole header place before decoder (Err (d.Item (s.Break at))) stops =
+  alone_stops : {W : Type 0} (strict : Bool) (depth whole : ℕ) (header : Header) (place : ℕ) (before : List ℕ) (decoder : Decoder R)
+      (result : Result (Unit {0}) (DumpError E W)) → StopsAlone strict depth whole header place before result
+      → StopsTitle source strict depth whole header place before decoder result decoder
+  alone_stops strict depth whole header place before decoder (Ok done) stops = tt
+  alone_stops strict depth whole header place before decoder (Err (d.Item (s.Read error))) stops = absurd stops
+  alone_stops strict depth whole header place before decoder (Err (d.Item (s.Break at))) stops =
       (stops.0, stops.1, stops.2, refl)
-  alone_stops depth whole header place before decoder (Err (d.Item (s.Deep at))) stops =
+  alone_stops strict depth whole header place before decoder (Err (d.Item (s.Deep at))) stops =
       (stops.0, stops.1, stops.2, refl)
-  alone_stops depth whole header place before decoder (Err (d.Rows fault)) stops = tt
+  alone_stops strict depth whole header place before decoder (Err (d.Rows fault)) stops = tt
 
   none_passed : {W : Type 0} (decoder : Decoder R) (result : Result (Unit {0}) (DumpError E W))
       → OnOk result (Passes source decoder [] decoder)
@@ -232,7 +233,7 @@ module _ {R E : Type 0} (source : Ghosts R E) where
   pub title_alone : {W : Type 0} (depth whole start : ℕ) (drawn then_drawn : Option (List Line))
       (before title : List ℕ) (header : Header) (walk : Walk) (strict : Bool) (place : ℕ)
       (result : Result (Unit {0}) (DumpError E W)) (decoder : Decoder R)
-      → DrawsTitle depth whole start drawn then_drawn before title header walk place result
+      → DrawsTitle strict depth whole start drawn then_drawn before title header walk place result
       → ShowsTitle source depth whole start drawn then_drawn before title header walk strict place result decoder
       decoder
   title_alone depth whole start drawn then_drawn before title header walk strict place result decoder draws = record {
@@ -240,16 +241,16 @@ module _ {R E : Type 0} (source : Ghosts R E) where
     shows = title_only depth start drawn then_drawn before title decoder draws.lines;
     due = rw (append-nil title) draws.due;
     passed = λ alike. none_passed decoder result;
-    stops = λ alike lenient. alone_stops depth whole header place before decoder result draws.stops;
+    stops = λ alike. alone_stops strict depth whole header place before decoder result draws.stops;
   }
 
   -- what was read of a title before a fault
-  pub up_fails : (depth : ℕ) (strict : Bool) (drawn middle then_drawn : Option (List Line)) (walk : Walk) (row : List ℕ)
-      (place level : ℕ) (old between new : Decoder R) → (up : UpTo depth strict drawn middle walk old between)
+  pub up_fails : (strict : Bool) (depth : ℕ) (drawn middle then_drawn : Option (List Line)) (walk : Walk) (row : List ℕ)
+      (place level : ℕ) (old between new : Decoder R) → (up : UpTo strict depth drawn middle walk old between)
       → Takes source between row new → place ≡ between.offset → level ≡ walk.used
       → Draws middle then_drawn (fault_lines level place row)
       → Shows source depth old.offset drawn then_drawn [] (up.bytes ++ row) old new
-  up_fails depth strict drawn middle then_drawn walk row place level old between new up takes at same drawn_fault =
+  up_fails strict depth drawn middle then_drawn walk row place level old between new up takes at same drawn_fault =
       let used = up.due.keeps.used in
       let moved = up.shows.takes.offset in
       shows_then source depth old.offset drawn middle then_drawn [] up.bytes row old between new up.shows (record {
@@ -258,52 +259,53 @@ module _ {R E : Type 0} (source : Ghosts R E) where
             (inl (record {
               nests = up.due.nests;
               opens = 0;
-              due = due_here depth up.due.nests up.bytes (up.whole, up.due.within);
+              due = due_here depth up.due.nests up.bytes
+                  (up.whole, stands_any strict depth up.whole up.due.nests up.bytes up.due.within);
               level = omega (arith, same, used);
             }));
         takes = takes;
       })
 
   -- a title that was read, and what is shown of it and behind it
-  pub up_title : {W : Type 0} (depth whole place : ℕ) (strict : Bool) (header : Header) (drawn middle then_drawn :
+  pub up_title : {W : Type 0} (strict : Bool) (depth whole place : ℕ) (header : Header) (drawn middle then_drawn :
       Option (List Line)) (before : List ℕ)
       (walk : Walk) (row : List ℕ) (result : Result (Unit {0}) (DumpError E W)) (old between titled new : Decoder R)
       → Shows source depth old.offset drawn middle [] before old between → Takes source between row titled
       → (title : ShowsTitle source depth whole old.offset middle then_drawn before row header walk strict place result
       titled new)
       → Shows source depth old.offset drawn then_drawn [] (before ++ (row ++ title.bytes)) old new
-  up_title depth whole place strict header drawn middle then_drawn before walk row result old between titled new shows
+  up_title strict depth whole place header drawn middle then_drawn before walk row result old between titled new shows
       takes title =
       shows_then source depth old.offset drawn middle then_drawn [] before (row ++ title.bytes) old between new shows
       (shows_read source depth old.offset middle then_drawn before row title.bytes between titled new takes
       title.shows)
 
   -- where no title came: the end of the sequence, or a fault
-  pub up_ended : {W : Type 0} (depth : ℕ) (strict : Bool) (drawn middle then_drawn : Option (List Line)) (walk : Walk)
+  pub up_ended : {W : Type 0} (strict : Bool) (depth : ℕ) (drawn middle then_drawn : Option (List Line)) (walk : Walk)
       (row : List ℕ) (place level : ℕ) (old between new : Decoder R) (error : Error E)
-      (result : Result E (DumpError E W)) → (up : UpTo depth strict drawn middle walk old between)
+      (result : Result E (DumpError E W)) → (up : UpTo strict depth drawn middle walk old between)
       → Takes source between row new → place ≡ between.offset → level ≡ walk.used
       → Draws middle then_drawn (fault_lines level place row) → EndsTitles error level (length row) result
-      → ShowsAll source depth drawn then_drawn result old new
-  up_ended depth strict drawn middle then_drawn walk row place level old between new error (Ok fault) up takes at same
+      → ShowsAll source strict depth drawn then_drawn result old new
+  up_ended strict depth drawn middle then_drawn walk row place level old between new error (Ok fault) up takes at same
       drawn_fault ends =
       let none = nothing row ends.2 in
-      let shows = up_fails depth strict drawn middle then_drawn walk row place level old between new up takes at same
+      let shows = up_fails strict depth drawn middle then_drawn walk row place level old between new up takes at same
       drawn_fault in
-      let items = walk_ended depth up.whole walk up.bytes up.due (sym same ∙ ends.1) in
+      let items = walk_ended strict depth up.whole walk up.bytes up.due (sym same ∙ ends.1) in
       record {
         bytes = up.bytes ++ row;
         shows = shows;
         whole = (
           up.whole,
-          subst (λ (z : List ℕ). AreItems false depth up.whole z)
+          subst (λ (z : List ℕ). AreItems strict depth up.whole z)
               (sym (ap (λ (z : List ℕ). up.bytes ++ z) none ∙ append-nil up.bytes)) items,
         );
       }
-  up_ended depth strict drawn middle then_drawn walk row place level old between new error (Err why) up takes at same
+  up_ended strict depth drawn middle then_drawn walk row place level old between new error (Err why) up takes at same
       drawn_fault ends = record {
         bytes = up.bytes ++ row;
-        shows = up_fails depth strict drawn middle then_drawn walk row place level old between new up takes at same
+        shows = up_fails strict depth drawn middle then_drawn walk row place level old between new up takes at same
             drawn_fault;
         whole = tt;
       }

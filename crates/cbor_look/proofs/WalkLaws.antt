@@ -7,12 +7,14 @@ use Rattle.ciborium_ll.specs.Types.Header.{Header}
 use Rattle.ciborium_ll.specs.Types.Header.TheVariants as h
 use Rattle.ciborium_ll.specs.Title.{IsTitle}
 use Rattle.ciborium_ll.specs.Items.{Completes, tag, array, pairs, open_array, open_pairs, AreItems, no_items, IsItem}
+use Rattle.ciborium_ll.specs.Items.{IsTakenTitle}
 use Rattle.cbor_skip.specs.declared.remaining.Remaining.{Remaining}
 use Rattle.cbor_skip.specs.declared.remaining.Remaining.TheVariants as r
 use Rattle.cbor_skip.specs.Due.{TakesMore}
 use Rattle.cbor_skip.specs.Remaining.{IsRemaining, is_done, closes}
 use Rattle.cbor_skip.proofs.RemainingLaws.{takes_more}
 use Rattle.cbor_skip.proofs.ItemSteps.{item_of, items_item}
+use Rattle.cbor_skip.proofs.StrictnessLaws.{items_looser}
 use Rattle.cbor_look.specs.declared.walk.Walk.{Walk}
 use Rattle.cbor_look.specs.Levels.{Nest, StandsBehind, outside, inside, closes_one, title_level}
 use Rattle.cbor_look.specs.Walks.{remaining_at, AreKept, KeepsNests, IsDue, IsDueBehind, IsBehindItem, Breaks}
@@ -21,35 +23,35 @@ use Rattle.cbor_look.specs.Walks.{whole_behind, IsDeepest}
 -- ---- all items of a nest
 
 -- all items were read, by what remains
-all_read : (x : Header) (d count : ℕ) (items : List ℕ) (remaining : Remaining) → IsRemaining x count remaining
-    → is_done remaining ≡ true → AreItems false d count items → Completes false (suc d) x items
-all_read (h.Tag n) d count items (r.Items zero) is done i =
-    let one : count ≡ 1 = omega (arith, is) in tag (subst (λ (m : ℕ). AreItems false d m items) one i)
-all_read (h.Array (Some n)) d count items (r.Items zero) is done i =
-    let all : count ≡ n = omega (arith, is) in array (subst (λ (m : ℕ). AreItems false d m items) all i)
-all_read (h.Map (Some n)) d count items (r.Pairs zero) is done i =
-    let all : count ≡ 2 * n = omega (arith, is) in pairs (subst (λ (m : ℕ). AreItems false d m items) all i)
-all_read (h.Tag n) d count items (r.Items (suc m)) is done i = absurd cc
-all_read (h.Array (Some n)) d count items (r.Items (suc m)) is done i = absurd cc
-all_read (h.Map (Some n)) d count items (r.Pairs (suc m)) is done i = absurd cc
-all_read (h.Map (Some n)) d count items (r.Value m) is done i = absurd cc
-all_read (h.Array None) d count items r.OpenItems is done i = absurd cc
-all_read (h.Map None) d count items r.OpenPairs is done i = absurd cc
-all_read (h.Map None) d count items r.OpenValue is done i = absurd cc
-all_read x d count items remaining is done i = absurd is
+all_read : (strict : Bool) (x : Header) (d count : ℕ) (items : List ℕ) (remaining : Remaining) → IsRemaining x count remaining
+    → is_done remaining ≡ true → AreItems strict d count items → Completes strict (suc d) x items
+all_read strict (h.Tag n) d count items (r.Items zero) is done i =
+    let one : count ≡ 1 = omega (arith, is) in tag (subst (λ (m : ℕ). AreItems strict d m items) one i)
+all_read strict (h.Array (Some n)) d count items (r.Items zero) is done i =
+    let all : count ≡ n = omega (arith, is) in array (subst (λ (m : ℕ). AreItems strict d m items) all i)
+all_read strict (h.Map (Some n)) d count items (r.Pairs zero) is done i =
+    let all : count ≡ 2 * n = omega (arith, is) in pairs (subst (λ (m : ℕ). AreItems strict d m items) all i)
+all_read strict (h.Tag n) d count items (r.Items (suc m)) is done i = absurd cc
+all_read strict (h.Array (Some n)) d count items (r.Items (suc m)) is done i = absurd cc
+all_read strict (h.Map (Some n)) d count items (r.Pairs (suc m)) is done i = absurd cc
+all_read strict (h.Map (Some n)) d count items (r.Value m) is done i = absurd cc
+all_read strict (h.Array None) d count items r.OpenItems is done i = absurd cc
+all_read strict (h.Map None) d count items r.OpenPairs is done i = absurd cc
+all_read strict (h.Map None) d count items r.OpenValue is done i = absurd cc
+all_read strict x d count items remaining is done i = absurd is
 
 -- a break ended them, by what remains
-all_closed : (x : Header) (d count : ℕ) (items : List ℕ) (remaining : Remaining) → IsRemaining x count remaining
-    → closes remaining ≡ true → AreItems false d count items → Completes false (suc d) x (items ++ 0xff ∷ [])
-all_closed (h.Array None) d count items r.OpenItems is may i = open_array i
-all_closed (h.Map None) d count items r.OpenPairs is may i =
-    open_pairs is.0 (subst (λ (m : ℕ). AreItems false d m items) is.1 i)
-all_closed (h.Tag n) d count items (r.Items m) is may i = absurd cc
-all_closed (h.Array (Some n)) d count items (r.Items m) is may i = absurd cc
-all_closed (h.Map (Some n)) d count items (r.Pairs m) is may i = absurd cc
-all_closed (h.Map (Some n)) d count items (r.Value m) is may i = absurd cc
-all_closed (h.Map None) d count items r.OpenValue is may i = absurd cc
-all_closed x d count items remaining is may i = absurd is
+all_closed : (strict : Bool) (x : Header) (d count : ℕ) (items : List ℕ) (remaining : Remaining) → IsRemaining x count remaining
+    → closes remaining ≡ true → AreItems strict d count items → Completes strict (suc d) x (items ++ 0xff ∷ [])
+all_closed strict (h.Array None) d count items r.OpenItems is may i = open_array i
+all_closed strict (h.Map None) d count items r.OpenPairs is may i =
+    open_pairs is.0 (subst (λ (m : ℕ). AreItems strict d m items) is.1 i)
+all_closed strict (h.Tag n) d count items (r.Items m) is may i = absurd cc
+all_closed strict (h.Array (Some n)) d count items (r.Items m) is may i = absurd cc
+all_closed strict (h.Map (Some n)) d count items (r.Pairs m) is may i = absurd cc
+all_closed strict (h.Map (Some n)) d count items (r.Value m) is may i = absurd cc
+all_closed strict (h.Map None) d count items r.OpenValue is may i = absurd cc
+all_closed strict x d count items remaining is may i = absurd is
 
 -- ---- what is kept
 
@@ -82,23 +84,24 @@ kept_more levels nests nest at x end room is some kept =
 -- ---- the innermost nest
 
 -- its title and its items behind what is before it
-record Inner (depth whole : ℕ) (nest : Nest) (outer : List Nest) (bytes : List ℕ) : Type 0 where
+record Inner (strict : Bool) (depth whole : ℕ) (nest : Nest) (outer : List Nest) (bytes : List ℕ) : Type 0 where
   before : List ℕ
   title : List ℕ
   items : List ℕ
   levels : ℕ
-  within : StandsBehind depth whole outer before
+  within : StandsBehind strict depth whole outer before
   level : length outer + suc levels ≡ depth
   is_title : IsTitle title nest.header
+  taken : IsTakenTitle strict title nest.header
   takes_more : TakesMore nest.header nest.count
-  are_items : AreItems false levels nest.count items
+  are_items : AreItems strict levels nest.count items
   is : bytes ≡ before ++ (title ++ items)
 
-inner_of : (depth whole : ℕ) (nest : Nest) (outer : List Nest) (bytes : List ℕ)
-    → StandsBehind depth whole (nest ∷ outer) bytes
-    → Inner depth whole nest outer bytes
-inner_of depth whole nest outer bytes
-    (inside {levels = l} {before = b} {title = t} {items = i} w e p more are) = record {
+inner_of : (strict : Bool) (depth whole : ℕ) (nest : Nest) (outer : List Nest) (bytes : List ℕ)
+    → StandsBehind strict depth whole (nest ∷ outer) bytes
+    → Inner strict depth whole nest outer bytes
+inner_of strict depth whole nest outer bytes
+    (inside {levels = l} {before = b} {title = t} {items = i} w e p g more are) = record {
       before = b;
       title = t;
       items = i;
@@ -106,39 +109,40 @@ inner_of depth whole nest outer bytes
       within = w;
       level = e;
       is_title = p;
+      taken = g;
       takes_more = more;
       are_items = are;
       is = refl;
     }
 
 -- no item ends a nest of which more is due: it is the same with one more
-goes_on : (depth whole levels : ℕ) (nest : Nest) (outer : List Nest) (bytes item : List ℕ)
-    → Inner depth whole nest outer bytes → suc (length outer) + levels ≡ depth → IsItem false levels item
+goes_on : (strict : Bool) (depth whole levels : ℕ) (nest : Nest) (outer : List Nest) (bytes item : List ℕ)
+    → Inner strict depth whole nest outer bytes → suc (length outer) + levels ≡ depth → IsItem strict levels item
     → TakesMore nest.header (suc nest.count)
-    → StandsBehind depth whole (record { header = nest.header; count = suc nest.count } ∷ outer) (bytes ++ item)
-goes_on depth whole levels nest outer bytes item inner level is_item more =
+    → StandsBehind strict depth whole (record { header = nest.header; count = suc nest.count } ∷ outer) (bytes ++ item)
+goes_on strict depth whole levels nest outer bytes item inner level is_item more =
     let same : levels ≡ inner.levels = let e = inner.level in omega (arith, e, level) in
     let all : inner.before ++ (inner.title ++ (inner.items ++ item)) ≡ bytes ++ item =
     sym (ap (λ (z : List ℕ). z ++ item) inner.is ∙ (append_assoc inner.before (inner.title ++ inner.items) item
     ∙ ap (λ (z : List ℕ). inner.before ++ z) (append_assoc inner.title inner.items item))) in
-    let item' = subst (λ (n : ℕ). IsItem false n item) same is_item in
-    subst (λ (z : List ℕ). StandsBehind depth whole (record { header = nest.header; count = suc nest.count } ∷ outer) z)
+    let item' = subst (λ (n : ℕ). IsItem strict n item) same is_item in
+    subst (λ (z : List ℕ). StandsBehind strict depth whole (record { header = nest.header; count = suc nest.count } ∷ outer) z)
     all
-    (inside inner.within inner.level inner.is_title more
-    (items_item false inner.levels nest.count inner.items item inner.are_items item'))
+    (inside inner.within inner.level inner.is_title inner.taken more
+    (items_item strict inner.levels nest.count inner.items item inner.are_items item'))
 
 -- what completes the nest ends an item a level further out
-ends_nest : (depth whole : ℕ) (nest : Nest) (outer : List Nest) (bytes more rest : List ℕ) (walk : Walk)
-    (inner : Inner depth whole nest outer bytes) → rest ≡ inner.items ++ more
-    → Completes false (suc inner.levels) nest.header rest → KeepsNests depth walk outer
-    → IsBehindItem depth whole walk (bytes ++ more)
-ends_nest depth whole nest outer bytes more rest walk inner e completes keeps = record {
+ends_nest : (strict : Bool) (depth whole : ℕ) (nest : Nest) (outer : List Nest) (bytes more rest : List ℕ) (walk : Walk)
+    (inner : Inner strict depth whole nest outer bytes) → rest ≡ inner.items ++ more
+    → Completes strict (suc inner.levels) nest.header rest → KeepsNests depth walk outer
+    → IsBehindItem strict depth whole walk (bytes ++ more)
+ends_nest strict depth whole nest outer bytes more rest walk inner e completes keeps = record {
   before = inner.before;
   item = inner.title ++ rest;
   levels = suc inner.levels;
   due = record { nests = outer; within = inner.within; keeps = keeps };
   left = inner.level;
-  is_item = item_of false (suc inner.levels) inner.title rest nest.header inner.is_title tt completes;
+  is_item = item_of strict (suc inner.levels) inner.title rest nest.header inner.is_title inner.taken completes;
   is =
       ap (λ (z : List ℕ). z ++ more) inner.is ∙ (append_assoc inner.before (inner.title ++ inner.items) more
       ∙ (ap (λ (z : List ℕ). inner.before ++ z) (append_assoc inner.title inner.items more)
@@ -147,38 +151,49 @@ ends_nest depth whole nest outer bytes more rest walk inner e completes keeps = 
 
 -- ---- the walk
 
+-- what is in its shortest spelling is in any
+pub stands_any : (strict : Bool) (depth whole : ℕ) (nests : List Nest) (bytes : List ℕ)
+    → StandsBehind strict depth whole nests bytes → StandsBehind false depth whole nests bytes
+stands_any strict depth whole nests bytes (outside are) =
+    outside (items_looser false strict (λ no. absurd cc) depth whole bytes are)
+stands_any strict depth whole nests bytes
+    (inside {levels = l} {count = n} {nests = outer} {before = b} {items = i} w e p g more are) =
+    inside (stands_any strict depth whole outer b w) e p tt more
+    (items_looser false strict (λ no. absurd cc) l n i are)
+
 -- within a nest no more items are whole
-within_nest : (depth whole used : ℕ) (walk : Walk) (bytes : List ℕ) → walk.used ≡ used → 0 < used
-    → IsDue depth whole walk bytes → IsDueBehind depth whole walk bytes
-within_nest depth whole zero walk bytes same some due = absurd (omega (arith, some))
-within_nest depth whole (suc used) walk bytes same some due =
-    subst (λ (n : ℕ). IsDue depth (whole_behind whole n) walk bytes) (sym same) due
+within_nest : (strict : Bool) (depth whole used : ℕ) (walk : Walk) (bytes : List ℕ) → walk.used ≡ used → 0 < used
+    → IsDue strict depth whole walk bytes → IsDueBehind strict depth whole walk bytes
+within_nest strict depth whole zero walk bytes same some due = absurd (omega (arith, some))
+within_nest strict depth whole (suc used) walk bytes same some due =
+    subst (λ (n : ℕ). IsDue strict depth (whole_behind whole n) walk bytes) (sym same) due
 
 -- outside of all nests one more is
-due_outside : (depth whole : ℕ) (walk : Walk) (bytes : List ℕ) → walk.used ≡ 0
-    → IsDue depth (suc whole) walk bytes → IsDueBehind depth whole walk bytes
-due_outside depth whole walk bytes none due =
-    subst (λ (n : ℕ). IsDue depth (whole_behind whole n) walk bytes) (sym none) due
+due_outside : (strict : Bool) (depth whole : ℕ) (walk : Walk) (bytes : List ℕ) → walk.used ≡ 0
+    → IsDue strict depth (suc whole) walk bytes → IsDueBehind strict depth whole walk bytes
+due_outside strict depth whole walk bytes none due =
+    subst (λ (n : ℕ). IsDue strict depth (whole_behind whole n) walk bytes) (sym none) due
 
-pub due_first : (depth : ℕ) (walk : Walk) → walk.used ≡ 0 → walk.depth ≡ depth → length walk.levels ≡ 256
-    → IsDue depth 0 walk []
-due_first depth walk used same room = record {
+pub due_first : (strict : Bool) (depth : ℕ) (walk : Walk) → walk.used ≡ 0 → walk.depth ≡ depth → length walk.levels ≡ 256
+    → IsDue strict depth 0 walk []
+due_first strict depth walk used same room = record {
   nests = [];
   within = outside no_items;
   keeps = record { kept = tt; used = used; same_depth = same; room = room };
 }
 
 -- no level is left
-pub deepest : (depth whole : ℕ) (walk : Walk) (before : List ℕ) → IsDue depth whole walk before
-    → walk.used ≡ walk.depth → IsDeepest depth whole before
-deepest depth whole walk before due full =
+pub deepest : (strict : Bool) (depth whole : ℕ) (walk : Walk) (before : List ℕ) → IsDue strict depth whole walk before
+    → walk.used ≡ walk.depth → IsDeepest strict depth whole before
+deepest strict depth whole walk before due full =
     record { nests = due.nests; within = due.within; full = sym due.keeps.used ∙ (full ∙ due.keeps.same_depth) }
 
 -- a nest with nothing in it is an item
-pub enters_empty : (depth whole : ℕ) (walk : Walk) (before title : List ℕ) (header : Header) (x : Remaining)
-    → IsDue depth whole walk before → IsTitle title header → walk.used ≤ walk.depth → (walk.used ≡ walk.depth → ⊥)
-    → IsRemaining header 0 x → is_done x ≡ true → IsBehindItem depth whole walk (before ++ title)
-enters_empty depth whole walk before title header x due p within room is done =
+pub enters_empty : (strict : Bool) (depth whole : ℕ) (walk : Walk) (before title : List ℕ) (header : Header) (x : Remaining)
+    → IsDue strict depth whole walk before → IsTitle title header → IsTakenTitle strict title header
+    → walk.used ≤ walk.depth → (walk.used ≡ walk.depth → ⊥)
+    → IsRemaining header 0 x → is_done x ≡ true → IsBehindItem strict depth whole walk (before ++ title)
+enters_empty strict depth whole walk before title header x due p g within room is done =
     let levels = depth - suc (length due.nests) in
     let used = due.keeps.used in
     let same = due.keeps.same_depth in
@@ -188,18 +203,19 @@ enters_empty depth whole walk before title header x due p within room is done =
       levels = suc levels;
       due = due;
       left = omega (arith, used, same, within, room);
-      is_item = subst (λ (z : List ℕ). IsItem false (suc levels) z) (append-nil title)
-          (item_of false (suc levels) title [] header p tt (all_read header levels 0 [] x is done no_items));
+      is_item = subst (λ (z : List ℕ). IsItem strict (suc levels) z) (append-nil title)
+          (item_of strict (suc levels) title [] header p g (all_read strict header levels 0 [] x is done no_items));
       is = refl;
     }
 
 -- a nest in which something is due is one more
-pub enters_within : (depth whole : ℕ) (walk new : Walk) (before title : List ℕ) (header : Header) (x : Remaining)
-    → IsDue depth whole walk before → IsTitle title header → walk.used ≤ walk.depth → walk.depth ≤ 256
+pub enters_within : (strict : Bool) (depth whole : ℕ) (walk new : Walk) (before title : List ℕ) (header : Header) (x : Remaining)
+    → IsDue strict depth whole walk before → IsTitle title header → IsTakenTitle strict title header
+    → walk.used ≤ walk.depth → walk.depth ≤ 256
     → (walk.used ≡ walk.depth → ⊥) → IsRemaining header 0 x → is_done x ≡ false
     → new.levels ≡ set walk.levels walk.used x → new.used ≡ walk.used + 1 → new.depth ≡ walk.depth
-    → IsDueBehind depth whole new (before ++ title)
-enters_within depth whole walk new before title header x due p within shallow room is some written one deep =
+    → IsDueBehind strict depth whole new (before ++ title)
+enters_within strict depth whole walk new before title header x due p g within shallow room is some written one deep =
     let levels = depth - suc (length due.nests) in
     let used = due.keeps.used in
     let same = due.keeps.same_depth in
@@ -209,10 +225,10 @@ enters_within depth whole walk new before title header x due p within shallow ro
     let more = takes_more header 0 x is some in
     let level : length due.nests + suc levels ≡ depth = omega (arith, used, same, within, room) in
     let fits : walk.used < length walk.levels = omega (arith, used, same, within, room, shallow, long) in
-    within_nest depth whole new.used new (before ++ title) refl (omega (arith, one)) (record {
+    within_nest strict depth whole new.used new (before ++ title) refl (omega (arith, one)) (record {
       nests = nest ∷ due.nests;
-      within = subst (λ (z : List ℕ). StandsBehind depth whole (nest ∷ due.nests) z) all
-          (inside due.within level p more.0 no_items);
+      within = subst (λ (z : List ℕ). StandsBehind strict depth whole (nest ∷ due.nests) z) all
+          (inside due.within level p g more.0 no_items);
       keeps = record {
         kept = subst (λ (z : List Remaining). AreKept z (nest ∷ due.nests)) (sym written)
             (kept_more walk.levels due.nests nest walk.used x used fits is some due.keeps.kept);
@@ -232,9 +248,9 @@ level_closed : (nests : List Nest) → closes_one nests 0 ≡ true → title_lev
 level_closed nests e =
     ap (λ (b : Bool). cond b ((length nests + 0) - 1) (length nests + 0)) e ∙ omega arith
 
-breaks_not : (depth whole : ℕ) (walk : Walk) (before : List ℕ) (due : IsDue depth whole walk before)
-    → closes_one due.nests 0 ≡ false → Breaks depth whole false walk before
-breaks_not depth whole walk before due none = record {
+breaks_not : (strict : Bool) (depth whole : ℕ) (walk : Walk) (before : List ℕ) (due : IsDue strict depth whole walk before)
+    → closes_one due.nests 0 ≡ false → Breaks strict depth whole false walk before
+breaks_not strict depth whole walk before due none = record {
   nests = due.nests;
   within = due.within;
   level = due.keeps.used ∙ sym (level_open due.nests none);
@@ -247,10 +263,10 @@ outside_no_break : (nests : List Nest) → length nests ≡ 0 → closes_one nes
 outside_no_break [] e = refl
 outside_no_break (nest ∷ nests) e = absurd (omega (arith, e))
 
-pub break_outside : (depth whole : ℕ) (walk : Walk) (before : List ℕ) → IsDue depth whole walk before → walk.used ≡ 0
-    → Breaks depth whole false walk before
-break_outside depth whole walk before due none =
-    breaks_not depth whole walk before due (outside_no_break due.nests (sym due.keeps.used ∙ none))
+pub break_outside : (strict : Bool) (depth whole : ℕ) (walk : Walk) (before : List ℕ) → IsDue strict depth whole walk before → walk.used ≡ 0
+    → Breaks strict depth whole false walk before
+break_outside strict depth whole walk before due none =
+    breaks_not strict depth whole walk before due (outside_no_break due.nests (sym due.keeps.used ∙ none))
 
 -- whether one may is whether the innermost nest takes it
 closes_as_kept : (depth : ℕ) (walk : Walk) (nests : List Nest) → KeepsNests depth walk nests → (walk.used ≡ 0 → ⊥)
@@ -263,39 +279,39 @@ closes_as_kept depth walk (nest ∷ nests) keeps some =
     let same = takes_more nest.header nest.count (remaining_at walk.levels (length nests)) kept.0 kept.1 in
     same.1 ∙ ap (λ (k : ℕ). closes (remaining_at walk.levels k)) at
 
-pub break_refused : (depth whole : ℕ) (walk : Walk) (before : List ℕ) → IsDue depth whole walk before
+pub break_refused : (strict : Bool) (depth whole : ℕ) (walk : Walk) (before : List ℕ) → IsDue strict depth whole walk before
     → (walk.used ≡ 0 → ⊥)
-    → closes (remaining_at walk.levels (walk.used - 1)) ≡ false → Breaks depth whole false walk before
-break_refused depth whole walk before due some refused =
-    breaks_not depth whole walk before due (closes_as_kept depth walk due.nests due.keeps some ∙ refused)
+    → closes (remaining_at walk.levels (walk.used - 1)) ≡ false → Breaks strict depth whole false walk before
+break_refused strict depth whole walk before due some refused =
+    breaks_not strict depth whole walk before due (closes_as_kept depth walk due.nests due.keeps some ∙ refused)
 
-closed_behind : (depth whole : ℕ) (walk new : Walk) (before : List ℕ) (nests : List Nest)
-    → StandsBehind depth whole nests before
+closed_behind : (strict : Bool) (depth whole : ℕ) (walk new : Walk) (before : List ℕ) (nests : List Nest)
+    → StandsBehind strict depth whole nests before
     → KeepsNests depth walk nests → (walk.used ≡ 0 → ⊥) → closes (remaining_at walk.levels (walk.used - 1)) ≡ true
     → new.levels ≡ walk.levels → new.used ≡ walk.used - 1 → new.depth ≡ walk.depth
-    → IsBehindItem depth whole new (before ++ 0xff ∷ [])
-closed_behind depth whole walk new before [] within keeps some may same less deep = absurd (some keeps.used)
-closed_behind depth whole walk new before (nest ∷ nests) within keeps some may same less deep =
+    → IsBehindItem strict depth whole new (before ++ 0xff ∷ [])
+closed_behind strict depth whole walk new before [] within keeps some may same less deep = absurd (some keeps.used)
+closed_behind strict depth whole walk new before (nest ∷ nests) within keeps some may same less deep =
     let used = keeps.used in
     let kept = keeps.kept in
     let at : walk.used - 1 ≡ length nests = omega (arith, used) in
     let remaining = remaining_at walk.levels (length nests) in
     let closing : closes remaining ≡ true = subst (λ (k : ℕ). closes (remaining_at walk.levels k) ≡ true) at may in
-    let inner = inner_of depth whole nest nests before within in
+    let inner = inner_of strict depth whole nest nests before within in
     let completes =
-    all_closed nest.header inner.levels nest.count inner.items remaining kept.0 closing inner.are_items in
-    ends_nest depth whole nest nests before (0xff ∷ []) (inner.items ++ 0xff ∷ []) new inner refl completes (record {
+    all_closed strict nest.header inner.levels nest.count inner.items remaining kept.0 closing inner.are_items in
+    ends_nest strict depth whole nest nests before (0xff ∷ []) (inner.items ++ 0xff ∷ []) new inner refl completes (record {
       kept = subst (λ (z : List Remaining). AreKept z nests) (sym same) kept.2;
       used = less ∙ at;
       same_depth = deep ∙ keeps.same_depth;
       room = ap length same ∙ keeps.room;
     })
 
-pub break_closes : (depth whole : ℕ) (walk new : Walk) (before : List ℕ) → IsDue depth whole walk before
+pub break_closes : (strict : Bool) (depth whole : ℕ) (walk new : Walk) (before : List ℕ) → IsDue strict depth whole walk before
     → (walk.used ≡ 0 → ⊥)
     → closes (remaining_at walk.levels (walk.used - 1)) ≡ true
-    → new.levels ≡ walk.levels → new.used ≡ walk.used - 1 → new.depth ≡ walk.depth → Breaks depth whole true new before
-break_closes depth whole walk new before due some may same less deep =
+    → new.levels ≡ walk.levels → new.used ≡ walk.used - 1 → new.depth ≡ walk.depth → Breaks strict depth whole true new before
+break_closes strict depth whole walk new before due some may same less deep =
     let closing = closes_as_kept depth walk due.nests due.keeps some ∙ may in
     let used = due.keeps.used in
     record {
@@ -303,34 +319,34 @@ break_closes depth whole walk new before due some may same less deep =
       within = due.within;
       level = less ∙ (ap (λ (k : ℕ). k - 1) used ∙ sym (level_closed due.nests closing));
       may = closing;
-      behind = λ e. closed_behind depth whole walk new before due.nests due.within due.keeps some may same less deep;
+      behind = λ e. closed_behind strict depth whole walk new before due.nests due.within due.keeps some may same less deep;
     }
 
 -- ---- the end of an item
 
 -- outside of all nests
-outside_more : (depth whole levels : ℕ) (nests : List Nest) (before item : List ℕ)
-    → StandsBehind depth whole nests before
-    → length nests ≡ 0 → levels ≡ depth → IsItem false levels item → StandsBehind depth (suc whole) [] (before ++ item)
-outside_more depth whole levels nests before item (outside i) none same is_item =
-    outside (items_item false depth whole before item i (subst (λ (k : ℕ). IsItem false k item) same is_item))
-outside_more depth whole levels nests before item (inside w e p more are) none same is_item = absurd (omega (
+outside_more : (strict : Bool) (depth whole levels : ℕ) (nests : List Nest) (before item : List ℕ)
+    → StandsBehind strict depth whole nests before
+    → length nests ≡ 0 → levels ≡ depth → IsItem strict levels item → StandsBehind strict depth (suc whole) [] (before ++ item)
+outside_more strict depth whole levels nests before item (outside i) none same is_item =
+    outside (items_item strict depth whole before item i (subst (λ (k : ℕ). IsItem strict k item) same is_item))
+outside_more strict depth whole levels nests before item (inside w e p g more are) none same is_item = absurd (omega (
   arith,
   none,
 ))
 
-pub end_outside : (depth whole : ℕ) (walk : Walk) (bytes : List ℕ) → IsBehindItem depth whole walk bytes → walk.used ≡ 0
-    → IsDueBehind depth whole walk bytes
-end_outside depth whole walk bytes behind none =
+pub end_outside : (strict : Bool) (depth whole : ℕ) (walk : Walk) (bytes : List ℕ) → IsBehindItem strict depth whole walk bytes → walk.used ≡ 0
+    → IsDueBehind strict depth whole walk bytes
+end_outside strict depth whole walk bytes behind none =
     let due = behind.due in
     let used = due.keeps.used in
     let left = behind.left in
     let empty : length due.nests ≡ 0 = omega (arith, used, none) in
     let same : behind.levels ≡ depth = omega (arith, left, empty) in
-    due_outside depth whole walk bytes none (record {
+    due_outside strict depth whole walk bytes none (record {
       nests = [];
-      within = subst (λ (z : List ℕ). StandsBehind depth (suc whole) [] z) (sym behind.is)
-          (outside_more depth whole behind.levels due.nests behind.before behind.item due.within empty same
+      within = subst (λ (z : List ℕ). StandsBehind strict depth (suc whole) [] z) (sym behind.is)
+          (outside_more strict depth whole behind.levels due.nests behind.before behind.item due.within empty same
           behind.is_item);
       keeps = record {
         kept = tt;
@@ -350,10 +366,10 @@ some_remains depth walk (nest ∷ nests) keeps some =
     let kept = keeps.kept in
     subst (λ (k : ℕ). is_done (remaining_at walk.levels k) ≡ false) at kept.1
 
-pub end_remains : (depth whole : ℕ) (walk : Walk) (bytes : List ℕ) → IsBehindItem depth whole walk bytes
+pub end_remains : (strict : Bool) (depth whole : ℕ) (walk : Walk) (bytes : List ℕ) → IsBehindItem strict depth whole walk bytes
     → (walk.used ≡ 0 → ⊥)
     → is_done (remaining_at walk.levels (walk.used - 1)) ≡ false
-end_remains depth whole walk bytes behind some = some_remains depth walk behind.due.nests behind.due.keeps some
+end_remains strict depth whole walk bytes behind some = some_remains depth walk behind.due.nests behind.due.keeps some
 
 -- what the end of an item changes: what remains of the innermost nest
 pub record Steps (walk new : Walk) (after : Remaining) : Type 0 where
@@ -364,13 +380,13 @@ pub record Steps (walk new : Walk) (after : Remaining) : Type 0 where
   pub written : new.levels ≡ set walk.levels (walk.used - 1) after
   pub deep : new.depth ≡ walk.depth
 
-more_due : (depth whole : ℕ) (walk new : Walk) (after : Remaining) → Steps walk new after
-    → (nests : List Nest) (before item : List ℕ) (levels : ℕ) → StandsBehind depth whole nests before
-    → KeepsNests depth walk nests → length nests + levels ≡ depth → IsItem false levels item
-    → is_done after ≡ false → new.used ≡ walk.used → IsDue depth whole new (before ++ item)
-more_due depth whole walk new after s [] before item levels stands keeps left is_item rest same = absurd (s.some
+more_due : (strict : Bool) (depth whole : ℕ) (walk new : Walk) (after : Remaining) → Steps walk new after
+    → (nests : List Nest) (before item : List ℕ) (levels : ℕ) → StandsBehind strict depth whole nests before
+    → KeepsNests depth walk nests → length nests + levels ≡ depth → IsItem strict levels item
+    → is_done after ≡ false → new.used ≡ walk.used → IsDue strict depth whole new (before ++ item)
+more_due strict depth whole walk new after s [] before item levels stands keeps left is_item rest same = absurd (s.some
     keeps.used)
-more_due depth whole walk new after s (nest ∷ nests) before item levels stands keeps left is_item rest same =
+more_due strict depth whole walk new after s (nest ∷ nests) before item levels stands keeps left is_item rest same =
     let used = keeps.used in
     let few = s.within in
     let at : walk.used - 1 ≡ length nests = omega (arith, used) in
@@ -381,11 +397,11 @@ more_due depth whole walk new after s (nest ∷ nests) before item levels stands
     s.counts nest.header count
     (subst (λ (k : ℕ). IsRemaining nest.header count (remaining_at walk.levels k)) (sym at) kept.0) in
     let next : Nest = record { header = nest.header; count = suc count } in
-    let inner = inner_of depth whole nest nests before stands in
+    let inner = inner_of strict depth whole nest nests before stands in
     let more = takes_more nest.header (suc count) after is rest in
     record {
       nests = next ∷ nests;
-      within = goes_on depth whole levels nest nests before item inner left is_item more.0;
+      within = goes_on strict depth whole levels nest nests before item inner left is_item more.0;
       keeps = record {
         kept = subst (λ (z : List Remaining). AreKept z (next ∷ nests)) (sym s.written)
             (kept_more walk.levels nests next (walk.used - 1) after at (omega (arith, used, long, few)) is rest
@@ -396,25 +412,25 @@ more_due depth whole walk new after s (nest ∷ nests) before item levels stands
       };
     }
 
-pub end_goes_on : (depth whole : ℕ) (walk new : Walk) (after : Remaining) → Steps walk new after → (bytes : List ℕ)
-    → IsBehindItem depth whole walk bytes → is_done after ≡ false → new.used ≡ walk.used
-    → IsDueBehind depth whole new bytes
-end_goes_on depth whole walk new after s bytes behind rest same =
+pub end_goes_on : (strict : Bool) (depth whole : ℕ) (walk new : Walk) (after : Remaining) → Steps walk new after → (bytes : List ℕ)
+    → IsBehindItem strict depth whole walk bytes → is_done after ≡ false → new.used ≡ walk.used
+    → IsDueBehind strict depth whole new bytes
+end_goes_on strict depth whole walk new after s bytes behind rest same =
     let due = behind.due in
     let some = s.some in
-    within_nest depth whole new.used new bytes refl (omega (arith, same, some))
-    (subst (λ (z : List ℕ). IsDue depth whole new z) (sym behind.is)
-    (more_due depth whole walk new after s due.nests behind.before behind.item behind.levels due.within due.keeps
+    within_nest strict depth whole new.used new bytes refl (omega (arith, same, some))
+    (subst (λ (z : List ℕ). IsDue strict depth whole new z) (sym behind.is)
+    (more_due strict depth whole walk new after s due.nests behind.before behind.item behind.levels due.within due.keeps
     behind.left behind.is_item rest
     same))
 
-level_ends : (depth whole : ℕ) (walk new : Walk) (after : Remaining) → Steps walk new after
-    → (nests : List Nest) (before item : List ℕ) (levels : ℕ) → StandsBehind depth whole nests before
-    → KeepsNests depth walk nests → length nests + levels ≡ depth → IsItem false levels item
-    → is_done after ≡ true → new.used ≡ walk.used - 1 → IsBehindItem depth whole new (before ++ item)
-level_ends depth whole walk new after s [] before item levels stands keeps left is_item done less = absurd (s.some
+level_ends : (strict : Bool) (depth whole : ℕ) (walk new : Walk) (after : Remaining) → Steps walk new after
+    → (nests : List Nest) (before item : List ℕ) (levels : ℕ) → StandsBehind strict depth whole nests before
+    → KeepsNests depth walk nests → length nests + levels ≡ depth → IsItem strict levels item
+    → is_done after ≡ true → new.used ≡ walk.used - 1 → IsBehindItem strict depth whole new (before ++ item)
+level_ends strict depth whole walk new after s [] before item levels stands keeps left is_item done less = absurd (s.some
     keeps.used)
-level_ends depth whole walk new after s (nest ∷ nests) before item levels stands keeps left is_item done less =
+level_ends strict depth whole walk new after s (nest ∷ nests) before item levels stands keeps left is_item done less =
     let used = keeps.used in
     let few = s.within in
     let at : walk.used - 1 ≡ length nests = omega (arith, used) in
@@ -423,13 +439,13 @@ level_ends depth whole walk new after s (nest ∷ nests) before item levels stan
     let is : IsRemaining nest.header (suc count) after =
     s.counts nest.header count
     (subst (λ (k : ℕ). IsRemaining nest.header count (remaining_at walk.levels k)) (sym at) kept.0) in
-    let inner = inner_of depth whole nest nests before stands in
+    let inner = inner_of strict depth whole nest nests before stands in
     let level = inner.level in
     let same : levels ≡ inner.levels = omega (arith, level, left) in
-    let item' = subst (λ (n : ℕ). IsItem false n item) same is_item in
-    let all = items_item false inner.levels count inner.items item inner.are_items item' in
-    let completes = all_read nest.header inner.levels (suc count) (inner.items ++ item) after is done all in
-    ends_nest depth whole nest nests before item (inner.items ++ item) new inner refl completes (record {
+    let item' = subst (λ (n : ℕ). IsItem strict n item) same is_item in
+    let all = items_item strict inner.levels count inner.items item inner.are_items item' in
+    let completes = all_read strict nest.header inner.levels (suc count) (inner.items ++ item) after is done all in
+    ends_nest strict depth whole nest nests before item (inner.items ++ item) new inner refl completes (record {
       kept = subst (λ (z : List Remaining). AreKept z nests) (sym s.written)
           (kept_below walk.levels nests (walk.used - 1) after (omega (arith, at)) kept.2);
       used = less ∙ at;
@@ -437,12 +453,12 @@ level_ends depth whole walk new after s (nest ∷ nests) before item levels stan
       room = ap length s.written ∙ (length-set walk.levels (walk.used - 1) after ∙ keeps.room);
     })
 
-pub end_of_level : (depth whole : ℕ) (walk new : Walk) (after : Remaining) → Steps walk new after → (bytes : List ℕ)
-    → IsBehindItem depth whole walk bytes → is_done after ≡ true
-    → new.used ≡ walk.used - 1 → IsBehindItem depth whole new bytes
-end_of_level depth whole walk new after s bytes behind done less =
+pub end_of_level : (strict : Bool) (depth whole : ℕ) (walk new : Walk) (after : Remaining) → Steps walk new after → (bytes : List ℕ)
+    → IsBehindItem strict depth whole walk bytes → is_done after ≡ true
+    → new.used ≡ walk.used - 1 → IsBehindItem strict depth whole new bytes
+end_of_level strict depth whole walk new after s bytes behind done less =
     let due = behind.due in
-    subst (λ (z : List ℕ). IsBehindItem depth whole new z) (sym behind.is)
-    (level_ends depth whole walk new after s due.nests behind.before behind.item behind.levels due.within due.keeps
+    subst (λ (z : List ℕ). IsBehindItem strict depth whole new z) (sym behind.is)
+    (level_ends strict depth whole walk new after s due.nests behind.before behind.item behind.levels due.within due.keeps
     behind.left behind.is_item
     done less)

@@ -6,7 +6,7 @@ use Rattle.ciborium_ll.specs.Types.Header.TheVariants as h
 use Rattle.ciborium_ll.specs.Title.{IsTitle}
 use Rattle.ciborium_ll.specs.Strings.{Kind, Bytes, Text, kind_header, AreStrings, IsWritable}
 use Rattle.ciborium_ll.specs.Elements.{AreWritable}
-use Rattle.ciborium_ll.specs.Items.{AreItems}
+use Rattle.ciborium_ll.specs.Items.{AreItems, IsTakenTitle}
 use Rattle.cbor_skip.specs.Due.{TakesMore, may_close}
 use Rattle.cbor_look.specs.declared.rows.Meaning.{Meaning}
 use Rattle.cbor_look.specs.declared.rows.Meaning.TheVariants as m
@@ -18,19 +18,20 @@ pub record Nest : Type 0 where
   pub header : Header
   pub count : ℕ
 
--- `StandsBehind depth whole nests bytes`: the bytes begin a sequence of items to the depth, and behind them an item is
--- due within just these nests, the innermost first: so many whole items, and then for each nest its title and items of
--- it, of which more are due (RFC 7049, 2.1 to 2.4)
-pub data StandsBehind (depth whole : ℕ) : List Nest → List ℕ → Type 0 where
-  outside : {items : List ℕ} → AreItems false depth whole items → StandsBehind depth whole [] items
+-- `StandsBehind strict depth whole nests bytes`: the bytes begin a sequence of items to the depth, in its shortest
+-- spelling where only that is taken, and behind them an item is due within just these nests, the innermost first: so
+-- many whole items, and then for each nest its title and items of it, of which more are due (RFC 7049, 2.1 to 2.4)
+pub data StandsBehind (strict : Bool) (depth whole : ℕ) : List Nest → List ℕ → Type 0 where
+  outside : {items : List ℕ} → AreItems strict depth whole items → StandsBehind strict depth whole [] items
   inside : {levels count : ℕ} {nests : List Nest} {before title items : List ℕ} {header : Header}
-      → StandsBehind depth whole nests before → length nests + suc levels ≡ depth → IsTitle title header
-      → TakesMore header count → AreItems false levels count items
-      → StandsBehind depth whole (record { header = header; count = count } ∷ nests) (before ++ (title ++ items))
+      → StandsBehind strict depth whole nests before → length nests + suc levels ≡ depth → IsTitle title header
+      → IsTakenTitle strict title header → TakesMore header count → AreItems strict levels count items
+      → StandsBehind strict depth whole (record { header = header; count = count } ∷ nests)
+      (before ++ (title ++ items))
 
--- the same, behind any number of whole items
+-- the same in any spelling, behind any number of whole items: a level does not depend on the spelling
 abbrev pub StandsWithin : ℕ → List Nest → List ℕ → Type 0
-StandsWithin depth nests bytes = (whole : ℕ) × StandsBehind depth whole nests bytes
+StandsWithin depth nests bytes = (whole : ℕ) × StandsBehind false depth whole nests bytes
 
 -- `AreOpen kind opens bytes bodies`: the bytes are so many opens of the kind, each with strings behind it, and none
 -- closed. The bodies are those so far (RFC 7049, 2.2.2)

@@ -1,9 +1,8 @@
 -- What the read of a part of a body does, as a skip of the string does it.
-use Rattle.std.specs.Prelude.{◌≡◌, ℕ, Bool, true, false, List, [], ◌++◌, length, Option, Some, None, Result, Ok, Err}
+use Rattle.std.specs.Prelude.{ℕ, Bool, true, false, List, [], Result, Ok, Err}
 use Rattle.ciborium_ll.specs.Types.Read.{Ghosts}
 use Rattle.ciborium_ll.specs.Types.Decoder.{Decoder}
 use Rattle.ciborium_ll.specs.Types.Error.{Error}
-use Rattle.ciborium_ll.specs.Types.Error.TheVariants as e
 use Rattle.ciborium_ll.specs.Strings.{Kind, Text}
 use Rattle.ciborium_ll.specs.Decoding.{Passes}
 use Rattle.ciborium_ll.specs.Finishing.{EndsBody, IsNoText}

@@ -7,6 +7,7 @@ use Rattle.ciborium_ll.specs.Types.Header.TheVariants as h
 use Rattle.ciborium_ll.specs.Strings.{Kind, Bytes, Text, kind_header, AreStrings, IsWritable}
 use Rattle.ciborium_ll.specs.Elements.{AreWritable}
 use Rattle.ciborium_ll.specs.Faults.{IsRefusedIn}
+use Rattle.ciborium_ll.specs.Items.{AreTakenStrings}
 use Rattle.ciborium_ll.specs.Decoding.{Passes}
 use Rattle.ciborium_ll.specs.Finishing.{EndsBody}
 use Rattle.ciborium_ll.specs.Skipping.{StopsInside}
@@ -37,21 +38,23 @@ meaning_of k.Text = m.Text
 abbrev pub IsPart : Bool → Kind → Header → Part → Type 0
 IsPart strict kind header p.Break = header ≡ h.Break
 IsPart strict kind header (p.Piece len) = header ≡ kind_header kind (Some len)
-IsPart strict kind header p.Open = header ≡ kind_header kind None
+IsPart strict kind header p.Open = (header ≡ kind_header kind None) × (strict ≡ false)
 IsPart strict kind header p.Other = IsRefusedIn strict kind header
 
--- the bytes are strings of the kind, each body text where it has to be, and the break behind them (RFC 7049, 2.2.2)
-pub record EndsString (kind : Kind) (bytes : List ℕ) : Type 0 where
+-- the bytes are strings of the kind, each body text where it has to be, and the break behind them (RFC 7049, 2.2.2);
+-- where only the shortest spelling is taken, strings of a definite length alone, each under a strict title (3.9)
+pub record EndsString (strict : Bool) (kind : Kind) (bytes : List ℕ) : Type 0 where
   pub strings : List ℕ
   pub bodies : List (List ℕ)
   pub are_strings : AreStrings kind strings bodies
+  pub taken : AreTakenStrings strict kind strings bodies
   pub sound : AreWritable kind bodies
   pub is : bytes ≡ strings ++ 0xff ∷ []
 
 -- what follows the title of a string of this length
-abbrev pub IsRest : Kind → Option ℕ → List ℕ → Type 0
-IsRest kind (Some len) bytes = (length bytes ≡ len) × IsWritable kind bytes
-IsRest kind None bytes = EndsString kind bytes
+abbrev pub IsRest : Bool → Kind → Option ℕ → List ℕ → Type 0
+IsRest strict kind (Some len) bytes = (length bytes ≡ len) × IsWritable kind bytes
+IsRest strict kind None bytes = EndsString strict kind bytes
 
 module _ {R E W : Type 0} (source : Ghosts R E) where
   -- how the read of what follows a string's title stops: as a skip of it does, through a buffer of as much room as a
@@ -72,6 +75,6 @@ module _ {R E W : Type 0} (source : Ghosts R E) where
       : Type 0 where
     pub bytes : List ℕ
     pub shows : Shows source depth start drawn then_drawn before bytes old new
-    pub whole : OnOk result (IsRest kind len bytes)
+    pub whole : OnOk result (IsRest strict kind len bytes)
     pub passed : IsAlike strict old → OnOk result (Passes source old bytes new)
-    pub stops : IsAlike strict old → old.strict ≡ false → StopsRest kind len place old result new
+    pub stops : IsAlike strict old → StopsRest kind len place old result new

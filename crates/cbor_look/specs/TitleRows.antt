@@ -1,9 +1,7 @@
 -- What the rows of a title show, and of the string that it begins.
-use Rattle.std.specs.Prelude.{◌≡◌, ℕ, ◌-◌, Bool, false, List, [], ◌++◌, length, Option, Result, Ok, Err, OnOk}
+use Rattle.std.specs.Prelude.{◌≡◌, ℕ, Bool, false, List, [], ◌++◌, Option, Result, Ok, Err, OnOk}
 use Rattle.ciborium_ll.specs.Types.Read.{Ghosts}
 use Rattle.ciborium_ll.specs.Types.Decoder.{Decoder}
-use Rattle.ciborium_ll.specs.Types.Error.{Error}
-use Rattle.ciborium_ll.specs.Types.Error.TheVariants as e
 use Rattle.ciborium_ll.specs.Types.Header.{Header}
 use Rattle.ciborium_ll.specs.Types.Header.TheVariants as h
 use Rattle.ciborium_ll.specs.Strings.{Kind, kind_header}
@@ -21,49 +19,50 @@ use Rattle.cbor_look.specs.Takings.{IsAlike, most_bytes}
 use Rattle.cbor_look.specs.Sequences.{IsSequence}
 
 -- behind the bytes an item is due, in place of which no break may stand
-pub record IsUnclosed (depth whole : ℕ) (before : List ℕ) : Type 0 where
+pub record IsUnclosed (strict : Bool) (depth whole : ℕ) (before : List ℕ) : Type 0 where
   pub nests : List Nest
-  pub within : StandsBehind depth whole nests before
+  pub within : StandsBehind strict depth whole nests before
   pub not_closable : closes_one nests 0 ≡ false
 
 -- behind the bytes an item is due, and the header that came is that of a string
-pub record IsStringDue (depth whole : ℕ) (before : List ℕ) (header : Header) (kind : Kind) (len : Option ℕ) : Type 0
-  where
-    pub nests : List Nest
-    pub within : StandsBehind depth whole nests before
-    pub is : header ≡ kind_header kind len
+pub record IsStringDue (strict : Bool) (depth whole : ℕ) (before : List ℕ) (header : Header) (kind : Kind)
+    (len : Option ℕ) : Type 0 where
+  pub nests : List Nest
+  pub within : StandsBehind strict depth whole nests before
+  pub is : header ≡ kind_header kind len
 
 module _ {E W : Type 0} where
   -- how a title that is no string's ends a dump, at its place: a break where none may stand, or a nest too deep
-  abbrev pub StopsAlone : ℕ → ℕ → Header → ℕ → List ℕ → Result (Unit {0}) (DumpError E W) → Type 0
-  StopsAlone depth whole header place before (Ok done) = Unit {0}
-  StopsAlone depth whole header place before (Err (d.Item (s.Read error))) = ⊥
-  StopsAlone depth whole header place before (Err (d.Item (s.Break at))) =
-      IsUnclosed depth whole before × (header ≡ h.Break) × (at ≡ place)
-  StopsAlone depth whole header place before (Err (d.Item (s.Deep at))) =
-      IsDeepest depth whole before × IsNest header × (at ≡ place)
-  StopsAlone depth whole header place before (Err (d.Rows fault)) = Unit {0}
+  abbrev pub StopsAlone : Bool → ℕ → ℕ → Header → ℕ → List ℕ → Result (Unit {0}) (DumpError E W) → Type 0
+  StopsAlone strict depth whole header place before (Ok done) = Unit {0}
+  StopsAlone strict depth whole header place before (Err (d.Item (s.Read error))) = ⊥
+  StopsAlone strict depth whole header place before (Err (d.Item (s.Break at))) =
+      IsUnclosed strict depth whole before × (header ≡ h.Break) × (at ≡ place)
+  StopsAlone strict depth whole header place before (Err (d.Item (s.Deep at))) =
+      IsDeepest strict depth whole before × IsNest header × (at ≡ place)
+  StopsAlone strict depth whole header place before (Err (d.Rows fault)) = Unit {0}
 
   -- a title was drawn of which nothing more is read, and where all is well an item is due behind it
-  pub record DrawsTitle (depth whole start : ℕ) (drawn then_drawn : Option (List Line)) (before title : List ℕ)
-      (header : Header) (walk : Walk) (place : ℕ) (result : Result (Unit {0}) (DumpError E W)) : Type 0 where
+  pub record DrawsTitle (strict : Bool) (depth whole start : ℕ) (drawn then_drawn : Option (List Line))
+      (before title : List ℕ) (header : Header) (walk : Walk) (place : ℕ)
+      (result : Result (Unit {0}) (DumpError E W)) : Type 0 where
     pub lines : Lines depth start drawn then_drawn before title
-    pub due : OnOk result (IsDueBehind depth whole walk (before ++ title))
-    pub stops : StopsAlone depth whole header place before result
+    pub due : OnOk result (IsDueBehind strict depth whole walk (before ++ title))
+    pub stops : StopsAlone strict depth whole header place before result
 
 module _ {R E W : Type 0} (source : Ghosts R E) where
   -- how a title ends a dump, or the string that it begins, which stops as a skip of it does
-  abbrev pub StopsTitle : ℕ → ℕ → Header → ℕ → List ℕ → Decoder R → Result (Unit {0}) (DumpError E W) → Decoder R
-      → Type 0
-  StopsTitle depth whole header place before old (Ok done) new = Unit {0}
-  StopsTitle depth whole header place before old (Err (d.Item (s.Read error))) new =
-      (kind : Kind) × (len : Option ℕ) × IsStringDue depth whole before header kind len
+  abbrev pub StopsTitle : Bool → ℕ → ℕ → Header → ℕ → List ℕ → Decoder R → Result (Unit {0}) (DumpError E W)
+      → Decoder R → Type 0
+  StopsTitle strict depth whole header place before old (Ok done) new = Unit {0}
+  StopsTitle strict depth whole header place before old (Err (d.Item (s.Read error))) new =
+      (kind : Kind) × (len : Option ℕ) × IsStringDue strict depth whole before header kind len
       × SkipsString source kind len most_bytes old (Err error) new
-  StopsTitle depth whole header place before old (Err (d.Item (s.Break at))) new =
-      IsUnclosed depth whole before × (header ≡ h.Break) × (at ≡ place) × (new ≡ old)
-  StopsTitle depth whole header place before old (Err (d.Item (s.Deep at))) new =
-      IsDeepest depth whole before × IsNest header × (at ≡ place) × (new ≡ old)
-  StopsTitle depth whole header place before old (Err (d.Rows fault)) new = Unit {0}
+  StopsTitle strict depth whole header place before old (Err (d.Item (s.Break at))) new =
+      IsUnclosed strict depth whole before × (header ≡ h.Break) × (at ≡ place) × (new ≡ old)
+  StopsTitle strict depth whole header place before old (Err (d.Item (s.Deep at))) new =
+      IsDeepest strict depth whole before × IsNest header × (at ≡ place) × (new ≡ old)
+  StopsTitle strict depth whole header place before old (Err (d.Rows fault)) new = Unit {0}
 
   -- a title was shown that was read before, and the string that it begins; where all is well an item is due behind it
   pub record ShowsTitle (depth whole start : ℕ) (drawn then_drawn : Option (List Line)) (before title : List ℕ)
@@ -71,15 +70,15 @@ module _ {R E W : Type 0} (source : Ghosts R E) where
       (old new : Decoder R) : Type 0 where
     pub bytes : List ℕ
     pub shows : ShowsBehind source depth start drawn then_drawn before title bytes old new
-    pub due : OnOk result (IsDueBehind depth whole walk (before ++ (title ++ bytes)))
+    pub due : OnOk result (IsDueBehind strict depth whole walk (before ++ (title ++ bytes)))
     pub passed : IsAlike strict old → OnOk result (Passes source old bytes new)
-    pub stops : IsAlike strict old → old.strict ≡ false → StopsTitle depth whole header place before old result new
+    pub stops : IsAlike strict old → StopsTitle strict depth whole header place before old result new
 
 module _ {R E W : Type 0} (source : Ghosts R E) where
   -- Lines were drawn of just the bytes that were consumed, and each stands at its level. Where all is well, the bytes
-  -- are a sequence of items (RFC 8742)
-  pub record ShowsAll (depth : ℕ) (drawn then_drawn : Option (List Line)) (result : Result E (DumpError E W))
+  -- are a sequence of items (RFC 8742), in any spelling or in the shortest one
+  pub record ShowsAll (strict : Bool) (depth : ℕ) (drawn then_drawn : Option (List Line)) (result : Result E (DumpError E W))
       (old new : Decoder R) : Type 0 where
     pub bytes : List ℕ
     pub shows : Shows source depth old.offset drawn then_drawn [] bytes old new
-    pub whole : OnOk result (IsSequence false depth bytes)
+    pub whole : OnOk result (IsSequence strict depth bytes)

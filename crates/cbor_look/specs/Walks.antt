@@ -36,20 +36,21 @@ pub record KeepsNests (depth : ℕ) (walk : Walk) (nests : List Nest) : Type 0 w
   pub same_depth : walk.depth ≡ depth
   pub room : length walk.levels ≡ 256
 
--- behind the bytes, of which so many items are whole, one is due within the nests that the walk keeps
-pub record IsDue (depth whole : ℕ) (walk : Walk) (bytes : List ℕ) : Type 0 where
+-- behind the bytes, of which so many items are whole, one is due within the nests that the walk keeps: in any spelling,
+-- or all in the shortest one
+pub record IsDue (strict : Bool) (depth whole : ℕ) (walk : Walk) (bytes : List ℕ) : Type 0 where
   pub nests : List Nest
-  pub within : StandsBehind depth whole nests bytes
+  pub within : StandsBehind strict depth whole nests bytes
   pub keeps : KeepsNests depth walk nests
 
 -- behind the bytes an item ends that was due so
-pub record IsBehindItem (depth whole : ℕ) (walk : Walk) (bytes : List ℕ) : Type 0 where
+pub record IsBehindItem (strict : Bool) (depth whole : ℕ) (walk : Walk) (bytes : List ℕ) : Type 0 where
   pub before : List ℕ
   pub item : List ℕ
   pub levels : ℕ
-  pub due : IsDue depth whole walk before
+  pub due : IsDue strict depth whole walk before
   pub left : length due.nests + levels ≡ depth
-  pub is_item : IsItem false levels item
+  pub is_item : IsItem strict levels item
   pub is : bytes ≡ before ++ item
 
 -- how many items are whole behind the end of one, where so many levels are open: outside of all one more
@@ -58,30 +59,30 @@ whole_behind whole zero = suc whole
 whole_behind whole (suc used) = whole
 
 -- behind the bytes an item is due, behind one that has ended or within one that was begun
-abbrev pub IsDueBehind : ℕ → ℕ → Walk → List ℕ → Type 0
-IsDueBehind depth whole walk bytes = IsDue depth (whole_behind whole walk.used) walk bytes
+abbrev pub IsDueBehind : Bool → ℕ → ℕ → Walk → List ℕ → Type 0
+IsDueBehind strict depth whole walk bytes = IsDue strict depth (whole_behind whole walk.used) walk bytes
 
 -- behind the bytes an item is due within as many nests as there may be
-pub record IsDeepest (depth whole : ℕ) (bytes : List ℕ) : Type 0 where
+pub record IsDeepest (strict : Bool) (depth whole : ℕ) (bytes : List ℕ) : Type 0 where
   pub nests : List Nest
-  pub within : StandsBehind depth whole nests bytes
+  pub within : StandsBehind strict depth whole nests bytes
   pub full : length nests ≡ depth
 
 -- what came of the title of a nest behind the bytes
-abbrev pub Enters : ℕ → ℕ → Entered → Walk → List ℕ → List ℕ → Type 0
-Enters depth whole w.Deep walk before title = IsDeepest depth whole before
-Enters depth whole w.Empty walk before title = IsBehindItem depth whole walk (before ++ title)
-Enters depth whole w.Within walk before title = IsDueBehind depth whole walk (before ++ title)
+abbrev pub Enters : Bool → ℕ → ℕ → Entered → Walk → List ℕ → List ℕ → Type 0
+Enters strict depth whole w.Deep walk before title = IsDeepest strict depth whole before
+Enters strict depth whole w.Empty walk before title = IsBehindItem strict depth whole walk (before ++ title)
+Enters strict depth whole w.Within walk before title = IsDueBehind strict depth whole walk (before ++ title)
 
 -- what came of a break behind the bytes, and at which level it stands
-pub record Breaks (depth whole : ℕ) (closed : Bool) (walk : Walk) (before : List ℕ) : Type 0 where
+pub record Breaks (strict : Bool) (depth whole : ℕ) (closed : Bool) (walk : Walk) (before : List ℕ) : Type 0 where
   pub nests : List Nest
-  pub within : StandsBehind depth whole nests before
+  pub within : StandsBehind strict depth whole nests before
   pub level : walk.used ≡ title_level h.Break nests 0
   pub may : closes_one nests 0 ≡ closed
-  pub behind : closed ≡ true → IsBehindItem depth whole walk (before ++ 0xff ∷ [])
+  pub behind : closed ≡ true → IsBehindItem strict depth whole walk (before ++ 0xff ∷ [])
 
 -- what came of the end of an item: its level goes on, or ends too
-abbrev pub Ends : ℕ → ℕ → Bool → Walk → List ℕ → Type 0
-Ends depth whole true walk bytes = IsBehindItem depth whole walk bytes
-Ends depth whole false walk bytes = IsDueBehind depth whole walk bytes
+abbrev pub Ends : Bool → ℕ → ℕ → Bool → Walk → List ℕ → Type 0
+Ends strict depth whole true walk bytes = IsBehindItem strict depth whole walk bytes
+Ends strict depth whole false walk bytes = IsDueBehind strict depth whole walk bytes

@@ -1,6 +1,7 @@
 //! A dump: each title of a sequence of items on a line, and bodies of strings below theirs.
 
-ghost use Rattle.std.specs.Prelude.{◌≡◌, ℕ, ◌+◌, ◌-◌, ◌<◌, ◌≤◌, ◌↔◌, List, [], ◌∷◌, ◌++◌, length, IfErr, IsOk, false};
+ghost use Rattle.std.specs.Prelude.{◌≡◌, ℕ, ◌+◌, ◌-◌, ◌<◌, ◌≤◌, ◌↔◌, List, [], ◌∷◌, ◌++◌, length, Bool, IfErr, IsOk};
+ghost use Rattle.ciborium_ll.specs.Items.{IsTakenTitle};
 ghost use Rattle.ciborium_ll.specs.Title.{IsTitle, title_len};
 ghost use Rattle.ciborium_ll.specs.Decoding.{offset_of, strict_of};
 ghost use Rattle.cbor_skip.specs.Due.{IsNest};
@@ -47,13 +48,13 @@ where
     R::Error: Drop,
     requires { depth ≤ 256 }
     ensures shows { AreTaken result
-        → ShowsAll R.Read depth (S.drawn rows.old) (S.drawn rows.new) result decoder.old decoder.new }
-    ensures reads { IsAlike strict decoder.old → strict_of decoder.old ≡ false → AreTaken result
+        → ShowsAll R.Read strict depth (S.drawn rows.old) (S.drawn rows.new) result decoder.old decoder.new }
+    ensures reads { IsAlike strict decoder.old → AreTaken result
         → ReadsAsCheck R.Read depth most_bytes decoder.old result decoder.new }
-    ensures told { (due : List ℕ) → IsAlike strict decoder.old → strict_of decoder.old ≡ false
+    ensures told { (due : List ℕ) → IsAlike strict decoder.old
         → IsReadyToSkip R.Read most_bytes decoder.old due → AreTaken result
         → AnswersTold R.Read depth due decoder.old result decoder.new }
-    ensures exactly { (due : List ℕ) → IsAlike strict decoder.old → strict_of decoder.old ≡ false
+    ensures exactly { (due : List ℕ) → IsAlike strict decoder.old
         → IsReadyToSkip R.Read most_bytes decoder.old due → AreTaken result
         → (IsOk result ↔ IsSequence (strict_of decoder.old) depth due) }
 {
@@ -155,8 +156,9 @@ fn title<R: Read, S: Rows>(
 where
     R::Error: Drop,
     requires behind { walk.old.used < offset_of decoder.old }
-    ensures shows { (depth whole start : ℕ) (before : List ℕ) → IsDue depth whole walk.old before
-        → IsTitle (taken_bytes taken.now) header → place ≡ start + length before
+    ensures shows { (depth whole start : ℕ) (before : List ℕ) → IsDue strict depth whole walk.old before
+        → IsTitle (taken_bytes taken.now) header → IsTakenTitle strict (taken_bytes taken.now) header
+        → place ≡ start + length before
         → offset_of decoder.old ≡ place + length (taken_bytes taken.now) → AreTaken result
         → ShowsTitle R.Read depth whole start (S.drawn rows.old) (S.drawn rows.new) before (taken_bytes taken.now)
         header walk.new strict place result decoder.old decoder.new }
@@ -185,10 +187,11 @@ fn value<E, S: Rows>(
     rows: &mut S,
 ) -> Result<(), DumpError<E, S::Error>>
     requires value { IsValue header }
-    ensures draws { (depth whole start : ℕ) (before : List ℕ) → IsDue depth whole walk.old before
-        → IsTitle (taken_bytes taken.now) header → place ≡ start + length before → AreTaken result
-        → DrawsTitle depth whole start (S.drawn rows.old) (S.drawn rows.new) before (taken_bytes taken.now) header
-        walk.new place result }
+    ensures draws { (strict : Bool) (depth whole start : ℕ) (before : List ℕ)
+        → IsDue strict depth whole walk.old before → IsTitle (taken_bytes taken.now) header
+        → IsTakenTitle strict (taken_bytes taken.now) header → place ≡ start + length before → AreTaken result
+        → DrawsTitle strict depth whole start (S.drawn rows.old) (S.drawn rows.new) before (taken_bytes taken.now)
+        header walk.new place result }
 {
     let level = walk.level();
     if let Err(error) = shown(taken, Meaning::Header(header), place, level, rows) {
@@ -205,10 +208,11 @@ fn break_title<E, S: Rows>(
     place: usize,
     rows: &mut S,
 ) -> Result<(), DumpError<E, S::Error>>
-    ensures draws { (depth whole start : ℕ) (before : List ℕ) → IsDue depth whole walk.old before
-        → IsTitle (taken_bytes taken.now) Header.Break → place ≡ start + length before → AreTaken result
-        → DrawsTitle depth whole start (S.drawn rows.old) (S.drawn rows.new) before (taken_bytes taken.now) Header.Break
-        walk.new place result }
+    ensures draws { (strict : Bool) (depth whole start : ℕ) (before : List ℕ)
+        → IsDue strict depth whole walk.old before → IsTitle (taken_bytes taken.now) Header.Break
+        → place ≡ start + length before → AreTaken result
+        → DrawsTitle strict depth whole start (S.drawn rows.old) (S.drawn rows.new) before (taken_bytes taken.now)
+        Header.Break walk.new place result }
 {
     let closed = walk.close();
     let level = walk.level();
@@ -232,10 +236,11 @@ fn nest<E, S: Rows>(
     rows: &mut S,
 ) -> Result<(), DumpError<E, S::Error>>
     requires nest { IsNest header }
-    ensures draws { (depth whole start : ℕ) (before : List ℕ) → IsDue depth whole walk.old before
-        → IsTitle (taken_bytes taken.now) header → place ≡ start + length before → AreTaken result
-        → DrawsTitle depth whole start (S.drawn rows.old) (S.drawn rows.new) before (taken_bytes taken.now) header
-        walk.new place result }
+    ensures draws { (strict : Bool) (depth whole start : ℕ) (before : List ℕ)
+        → IsDue strict depth whole walk.old before → IsTitle (taken_bytes taken.now) header
+        → IsTakenTitle strict (taken_bytes taken.now) header → place ≡ start + length before → AreTaken result
+        → DrawsTitle strict depth whole start (S.drawn rows.old) (S.drawn rows.new) before (taken_bytes taken.now)
+        header walk.new place result }
 {
     let level = walk.level();
     if let Err(error) = shown(taken, Meaning::Header(header), place, level, rows) {
@@ -265,8 +270,10 @@ fn string<R: Read, S: Rows>(
 where
     R::Error: Drop,
     requires behind { walk.old.used < offset_of decoder.old }
-    ensures shows { (depth whole start : ℕ) (before : List ℕ) → IsDue depth whole walk.old before
-        → IsTitle (taken_bytes taken.now) (kind_header (kind_of kind) len) → place ≡ start + length before
+    ensures shows { (depth whole start : ℕ) (before : List ℕ) → IsDue strict depth whole walk.old before
+        → IsTitle (taken_bytes taken.now) (kind_header (kind_of kind) len)
+        → IsTakenTitle strict (taken_bytes taken.now) (kind_header (kind_of kind) len)
+        → place ≡ start + length before
         → offset_of decoder.old ≡ place + length (taken_bytes taken.now) → AreTaken result
         → ShowsTitle R.Read depth whole start (S.drawn rows.old) (S.drawn rows.new) before (taken_bytes taken.now)
         (kind_header (kind_of kind) len) walk.new strict place result decoder.old decoder.new }

@@ -20,6 +20,7 @@ pub(crate) struct Taken {
 }
 
 impl Taken {
+    ghost use Rattle.ciborium_ll.specs.Items.{IsTakenTitle};
     ghost use Rattle.ciborium_ll.specs.Title.{IsTitle};
     ghost use Rattle.ciborium_ll_text.specs.Text.{IsCharacters};
     ghost use Rattle.cbor_look.specs.Takings.{IsAlike, Keeps, PullsRow, ReadsOn, taken_bytes};
@@ -79,6 +80,7 @@ impl Taken {
         requires none { taken_bytes self.old ≡ [] }
         ensures keeps { Keeps R.Read (taken_bytes self.old) (taken_bytes self.new) decoder.old decoder.new }
         ensures title { IfOk result (λ header. IsTitle (taken_bytes self.new) header) }
+        ensures taken { IfOk result (λ header. IsTakenTitle strict (taken_bytes self.new) header) }
         ensures passes { waiting_of decoder.old ≡ None
             → IfOk result (λ _. Passes R.Read decoder.old (taken_bytes self.new) decoder.new) }
         ensures pulls { IsAlike strict decoder.old → place ≡ offset_of decoder.old

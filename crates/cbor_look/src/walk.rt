@@ -1,6 +1,6 @@
 //! Which tags, arrays and maps a title stands within.
 
-ghost use Rattle.std.specs.Prelude.{◌≡◌, ◌≤◌, ◌<◌, ◌++◌, [], ℕ, List, IsTrue};
+ghost use Rattle.std.specs.Prelude.{◌≡◌, ◌≤◌, ◌<◌, ◌++◌, [], ℕ, Bool, List, IsTrue};
 
 use cbor_skip::Remaining;
 use ciborium_ll::Header;
@@ -30,13 +30,14 @@ pub(crate) struct Walk {
 
 impl Walk {
     ghost use Rattle.ciborium_ll.specs.Title.{IsTitle};
+    ghost use Rattle.ciborium_ll.specs.Items.{IsTakenTitle};
     ghost use Rattle.cbor_skip.specs.Due.{IsNest};
     ghost use Rattle.cbor_look.specs.Walks.{Breaks, Ends, Enters, IsBehindItem, IsDue, IsDueBehind};
 
     /// None yet, of at most so many levels.
     pub(crate) fn new(depth: usize) -> Walk
         requires { depth ≤ 256 }
-        ensures { IsDue depth 0 result [] }
+        ensures { (strict : Bool) → IsDue strict depth 0 result [] }
     {
         Walk {
             levels: [Remaining::Items(0); MOST_LEVELS],
@@ -56,8 +57,9 @@ impl Walk {
     /// The title of a tag, an array or a map came.
     pub(crate) fn enter(&mut self, header: Header) -> Entered
         requires nest { IsNest header }
-        ensures { (depth whole : ℕ) (before title : List ℕ) → IsDue depth whole self.old before → IsTitle title header
-            → Enters depth whole result self.new before title }
+        ensures { (strict : Bool) (depth whole : ℕ) (before title : List ℕ) → IsDue strict depth whole self.old before
+            → IsTitle title header → IsTakenTitle strict title header
+            → Enters strict depth whole result self.new before title }
     {
         if self.used == self.depth {
             return Entered::Deep;
@@ -73,8 +75,8 @@ impl Walk {
 
     /// A break came. It tells whether it may stand there, and then the last level is closed.
     pub(crate) fn close(&mut self) -> bool
-        ensures { (depth whole : ℕ) (before : List ℕ) → IsDue depth whole self.old before
-            → Breaks depth whole result self.new before }
+        ensures { (strict : Bool) (depth whole : ℕ) (before : List ℕ) → IsDue strict depth whole self.old before
+            → Breaks strict depth whole result self.new before }
     {
         if self.used == 0 {
             return false;
@@ -88,16 +90,16 @@ impl Walk {
 
     /// An item has ended, and each level that it ends.
     pub(crate) fn item_done(&mut self)
-        ensures { (depth whole : ℕ) (bytes : List ℕ) → IsBehindItem depth whole self.old bytes
-            → IsDueBehind depth whole self.new bytes }
+        ensures { (strict : Bool) (depth whole : ℕ) (bytes : List ℕ) → IsBehindItem strict depth whole self.old bytes
+            → IsDueBehind strict depth whole self.new bytes }
     {
         'levels: while self.ends_level() {}
     }
 
     /// An item has ended. It tells whether it ends the last level, which is then closed.
     fn ends_level(&mut self) -> bool
-        ensures ends { (depth whole : ℕ) (bytes : List ℕ) → IsBehindItem depth whole self.old bytes
-            → Ends depth whole result self.new bytes }
+        ensures ends { (strict : Bool) (depth whole : ℕ) (bytes : List ℕ)
+            → IsBehindItem strict depth whole self.old bytes → Ends strict depth whole result self.new bytes }
         ensures fewer { IsTrue result → self.new.used < self.old.used }
     {
         if self.used == 0 {

@@ -8,24 +8,24 @@ use Rattle.cbor_look.proofs.dump.break_title.Goals as goal
 
 pub returns-in-Err : goal.returns-in-Err
 returns-in-Err g c = record {
-  draws = λ depth whole start before due p at all. record {
-    lines = break_line depth whole start _ _ before _ c.level-level.result c.args.place c.close-closed.result
-        c.close-closed.new.self (c.close-closed.ensures depth whole before due) p c.level-level.ensures.value at
+  draws = λ strict depth whole start before due p at all. record {
+    lines = break_line strict depth whole start _ _ before _ c.level-level.result c.args.place c.close-closed.result
+        c.close-closed.new.self (c.close-closed.ensures strict depth whole before due) p c.level-level.ensures.value at
         (c.in-Err.ensures.draws all);
     due = tt;
-    stops = refused_alone depth whole h.Break c.args.place before c.in-Err.error c.in-Err.ensures.refusal;
+    stops = refused_alone strict depth whole h.Break c.args.place before c.in-Err.error c.in-Err.ensures.refusal;
   };
 }
 
 pub returns-then-not-closed : goal.returns-then-not-closed
 returns-then-not-closed g c = record {
-  draws = λ depth whole start before due p at all. record {
-    lines = break_line depth whole start _ _ before _ c.level-level.result c.args.place c.close-closed.result
-        c.close-closed.new.self (c.close-closed.ensures depth whole before due) p c.level-level.ensures.value at
+  draws = λ strict depth whole start before due p at all. record {
+    lines = break_line strict depth whole start _ _ before _ c.level-level.result c.args.place c.close-closed.result
+        c.close-closed.new.self (c.close-closed.ensures strict depth whole before due) p c.level-level.ensures.value at
         ((rw c.in_default.is at c.shown.ensures.draws) tt);
     due = tt;
     stops =
-        let breaks = c.close-closed.ensures depth whole before due in (
+        let breaks = c.close-closed.ensures strict depth whole before due in (
           record { nests = breaks.nests; within = breaks.within; not_closable = breaks.may ∙ c.if-not-closed.true },
           refl,
           refl,
@@ -35,15 +35,15 @@ returns-then-not-closed g c = record {
 
 pub returns : goal.returns
 returns g c = record {
-  draws = λ depth whole start before due p at all.
-      let breaks = c.close-closed.ensures depth whole before due in
+  draws = λ strict depth whole start before due p at all.
+      let breaks = c.close-closed.ensures strict depth whole before due in
       let title = taken_bytes c.args.taken.now in
       record {
-        lines = break_line depth whole start _ _ before _ c.level-level.result c.args.place c.close-closed.result
+        lines = break_line strict depth whole start _ _ before _ c.level-level.result c.args.place c.close-closed.result
             c.close-closed.new.self breaks p c.level-level.ensures.value at
             ((rw c.in_default.is at c.shown.ensures.draws) tt);
-        due = c.item_done.ensures depth whole _
-            (subst (λ (z : List ℕ). IsBehindItem depth whole c.close-closed.new.self (before ++ z))
+        due = c.item_done.ensures strict depth whole _
+            (subst (λ (z : List ℕ). IsBehindItem strict depth whole c.close-closed.new.self (before ++ z))
             (sym (break_bytes title p)) (breaks.behind c.if-not-closed.false));
         stops = tt;
       };

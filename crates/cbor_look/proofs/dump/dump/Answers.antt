@@ -1,6 +1,7 @@
-use Rattle.std.proofs.Common.{◌≡◌, [], ◌++◌, length, false, Err, sym, ◌∙◌, arith}
+use Rattle.std.proofs.Common.{[], ◌++◌, length, Err, arith}
 use Rattle.cbor_look.specs.Checking.{ReadsAsCheck}
 use Rattle.cbor_look.specs.Dumps.{AreTaken, IsTaken}
+use Rattle.ciborium_ll.specs.Items.{IsTakenTitle}
 use Rattle.ciborium_ll.specs.Title.{IsTitle}
 use Rattle.ciborium_ll.proofs.NestLaws.{title_some}
 use Rattle.cbor_look.specs.Takings.{IsAlike, most_bytes, taken_bytes}
@@ -17,9 +18,9 @@ titles-init g c = record {
   bytes = [];
   shows = shows_none g.R.Read c.args.depth _ _ [] _;
   whole = 0;
-  due = c.new-walk.ensures;
-  came = λ alike lenient. comes_first g.R.Read c.args.depth c.new-walk.result c.args.decoder.now c.new-walk.ensures
-      lenient;
+  due = c.new-walk.ensures c.args.strict;
+  came = λ alike. comes_first g.R.Read c.args.strict c.args.depth c.new-walk.result c.args.decoder.now
+      (c.new-walk.ensures c.args.strict) alike;
 }
 
 pub returns-in-Err : goal.returns-in-Err
@@ -31,25 +32,25 @@ returns-in-Err g c =
     let level = c.level-level.ensures.value in
     let place = c.offset-place.ensures.value in
     let ended = c.ended.ensures.ends in
-    let reads : IsAlike c.args.strict c.args.decoder.now → c.args.decoder.now.strict ≡ false → AreTaken c.ended.result
+    let reads : IsAlike c.args.strict c.args.decoder.now → AreTaken c.ended.result
     → ReadsAsCheck g.R.Read c.args.depth most_bytes c.args.decoder.now c.ended.result c.read_title.new.decoder =
-    λ alike lenient all.
-    let come = up.came alike lenient in
-    let here = comes_alike g.R.Read c.args.depth c.args.strict c.titles.walk _ _ come alike in
+    λ alike all.
+    let come = up.came alike in
+    let here = comes_alike g.R.Read c.args.strict c.args.depth c.titles.walk _ _ come in
     let fails = (rw (c.offset-place.ensures.same, c.in-Err.is) at c.read_title.ensures.pulls) here place in
-    comes_end g.R.Read c.args.depth c.titles.walk _ _ come c.in-Err.error (length row) _ c.ended.result
+    comes_end g.R.Read c.args.strict c.args.depth c.titles.walk _ _ come c.in-Err.error (length row) _ c.ended.result
     (let used = come.due.keeps.used in let same = come.due.keeps.same_depth in omega (arith, used, same)) fails
     takes.offset (rw level at ended) all
     in
     record {
-      shows = λ all. up_ended g.R.Read c.args.depth c.args.strict _ _ _ c.titles.walk row c.offset-place.result
+      shows = λ all. up_ended g.R.Read c.args.strict c.args.depth _ _ _ c.titles.walk row c.offset-place.result
           c.level-level.result _ _ _ c.in-Err.error c.ended.result up takes place level (c.ended.ensures.draws all)
           ended;
       reads = reads;
-      told = λ due alike lenient ready all. answers_told g.R.Read c.args.depth c.args.decoder.now due ready c.ended.result _
-          (reads alike lenient all);
-      exactly = λ due alike lenient ready all. answers_exactly g.R.Read c.args.depth c.args.decoder.now due ready
-          c.ended.result _ (reads alike lenient all);
+      told = λ due alike ready all. answers_told g.R.Read c.args.depth c.args.decoder.now due ready c.ended.result _
+          (reads alike all);
+      exactly = λ due alike ready all. answers_exactly g.R.Read c.args.depth c.args.decoder.now due ready
+          c.ended.result _ (reads alike all);
     }
 
 -- each nest has a title, and the one that was read has a byte
@@ -62,7 +63,7 @@ title-requires g c =
     let up = c.titles.invariant in
     let begun = up.shows.takes.offset in
     let used = up.due.keeps.used in
-    let few = nests_few c.args.depth up.whole up.due.nests up.bytes up.due.within in
+    let few = nests_few c.args.strict c.args.depth up.whole up.due.nests up.bytes up.due.within in
     let titled : IsTitle row c.in-Ok.header = rw c.in-Ok.is at c.read_title.ensures.title in
     let some = title_some row c.in-Ok.header titled in
     record { behind = omega (arith, moved, begun, used, few, some) }
@@ -77,38 +78,38 @@ returns-in-Err-title g c =
     let begun = up.shows.takes.offset in
     let place = c.offset-place.ensures.value in
     let titled : IsTitle row c.in-Ok.header = rw c.in-Ok.is at c.read_title.ensures.title in
+    let taken : IsTakenTitle c.args.strict row c.in-Ok.header = rw c.in-Ok.is at c.read_title.ensures.taken in
     let some = title_some row c.in-Ok.header titled in
-    let reads : IsAlike c.args.strict c.args.decoder.now → c.args.decoder.now.strict ≡ false → IsTaken c.in-Err-title.error
+    let reads : IsAlike c.args.strict c.args.decoder.now → IsTaken c.in-Err-title.error
     → ReadsAsCheck g.R.Read c.args.depth most_bytes c.args.decoder.now (Err c.in-Err-title.error)
-    c.title.new.decoder = λ alike lenient all.
-    let come = up.came alike lenient in
-    let here = comes_alike g.R.Read c.args.depth c.args.strict c.titles.walk _ _ come alike in
+    c.title.new.decoder = λ alike all.
+    let come = up.came alike in
+    let here = comes_alike g.R.Read c.args.strict c.args.depth c.titles.walk _ _ come in
     let went = (rw (c.offset-place.ensures.same, c.in-Ok.is) at c.read_title.ensures.passes) here.none_waits in
     let pulls = (rw (c.offset-place.ensures.same, c.in-Ok.is) at c.read_title.ensures.pulls) here place in
     let at = come.passed.offset in
-    let title = c.in-Err-title.ensures.shows c.args.depth 0 come.between.offset come.bytes come.due titled
+    let title = c.in-Err-title.ensures.shows c.args.depth 0 come.between.offset come.bytes come.due titled taken
     (omega (arith, place, at)) (omega (arith, place, moved)) all in
     let behind = title.shows.takes.offset in
-    comes_title g.R.Read c.args.depth c.titles.walk _ _ come c.in-Err-title.error c.in-Ok.header
+    comes_title g.R.Read c.args.strict c.args.depth c.titles.walk _ _ come c.in-Err-title.error c.in-Ok.header
     c.offset-place.result _ _ pulls.0 pulls.1 place (omega (arith, behind)) (omega (arith, moved, some))
-    (title.stops (passes_alike g.R.Read c.args.strict _ _ row went here)
-    (went.mode ∙ (here.mode ∙ (sym alike.mode ∙ lenient)))) all
+    (title.stops (passes_alike g.R.Read c.args.strict _ _ row went here)) all
     in
     record {
       shows = λ all.
           let title = c.in-Err-title.ensures.shows c.args.depth up.whole c.args.decoder.now.offset up.bytes up.due
-          titled
-          (omega (arith, place, begun)) (omega (arith, place, moved)) all in
+          titled taken (omega (arith, place, begun)) (omega (arith, place, moved)) all in
           record {
             bytes = up.bytes ++ (row ++ title.bytes);
-            shows = up_title g.R.Read c.args.depth up.whole _ _ _ _ _ _ up.bytes _ row _ _ _ _ _ up.shows takes title;
+            shows = up_title g.R.Read c.args.strict c.args.depth up.whole _ _ _ _ _ up.bytes _ row _ _ _ _ _ up.shows
+                takes title;
             whole = tt;
           };
       reads = reads;
-      told = λ due alike lenient ready all. answers_told g.R.Read c.args.depth c.args.decoder.now due ready
-          (Err c.in-Err-title.error) _ (reads alike lenient all);
-      exactly = λ due alike lenient ready all. answers_exactly g.R.Read c.args.depth c.args.decoder.now due ready
-          (Err c.in-Err-title.error) _ (reads alike lenient all);
+      told = λ due alike ready all. answers_told g.R.Read c.args.depth c.args.decoder.now due ready
+          (Err c.in-Err-title.error) _ (reads alike all);
+      exactly = λ due alike ready all. answers_exactly g.R.Read c.args.depth c.args.decoder.now due ready
+          (Err c.in-Err-title.error) _ (reads alike all);
     }
 
 pub titles-smaller : goal.titles-smaller
@@ -121,11 +122,10 @@ titles-smaller g c =
     let begun = up.shows.takes.offset in
     let place = c.offset-place.ensures.value in
     let titled : IsTitle row c.in-Ok.header = rw c.in-Ok.is at c.read_title.ensures.title in
+    let taken : IsTakenTitle c.args.strict row c.in-Ok.header = rw c.in-Ok.is at c.read_title.ensures.taken in
     let some = title_some row c.in-Ok.header titled in
     let title = (rw c.in_default.is at c.title.ensures.shows) c.args.depth up.whole c.args.decoder.now.offset up.bytes
-    up.due
-    titled
-    (omega (arith, place, begun)) (omega (arith, place, moved)) tt in
+    up.due titled taken (omega (arith, place, begun)) (omega (arith, place, moved)) tt in
     let behind = title.shows.takes.offset in
     omega (arith, moved, some, behind)
 
@@ -139,22 +139,22 @@ titles-preserved g c =
     let begun = up.shows.takes.offset in
     let place = c.offset-place.ensures.value in
     let titled : IsTitle row c.in-Ok.header = rw c.in-Ok.is at c.read_title.ensures.title in
+    let taken : IsTakenTitle c.args.strict row c.in-Ok.header = rw c.in-Ok.is at c.read_title.ensures.taken in
     let title = (rw c.in_default.is at c.title.ensures.shows) c.args.depth up.whole c.args.decoder.now.offset up.bytes
-    up.due
-    titled
-    (omega (arith, place, begun)) (omega (arith, place, moved)) tt in
+    up.due titled taken (omega (arith, place, begun)) (omega (arith, place, moved)) tt in
     record {
       bytes = up.bytes ++ (row ++ title.bytes);
-      shows = up_title g.R.Read c.args.depth up.whole _ _ _ _ _ _ up.bytes _ row _ _ _ _ _ up.shows takes title;
+      shows = up_title g.R.Read c.args.strict c.args.depth up.whole _ _ _ _ _ up.bytes _ row _ _ _ _ _ up.shows
+          takes title;
       whole = _;
       due = title.due;
-      came = λ alike lenient.
-          let come = up.came alike lenient in
-          let here = comes_alike g.R.Read c.args.depth c.args.strict c.titles.walk _ _ come alike in
+      came = λ alike.
+          let come = up.came alike in
+          let here = comes_alike g.R.Read c.args.strict c.args.depth c.titles.walk _ _ come in
           let went = (rw (c.offset-place.ensures.same, c.in-Ok.is) at c.read_title.ensures.passes) here.none_waits in
           let at = come.passed.offset in
           let next = (rw c.in_default.is at c.title.ensures.shows) c.args.depth 0 come.between.offset come.bytes
-          come.due titled (omega (arith, place, at)) (omega (arith, place, moved)) tt in
-          comes_next g.R.Read c.args.depth c.titles.walk _ _ _ _ _ come row next.bytes went
+          come.due titled taken (omega (arith, place, at)) (omega (arith, place, moved)) tt in
+          comes_next g.R.Read c.args.strict c.args.depth c.titles.walk _ _ _ _ _ come row next.bytes went
           (next.passed (passes_alike g.R.Read c.args.strict _ _ row went here)) next.due;
     }

@@ -4,7 +4,7 @@ use Rattle.cbor_look.proofs.dump.dump.Given as goal
 
 abbrev pub invariant-titles : goal.invariant-titles
 invariant-titles g l =
-    UpTo g.R.Read l.depth l.strict (g.S.Rows.drawn l.fn.rows) (g.S.Rows.drawn l.rows) l.walk l.fn.decoder l.decoder
+    UpTo g.R.Read l.strict l.depth (g.S.Rows.drawn l.fn.rows) (g.S.Rows.drawn l.rows) l.walk l.fn.decoder l.decoder
 
 -- each title takes a byte
 abbrev pub decreases-titles : goal.decreases-titles

@@ -5,48 +5,48 @@ use Rattle.cbor_look.proofs.dump.nest.Goals as goal
 
 pub returns-in-Err : goal.returns-in-Err
 returns-in-Err g c = record {
-  draws = λ depth whole start before due p at all. record {
-    lines = walk_line depth whole start _ _ before _ c.args.header c.level-level.result c.args.place c.args.walk.now
+  draws = λ strict depth whole start before due p taken at all. record {
+    lines = walk_line strict depth whole start _ _ before _ c.args.header c.level-level.result c.args.place c.args.walk.now
         due p
         (nest_level c.args.header due.nests 0 c.requires.nest) c.level-level.ensures.value at (c.in-Err.ensures.draws
         all);
     due = tt;
-    stops = refused_alone depth whole c.args.header c.args.place before c.in-Err.error c.in-Err.ensures.refusal;
+    stops = refused_alone strict depth whole c.args.header c.args.place before c.in-Err.error c.in-Err.ensures.refusal;
   };
 }
 
 pub returns-in-Deep : goal.returns-in-Deep
 returns-in-Deep g c = record {
-  draws = λ depth whole start before due p at all. record {
-    lines = walk_line depth whole start _ _ before _ c.args.header c.level-level.result c.args.place c.args.walk.now
+  draws = λ strict depth whole start before due p taken at all. record {
+    lines = walk_line strict depth whole start _ _ before _ c.args.header c.level-level.result c.args.place c.args.walk.now
         due p
         (nest_level c.args.header due.nests 0 c.requires.nest) c.level-level.ensures.value at
         ((rw c.in_default.is at c.shown.ensures.draws) tt);
     due = tt;
-    stops = (c.in-Deep.ensures depth whole before _ due p, c.requires.nest, refl);
+    stops = (c.in-Deep.ensures strict depth whole before _ due p taken, c.requires.nest, refl);
   };
 }
 
 pub returns-in-Within : goal.returns-in-Within
 returns-in-Within g c = record {
-  draws = λ depth whole start before due p at all. record {
-    lines = walk_line depth whole start _ _ before _ c.args.header c.level-level.result c.args.place c.args.walk.now
+  draws = λ strict depth whole start before due p taken at all. record {
+    lines = walk_line strict depth whole start _ _ before _ c.args.header c.level-level.result c.args.place c.args.walk.now
         due p
         (nest_level c.args.header due.nests 0 c.requires.nest) c.level-level.ensures.value at
         ((rw c.in_default.is at c.shown.ensures.draws) tt);
-    due = c.in-Within.ensures depth whole before _ due p;
+    due = c.in-Within.ensures strict depth whole before _ due p taken;
     stops = tt;
   };
 }
 
 pub returns-in-Empty : goal.returns-in-Empty
 returns-in-Empty g c = record {
-  draws = λ depth whole start before due p at all. record {
-    lines = walk_line depth whole start _ _ before _ c.args.header c.level-level.result c.args.place c.args.walk.now
+  draws = λ strict depth whole start before due p taken at all. record {
+    lines = walk_line strict depth whole start _ _ before _ c.args.header c.level-level.result c.args.place c.args.walk.now
         due p
         (nest_level c.args.header due.nests 0 c.requires.nest) c.level-level.ensures.value at
         ((rw c.in_default.is at c.shown.ensures.draws) tt);
-    due = c.item_done.ensures depth whole _ (c.in-Empty.ensures depth whole before _ due p);
+    due = c.item_done.ensures strict depth whole _ (c.in-Empty.ensures strict depth whole before _ due p taken);
     stops = tt;
   };
 }

@@ -31,8 +31,8 @@ returns-in-None g c = record {
         shows = shows.shows;
         whole = shows.whole;
         passed = shows.passed;
-        stops = λ alike lenient. any_place g.R.Read (kind_of c.args.kind) 0
+        stops = λ alike. any_place g.R.Read (kind_of c.args.kind) 0
             (c.args.decoder.now.offset - title_len (kind_header (kind_of c.args.kind) None)) _ _ c.pieces.result
-            (shows.stops alike lenient);
+            (shows.stops alike);
       });
 }

@@ -4,22 +4,23 @@ use Rattle.cbor_look.specs.StringRows.{kind_of}
 use Rattle.ciborium_ll.specs.Strings.{kind_header}
 use Rattle.cbor_look.proofs.TitleLaws.{walk_line, string_level, title_only, title_then, behind_item, string_item}
 use Rattle.cbor_look.proofs.StopLaws.{refused_title, rest_stops}
+use Rattle.cbor_look.proofs.WalkLaws.{stands_any}
 use Rattle.cbor_look.proofs.dump.string.Goals as goal
 
 pub returns-in-Err : goal.returns-in-Err
 returns-in-Err g c = record {
-  shows = λ depth whole start before due p place offset all.
+  shows = λ depth whole start before due p taken place offset all.
       let row = taken_bytes c.args.taken.now in
       let k = kind_of c.args.kind in
       let drawn = rw c.header-header.ensures at (c.in-Err.ensures.draws all) in
       record {
         bytes = [];
         shows = title_only g.R.Read depth start _ _ before row _
-            (walk_line depth whole start _ _ before row (kind_header k c.args.len) c.level-level.result c.args.place
+            (walk_line c.args.strict depth whole start _ _ before row (kind_header k c.args.len) c.level-level.result c.args.place
             c.args.walk.now due p (string_level k c.args.len due.nests 0) c.level-level.ensures.value place drawn);
         due = tt;
         passed = λ alike. tt;
-        stops = λ alike lenient. refused_title g.R.Read depth whole _ c.args.place before _ _ c.in-Err.error
+        stops = λ alike. refused_title g.R.Read c.args.strict depth whole _ c.args.place before _ _ c.in-Err.error
             c.in-Err.ensures.refusal;
       };
 }
@@ -30,46 +31,45 @@ rest-requires-clause-behind g c =
 
 pub returns-in-Err-rest : goal.returns-in-Err-rest
 returns-in-Err-rest g c = record {
-  shows = λ depth whole start before due p place offset all.
+  shows = λ depth whole start before due p taken place offset all.
       let row = taken_bytes c.args.taken.now in
       let k = kind_of c.args.kind in
       let drawn = rw c.header-header.ensures at ((rw c.in_default.is at c.shown.ensures.draws) tt) in
       let used = due.keeps.used in
-      let line = walk_line depth whole start _ _ before row (kind_header k c.args.len) c.level-level.result c.args.place
+      let line = walk_line c.args.strict depth whole start _ _ before row (kind_header k c.args.len) c.level-level.result c.args.place
       c.args.walk.now due p (string_level k c.args.len due.nests 0) c.level-level.ensures.value place drawn in
-      let rest = c.in-Err-rest.ensures.shows depth start due.nests before row (whole, due.within) p
+      let rest = c.in-Err-rest.ensures.shows depth start due.nests before row
+      (whole, stands_any c.args.strict depth whole due.nests before due.within) p
       (c.level-level.ensures.value ∙ used) (omega (arith, place, offset, length-append before row)) all in
       record {
         bytes = rest.bytes;
         shows = title_then g.R.Read depth start _ _ _ before row rest.bytes _ _ line rest.shows;
         due = tt;
         passed = λ alike. tt;
-        stops = λ alike lenient. rest_stops g.R.Read depth whole k c.args.len c.args.place before _ _ c.in-Err-rest.error
-            (record { nests = due.nests; within = due.within; is = refl }) (rest.stops alike lenient);
+        stops = λ alike. rest_stops g.R.Read c.args.strict depth whole k c.args.len c.args.place before _ _
+            c.in-Err-rest.error (record { nests = due.nests; within = due.within; is = refl }) (rest.stops alike);
       };
 }
 
 pub returns : goal.returns
 returns g c = record {
-  shows = λ depth whole start before due p place offset all.
+  shows = λ depth whole start before due p taken place offset all.
       let row = taken_bytes c.args.taken.now in
       let k = kind_of c.args.kind in
       let drawn = rw c.header-header.ensures at ((rw c.in_default.is at c.shown.ensures.draws) tt) in
       let used = due.keeps.used in
-      let line = walk_line depth whole start _ _ before row (kind_header k c.args.len) c.level-level.result c.args.place
+      let line = walk_line c.args.strict depth whole start _ _ before row (kind_header k c.args.len) c.level-level.result c.args.place
       c.args.walk.now due p (string_level k c.args.len due.nests 0) c.level-level.ensures.value place drawn in
-      let rest = (rw c.in_default-rest.is at c.rest.ensures.shows) depth start due.nests before row (
-        whole,
-        due.within,
-      ) p
+      let rest = (rw c.in_default-rest.is at c.rest.ensures.shows) depth start due.nests before row
+      (whole, stands_any c.args.strict depth whole due.nests before due.within) p
       (c.level-level.ensures.value ∙ used) (omega (arith, place, offset, length-append before row)) tt in
       record {
         bytes = rest.bytes;
         shows = title_then g.R.Read depth start _ _ _ before row rest.bytes _ _ line rest.shows;
-        due = c.item_done.ensures depth whole _ (behind_item depth whole c.args.walk.now before (row ++ rest.bytes) due
+        due = c.item_done.ensures c.args.strict depth whole _ (behind_item c.args.strict depth whole c.args.walk.now before (row ++ rest.bytes) due
             (omega arith)
-            (string_item k c.args.len row rest.bytes p rest.whole));
+            (string_item c.args.strict k c.args.len row rest.bytes p taken rest.whole));
         passed = rest.passed;
-        stops = λ alike lenient. tt;
+        stops = λ alike. tt;
       };
 }

@@ -7,23 +7,23 @@ use Rattle.cbor_look.proofs.dump.title.Goals as goal
 
 pub returns-in-Break : goal.returns-in-Break
 returns-in-Break g c = record {
-  shows = λ depth whole start before due p place offset all.
+  shows = λ depth whole start before due p taken place offset all.
       let titled = subst (λ (x : Header). IsTitle (taken_bytes c.args.taken.now) x) c.in-Break.is p in
       let alone = title_alone g.R.Read depth whole start _ _ before _ _ _ c.args.strict c.args.place _ _
-      (c.break_title.ensures.draws depth whole start before due titled place all) in
+      (c.break_title.ensures.draws c.args.strict depth whole start before due titled place all) in
       rw c.in-Break.is alone;
 }
 
 pub returns-in-Tag : goal.returns-in-Tag
 returns-in-Tag g c = record {
-  shows = λ depth whole start before due p place offset all.
+  shows = λ depth whole start before due p taken place offset all.
       title_alone g.R.Read depth whole start _ _ before _ _ _ c.args.strict c.args.place _ _
-      (c.nest.ensures.draws depth whole start before due p place all);
+      (c.nest.ensures.draws c.args.strict depth whole start before due p taken place all);
 }
 
 pub returns-in-Positive : goal.returns-in-Positive
 returns-in-Positive g c = record {
-  shows = λ depth whole start before due p place offset all.
+  shows = λ depth whole start before due p taken place offset all.
       title_alone g.R.Read depth whole start _ _ before _ _ _ c.args.strict c.args.place _ _
-      (c.value.ensures.draws depth whole start before due p place all);
+      (c.value.ensures.draws c.args.strict depth whole start before due p taken place all);
 }

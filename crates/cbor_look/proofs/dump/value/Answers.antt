@@ -6,26 +6,26 @@ use Rattle.cbor_look.proofs.dump.value.Goals as goal
 
 pub returns-in-Err : goal.returns-in-Err
 returns-in-Err g c = record {
-  draws = λ depth whole start before due p at all. record {
-    lines = walk_line depth whole start _ _ before _ c.args.header c.level-level.result c.args.place c.args.walk.now
+  draws = λ strict depth whole start before due p taken at all. record {
+    lines = walk_line strict depth whole start _ _ before _ c.args.header c.level-level.result c.args.place c.args.walk.now
         due p
         (value_level c.args.header due.nests 0 c.requires.value) c.level-level.ensures.value at
         (c.in-Err.ensures.draws all);
     due = tt;
-    stops = refused_alone depth whole c.args.header c.args.place before c.in-Err.error c.in-Err.ensures.refusal;
+    stops = refused_alone strict depth whole c.args.header c.args.place before c.in-Err.error c.in-Err.ensures.refusal;
   };
 }
 
 pub returns : goal.returns
 returns g c = record {
-  draws = λ depth whole start before due p at all. record {
-    lines = walk_line depth whole start _ _ before _ c.args.header c.level-level.result c.args.place c.args.walk.now
+  draws = λ strict depth whole start before due p taken at all. record {
+    lines = walk_line strict depth whole start _ _ before _ c.args.header c.level-level.result c.args.place c.args.walk.now
         due p
         (value_level c.args.header due.nests 0 c.requires.value) c.level-level.ensures.value at
         ((rw c.in_default.is at c.shown.ensures.draws) tt);
-    due = c.item_done.ensures depth whole _ (behind_item depth whole c.args.walk.now before (taken_bytes
+    due = c.item_done.ensures strict depth whole _ (behind_item strict depth whole c.args.walk.now before (taken_bytes
         c.args.taken.now) due
-        (omega arith) (value_item c.args.header (taken_bytes c.args.taken.now) c.requires.value p));
+        (omega arith) (value_item strict c.args.header (taken_bytes c.args.taken.now) c.requires.value p taken));
     stops = tt;
   };
 }

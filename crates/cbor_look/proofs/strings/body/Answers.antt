@@ -34,7 +34,7 @@ returns-in-Err g c = record {
             so_far takes c.read_part.ensures.most c.offset-offset.ensures.value (c.fault.ensures.draws all);
         whole = tt;
         passed = λ alike. tt;
-        stops = λ alike lenient.
+        stops = λ alike.
             let idle = alike.none_waits in
             let passed = so_far.passed idle in
             let between = passes_idle g.R.Read _ _ so_far.front passed idle in
@@ -70,7 +70,7 @@ returns-in-Err-shown g c = record {
         shows = shown.shows;
         whole = tt;
         passed = λ alike. tt;
-        stops = λ alike lenient. refusal_stops g.R.Read (kind_of c.args.kind) (Some c.args.len) c.args.place _ _
+        stops = λ alike. refusal_stops g.R.Read (kind_of c.args.kind) (Some c.args.len) c.args.place _ _
             c.in-Err-shown.error c.in-Err-shown.ensures.refusal;
       };
   rises =
@@ -112,7 +112,7 @@ returns g c = record {
         shows = so_far.shows;
         whole = (omega (arith, counted), so_far.written);
         passed = λ alike. so_far.passed alike.none_waits;
-        stops = λ alike lenient. tt;
+        stops = λ alike. tt;
       };
   rises = c.rows.invariant.rises;
 }

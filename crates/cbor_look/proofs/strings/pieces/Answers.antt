@@ -2,12 +2,13 @@ use Rattle.std.proofs.Common.{◌≡◌, ℕ, ◌++◌, subst, sym, ap, suc, ◌
 use Rattle.ciborium_ll.specs.Decoding.{PullsTitle}
 use Rattle.ciborium_ll.proofs.DecodingLaws.{Passes-then}
 use Rattle.ciborium_ll.specs.Types.Header.{Header}
+use Rattle.ciborium_ll.specs.Items.{IsTakenTitle}
 use Rattle.ciborium_ll.specs.Title.{IsTitle}
 use Rattle.ciborium_ll.proofs.NestLaws.{title_some}
 use Rattle.cbor_look.specs.Takings.{taken_bytes}
 use Rattle.cbor_look.specs.StringRows.{kind_of}
 use Rattle.cbor_look.proofs.StringLaws.{taken_all, refusal_stops}
-use Rattle.cbor_look.proofs.PullLaws.{passes_idle}
+use Rattle.cbor_look.proofs.PullLaws.{passes_idle, passes_alike}
 use Rattle.cbor_look.proofs.PieceLaws.{alike_here, passed_row, within_no_title, within_other, within_body}
 use Rattle.cbor_look.proofs.PieceLaws.{within_first, within_fails, within_open, within_break, within_ends, within_title}
 use Rattle.cbor_look.proofs.PieceLaws.{within_piece, within_whole, piece_due, piece_offset}
@@ -17,7 +18,7 @@ use Rattle.cbor_look.proofs.strings.pieces.Goals as goal
 pub parts-init : goal.parts-init
 parts-init g c = record {
   within = λ depth start nests items title stands p level at.
-      within_first g.R.Read depth start _ nests items title (kind_of c.args.kind) _ _ p (omega (arith, level));
+      within_first g.R.Read c.args.strict depth start _ nests items title (kind_of c.args.kind) _ _ p (omega (arith, level));
   above = omega arith;
   below = let behind = c.requires.behind in omega (arith, behind);
 }
@@ -32,17 +33,17 @@ returns-in-Err g c = record {
       let place = c.offset-place.ensures.value in
       record {
         bytes = so_far.bytes ++ row;
-        shows = within_fails g.R.Read depth start _ _ nests items title (kind_of c.args.kind) c.parts.inner _ _ stands
+        shows = within_fails g.R.Read c.args.strict depth start _ _ nests items title (kind_of c.args.kind) c.parts.inner _ _ stands
             so_far at _ row c.offset-place.result _ takes place (c.fault.ensures.draws all);
         whole = tt;
         passed = λ alike. tt;
-        stops = λ alike lenient.
+        stops = λ alike.
             let fails = (rw (c.offset-place.ensures.same, c.in-Err.is) at c.read_title.ensures.pulls)
-            (alike_here g.R.Read depth start _ _ nests items title (kind_of c.args.kind) c.parts.inner _ _ stands
-            so_far at c.args.strict alike) place in
-            within_no_title g.R.Read depth start _ _ nests items title (kind_of c.args.kind) c.parts.inner _ _ stands
-            so_far at c.args.strict p c.in-Err.error _ fails c.fault.result c.fault.ensures.says
-            alike lenient;
+            (alike_here g.R.Read c.args.strict depth start _ _ nests items title (kind_of c.args.kind) c.parts.inner _ _ stands
+            so_far at alike) place in
+            within_no_title g.R.Read c.args.strict depth start _ _ nests items title (kind_of c.args.kind) c.parts.inner _ _ stands
+            so_far at p c.in-Err.error _ fails c.fault.result c.fault.ensures.says
+            alike;
       };
 }
 
@@ -56,17 +57,17 @@ returns-in-Other g c = record {
       let place = c.offset-place.ensures.value in
       record {
         bytes = so_far.bytes ++ row;
-        shows = within_fails g.R.Read depth start _ _ nests items title (kind_of c.args.kind) c.parts.inner _ _ stands
+        shows = within_fails g.R.Read c.args.strict depth start _ _ nests items title (kind_of c.args.kind) c.parts.inner _ _ stands
             so_far at _ row c.offset-place.result _ takes place (c.fault-in-Other.ensures.draws all);
         whole = tt;
         passed = λ alike. tt;
-        stops = λ alike lenient.
+        stops = λ alike.
             let pulls = (rw (c.offset-place.ensures.same, c.in-Ok.is) at c.read_title.ensures.pulls)
-            (alike_here g.R.Read depth start _ _ nests items title (kind_of c.args.kind) c.parts.inner _ _ stands
-            so_far at c.args.strict alike) place in
-            within_other g.R.Read depth start _ _ nests items title (kind_of c.args.kind) c.parts.inner _ _ stands
-            so_far at c.args.strict p c.in-Ok.header c.offset-place.result _ pulls.0 c.in-Other.ensures place
-            c.fault-in-Other.result c.fault-in-Other.ensures.says alike lenient;
+            (alike_here g.R.Read c.args.strict depth start _ _ nests items title (kind_of c.args.kind) c.parts.inner _ _ stands
+            so_far at alike) place in
+            within_other g.R.Read c.args.strict depth start _ _ nests items title (kind_of c.args.kind) c.parts.inner _ _ stands
+            so_far at p c.in-Ok.header c.offset-place.result _ pulls.0 c.in-Other.ensures place
+            c.fault-in-Other.result c.fault-in-Other.ensures.says alike;
       };
 }
 
@@ -84,12 +85,12 @@ returns-in-Err-shown g c = record {
       let inner = so_far.level in
       record {
         bytes = so_far.bytes ++ row;
-        shows = within_title g.R.Read depth start _ _ nests items title (kind_of c.args.kind) c.parts.inner _ _ stands
+        shows = within_title g.R.Read c.args.strict depth start _ _ nests items title (kind_of c.args.kind) c.parts.inner _ _ stands
             so_far at _ row _ c.offset-place.result (c.parts.inner - 1) _ takes place title_row
             (ap (λ (n : ℕ). n - 1) inner) (rw is at (c.in-Err-shown.ensures.draws all));
         whole = tt;
         passed = λ alike. tt;
-        stops = λ alike lenient. refusal_stops g.R.Read (kind_of c.args.kind) None 0 _ _ c.in-Err-shown.error
+        stops = λ alike. refusal_stops g.R.Read (kind_of c.args.kind) None 0 _ _ c.in-Err-shown.error
             c.in-Err-shown.ensures.refusal;
       };
 }
@@ -105,7 +106,7 @@ returns-then-inner-level g c = record {
       let titled : IsTitle row c.in-Ok.header = rw c.in-Ok.is at c.read_title.ensures.title in
       let is = c.in-Break.ensures in
       let title_row = subst (λ (x : Header). IsTitle row x) is titled in
-      let ends = within_ends g.R.Read depth start _ _ nests items title (kind_of c.args.kind) c.parts.inner _ _ stands
+      let ends = within_ends g.R.Read c.args.strict depth start _ _ nests items title (kind_of c.args.kind) c.parts.inner _ _ stands
       so_far at _ row c.offset-place.result _ p takes place title_row
       (c.if-inner-level.true ∙ level) (rw is at ((rw c.in_default.is at c.shown.ensures.draws) tt)) in
       let went = rw (c.offset-place.ensures.same, c.in-Ok.is) at c.read_title.ensures.passes in
@@ -113,9 +114,9 @@ returns-then-inner-level g c = record {
         bytes = so_far.bytes ++ row;
         shows = ends.0;
         whole = ends.1;
-        passed = λ alike. passed_row g.R.Read depth start _ _ nests items title (kind_of c.args.kind) c.parts.inner _
+        passed = λ alike. passed_row g.R.Read c.args.strict depth start _ _ nests items title (kind_of c.args.kind) c.parts.inner _
             _ stands so_far at row _ went alike.none_waits;
-        stops = λ alike lenient. tt;
+        stops = λ alike. tt;
       };
 }
 
@@ -131,7 +132,7 @@ parts-preserved-else-inner-level g c = record {
       let is = c.in-Break.ensures in
       let title_row = subst (λ (x : Header). IsTitle row x) is titled in
       let went = rw (c.offset-place.ensures.same, c.in-Ok.is) at c.read_title.ensures.passes in
-      within_break g.R.Read depth start _ _ nests items title (kind_of c.args.kind) c.parts.inner _ _ stands so_far at
+      within_break g.R.Read c.args.strict depth start _ _ nests items title (kind_of c.args.kind) c.parts.inner _ _ stands so_far at
       _ row c.offset-place.result _ takes went place title_row
       (λ e. c.if-inner-level.false (e ∙ sym level)) (rw is at ((rw c.in_default.is at c.shown.ensures.draws) tt));
   above =
@@ -163,13 +164,13 @@ returns-in-Err-shown-2 g c = record {
       let inner = so_far.level in
       record {
         bytes = so_far.bytes ++ row;
-        shows = within_title g.R.Read depth start _ _ nests items title (kind_of c.args.kind) c.parts.inner _ _ stands
+        shows = within_title g.R.Read c.args.strict depth start _ _ nests items title (kind_of c.args.kind) c.parts.inner _ _ stands
             so_far at _ row _ c.offset-place.result c.parts.inner _ takes place title_row
             (inner ∙ sym (string_level (kind_of c.args.kind) (Some c.in-Piece.len) nests (suc so_far.opens)))
             (rw is at (c.in-Err-shown-2.ensures.draws all));
         whole = tt;
         passed = λ alike. tt;
-        stops = λ alike lenient. refusal_stops g.R.Read (kind_of c.args.kind) None 0 _ _ c.in-Err-shown-2.error
+        stops = λ alike. refusal_stops g.R.Read (kind_of c.args.kind) None 0 _ _ c.in-Err-shown-2.error
             c.in-Err-shown-2.ensures.refusal;
       };
 }
@@ -186,31 +187,30 @@ returns-in-Err-body g c = record {
       let is = c.in-Piece.ensures in
       let title_row = subst (λ (x : Header). IsTitle row x) is titled in
       let inner = so_far.level in
-      let due = piece_due g.R.Read depth start _ _ nests items title (kind_of c.args.kind) c.parts.inner _ _ stands
+      let due = piece_due g.R.Read c.args.strict depth start _ _ nests items title (kind_of c.args.kind) c.parts.inner _ _ stands
       so_far at in
       let rest = c.in-Err-body.ensures.shows depth start (suc so_far.opens) nests (items ++ so_far.parts) row
-      c.read_title.new.decoder.strict due
-      title_row (omega (arith, inner)) (piece_offset g.R.Read depth start _ _ nests items title (kind_of c.args.kind)
+      c.args.strict due
+      title_row (omega (arith, inner)) (piece_offset g.R.Read c.args.strict depth start _ _ nests items title (kind_of c.args.kind)
       c.parts.inner _ _ stands so_far at row _ takes) all in
       record {
         bytes = so_far.bytes ++ (row ++ rest.bytes);
-        shows = within_piece g.R.Read depth start _ _ nests items title (kind_of c.args.kind) c.parts.inner _ _ stands
+        shows = within_piece g.R.Read c.args.strict depth start _ _ nests items title (kind_of c.args.kind) c.parts.inner _ _ stands
             so_far at _ _ row rest.bytes c.in-Piece.len c.offset-place.result _ _ takes place
             title_row (rw is at ((rw c.in_default-shown.is at c.shown-in-Piece.ensures.draws) tt)) rest.shows;
         whole = tt;
         passed = λ alike. tt;
-        stops = λ alike lenient.
-            let here = alike_here g.R.Read depth start _ _ nests items title (kind_of c.args.kind) c.parts.inner _ _
-            stands so_far at c.args.strict alike in
+        stops = λ alike.
+            let here = alike_here g.R.Read c.args.strict depth start _ _ nests items title (kind_of c.args.kind) c.parts.inner _ _
+            stands so_far at alike in
             let went = (rw (c.offset-place.ensures.same, c.in-Ok.is) at c.read_title.ensures.passes) here.none_waits in
             let pulls = (rw (c.offset-place.ensures.same, c.in-Ok.is) at c.read_title.ensures.pulls) here place in
             let pulled = subst (λ (x : Header). PullsTitle g.R.Read c.parts.decoder x c.read_title.new.decoder) is
             pulls.0 in
-            within_body g.R.Read depth start _ _ nests items title (kind_of c.args.kind) c.parts.inner _ _ stands
-            so_far at c.args.strict p c.in-Piece.len c.offset-place.result _ _ pulled pulls.1 place
+            within_body g.R.Read c.args.strict depth start _ _ nests items title (kind_of c.args.kind) c.parts.inner _ _ stands
+            so_far at p c.in-Piece.len c.offset-place.result _ _ pulled pulls.1 place
             c.in-Err-body.error
-            (rest.stops (record { none_waits = passes_idle g.R.Read _ _ row went here.none_waits; mode = refl })
-            (went.mode ∙ (here.mode ∙ (sym alike.mode ∙ lenient)))) alike lenient;
+            (rest.stops (passes_alike g.R.Read c.args.strict _ _ row went here)) alike;
       };
 }
 
@@ -236,19 +236,21 @@ parts-preserved-in_default-body g c = record {
       let titled : IsTitle row c.in-Ok.header = rw c.in-Ok.is at c.read_title.ensures.title in
       let is = c.in-Piece.ensures in
       let title_row = subst (λ (x : Header). IsTitle row x) is titled in
+      let taken : IsTakenTitle c.args.strict row c.in-Ok.header = rw c.in-Ok.is at c.read_title.ensures.taken in
+      let taken_row = subst (λ (x : Header). IsTakenTitle c.args.strict row x) is taken in
       let inner = so_far.level in
-      let due = piece_due g.R.Read depth start _ _ nests items title (kind_of c.args.kind) c.parts.inner _ _ stands
+      let due = piece_due g.R.Read c.args.strict depth start _ _ nests items title (kind_of c.args.kind) c.parts.inner _ _ stands
       so_far at in
       let rest = (rw c.in_default-body.is at c.body.ensures.shows) depth start (suc so_far.opens) nests
       (items ++ so_far.parts) row c.read_title.new.decoder.strict due title_row (omega (arith, inner)) (piece_offset
-      g.R.Read depth start _ _ nests
+      g.R.Read c.args.strict depth start _ _ nests
       items title (kind_of c.args.kind) c.parts.inner _ _ stands so_far at row _ takes) tt in
       let went = rw (c.offset-place.ensures.same, c.in-Ok.is) at c.read_title.ensures.passes in
-      let shows = within_piece g.R.Read depth start _ _ nests items title (kind_of c.args.kind) c.parts.inner _ _
+      let shows = within_piece g.R.Read c.args.strict depth start _ _ nests items title (kind_of c.args.kind) c.parts.inner _ _
       stands so_far at _ _ row rest.bytes c.in-Piece.len c.offset-place.result _ _ takes place
       title_row (rw is at ((rw c.in_default-shown.is at c.shown-in-Piece.ensures.draws) tt)) rest.shows in
-      within_whole g.R.Read depth start _ _ nests items title (kind_of c.args.kind) c.parts.inner _ _ stands so_far at
-      _ row rest.bytes c.in-Piece.len _ title_row rest.whole.0 rest.whole.1
+      within_whole g.R.Read c.args.strict depth start _ _ nests items title (kind_of c.args.kind) c.parts.inner _ _ stands so_far at
+      _ row rest.bytes c.in-Piece.len _ title_row taken_row rest.whole.0 rest.whole.1
       (λ idle. let first = went idle in
       Passes-then g.R.Read _ _ _ row rest.bytes first
       (rest.passed (record { none_waits = passes_idle g.R.Read _ _ row first idle; mode = refl }))) shows;
@@ -274,18 +276,18 @@ returns-in-Err-shown-3 g c = record {
       let takes = taken_all g.R.Read _ row _ _ c.new-taken.ensures keeps in
       let place = c.offset-place.ensures.value in
       let titled : IsTitle row c.in-Ok.header = rw c.in-Ok.is at c.read_title.ensures.title in
-      let is = c.in-Open.ensures in
+      let is = c.in-Open.ensures.0 in
       let title_row = subst (λ (x : Header). IsTitle row x) is titled in
       let inner = so_far.level in
       record {
         bytes = so_far.bytes ++ row;
-        shows = within_title g.R.Read depth start _ _ nests items title (kind_of c.args.kind) c.parts.inner _ _ stands
+        shows = within_title g.R.Read c.args.strict depth start _ _ nests items title (kind_of c.args.kind) c.parts.inner _ _ stands
             so_far at _ row _ c.offset-place.result c.parts.inner _ takes place title_row
             (inner ∙ sym (string_level (kind_of c.args.kind) None nests (suc so_far.opens)))
             (rw is at (c.in-Err-shown-3.ensures.draws all));
         whole = tt;
         passed = λ alike. tt;
-        stops = λ alike lenient. refusal_stops g.R.Read (kind_of c.args.kind) None 0 _ _ c.in-Err-shown-3.error
+        stops = λ alike. refusal_stops g.R.Read (kind_of c.args.kind) None 0 _ _ c.in-Err-shown-3.error
             c.in-Err-shown-3.ensures.refusal;
       };
 }
@@ -299,11 +301,11 @@ parts-preserved g c = record {
       let takes = taken_all g.R.Read _ row _ _ c.new-taken.ensures keeps in
       let place = c.offset-place.ensures.value in
       let titled : IsTitle row c.in-Ok.header = rw c.in-Ok.is at c.read_title.ensures.title in
-      let is = c.in-Open.ensures in
+      let is = c.in-Open.ensures.0 in
       let title_row = subst (λ (x : Header). IsTitle row x) is titled in
       let went = rw (c.offset-place.ensures.same, c.in-Ok.is) at c.read_title.ensures.passes in
-      within_open g.R.Read depth start _ _ nests items title (kind_of c.args.kind) c.parts.inner _ _ stands so_far at
-      _ row c.offset-place.result _ takes went place title_row
+      within_open g.R.Read c.args.strict depth start _ _ nests items title (kind_of c.args.kind) c.parts.inner _ _ stands so_far at
+      _ row c.offset-place.result _ c.in-Open.ensures.1 takes went place title_row
       (rw is at ((rw c.in_default-shown-2.is at c.shown-in-Open.ensures.draws) tt));
   above = let inner = c.parts.invariant.above in omega (arith, inner);
   below =

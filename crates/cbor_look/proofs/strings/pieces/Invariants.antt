@@ -11,7 +11,7 @@ invariant-parts g l = record {
   within : (depth start : ℕ) (nests : List Nest) (items title : List ℕ) → StandsWithin depth nests items
       → IsTitle title (kind_header (kind_of l.kind) None) → l.level ≡ length nests
       → l.fn.decoder.offset ≡ start + length (items ++ title)
-      → Within g.R.Read depth start (g.S.Rows.drawn l.fn.rows) (g.S.Rows.drawn l.rows) nests items title
+      → Within g.R.Read l.strict depth start (g.S.Rows.drawn l.fn.rows) (g.S.Rows.drawn l.rows) nests items title
       (kind_of l.kind) l.inner l.fn.decoder l.decoder;
   above : l.level < l.inner;
   below : l.inner ≤ l.decoder.offset;

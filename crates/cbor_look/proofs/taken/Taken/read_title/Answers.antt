@@ -1,9 +1,10 @@
-use Rattle.std.proofs.Common.{◌≡◌, ◌%◌, ℕ, List, [], ◌∷◌, ◌++◌, length, get_or, Some, None, Option, ap, subst, sym}
+use Rattle.std.proofs.Common.{◌≡◌, ◌%◌, ℕ, List, [], ◌∷◌, ◌++◌, length, get_or, Some, None, ap, subst, sym}
 use Rattle.std.proofs.Common.{◌∙◌, arith}
 use Rattle.std.proofs.Common.{Err}
 use Rattle.std.proofs.lemmas.Result.{err_from_is_err_and}
 use Rattle.ciborium_ll.specs.Title.{affix_len}
 use Rattle.ciborium_ll.specs.Decoding.{ReadsAll}
+use Rattle.cbor_skip.proofs.StrictnessLaws.{taken_when}
 use Rattle.cbor_look.specs.Takings.{Means, taken_bytes}
 use Rattle.cbor_look.proofs.TakingLaws.{keeps_then, one_of}
 use Rattle.cbor_look.proofs.PullLaws.{first_fails, affix_fails, first_passed, more_passed, passes_idle, row_pulled}
@@ -66,6 +67,24 @@ returns-in-Some-clause-title g c =
     let parts = c.bytes-2.ensures ∙ (second.behind ∙ ap (λ (z : List ℕ). z ++ second.bytes) (one_of one long)) in
     let means = c.in-Some.ensures byte second.bytes parts (omega (arith, counted', long, announced, few)) in
     (subst (λ (z : List ℕ). Means c.args.strict z (Some c.in-Some.header)) c.bytes-2.ensures means).0
+
+pub returns-in-Some-clause-taken : goal.returns-in-Some-clause-taken
+returns-in-Some-clause-taken g c =
+    let one = taken_bytes c.read.new.self in
+    let first = c.in_ok-read.ensures.reads in
+    let second = c.in_ok-read-2.ensures.reads in
+    let empty = ap length c.requires.none in
+    let counted = first.counted in
+    let counted' = second.counted in
+    let all : one ≡ first.bytes = first.behind ∙ ap (λ (z : List ℕ). z ++ first.bytes) c.requires.none in
+    let long : length one ≡ 1 = let l = ap length all in omega (arith, l, counted, empty) in
+    let byte = get_or one 0 0 in
+    let announced : c.affix_len.result ≡ affix_len (byte % 32) = rw c.bytes.ensures at c.affix_len.ensures.value in
+    let few = c.affix_len.ensures.few in
+    let parts = c.bytes-2.ensures ∙ (second.behind ∙ ap (λ (z : List ℕ). z ++ second.bytes) (one_of one long)) in
+    let means = c.in-Some.ensures byte second.bytes parts (omega (arith, counted', long, announced, few)) in
+    taken_when c.args.strict _ c.in-Some.header
+    (subst (λ (z : List ℕ). Means c.args.strict z (Some c.in-Some.header)) c.bytes-2.ensures means).1
 
 pub returns-in-Some-clause-passes : goal.returns-in-Some-clause-passes
 returns-in-Some-clause-passes g c = λ none.

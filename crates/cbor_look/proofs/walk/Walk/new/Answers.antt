@@ -3,4 +3,4 @@ use Rattle.cbor_look.proofs.WalkLaws.{due_first}
 use Rattle.cbor_look.proofs.walk.Walk.new.Goals as goal
 
 pub returns : goal.returns
-returns c = due_first c.args.depth _ refl refl refl
+returns c = λ strict. due_first strict c.args.depth _ refl refl refl
