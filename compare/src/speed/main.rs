@@ -13,7 +13,7 @@ use std::process::ExitCode;
 
 /// How the program is used.
 const USAGE: &str =
-    "OURS BENCH ORIGINAL CALLS LIBCBOR [--megabytes N] [--rounds N] [--copies] [--library]";
+    "OURS BENCH ORIGINAL CALLS LIBCBOR [--megabytes N] [--rounds N] [--copies] [--library] [--rows TEXT]";
 
 /// What the arguments ask for.
 struct Asked {
@@ -26,6 +26,8 @@ struct Asked {
     rounds: usize,
     has_copies: bool,
     has_library: bool,
+    /// What stands in the name of each row of the second table.
+    rows: String,
 }
 
 /// What the words behind the program's name ask for.
@@ -40,6 +42,7 @@ fn asked(mut words: impl Iterator<Item = String>) -> Option<Asked> {
         rounds: 7,
         has_copies: true,
         has_library: true,
+        rows: String::new(),
     };
     while let Some(word) = words.next() {
         match word.as_str() {
@@ -47,6 +50,7 @@ fn asked(mut words: impl Iterator<Item = String>) -> Option<Asked> {
             "--rounds" => asked.rounds = words.next()?.parse().ok()?,
             "--copies" => asked.has_library = false,
             "--library" => asked.has_copies = false,
+            "--rows" => asked.rows = words.next()?,
             _ => return None,
         }
     }

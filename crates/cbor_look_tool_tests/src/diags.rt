@@ -1,5 +1,5 @@
-use crate::rows::{EXAMPLES, MALFORMED, SPELLED};
 use crate::checks::{found, options_of};
+use crate::rows::{EXAMPLES, MALFORMED, SPELLED};
 use cbor_look_service::arguments::Options;
 use cbor_look_service::diag::diag_input;
 use cbor_look_service::digits::Digits;
