@@ -253,11 +253,13 @@ module _ {R E : Type 0} (source : Ghosts R E) where
     -- a title that was read, or the string behind it, by its error
     title_stops : (error : SkipError E) (W : Type 0) (header : Header) (place : ℕ) (titled new : Decoder R)
         → PullsTitle source now header titled → (IsSteady source now → IsSteady source titled) → place ≡ now.offset
-        → StopsTitle {R = R} {E = E} {W = W} source strict depth 0 header place come.bytes titled (Err (d.Item error)) new
+        → StopsTitle {R = R} {E = E} {W = W} source strict depth 0 header place come.bytes titled
+        (Err (d.Item error)) new
         → StopsItem source false depth most_bytes come.between error new
     title_stops (s.Read error) W header place titled new pulled steady at stops =
         let due = stops.2 in
-        stops_in due.nests due.within (depth - length due.nests) (stands_few strict depth due.nests come.bytes due.within)
+        stops_in due.nests due.within (depth - length due.nests)
+        (stands_few strict depth due.nests come.bytes due.within)
         (s.Read error) new (inr (record {
           kind = stops.0;
           len = stops.1;
@@ -268,7 +270,8 @@ module _ {R E : Type 0} (source : Ghosts R E) where
         }))
     title_stops (s.Break at) W header place titled new pulled steady same stops =
         let due = stops.0 in
-        stops_in due.nests due.within (depth - length due.nests) (stands_few strict depth due.nests come.bytes due.within)
+        stops_in due.nests due.within (depth - length due.nests)
+        (stands_few strict depth due.nests come.bytes due.within)
         (s.Break at) new (record {
           not_closable = due.not_closable;
           place = stops.2 ∙ same;

@@ -1,6 +1,7 @@
 -- The lines of a string of indefinite length, behind its open.
 use Rattle.std.proofs.Common.{◌≡◌, ℕ, zero, suc, ◌+◌, ◌-◌, List, [], ◌∷◌, ◌++◌, length, Option, Some, None, refl, sym}
-use Rattle.std.proofs.Common.{ap, subst, ◌∙◌, arith, append-nil, append_assoc, length-append, inl, inr, Bool, true, false, Err}
+use Rattle.std.proofs.Common.{ap, subst, ◌∙◌, arith, append-nil, append_assoc, length-append, inl, inr, Bool, true}
+use Rattle.std.proofs.Common.{false, Err}
 use Rattle.std.proofs.lemmas.Bool.{false_from_ne_true}
 use Rattle.ciborium_ll.specs.Types.Read.{Ghosts}
 use Rattle.ciborium_ll.specs.Types.Header.{Header}
@@ -62,7 +63,8 @@ module _ {R E : Type 0} (source : Ghosts R E) where
     pub shows : Shows source depth start drawn then_drawn (items ++ title) bytes old new
     pub passed : old.waiting ≡ None → Passes source old bytes new
 
-  pub within_first : (strict : Bool) (depth start : ℕ) (drawn : Option (List Line)) (nests : List Nest) (items title : List ℕ)
+  pub within_first : (strict : Bool) (depth start : ℕ) (drawn : Option (List Line)) (nests : List Nest)
+      (items title : List ℕ)
       (kind : Kind) (inner : ℕ) (decoder : Decoder R) → IsTitle title (kind_header kind None)
       → inner ≡ length nests + 1
       → Within strict depth start drawn drawn nests items title kind inner decoder decoder
@@ -81,7 +83,8 @@ module _ {R E : Type 0} (source : Ghosts R E) where
     passed = λ idle. Passes-none source decoder;
   }
 
-  module _ (strict : Bool) (depth start : ℕ) (drawn middle : Option (List Line)) (nests : List Nest) (items title : List ℕ)
+  module _ (strict : Bool) (depth start : ℕ) (drawn middle : Option (List Line)) (nests : List Nest)
+      (items title : List ℕ)
       (kind : Kind) (inner : ℕ) (old between : Decoder R) (stands : StandsWithin depth nests items)
       (so_far : Within strict depth start drawn middle nests items title kind inner old between)
       (begun : old.offset ≡ start + length (items ++ title)) where
@@ -174,7 +177,8 @@ module _ {R E : Type 0} (source : Ghosts R E) where
     several opens e = false_from_ne_true strict (λ on. let none = so_far.one on in omega (arith, none, e))
 
     -- a break that closes one of several
-    inner_break : (opens : ℕ) → so_far.opens ≡ suc opens → strict ≡ false → (then_drawn : Option (List Line)) (row : List ℕ)
+    inner_break : (opens : ℕ) → so_far.opens ≡ suc opens → strict ≡ false → (then_drawn : Option (List Line))
+        (row : List ℕ)
         (offset : ℕ) (new : Decoder R)
         → Takes source between row new → (between.waiting ≡ None → Passes source between row new)
         → offset ≡ between.offset → IsTitle row h.Break
@@ -211,7 +215,8 @@ module _ {R E : Type 0} (source : Ghosts R E) where
     within_break then_drawn row offset new takes went at p further drawn_line =
         let level = so_far.level in
         let less : so_far.opens ≡ suc (so_far.opens - 1) = omega (arith, level, further) in
-        inner_break (so_far.opens - 1) less (several (so_far.opens - 1) less) then_drawn row offset new takes went at p drawn_line
+        inner_break (so_far.opens - 1) less (several (so_far.opens - 1) less) then_drawn row offset new takes went at p
+        drawn_line
 
     -- the break that ends the string
     pub within_ends : (then_drawn : Option (List Line)) (row : List ℕ) (offset : ℕ) (new : Decoder R)

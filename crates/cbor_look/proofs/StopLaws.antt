@@ -27,10 +27,12 @@ module _ {R E W : Type 0} (source : Ghosts R E) where
 
   -- the rest of a string stopped as a skip of it does
   pub rest_stops : (strict : Bool) (depth whole : ℕ) (kind : Kind) (len : Option ℕ) (place : ℕ) (before : List ℕ)
-      (old new : Decoder R) (why : DumpError E W) → IsStringDue strict depth whole before (kind_header kind len) kind len
+      (old new : Decoder R) (why : DumpError E W) → IsStringDue strict depth whole before (kind_header kind len)
+      kind len
       → StopsRest source kind len (old.offset - title_len (kind_header kind len)) old (Err why) new
       → StopsTitle source strict depth whole (kind_header kind len) place before old (Err why) new
-  rest_stops strict depth whole kind None place before old new (d.Item (s.Read error)) due stops = (kind, None, due, stops)
+  rest_stops strict depth whole kind None place before old new (d.Item (s.Read error)) due stops =
+      (kind, None, due, stops)
   rest_stops strict depth whole kind (Some len) place before old new (d.Item (s.Read error)) due stops =
       (kind, Some len, due, stops)
   rest_stops strict depth whole kind None place before old new (d.Item (s.Break at)) due stops = absurd stops

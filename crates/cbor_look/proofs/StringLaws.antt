@@ -182,7 +182,8 @@ add_string kind opens parts string bodies others
 
 -- a string of a definite length behind others
 flat_then : (kind : Kind) (strings title body : List ℕ) (bodies : List (List ℕ)) → AreFlat kind strings bodies
-    → IsTitle title (kind_header kind (Some (length body))) → IsStrictTitle title (kind_header kind (Some (length body)))
+    → IsTitle title (kind_header kind (Some (length body)))
+    → IsStrictTitle title (kind_header kind (Some (length body)))
     → AreFlat kind (strings ++ (title ++ body)) (bodies ++ (body ∷ []))
 flat_then kind strings title body bodies no_flat p g =
     subst (λ (z : List ℕ). AreFlat kind z (body ∷ [])) (append-nil (title ++ body)) (more_flat p g no_flat)

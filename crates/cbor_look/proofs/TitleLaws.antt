@@ -82,7 +82,8 @@ title_line depth start old new before title x level place nests opens due p same
     (record { nests = nests; opens = opens; due = due; is_title = p; level = same })
 
 -- outside of strings, where the level is that of the walk
-pub walk_line : (strict : Bool) (depth whole start : ℕ) (old new : Option (List Line)) (before title : List ℕ) (x : Header)
+pub walk_line : (strict : Bool) (depth whole start : ℕ) (old new : Option (List Line)) (before title : List ℕ)
+    (x : Header)
     (level place : ℕ) (walk : Walk) (due : IsDue strict depth whole walk before) → IsTitle title x
     → title_level x due.nests 0 ≡ length due.nests + 0 → level ≡ walk.used → place ≡ start + length before
     → Draws old new (record { level = level; offset = place; bytes = title; meaning = m.Header x } ∷ [])
@@ -91,10 +92,13 @@ walk_line strict depth whole start old new before title x level place walk due p
     let used = due.keeps.used in
     let counted : length due.nests ≡ length due.nests + 0 = omega arith in
     title_line depth start old new before title x level place due.nests 0
-    (due_here depth due.nests before (whole, stands_any strict depth whole due.nests before due.within)) p (same ∙ (used ∙ (counted ∙ sym plain))) at drawn
+    (due_here depth due.nests before (whole, stands_any strict depth whole due.nests before due.within)) p
+    (same ∙ (used ∙ (counted ∙ sym plain))) at drawn
 
-pub break_line : (strict : Bool) (depth whole start : ℕ) (old new : Option (List Line)) (before title : List ℕ) (level place : ℕ)
-    (closed : Bool) (walk : Walk) → Breaks strict depth whole closed walk before → IsTitle title h.Break → level ≡ walk.used
+pub break_line : (strict : Bool) (depth whole start : ℕ) (old new : Option (List Line)) (before title : List ℕ)
+    (level place : ℕ)
+    (closed : Bool) (walk : Walk) → Breaks strict depth whole closed walk before → IsTitle title h.Break
+    → level ≡ walk.used
     → place ≡ start + length before
     → Draws old new (record { level = level; offset = place; bytes = title; meaning = m.Header h.Break } ∷ [])
     → Lines depth start old new before title
@@ -214,7 +218,8 @@ module _ {R E : Type 0} (source : Ghosts R E) where
       title_then depth start drawn then_drawn then_drawn before title [] decoder decoder first
       (shows_none source depth start then_drawn (before ++ title) decoder)
 
-  alone_stops : {W : Type 0} (strict : Bool) (depth whole : ℕ) (header : Header) (place : ℕ) (before : List ℕ) (decoder : Decoder R)
+  alone_stops : {W : Type 0} (strict : Bool) (depth whole : ℕ) (header : Header) (place : ℕ) (before : List ℕ)
+      (decoder : Decoder R)
       (result : Result (Unit {0}) (DumpError E W)) → StopsAlone strict depth whole header place before result
       → StopsTitle source strict depth whole header place before decoder result decoder
   alone_stops strict depth whole header place before decoder (Ok done) stops = tt

@@ -23,7 +23,8 @@ use Rattle.cbor_look.specs.Walks.{whole_behind, IsDeepest}
 -- ---- all items of a nest
 
 -- all items were read, by what remains
-all_read : (strict : Bool) (x : Header) (d count : ℕ) (items : List ℕ) (remaining : Remaining) → IsRemaining x count remaining
+all_read : (strict : Bool) (x : Header) (d count : ℕ) (items : List ℕ) (remaining : Remaining)
+    → IsRemaining x count remaining
     → is_done remaining ≡ true → AreItems strict d count items → Completes strict (suc d) x items
 all_read strict (h.Tag n) d count items (r.Items zero) is done i =
     let one : count ≡ 1 = omega (arith, is) in tag (subst (λ (m : ℕ). AreItems strict d m items) one i)
@@ -41,7 +42,8 @@ all_read strict (h.Map None) d count items r.OpenValue is done i = absurd cc
 all_read strict x d count items remaining is done i = absurd is
 
 -- a break ended them, by what remains
-all_closed : (strict : Bool) (x : Header) (d count : ℕ) (items : List ℕ) (remaining : Remaining) → IsRemaining x count remaining
+all_closed : (strict : Bool) (x : Header) (d count : ℕ) (items : List ℕ) (remaining : Remaining)
+    → IsRemaining x count remaining
     → closes remaining ≡ true → AreItems strict d count items → Completes strict (suc d) x (items ++ 0xff ∷ [])
 all_closed strict (h.Array None) d count items r.OpenItems is may i = open_array i
 all_closed strict (h.Map None) d count items r.OpenPairs is may i =
@@ -126,7 +128,8 @@ goes_on strict depth whole levels nest outer bytes item inner level is_item more
     sym (ap (λ (z : List ℕ). z ++ item) inner.is ∙ (append_assoc inner.before (inner.title ++ inner.items) item
     ∙ ap (λ (z : List ℕ). inner.before ++ z) (append_assoc inner.title inner.items item))) in
     let item' = subst (λ (n : ℕ). IsItem strict n item) same is_item in
-    subst (λ (z : List ℕ). StandsBehind strict depth whole (record { header = nest.header; count = suc nest.count } ∷ outer) z)
+    subst (λ (z : List ℕ). StandsBehind strict depth whole (record { header = nest.header; count = suc nest.count }
+    ∷ outer) z)
     all
     (inside inner.within inner.level inner.is_title inner.taken more
     (items_item strict inner.levels nest.count inner.items item inner.are_items item'))
@@ -174,7 +177,8 @@ due_outside : (strict : Bool) (depth whole : ℕ) (walk : Walk) (bytes : List �
 due_outside strict depth whole walk bytes none due =
     subst (λ (n : ℕ). IsDue strict depth (whole_behind whole n) walk bytes) (sym none) due
 
-pub due_first : (strict : Bool) (depth : ℕ) (walk : Walk) → walk.used ≡ 0 → walk.depth ≡ depth → length walk.levels ≡ 256
+pub due_first : (strict : Bool) (depth : ℕ) (walk : Walk) → walk.used ≡ 0 → walk.depth ≡ depth
+    → length walk.levels ≡ 256
     → IsDue strict depth 0 walk []
 due_first strict depth walk used same room = record {
   nests = [];
@@ -189,7 +193,8 @@ deepest strict depth whole walk before due full =
     record { nests = due.nests; within = due.within; full = sym due.keeps.used ∙ (full ∙ due.keeps.same_depth) }
 
 -- a nest with nothing in it is an item
-pub enters_empty : (strict : Bool) (depth whole : ℕ) (walk : Walk) (before title : List ℕ) (header : Header) (x : Remaining)
+pub enters_empty : (strict : Bool) (depth whole : ℕ) (walk : Walk) (before title : List ℕ) (header : Header)
+    (x : Remaining)
     → IsDue strict depth whole walk before → IsTitle title header → IsTakenTitle strict title header
     → walk.used ≤ walk.depth → (walk.used ≡ walk.depth → ⊥)
     → IsRemaining header 0 x → is_done x ≡ true → IsBehindItem strict depth whole walk (before ++ title)
@@ -209,7 +214,8 @@ enters_empty strict depth whole walk before title header x due p g within room i
     }
 
 -- a nest in which something is due is one more
-pub enters_within : (strict : Bool) (depth whole : ℕ) (walk new : Walk) (before title : List ℕ) (header : Header) (x : Remaining)
+pub enters_within : (strict : Bool) (depth whole : ℕ) (walk new : Walk) (before title : List ℕ) (header : Header)
+    (x : Remaining)
     → IsDue strict depth whole walk before → IsTitle title header → IsTakenTitle strict title header
     → walk.used ≤ walk.depth → walk.depth ≤ 256
     → (walk.used ≡ walk.depth → ⊥) → IsRemaining header 0 x → is_done x ≡ false
@@ -248,7 +254,8 @@ level_closed : (nests : List Nest) → closes_one nests 0 ≡ true → title_lev
 level_closed nests e =
     ap (λ (b : Bool). cond b ((length nests + 0) - 1) (length nests + 0)) e ∙ omega arith
 
-breaks_not : (strict : Bool) (depth whole : ℕ) (walk : Walk) (before : List ℕ) (due : IsDue strict depth whole walk before)
+breaks_not : (strict : Bool) (depth whole : ℕ) (walk : Walk) (before : List ℕ)
+    (due : IsDue strict depth whole walk before)
     → closes_one due.nests 0 ≡ false → Breaks strict depth whole false walk before
 breaks_not strict depth whole walk before due none = record {
   nests = due.nests;
@@ -263,7 +270,8 @@ outside_no_break : (nests : List Nest) → length nests ≡ 0 → closes_one nes
 outside_no_break [] e = refl
 outside_no_break (nest ∷ nests) e = absurd (omega (arith, e))
 
-pub break_outside : (strict : Bool) (depth whole : ℕ) (walk : Walk) (before : List ℕ) → IsDue strict depth whole walk before → walk.used ≡ 0
+pub break_outside : (strict : Bool) (depth whole : ℕ) (walk : Walk) (before : List ℕ)
+    → IsDue strict depth whole walk before → walk.used ≡ 0
     → Breaks strict depth whole false walk before
 break_outside strict depth whole walk before due none =
     breaks_not strict depth whole walk before due (outside_no_break due.nests (sym due.keeps.used ∙ none))
@@ -279,7 +287,8 @@ closes_as_kept depth walk (nest ∷ nests) keeps some =
     let same = takes_more nest.header nest.count (remaining_at walk.levels (length nests)) kept.0 kept.1 in
     same.1 ∙ ap (λ (k : ℕ). closes (remaining_at walk.levels k)) at
 
-pub break_refused : (strict : Bool) (depth whole : ℕ) (walk : Walk) (before : List ℕ) → IsDue strict depth whole walk before
+pub break_refused : (strict : Bool) (depth whole : ℕ) (walk : Walk) (before : List ℕ)
+    → IsDue strict depth whole walk before
     → (walk.used ≡ 0 → ⊥)
     → closes (remaining_at walk.levels (walk.used - 1)) ≡ false → Breaks strict depth whole false walk before
 break_refused strict depth whole walk before due some refused =
@@ -300,17 +309,20 @@ closed_behind strict depth whole walk new before (nest ∷ nests) within keeps s
     let inner = inner_of strict depth whole nest nests before within in
     let completes =
     all_closed strict nest.header inner.levels nest.count inner.items remaining kept.0 closing inner.are_items in
-    ends_nest strict depth whole nest nests before (0xff ∷ []) (inner.items ++ 0xff ∷ []) new inner refl completes (record {
+    ends_nest strict depth whole nest nests before (0xff ∷ []) (inner.items ++ 0xff ∷ []) new inner refl completes
+    (record {
       kept = subst (λ (z : List Remaining). AreKept z nests) (sym same) kept.2;
       used = less ∙ at;
       same_depth = deep ∙ keeps.same_depth;
       room = ap length same ∙ keeps.room;
     })
 
-pub break_closes : (strict : Bool) (depth whole : ℕ) (walk new : Walk) (before : List ℕ) → IsDue strict depth whole walk before
+pub break_closes : (strict : Bool) (depth whole : ℕ) (walk new : Walk) (before : List ℕ)
+    → IsDue strict depth whole walk before
     → (walk.used ≡ 0 → ⊥)
     → closes (remaining_at walk.levels (walk.used - 1)) ≡ true
-    → new.levels ≡ walk.levels → new.used ≡ walk.used - 1 → new.depth ≡ walk.depth → Breaks strict depth whole true new before
+    → new.levels ≡ walk.levels → new.used ≡ walk.used - 1 → new.depth ≡ walk.depth
+    → Breaks strict depth whole true new before
 break_closes strict depth whole walk new before due some may same less deep =
     let closing = closes_as_kept depth walk due.nests due.keeps some ∙ may in
     let used = due.keeps.used in
@@ -319,7 +331,8 @@ break_closes strict depth whole walk new before due some may same less deep =
       within = due.within;
       level = less ∙ (ap (λ (k : ℕ). k - 1) used ∙ sym (level_closed due.nests closing));
       may = closing;
-      behind = λ e. closed_behind strict depth whole walk new before due.nests due.within due.keeps some may same less deep;
+      behind = λ e. closed_behind strict depth whole walk new before due.nests due.within due.keeps some may same less
+          deep;
     }
 
 -- ---- the end of an item
@@ -327,7 +340,8 @@ break_closes strict depth whole walk new before due some may same less deep =
 -- outside of all nests
 outside_more : (strict : Bool) (depth whole levels : ℕ) (nests : List Nest) (before item : List ℕ)
     → StandsBehind strict depth whole nests before
-    → length nests ≡ 0 → levels ≡ depth → IsItem strict levels item → StandsBehind strict depth (suc whole) [] (before ++ item)
+    → length nests ≡ 0 → levels ≡ depth → IsItem strict levels item → StandsBehind strict depth (suc whole) []
+    (before ++ item)
 outside_more strict depth whole levels nests before item (outside i) none same is_item =
     outside (items_item strict depth whole before item i (subst (λ (k : ℕ). IsItem strict k item) same is_item))
 outside_more strict depth whole levels nests before item (inside w e p g more are) none same is_item = absurd (omega (
@@ -335,7 +349,8 @@ outside_more strict depth whole levels nests before item (inside w e p g more ar
   none,
 ))
 
-pub end_outside : (strict : Bool) (depth whole : ℕ) (walk : Walk) (bytes : List ℕ) → IsBehindItem strict depth whole walk bytes → walk.used ≡ 0
+pub end_outside : (strict : Bool) (depth whole : ℕ) (walk : Walk) (bytes : List ℕ)
+    → IsBehindItem strict depth whole walk bytes → walk.used ≡ 0
     → IsDueBehind strict depth whole walk bytes
 end_outside strict depth whole walk bytes behind none =
     let due = behind.due in
@@ -366,7 +381,8 @@ some_remains depth walk (nest ∷ nests) keeps some =
     let kept = keeps.kept in
     subst (λ (k : ℕ). is_done (remaining_at walk.levels k) ≡ false) at kept.1
 
-pub end_remains : (strict : Bool) (depth whole : ℕ) (walk : Walk) (bytes : List ℕ) → IsBehindItem strict depth whole walk bytes
+pub end_remains : (strict : Bool) (depth whole : ℕ) (walk : Walk) (bytes : List ℕ)
+    → IsBehindItem strict depth whole walk bytes
     → (walk.used ≡ 0 → ⊥)
     → is_done (remaining_at walk.levels (walk.used - 1)) ≡ false
 end_remains strict depth whole walk bytes behind some = some_remains depth walk behind.due.nests behind.due.keeps some
@@ -412,7 +428,8 @@ more_due strict depth whole walk new after s (nest ∷ nests) before item levels
       };
     }
 
-pub end_goes_on : (strict : Bool) (depth whole : ℕ) (walk new : Walk) (after : Remaining) → Steps walk new after → (bytes : List ℕ)
+pub end_goes_on : (strict : Bool) (depth whole : ℕ) (walk new : Walk) (after : Remaining) → Steps walk new after
+    → (bytes : List ℕ)
     → IsBehindItem strict depth whole walk bytes → is_done after ≡ false → new.used ≡ walk.used
     → IsDueBehind strict depth whole new bytes
 end_goes_on strict depth whole walk new after s bytes behind rest same =
@@ -428,8 +445,8 @@ level_ends : (strict : Bool) (depth whole : ℕ) (walk new : Walk) (after : Rema
     → (nests : List Nest) (before item : List ℕ) (levels : ℕ) → StandsBehind strict depth whole nests before
     → KeepsNests depth walk nests → length nests + levels ≡ depth → IsItem strict levels item
     → is_done after ≡ true → new.used ≡ walk.used - 1 → IsBehindItem strict depth whole new (before ++ item)
-level_ends strict depth whole walk new after s [] before item levels stands keeps left is_item done less = absurd (s.some
-    keeps.used)
+level_ends strict depth whole walk new after s [] before item levels stands keeps left is_item done less =
+    absurd (s.some keeps.used)
 level_ends strict depth whole walk new after s (nest ∷ nests) before item levels stands keeps left is_item done less =
     let used = keeps.used in
     let few = s.within in
@@ -453,12 +470,14 @@ level_ends strict depth whole walk new after s (nest ∷ nests) before item leve
       room = ap length s.written ∙ (length-set walk.levels (walk.used - 1) after ∙ keeps.room);
     })
 
-pub end_of_level : (strict : Bool) (depth whole : ℕ) (walk new : Walk) (after : Remaining) → Steps walk new after → (bytes : List ℕ)
+pub end_of_level : (strict : Bool) (depth whole : ℕ) (walk new : Walk) (after : Remaining) → Steps walk new after
+    → (bytes : List ℕ)
     → IsBehindItem strict depth whole walk bytes → is_done after ≡ true
     → new.used ≡ walk.used - 1 → IsBehindItem strict depth whole new bytes
 end_of_level strict depth whole walk new after s bytes behind done less =
     let due = behind.due in
     subst (λ (z : List ℕ). IsBehindItem strict depth whole new z) (sym behind.is)
-    (level_ends strict depth whole walk new after s due.nests behind.before behind.item behind.levels due.within due.keeps
+    (level_ends strict depth whole walk new after s due.nests behind.before behind.item behind.levels due.within
+    due.keeps
     behind.left behind.is_item
     done less)

@@ -77,7 +77,8 @@ module _ {R E W : Type 0} (source : Ghosts R E) where
 module _ {R E W : Type 0} (source : Ghosts R E) where
   -- Lines were drawn of just the bytes that were consumed, and each stands at its level. Where all is well, the bytes
   -- are a sequence of items (RFC 8742), in any spelling or in the shortest one
-  pub record ShowsAll (strict : Bool) (depth : ℕ) (drawn then_drawn : Option (List Line)) (result : Result E (DumpError E W))
+  pub record ShowsAll (strict : Bool) (depth : ℕ) (drawn then_drawn : Option (List Line)) (result : Result E
+      (DumpError E W))
       (old new : Decoder R) : Type 0 where
     pub bytes : List ℕ
     pub shows : Shows source depth old.offset drawn then_drawn [] bytes old new

@@ -6,7 +6,8 @@ use Rattle.cbor_look.proofs.dump.nest.Goals as goal
 pub returns-in-Err : goal.returns-in-Err
 returns-in-Err g c = record {
   draws = λ strict depth whole start before due p taken at all. record {
-    lines = walk_line strict depth whole start _ _ before _ c.args.header c.level-level.result c.args.place c.args.walk.now
+    lines = walk_line strict depth whole start _ _ before _ c.args.header c.level-level.result c.args.place
+        c.args.walk.now
         due p
         (nest_level c.args.header due.nests 0 c.requires.nest) c.level-level.ensures.value at (c.in-Err.ensures.draws
         all);
@@ -18,7 +19,8 @@ returns-in-Err g c = record {
 pub returns-in-Deep : goal.returns-in-Deep
 returns-in-Deep g c = record {
   draws = λ strict depth whole start before due p taken at all. record {
-    lines = walk_line strict depth whole start _ _ before _ c.args.header c.level-level.result c.args.place c.args.walk.now
+    lines = walk_line strict depth whole start _ _ before _ c.args.header c.level-level.result c.args.place
+        c.args.walk.now
         due p
         (nest_level c.args.header due.nests 0 c.requires.nest) c.level-level.ensures.value at
         ((rw c.in_default.is at c.shown.ensures.draws) tt);
@@ -30,7 +32,8 @@ returns-in-Deep g c = record {
 pub returns-in-Within : goal.returns-in-Within
 returns-in-Within g c = record {
   draws = λ strict depth whole start before due p taken at all. record {
-    lines = walk_line strict depth whole start _ _ before _ c.args.header c.level-level.result c.args.place c.args.walk.now
+    lines = walk_line strict depth whole start _ _ before _ c.args.header c.level-level.result c.args.place
+        c.args.walk.now
         due p
         (nest_level c.args.header due.nests 0 c.requires.nest) c.level-level.ensures.value at
         ((rw c.in_default.is at c.shown.ensures.draws) tt);
@@ -42,7 +45,8 @@ returns-in-Within g c = record {
 pub returns-in-Empty : goal.returns-in-Empty
 returns-in-Empty g c = record {
   draws = λ strict depth whole start before due p taken at all. record {
-    lines = walk_line strict depth whole start _ _ before _ c.args.header c.level-level.result c.args.place c.args.walk.now
+    lines = walk_line strict depth whole start _ _ before _ c.args.header c.level-level.result c.args.place
+        c.args.walk.now
         due p
         (nest_level c.args.header due.nests 0 c.requires.nest) c.level-level.ensures.value at
         ((rw c.in_default.is at c.shown.ensures.draws) tt);

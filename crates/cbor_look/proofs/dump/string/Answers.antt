@@ -16,7 +16,8 @@ returns-in-Err g c = record {
       record {
         bytes = [];
         shows = title_only g.R.Read depth start _ _ before row _
-            (walk_line c.args.strict depth whole start _ _ before row (kind_header k c.args.len) c.level-level.result c.args.place
+            (walk_line c.args.strict depth whole start _ _ before row
+            (kind_header k c.args.len) c.level-level.result c.args.place
             c.args.walk.now due p (string_level k c.args.len due.nests 0) c.level-level.ensures.value place drawn);
         due = tt;
         passed = λ alike. tt;
@@ -36,7 +37,8 @@ returns-in-Err-rest g c = record {
       let k = kind_of c.args.kind in
       let drawn = rw c.header-header.ensures at ((rw c.in_default.is at c.shown.ensures.draws) tt) in
       let used = due.keeps.used in
-      let line = walk_line c.args.strict depth whole start _ _ before row (kind_header k c.args.len) c.level-level.result c.args.place
+      let line = walk_line c.args.strict depth whole start _ _ before row
+      (kind_header k c.args.len) c.level-level.result c.args.place
       c.args.walk.now due p (string_level k c.args.len due.nests 0) c.level-level.ensures.value place drawn in
       let rest = c.in-Err-rest.ensures.shows depth start due.nests before row
       (whole, stands_any c.args.strict depth whole due.nests before due.within) p
@@ -58,7 +60,8 @@ returns g c = record {
       let k = kind_of c.args.kind in
       let drawn = rw c.header-header.ensures at ((rw c.in_default.is at c.shown.ensures.draws) tt) in
       let used = due.keeps.used in
-      let line = walk_line c.args.strict depth whole start _ _ before row (kind_header k c.args.len) c.level-level.result c.args.place
+      let line = walk_line c.args.strict depth whole start _ _ before row
+      (kind_header k c.args.len) c.level-level.result c.args.place
       c.args.walk.now due p (string_level k c.args.len due.nests 0) c.level-level.ensures.value place drawn in
       let rest = (rw c.in_default-rest.is at c.rest.ensures.shows) depth start due.nests before row
       (whole, stands_any c.args.strict depth whole due.nests before due.within) p
@@ -66,7 +69,8 @@ returns g c = record {
       record {
         bytes = rest.bytes;
         shows = title_then g.R.Read depth start _ _ _ before row rest.bytes _ _ line rest.shows;
-        due = c.item_done.ensures c.args.strict depth whole _ (behind_item c.args.strict depth whole c.args.walk.now before (row ++ rest.bytes) due
+        due = c.item_done.ensures c.args.strict depth whole _
+            (behind_item c.args.strict depth whole c.args.walk.now before (row ++ rest.bytes) due
             (omega arith)
             (string_item c.args.strict k c.args.len row rest.bytes p taken rest.whole));
         passed = rest.passed;

@@ -7,7 +7,8 @@ use Rattle.cbor_look.proofs.dump.value.Goals as goal
 pub returns-in-Err : goal.returns-in-Err
 returns-in-Err g c = record {
   draws = λ strict depth whole start before due p taken at all. record {
-    lines = walk_line strict depth whole start _ _ before _ c.args.header c.level-level.result c.args.place c.args.walk.now
+    lines = walk_line strict depth whole start _ _ before _ c.args.header c.level-level.result c.args.place
+        c.args.walk.now
         due p
         (value_level c.args.header due.nests 0 c.requires.value) c.level-level.ensures.value at
         (c.in-Err.ensures.draws all);
@@ -19,7 +20,8 @@ returns-in-Err g c = record {
 pub returns : goal.returns
 returns g c = record {
   draws = λ strict depth whole start before due p taken at all. record {
-    lines = walk_line strict depth whole start _ _ before _ c.args.header c.level-level.result c.args.place c.args.walk.now
+    lines = walk_line strict depth whole start _ _ before _ c.args.header c.level-level.result c.args.place
+        c.args.walk.now
         due p
         (value_level c.args.header due.nests 0 c.requires.value) c.level-level.ensures.value at
         ((rw c.in_default.is at c.shown.ensures.draws) tt);

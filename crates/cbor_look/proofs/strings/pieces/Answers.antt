@@ -18,7 +18,8 @@ use Rattle.cbor_look.proofs.strings.pieces.Goals as goal
 pub parts-init : goal.parts-init
 parts-init g c = record {
   within = λ depth start nests items title stands p level at.
-      within_first g.R.Read c.args.strict depth start _ nests items title (kind_of c.args.kind) _ _ p (omega (arith, level));
+      within_first g.R.Read c.args.strict depth start _ nests items title (kind_of c.args.kind) _ _ p (omega
+      (arith, level));
   above = omega arith;
   below = let behind = c.requires.behind in omega (arith, behind);
 }
@@ -33,15 +34,18 @@ returns-in-Err g c = record {
       let place = c.offset-place.ensures.value in
       record {
         bytes = so_far.bytes ++ row;
-        shows = within_fails g.R.Read c.args.strict depth start _ _ nests items title (kind_of c.args.kind) c.parts.inner _ _ stands
+        shows = within_fails g.R.Read c.args.strict depth start _ _ nests items title
+            (kind_of c.args.kind) c.parts.inner _ _ stands
             so_far at _ row c.offset-place.result _ takes place (c.fault.ensures.draws all);
         whole = tt;
         passed = λ alike. tt;
         stops = λ alike.
             let fails = (rw (c.offset-place.ensures.same, c.in-Err.is) at c.read_title.ensures.pulls)
-            (alike_here g.R.Read c.args.strict depth start _ _ nests items title (kind_of c.args.kind) c.parts.inner _ _ stands
+            (alike_here g.R.Read c.args.strict depth start _ _ nests items title
+            (kind_of c.args.kind) c.parts.inner _ _ stands
             so_far at alike) place in
-            within_no_title g.R.Read c.args.strict depth start _ _ nests items title (kind_of c.args.kind) c.parts.inner _ _ stands
+            within_no_title g.R.Read c.args.strict depth start _ _ nests items title
+            (kind_of c.args.kind) c.parts.inner _ _ stands
             so_far at p c.in-Err.error _ fails c.fault.result c.fault.ensures.says
             alike;
       };
@@ -57,15 +61,18 @@ returns-in-Other g c = record {
       let place = c.offset-place.ensures.value in
       record {
         bytes = so_far.bytes ++ row;
-        shows = within_fails g.R.Read c.args.strict depth start _ _ nests items title (kind_of c.args.kind) c.parts.inner _ _ stands
+        shows = within_fails g.R.Read c.args.strict depth start _ _ nests items title
+            (kind_of c.args.kind) c.parts.inner _ _ stands
             so_far at _ row c.offset-place.result _ takes place (c.fault-in-Other.ensures.draws all);
         whole = tt;
         passed = λ alike. tt;
         stops = λ alike.
             let pulls = (rw (c.offset-place.ensures.same, c.in-Ok.is) at c.read_title.ensures.pulls)
-            (alike_here g.R.Read c.args.strict depth start _ _ nests items title (kind_of c.args.kind) c.parts.inner _ _ stands
+            (alike_here g.R.Read c.args.strict depth start _ _ nests items title
+            (kind_of c.args.kind) c.parts.inner _ _ stands
             so_far at alike) place in
-            within_other g.R.Read c.args.strict depth start _ _ nests items title (kind_of c.args.kind) c.parts.inner _ _ stands
+            within_other g.R.Read c.args.strict depth start _ _ nests items title
+            (kind_of c.args.kind) c.parts.inner _ _ stands
             so_far at p c.in-Ok.header c.offset-place.result _ pulls.0 c.in-Other.ensures place
             c.fault-in-Other.result c.fault-in-Other.ensures.says alike;
       };
@@ -85,7 +92,8 @@ returns-in-Err-shown g c = record {
       let inner = so_far.level in
       record {
         bytes = so_far.bytes ++ row;
-        shows = within_title g.R.Read c.args.strict depth start _ _ nests items title (kind_of c.args.kind) c.parts.inner _ _ stands
+        shows = within_title g.R.Read c.args.strict depth start _ _ nests items title
+            (kind_of c.args.kind) c.parts.inner _ _ stands
             so_far at _ row _ c.offset-place.result (c.parts.inner - 1) _ takes place title_row
             (ap (λ (n : ℕ). n - 1) inner) (rw is at (c.in-Err-shown.ensures.draws all));
         whole = tt;
@@ -106,7 +114,8 @@ returns-then-inner-level g c = record {
       let titled : IsTitle row c.in-Ok.header = rw c.in-Ok.is at c.read_title.ensures.title in
       let is = c.in-Break.ensures in
       let title_row = subst (λ (x : Header). IsTitle row x) is titled in
-      let ends = within_ends g.R.Read c.args.strict depth start _ _ nests items title (kind_of c.args.kind) c.parts.inner _ _ stands
+      let ends = within_ends g.R.Read c.args.strict depth start _ _ nests items title
+      (kind_of c.args.kind) c.parts.inner _ _ stands
       so_far at _ row c.offset-place.result _ p takes place title_row
       (c.if-inner-level.true ∙ level) (rw is at ((rw c.in_default.is at c.shown.ensures.draws) tt)) in
       let went = rw (c.offset-place.ensures.same, c.in-Ok.is) at c.read_title.ensures.passes in
@@ -114,7 +123,8 @@ returns-then-inner-level g c = record {
         bytes = so_far.bytes ++ row;
         shows = ends.0;
         whole = ends.1;
-        passed = λ alike. passed_row g.R.Read c.args.strict depth start _ _ nests items title (kind_of c.args.kind) c.parts.inner _
+        passed = λ alike. passed_row g.R.Read c.args.strict depth start _ _ nests items title
+            (kind_of c.args.kind) c.parts.inner _
             _ stands so_far at row _ went alike.none_waits;
         stops = λ alike. tt;
       };
@@ -132,7 +142,8 @@ parts-preserved-else-inner-level g c = record {
       let is = c.in-Break.ensures in
       let title_row = subst (λ (x : Header). IsTitle row x) is titled in
       let went = rw (c.offset-place.ensures.same, c.in-Ok.is) at c.read_title.ensures.passes in
-      within_break g.R.Read c.args.strict depth start _ _ nests items title (kind_of c.args.kind) c.parts.inner _ _ stands so_far at
+      within_break g.R.Read c.args.strict depth start _ _ nests items title
+      (kind_of c.args.kind) c.parts.inner _ _ stands so_far at
       _ row c.offset-place.result _ takes went place title_row
       (λ e. c.if-inner-level.false (e ∙ sym level)) (rw is at ((rw c.in_default.is at c.shown.ensures.draws) tt));
   above =
@@ -164,7 +175,8 @@ returns-in-Err-shown-2 g c = record {
       let inner = so_far.level in
       record {
         bytes = so_far.bytes ++ row;
-        shows = within_title g.R.Read c.args.strict depth start _ _ nests items title (kind_of c.args.kind) c.parts.inner _ _ stands
+        shows = within_title g.R.Read c.args.strict depth start _ _ nests items title
+            (kind_of c.args.kind) c.parts.inner _ _ stands
             so_far at _ row _ c.offset-place.result c.parts.inner _ takes place title_row
             (inner ∙ sym (string_level (kind_of c.args.kind) (Some c.in-Piece.len) nests (suc so_far.opens)))
             (rw is at (c.in-Err-shown-2.ensures.draws all));
@@ -187,27 +199,32 @@ returns-in-Err-body g c = record {
       let is = c.in-Piece.ensures in
       let title_row = subst (λ (x : Header). IsTitle row x) is titled in
       let inner = so_far.level in
-      let due = piece_due g.R.Read c.args.strict depth start _ _ nests items title (kind_of c.args.kind) c.parts.inner _ _ stands
+      let due = piece_due g.R.Read c.args.strict depth start _ _ nests items title
+      (kind_of c.args.kind) c.parts.inner _ _ stands
       so_far at in
       let rest = c.in-Err-body.ensures.shows depth start (suc so_far.opens) nests (items ++ so_far.parts) row
       c.args.strict due
-      title_row (omega (arith, inner)) (piece_offset g.R.Read c.args.strict depth start _ _ nests items title (kind_of c.args.kind)
+      title_row (omega (arith, inner)) (piece_offset g.R.Read c.args.strict depth start _ _ nests items title
+      (kind_of c.args.kind)
       c.parts.inner _ _ stands so_far at row _ takes) all in
       record {
         bytes = so_far.bytes ++ (row ++ rest.bytes);
-        shows = within_piece g.R.Read c.args.strict depth start _ _ nests items title (kind_of c.args.kind) c.parts.inner _ _ stands
+        shows = within_piece g.R.Read c.args.strict depth start _ _ nests items title
+            (kind_of c.args.kind) c.parts.inner _ _ stands
             so_far at _ _ row rest.bytes c.in-Piece.len c.offset-place.result _ _ takes place
             title_row (rw is at ((rw c.in_default-shown.is at c.shown-in-Piece.ensures.draws) tt)) rest.shows;
         whole = tt;
         passed = λ alike. tt;
         stops = λ alike.
-            let here = alike_here g.R.Read c.args.strict depth start _ _ nests items title (kind_of c.args.kind) c.parts.inner _ _
+            let here = alike_here g.R.Read c.args.strict depth start _ _ nests items title
+            (kind_of c.args.kind) c.parts.inner _ _
             stands so_far at alike in
             let went = (rw (c.offset-place.ensures.same, c.in-Ok.is) at c.read_title.ensures.passes) here.none_waits in
             let pulls = (rw (c.offset-place.ensures.same, c.in-Ok.is) at c.read_title.ensures.pulls) here place in
             let pulled = subst (λ (x : Header). PullsTitle g.R.Read c.parts.decoder x c.read_title.new.decoder) is
             pulls.0 in
-            within_body g.R.Read c.args.strict depth start _ _ nests items title (kind_of c.args.kind) c.parts.inner _ _ stands
+            within_body g.R.Read c.args.strict depth start _ _ nests items title
+            (kind_of c.args.kind) c.parts.inner _ _ stands
             so_far at p c.in-Piece.len c.offset-place.result _ _ pulled pulls.1 place
             c.in-Err-body.error
             (rest.stops (passes_alike g.R.Read c.args.strict _ _ row went here)) alike;
@@ -239,17 +256,20 @@ parts-preserved-in_default-body g c = record {
       let taken : IsTakenTitle c.args.strict row c.in-Ok.header = rw c.in-Ok.is at c.read_title.ensures.taken in
       let taken_row = subst (λ (x : Header). IsTakenTitle c.args.strict row x) is taken in
       let inner = so_far.level in
-      let due = piece_due g.R.Read c.args.strict depth start _ _ nests items title (kind_of c.args.kind) c.parts.inner _ _ stands
+      let due = piece_due g.R.Read c.args.strict depth start _ _ nests items title
+      (kind_of c.args.kind) c.parts.inner _ _ stands
       so_far at in
       let rest = (rw c.in_default-body.is at c.body.ensures.shows) depth start (suc so_far.opens) nests
       (items ++ so_far.parts) row c.read_title.new.decoder.strict due title_row (omega (arith, inner)) (piece_offset
       g.R.Read c.args.strict depth start _ _ nests
       items title (kind_of c.args.kind) c.parts.inner _ _ stands so_far at row _ takes) tt in
       let went = rw (c.offset-place.ensures.same, c.in-Ok.is) at c.read_title.ensures.passes in
-      let shows = within_piece g.R.Read c.args.strict depth start _ _ nests items title (kind_of c.args.kind) c.parts.inner _ _
+      let shows = within_piece g.R.Read c.args.strict depth start _ _ nests items title
+      (kind_of c.args.kind) c.parts.inner _ _
       stands so_far at _ _ row rest.bytes c.in-Piece.len c.offset-place.result _ _ takes place
       title_row (rw is at ((rw c.in_default-shown.is at c.shown-in-Piece.ensures.draws) tt)) rest.shows in
-      within_whole g.R.Read c.args.strict depth start _ _ nests items title (kind_of c.args.kind) c.parts.inner _ _ stands so_far at
+      within_whole g.R.Read c.args.strict depth start _ _ nests items title
+      (kind_of c.args.kind) c.parts.inner _ _ stands so_far at
       _ row rest.bytes c.in-Piece.len _ title_row taken_row rest.whole.0 rest.whole.1
       (λ idle. let first = went idle in
       Passes-then g.R.Read _ _ _ row rest.bytes first
@@ -281,7 +301,8 @@ returns-in-Err-shown-3 g c = record {
       let inner = so_far.level in
       record {
         bytes = so_far.bytes ++ row;
-        shows = within_title g.R.Read c.args.strict depth start _ _ nests items title (kind_of c.args.kind) c.parts.inner _ _ stands
+        shows = within_title g.R.Read c.args.strict depth start _ _ nests items title
+            (kind_of c.args.kind) c.parts.inner _ _ stands
             so_far at _ row _ c.offset-place.result c.parts.inner _ takes place title_row
             (inner ∙ sym (string_level (kind_of c.args.kind) None nests (suc so_far.opens)))
             (rw is at (c.in-Err-shown-3.ensures.draws all));
@@ -304,7 +325,8 @@ parts-preserved g c = record {
       let is = c.in-Open.ensures.0 in
       let title_row = subst (λ (x : Header). IsTitle row x) is titled in
       let went = rw (c.offset-place.ensures.same, c.in-Ok.is) at c.read_title.ensures.passes in
-      within_open g.R.Read c.args.strict depth start _ _ nests items title (kind_of c.args.kind) c.parts.inner _ _ stands so_far at
+      within_open g.R.Read c.args.strict depth start _ _ nests items title
+      (kind_of c.args.kind) c.parts.inner _ _ stands so_far at
       _ row c.offset-place.result _ c.in-Open.ensures.1 takes went place title_row
       (rw is at ((rw c.in_default-shown-2.is at c.shown-in-Open.ensures.draws) tt));
   above = let inner = c.parts.invariant.above in omega (arith, inner);

@@ -8,10 +8,12 @@ returns-then-self c = λ strict depth whole before title due p g.
 
 pub returns-then-is_done : goal.returns-then-is_done
 returns-then-is_done c = λ strict depth whole before title due p g.
-    enters_empty strict depth whole _ before title c.args.header c.behind-remaining.result due p g (omega arith) c.if-self.false
+    enters_empty strict depth whole _ before title c.args.header c.behind-remaining.result due p g
+    (omega arith) c.if-self.false
     c.behind-remaining.ensures (sym c.is_done.ensures ∙ c.if-is_done.true)
 
 pub returns : goal.returns
 returns c = λ strict depth whole before title due p g.
-    enters_within strict depth whole c.args.self.now _ before title c.args.header c.behind-remaining.result due p g (omega arith)
+    enters_within strict depth whole c.args.self.now _ before title c.args.header c.behind-remaining.result due p g
+    (omega arith)
     (omega arith) c.if-self.false c.behind-remaining.ensures (sym c.is_done.ensures ∙ c.if-is_done.false) refl refl refl

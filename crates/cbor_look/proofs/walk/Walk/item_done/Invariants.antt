@@ -3,8 +3,8 @@ use Rattle.cbor_look.specs.Walks.{IsBehindItem}
 use Rattle.cbor_look.proofs.walk.Walk.item_done.Given as goal
 
 abbrev pub invariant-levels : goal.invariant-levels
-invariant-levels l = (strict : Bool) (depth whole : ℕ) (bytes : List ℕ) → IsBehindItem strict depth whole l.fn.self bytes
-    → IsBehindItem strict depth whole l.self bytes
+invariant-levels l = (strict : Bool) (depth whole : ℕ) (bytes : List ℕ)
+    → IsBehindItem strict depth whole l.fn.self bytes → IsBehindItem strict depth whole l.self bytes
 
 -- each level that ends is one less
 abbrev pub decreases-levels : goal.decreases-levels
