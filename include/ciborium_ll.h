@@ -49,9 +49,16 @@ typedef struct { uint64_t value; uint8_t kind; uint8_t indefinite; } cll_header;
  * UTF-8, in a string that no open begins, it is the end of the string's title less the length of the shortest one, so
  * it lies inside a title that is longer than that.
  *
- * Of the calls of a checker the offset is counted from the item's first byte, through all pieces; and with CLL_OK and
- * CLL_SHORT `place` says more, as stands at these calls. Of those of a copier it is counted from the first byte of the
- * elements, through all pieces.
+ * With CLL_SHORT `place` is no offset. Of cll_recode, cll_strict, cll_skip and the calls of a checker it says how many
+ * bytes more are due: whatever follows the bytes so far so that they become what was asked for has at least so many.
+ * So a reader may ask for as many, and then call again with all of them. They are the rest of the title or of the body
+ * that was cut, or 1 where one was about to begin, and never reach behind what was asked for. 0 says that nothing which
+ * may follow makes it good: a text that is no UTF-8 was cut, or a title that could not stand there. Of the other calls
+ * `place` is 0.
+ *
+ * Of the calls of a checker the offset is counted from the item's first byte, through all pieces, and with CLL_OK
+ * `place` is the item's length. Of those of a copier it is counted from the first byte of the elements, through all
+ * pieces.
  *
  * Of cll_recode and cll_strict `elements` says how many elements were done whole, whatever the answer, and `whole` the
  * offset in `data` behind the last of them. Of the other calls both are 0.
@@ -141,7 +148,8 @@ uint32_t cll_push_wide(const cll_header *header, uint32_t width, uint8_t *out, s
  *
  * `elements` of them were copied whole, and `data` has no more of them in front of the fault or of its end, or with
  * CLL_ROOM one more does not fit into `out`. So a `count` of UINT64_MAX copies all that are there: `data` ends behind a
- * whole element where the answer is CLL_SHORT and `whole` is `len`, and else within one.
+ * whole element where the answer is CLL_SHORT and `whole` is `len`, and else within one. With CLL_SHORT `place` says how
+ * many bytes more are due at least, or 0 where no such elements begin so.
  *
  * Bodies are read through a buffer of 1,024 bytes. So the body of a text that is no UTF-8, and of which `data` ends too
  * early, is answered by CLL_SHORT or by CLL_SYNTAX, depending on its length and on where it goes wrong.
@@ -154,7 +162,7 @@ uint32_t cll_recode(const uint8_t *data, size_t len, uint64_t count, uint8_t *ou
  *
  * CLL_OK; CLL_SHORT where `data` ends before so many elements do; CLL_SYNTAX as in cll_recode, and at the title that is
  * longer than it need be, is such a simple value, or opens such a string. A text that is no UTF-8 and ends too early is
- * answered as by cll_recode. `elements` and `whole` are as of cll_recode.
+ * answered as by cll_recode. `elements`, `whole` and with CLL_SHORT `place` are as of cll_recode.
  */
 uint32_t cll_strict(const uint8_t *data, size_t len, uint64_t count, cll_report *report);
 
@@ -162,9 +170,10 @@ uint32_t cll_strict(const uint8_t *data, size_t len, uint64_t count, cll_report 
  * Skips the one item in front of `data`, whatever it contains. `consumed` is its length. A tag, an array and a map take
  * one level, an empty one too; a string takes none. No item may contain more than `depth` levels, which is at most 256.
  *
- * CLL_OK; CLL_SHORT where `data` ends before the item does; CLL_SYNTAX as in cll_recode; CLL_BREAK_DUE for a break in
- * place of an item, also in place of a value of a map; CLL_TOO_DEEP, of which the title is consumed; and CLL_ARGUMENT
- * for a depth above 256. A text that is no UTF-8 and ends too early is answered as by cll_recode.
+ * CLL_OK; CLL_SHORT where `data` ends before the item does: `place` says how many bytes more are due at least, or 0
+ * where no item begins so; CLL_SYNTAX as in cll_recode; CLL_BREAK_DUE for a break in place of an item, also in place of
+ * a value of a map; CLL_TOO_DEEP, of which the title is consumed; and CLL_ARGUMENT for a depth above 256. A text that is
+ * no UTF-8 and ends too early is answered as by cll_recode.
  */
 uint32_t cll_skip(const uint8_t *data, size_t len, uint32_t depth, cll_report *report);
 

@@ -124,7 +124,8 @@ constexpr const char *name_of(answer code) noexcept
 /*
  * Why a call has no value, and how far it came. `place` is the offset that the fault names: where `too_short` stopped,
  * and 0 for `room` and `argument`. `elements` is how many elements `recode` and `strict` did whole, and `whole` how many
- * bytes these have.
+ * bytes these have. With `too_short` `due` is of `recode`, `strict`, `skip` and a checker how many bytes more are due at
+ * least, or 0 where nothing that may follow makes it good; else it is 0.
  */
 struct fault {
     answer code;
@@ -133,6 +134,7 @@ struct fault {
     std::uint64_t written;
     std::uint64_t elements;
     std::uint64_t whole;
+    std::uint64_t due;
 
     const char *name() const noexcept { return name_of(code); }
 };
@@ -179,7 +181,7 @@ public:
 
 private:
     std::optional<T> value_;
-    ciborium_ll::fault fault_{answer::ok, 0, 0, 0, 0, 0};
+    ciborium_ll::fault fault_{answer::ok, 0, 0, 0, 0, 0, 0};
 };
 
 /* A header, and the length of the title that it was read from. */
@@ -204,8 +206,9 @@ inline cll_header parts_of(const header &header) noexcept
 
 inline fault fault_of(std::uint32_t code, const cll_report &report) noexcept
 {
-    return {static_cast<answer>(code), code == CLL_SHORT ? report.consumed : report.place, report.consumed,
-        report.written, report.elements, report.whole};
+    const bool cut = code == CLL_SHORT;
+    return {static_cast<answer>(code), cut ? report.consumed : report.place, report.consumed, report.written,
+        report.elements, report.whole, cut ? report.place : 0};
 }
 
 } /* namespace detail */
@@ -334,7 +337,7 @@ public:
 
     /*
      * Why no end may stand here, or nothing where no byte came or the item has ended. `too_short` names how many bytes
-     * came.
+     * came, and how many more were due at least.
      */
     std::optional<fault> end() const noexcept
     {
@@ -342,7 +345,8 @@ public:
         const std::uint32_t code = cll_checker_end(&kept_, &report);
         if (code == CLL_OK)
             return std::nullopt;
-        return fault{static_cast<answer>(code), code == CLL_SHORT ? taken_ : report.place, 0, 0, 0, 0};
+        const bool cut = code == CLL_SHORT;
+        return fault{static_cast<answer>(code), cut ? taken_ : report.place, 0, 0, 0, 0, cut ? report.place : 0};
     }
 
     /* How many bytes were taken of all pieces. */
@@ -399,7 +403,8 @@ public:
         const std::uint32_t code = cll_copier_end(&kept_, &report);
         if (code == CLL_OK)
             return std::nullopt;
-        return fault{static_cast<answer>(code), code == CLL_SHORT ? taken_ : report.place, 0, 0, 0, 0};
+        const bool cut = code == CLL_SHORT;
+        return fault{static_cast<answer>(code), cut ? taken_ : report.place, 0, 0, 0, 0, cut ? report.place : 0};
     }
 
     /* How many bytes were taken of all pieces. */

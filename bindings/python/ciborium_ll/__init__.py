@@ -42,18 +42,20 @@ class Error(ValueError):
 
     ``name`` names the answer, and ``place`` is the offset that it names, in all of the bytes; of ``short`` it is where
     the read stopped. ``consumed`` and ``written`` say how far the call came; ``elements`` how many elements ``recode``
-    and ``strict`` did whole, and ``whole`` how many bytes these have. Of a ``Copier`` ``data`` is what it wrote.
+    and ``strict`` did whole, and ``whole`` how many bytes these have. Of a ``Copier`` ``data`` is what it wrote. ``due``
+    is of ``short`` how many bytes more ``recode``, ``strict``, ``skip`` and a ``Checker`` need at least, or 0 where
+    nothing that may follow makes it good; else it is 0.
     """
 
     name = "error"
 
-    def __init__(self, place, consumed, written, elements=0, whole=0, data=b""):
+    def __init__(self, place, consumed, written, elements=0, whole=0, data=b"", due=0):
         super().__init__(f"{self.name} at {place}")
         self.place, self.consumed, self.written = place, consumed, written
-        self.elements, self.whole, self.data = elements, whole, data
+        self.elements, self.whole, self.data, self.due = elements, whole, data, due
 
     def __reduce__(self):
-        return type(self), (self.place, self.consumed, self.written, self.elements, self.whole, self.data)
+        return type(self), (self.place, self.consumed, self.written, self.elements, self.whole, self.data, self.due)
 
 
 class Short(Error):
@@ -194,9 +196,9 @@ def _held(number, bits, what):
 def _check(answer, report, offset=0):
     """Raises the error of an answer."""
     if answer != 0:
-        place = report.consumed if answer == 1 else report.place
+        place, due = (report.consumed, report.place) if answer == 1 else (report.place, 0)
         raise _ERRORS[answer](place if answer in (3, 7) else place + offset, report.consumed, report.written,
-                              report.elements, report.whole)
+                              report.elements, report.whole, due=due)
 
 
 def _pulled(at, length, offset):
@@ -331,7 +333,7 @@ class Checker:
         report = _Report()
         answer = _CALLS.cll_checker_end(self._kept, report)
         if answer == 1:
-            raise Short(self.consumed, 0, 0)
+            raise Short(self.consumed, 0, 0, due=report.place)
         _check(answer, report)
 
 

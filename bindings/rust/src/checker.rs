@@ -72,11 +72,14 @@ impl Checker {
     }
 
     /// Says that no more bytes come. All is well where no byte came or the item has ended. `Short` says how many bytes
-    /// came where it is cut off, and the other errors are those of `feed`.
+    /// came where it is cut off, and how many more were due, and the other errors are those of `feed`.
     pub fn end(&self) -> Result<(), Error> {
         match calls::end(&self.kept) {
             (0, _) => Ok(()),
-            (1, _) => Err(Error::Short(self.taken)),
+            (1, report) => Err(Error::Short {
+                place: self.taken,
+                due: report.place as usize,
+            }),
             (answer, report) => Err(Error::of(answer, &report, 0)),
         }
     }

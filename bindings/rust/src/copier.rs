@@ -83,7 +83,10 @@ impl Copier {
     pub fn end(&self) -> Result<(), Error> {
         match calls::end_copier(&self.kept) {
             (0, _) => Ok(()),
-            (1, _) => Err(Error::Short(self.taken)),
+            (1, _) => Err(Error::Short {
+                place: self.taken,
+                due: 0,
+            }),
             (answer, report) => Err(Error::of(answer, &report, 0)),
         }
     }

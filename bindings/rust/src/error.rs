@@ -1,11 +1,17 @@
 use crate::sys::cll_report;
 use core::fmt;
 
-/// Why a call failed. The numbers are offsets in the bytes.
+/// Why a call failed. The numbers are offsets in the bytes, but for what is due.
 #[derive(Clone, Copy, Debug, PartialEq, Eq)]
 pub enum Error {
-    /// The bytes end too early: there the read stopped.
-    Short(usize),
+    /// The bytes end too early.
+    Short {
+        /// There the read stopped.
+        place: usize,
+        /// How many bytes more `recode`, `strict`, `skip_item` and a checker need at least, or 0 where nothing that may
+        /// follow makes it good. It is 0 of other calls.
+        due: usize,
+    },
     /// There stands no CBOR, or of `utf8` no UTF-8, that could stand there.
     Syntax(usize),
     /// The output is full.
@@ -23,7 +29,10 @@ impl Error {
     pub(crate) fn of(answer: u32, report: &cll_report, offset: usize) -> Error {
         let place = offset + report.place as usize;
         match answer {
-            1 => Error::Short(offset + report.consumed as usize),
+            1 => Error::Short {
+                place: offset + report.consumed as usize,
+                due: report.place as usize,
+            },
             2 => Error::Syntax(place),
             3 => Error::Room,
             5 => Error::BreakDue(place),
@@ -36,7 +45,7 @@ impl Error {
     /// The name of the answer.
     pub fn name(&self) -> &'static str {
         match self {
-            Error::Short(_) => "short",
+            Error::Short { .. } => "short",
             Error::Syntax(_) => "syntax",
             Error::Room => "room",
             Error::BreakDue(_) => "break_due",
@@ -48,11 +57,19 @@ impl Error {
     /// The offset that it names, if it names one.
     pub fn place(&self) -> Option<usize> {
         match *self {
-            Error::Short(place)
+            Error::Short { place, .. }
             | Error::Syntax(place)
             | Error::BreakDue(place)
             | Error::TooDeep(place) => Some(place),
             Error::Room | Error::Argument => None,
+        }
+    }
+
+    /// How many bytes more are due at least, which is 0 of all but `Short`.
+    pub fn due(&self) -> usize {
+        match *self {
+            Error::Short { due, .. } => due,
+            _ => 0,
         }
     }
 }

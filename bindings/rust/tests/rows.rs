@@ -139,7 +139,7 @@ fn fed(depth: u32, data: &[u8], strict: bool) -> String {
             let want = if taken == 0 {
                 Ok(())
             } else {
-                Err(Error::Short(taken))
+                Err(Error::Short { place: taken, due })
             };
             assert_eq!(checker.end(), want);
             format!("short {taken} {taken} due/{due}")
@@ -175,7 +175,11 @@ fn copied(count: u64, data: &[u8]) -> String {
             format!("ok {taken} 0 {made}")
         }
         Ok(_) => {
-            assert_eq!(copier.end(), Err(Error::Short(taken)));
+            let cut = Error::Short {
+                place: taken,
+                due: 0,
+            };
+            assert_eq!(copier.end(), Err(cut));
             format!("short {taken} {taken} {made}")
         }
         Err(error) => {
@@ -221,12 +225,19 @@ fn rows_hold() {
         }
         let got = match made(call, number, given) {
             Ok((consumed, made)) => format!("ok {consumed} 0 {made}"),
-            Err(error) => format!("{} {}", error.name(), error.place().unwrap_or(0)),
+            Err(error) => format!(
+                "{} {} due/{}",
+                error.name(),
+                error.place().unwrap_or(0),
+                error.due()
+            ),
         };
         let want = if name == "ok" {
             words[3..].join(" ")
         } else {
-            format!("{name} {place}")
+            let due = words[6].rsplit("due/").next().unwrap();
+            let due = due.parse().unwrap_or(0);
+            format!("{name} {place} due/{due}")
         };
         assert_eq!(got, want, "{row}");
         count += 1;

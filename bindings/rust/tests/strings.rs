@@ -28,7 +28,7 @@ fn segments_of_text() {
     assert!(decoder.text(Some(2)).unwrap().eq(["é"]));
     assert_eq!(decoder.pull(), Ok(Header::Text(Some(0))));
     assert!(decoder.text(Some(0)).unwrap().eq([""]));
-    assert_eq!(decoder.pull(), Err(Error::Short(5)));
+    assert_eq!(decoder.pull(), Err(Error::Short { place: 5, due: 0 }));
 }
 
 #[test]
@@ -99,7 +99,10 @@ fn text_is_what_std_takes_for_it() {
             &[first, second, 0x80, 0xf1],
         ] {
             let want = std::str::from_utf8(bytes).map_err(|error| match error.error_len() {
-                None => Error::Short(error.valid_up_to()),
+                None => Error::Short {
+                    place: error.valid_up_to(),
+                    due: 0,
+                },
                 Some(_) => Error::Syntax(error.valid_up_to()),
             });
             assert_eq!(utf8(bytes), want, "{bytes:x?}");

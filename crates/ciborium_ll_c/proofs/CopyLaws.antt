@@ -115,7 +115,7 @@ module _ {R E W F : Type 0} (source : Reader R E) (sink : Writer W F) where
           consumed_is = omega (arith, reports.consumed_is, told.offset, start);
           written_is = reports.written_is
               ∙ same_length (sink.written writer') output told.fault.written out told.output;
-          place_is = reports.place_is;
+          place_is = refl;
         },
       )
   copy_reported count due old new writer' (Err (r.Read (e.Syntax place))) report output before after told start out
@@ -277,7 +277,7 @@ module _ {R E W F : Type 0} (source : Reader R E) (sink : Writer W F) where
     record {
       consumed_is = omega (arith, reports.consumed_is, told.offset, start);
       written_is = reports.written_is;
-      place_is = reports.place_is;
+      place_is = refl;
     },
   )
   check_reported count due old new writer' (Err (r.Read (e.Syntax place))) report told start reports =

@@ -1,5 +1,9 @@
 pub mod CopyLaws
 pub mod CountLaws
+pub mod CutTitles
+pub mod ElementDue
+pub mod ElementShapes
+pub mod ItemDue
 pub mod PieceLaws
 pub mod PullLaws
 pub mod SkipLaws

@@ -43,6 +43,22 @@ pub code_exactly : {Holds : Type 0} (answer : CllAnswer) (result : ℕ) → resu
 code_exactly answer result is exact =
     let same = code_ok answer result is in (λ ok. exact.0 (same.0 ok), λ holds. same.1 (exact.1 holds))
 
+-- no other answer has the number of `Short`
+is_short : (answer : CllAnswer) (result : ℕ) → result ≡ code answer → result ≡ code a.Short → answer ≡ a.Short
+is_short a.Short result is same = refl
+is_short a.Ok result is same = absurd (omega (arith, is, same))
+is_short a.Syntax result is same = absurd (omega (arith, is, same))
+is_short a.Room result is same = absurd (omega (arith, is, same))
+is_short a.TooLong result is same = absurd (omega (arith, is, same))
+is_short a.BreakDue result is same = absurd (omega (arith, is, same))
+is_short a.TooDeep result is same = absurd (omega (arith, is, same))
+is_short a.Argument result is same = absurd (omega (arith, is, same))
+
+-- what holds where the answer is `Short` holds where the number is that of `Short`
+pub code_short : {Holds : Type 0} (answer : CllAnswer) (result : ℕ) → result ≡ code answer
+    → (answer ≡ a.Short → Holds) → result ≡ code a.Short → Holds
+code_short answer result is holds same = holds (is_short answer result is same)
+
 -- `Ok` comes just where a title stands in front
 pub pulled_exactly : (bytes : List ℕ) (answer : CllAnswer) (old new : CllHeader) (consumed result : ℕ)
     → result ≡ code answer → Pulls bytes answer old new consumed → (result ≡ code a.Ok) ↔ TitleInFront bytes

@@ -50,7 +50,7 @@ module _ {R E : Type 0} (source : Ghosts R E) where
       written_is = reports.written_is;
       none_counted = reports.none_counted;
       none_whole = reports.none_whole;
-      place_is = reports.place_is;
+      place_is = refl;
     },
   )
   skip_reported depth due old new (Err (s.Read (e.Syntax place))) report told start reports =

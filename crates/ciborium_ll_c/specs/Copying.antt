@@ -33,12 +33,13 @@ OutputsUpToFault count bytes old new report =
     (fault : HasFault false count bytes) × (fault.answer ≡ Syntax report.place) × StandInFront fault.written old new
     × ReportsCopy report (length fault.before + fault.consumed) (length fault.written) report.place
 
--- a copy where there is room, by the answer: the first fault stops it where so many elements do not stand in front
+-- A copy where there is room, by the answer: the first fault stops it where so many elements do not stand in front.
+-- Where the bytes end too early the place is a number of bytes (`ElementsLack`)
 abbrev pub CopiesInto : ℕ → List ℕ → List ℕ → CllAnswer → List ℕ → CllReport → Type 0
 CopiesInto count bytes old a.Ok new report = OutputsElements count bytes old new report
 CopiesInto count bytes old a.Short new report =
     (fault : HasFault false count bytes) × (fault.answer ≡ Short) × StandInFront fault.written old new
-    × ReportsCopy report (length fault.before + fault.consumed) (length fault.written) 0
+    × ReportsCopy report (length fault.before + fault.consumed) (length fault.written) report.place
 CopiesInto count bytes old a.Syntax new report = OutputsUpToFault count bytes old new report
 CopiesInto count bytes old answer new report = ⊥
 

@@ -25,6 +25,7 @@ ghost use Rattle.ciborium_ll_c.specs.Checking.{Checks};
 ghost use Rattle.ciborium_ll_c.specs.Copying.{CopiesInto, CopiesAnyhow, HasRoom, copy_answer, copy_place};
 ghost use Rattle.ciborium_ll_c.specs.Counting.{CountsCopy, CountsElements, CountsStrictly};
 ghost use Rattle.ciborium_ll_c.specs.Feeding.{EndsFed, Feeds, IsKept, IsNoChecker, IsSetUp};
+ghost use Rattle.ciborium_ll_c.specs.Lacking.{ElementsLack, ItemLacks};
 ghost use Rattle.ciborium_ll_c.specs.Pieces.{EndsCopied, FeedsCopied, IsCopier, IsCopierOf, IsNoCopier, StaysWithin};
 ghost use Rattle.ciborium_ll_c.specs.Pulling.{Pulls, TitleInFront};
 ghost use Rattle.ciborium_ll_c.specs.Pushing.{Pushes, Puts};
@@ -37,6 +38,7 @@ mod checker;
 mod copier;
 #[cfg(test)]
 mod copier_tests;
+mod due;
 mod header;
 mod tally;
 #[cfg(test)]
@@ -47,10 +49,12 @@ pub use self::answer::{CllAnswer, CllReport};
 pub use self::checker::CllChecker;
 pub use self::copier::CllCopier;
 pub use self::header::CllHeader;
+use self::due::due_behind;
 use self::tally::{Tally, copy_counted};
 use self::wide::title_in;
 use cbor_skip::{SkipError, skip_item};
 use ciborium_ll::io::{Discard, EndOfFile, OutOfSpace, Read, SliceReader, SliceWriter, Write};
+use ciborium_ll::laws::strict_run;
 use ciborium_ll::{Decoder, Encoder, Error, RecodeError};
 use ciborium_ll_decoder::title::pull_title;
 use ciborium_ll_encoder::enc::push_title;
@@ -251,6 +255,30 @@ fn copy(bytes: &[u8], count: usize, out: &mut [u8], report: &mut CllReport) -> C
     answer
 }
 
+/// The same, and where the bytes end too early the report says how many more are due.
+fn copy_or_due(
+    bytes: &[u8],
+    count: usize,
+    out: &mut [u8],
+    report: &mut CllReport,
+) -> CllAnswer
+    ensures copied { HasRoom count bytes.now (length out.old)
+        → CopiesInto count bytes.now out.old result out.new report.new }
+    ensures exactly { HasRoom count bytes.now (length out.old)
+        → (result ≡ a.Ok ↔ RunInFront false count bytes.now) }
+    ensures anyhow { CopiesAnyhow count bytes.now out.old result out.new report.new }
+    ensures counted { CountsElements count bytes.now (length out.old) result report.new }
+    ensures due { result ≡ a.Short → ElementsLack false count bytes.now report.new.whole report.new.place }
+{
+    match copy(bytes, count, out, report) {
+        CllAnswer::Short => {
+            report.place = due_behind(&bytes[report.whole as usize..], 1, false) as u64;
+            CllAnswer::Short
+        }
+        answer => answer,
+    }
+}
+
 /// Copies `count` elements into `out`, each in its shortest spelling (RFC 7049, 3.9). An element is a header that
 /// begins no string, or a whole string (2.1 and 2.2). No spelling is longer than what it is read from.
 ///
@@ -264,7 +292,7 @@ fn copy(bytes: &[u8], count: usize, out: &mut [u8], report: &mut CllReport) -> C
 /// end of its title less the length of the shortest one, which may lie inside the title. A text that is damaged and cut
 /// off is answered by `Short` or by `Syntax`, as the buffer falls.
 #[unsafe(no_mangle)]
-#[tactic(auto, using(crate::proofs::PullLaws::code_exactly))]
+#[tactic(auto, using(crate::proofs::PullLaws::code_exactly, crate::proofs::PullLaws::code_short))]
 pub extern "C" fn cll_recode(
     bytes: &[u8],
     count: u64,
@@ -279,8 +307,9 @@ pub extern "C" fn cll_recode(
         × CopiesAnyhow count bytes.now out.old answer out.new report.new }
     ensures counted { (answer : CllAnswer) × (result ≡ code answer)
         × CountsElements count bytes.now (length out.old) answer report.new }
+    ensures due { result ≡ code a.Short → ElementsLack false count bytes.now report.new.whole report.new.place }
 {
-    copy(bytes, count as usize, out, report).code()
+    copy_or_due(bytes, count as usize, out, report).code()
 }
 
 /// Reads so many elements, each in its shortest spelling.
@@ -303,20 +332,39 @@ fn check(bytes: &[u8], count: usize, report: &mut CllReport) -> CllAnswer
     answer
 }
 
+/// The same, and where the bytes end too early the report says how many more are due.
+fn check_or_due(bytes: &[u8], count: usize, report: &mut CllReport) -> CllAnswer
+    ensures checked { Checks count bytes.now result report.new }
+    ensures exactly { result ≡ a.Ok ↔ RunInFront true count bytes.now }
+    ensures counted { CountsStrictly count bytes.now result report.new }
+    ensures due { result ≡ a.Short → ElementsLack true count bytes.now report.new.whole report.new.place }
+{
+    match check(bytes, count, report) {
+        CllAnswer::Short => {
+            // The law that elements in their shortest spelling are those whose titles are strict. It does nothing.
+            strict_run();
+            report.place = due_behind(&bytes[report.whole as usize..], 1, true) as u64;
+            CllAnswer::Short
+        }
+        answer => answer,
+    }
+}
+
 /// Whether the bytes begin with `count` elements in their shortest spelling, with no simple value from 24 to 31 and no
 /// string of indefinite length inside another (RFC 7049, 2.2.2, 2.3 and 3.9). Nothing is written.
 ///
 /// The answers are `Ok`; `Short` where the bytes end before so many elements do; and `Syntax` as of `cll_recode`, and
 /// for a title that is longer than it need be, for such a simple value and for such a string.
 #[unsafe(no_mangle)]
-#[tactic(auto, using(crate::proofs::PullLaws::code_exactly))]
+#[tactic(auto, using(crate::proofs::PullLaws::code_exactly, crate::proofs::PullLaws::code_short))]
 pub extern "C" fn cll_strict(bytes: &[u8], count: u64, report: &mut CllReport) -> u32
     ensures checked { (answer : CllAnswer) × (result ≡ code answer) × Checks count bytes.now answer report.new }
     ensures exactly { result ≡ code a.Ok ↔ RunInFront true count bytes.now }
     ensures counted { (answer : CllAnswer) × (result ≡ code answer)
         × CountsStrictly count bytes.now answer report.new }
+    ensures due { result ≡ code a.Short → ElementsLack true count bytes.now report.new.whole report.new.place }
 {
-    check(bytes, count as usize, report).code()
+    check_or_due(bytes, count as usize, report).code()
 }
 
 /// The answer to a skip, and its place.
@@ -348,6 +396,22 @@ fn skip(bytes: &[u8], depth: usize, report: &mut CllReport) -> CllAnswer
     answer
 }
 
+/// The same, and where the bytes end too early the report says how many more are due.
+fn skip_or_due(bytes: &[u8], depth: usize, report: &mut CllReport) -> CllAnswer
+    requires shallow { depth ≤ 256 }
+    ensures skipped { Skips depth bytes.now result report.new }
+    ensures exactly { result ≡ a.Ok ↔ ItemInFront false depth bytes.now }
+    ensures due { result ≡ a.Short → ItemLacks false depth bytes.now report.new.place }
+{
+    match skip(bytes, depth, report) {
+        CllAnswer::Short => {
+            report.place = due_behind(bytes, depth, false) as u64;
+            CllAnswer::Short
+        }
+        answer => answer,
+    }
+}
+
 /// Skips the item in front of the bytes, with tags, arrays and maps nested at most `depth` levels deep (RFC 7049, 2.1
 /// to 2.4). A tag, an array and a map take a level, an empty one too; a string takes none.
 ///
@@ -355,17 +419,19 @@ fn skip(bytes: &[u8], depth: usize, report: &mut CllReport) -> CllAnswer
 /// stand within its string, and for a body of a text that is no UTF-8; `BreakDue` for a break in place of an item;
 /// `TooDeep` for a tag, an array or a map for which no level is left; and `Argument` for a depth above 256.
 #[unsafe(no_mangle)]
+#[tactic(auto, using(crate::proofs::PullLaws::code_exactly, crate::proofs::PullLaws::code_short))]
 pub extern "C" fn cll_skip(bytes: &[u8], depth: u32, report: &mut CllReport) -> u32
     ensures skipped { depth ≤ 256
         → (answer : CllAnswer) × (result ≡ code answer) × Skips depth bytes.now answer report.new }
     ensures exactly { depth ≤ 256 → (result ≡ code a.Ok ↔ ItemInFront false depth bytes.now) }
+    ensures due { depth ≤ 256 → result ≡ code a.Short → ItemLacks false depth bytes.now report.new.place }
     ensures argument { 256 < depth → (result ≡ code a.Argument) × Reports report.new 0 0 0 }
 {
     if depth > 256 {
         report.say(0, 0, 0);
         return CllAnswer::Argument.code();
     }
-    skip(bytes, depth as usize, report).code()
+    skip_or_due(bytes, depth as usize, report).code()
 }
 
 /// Finds the longest front of the bytes that is text.

@@ -347,7 +347,15 @@ fn copies(rt: HostRuntime) {
         1,
         &[0x62, 0x61],
     );
-    copy_row(&rt, &[0x43, 0x01], 1, 16, CllAnswer::Short, 1, 0, &[0x43]);
+    copy_row(&rt, &[0x05, 0x06], 2, 1, CllAnswer::Room, 2, 0, &[0x05]);
+    copy_row(&rt, &[0x18, 0x18], 1, 1, CllAnswer::Room, 2, 0, &[0x18]);
+}
+
+// Of bytes that end too early the place is how many more are due: what a title or a body lacks, or one. Where none that
+// may follow is good it is 0.
+#[test]
+fn cut_copies(rt: HostRuntime) {
+    copy_row(&rt, &[0x43, 0x01], 1, 16, CllAnswer::Short, 1, 2, &[0x43]);
     copy_row(
         &rt,
         &[0x7f, 0x7f, 0xff],
@@ -355,12 +363,31 @@ fn copies(rt: HostRuntime) {
         16,
         CllAnswer::Short,
         3,
-        0,
+        1,
         &[0x7f],
     );
-    copy_row(&rt, &[], 1, 0, CllAnswer::Short, 0, 0, &[]);
-    copy_row(&rt, &[0x05, 0x06], 2, 1, CllAnswer::Room, 2, 0, &[0x05]);
-    copy_row(&rt, &[0x18, 0x18], 1, 1, CllAnswer::Room, 2, 0, &[0x18]);
+    copy_row(&rt, &[], 1, 0, CllAnswer::Short, 0, 1, &[]);
+    copy_row(&rt, &[0x05], 9, 16, CllAnswer::Short, 1, 1, &[0x05]);
+    copy_row(
+        &rt,
+        &[0x82, 0x1b, 0x00],
+        9,
+        16,
+        CllAnswer::Short,
+        2,
+        7,
+        &[0x82],
+    );
+    copy_row(
+        &rt,
+        &[0x05, 0x5f, 0x19, 0x00],
+        2,
+        16,
+        CllAnswer::Short,
+        3,
+        0,
+        &[0x05, 0x5f],
+    );
 }
 
 // A skip: the answer, how many bytes were consumed, and the place.
@@ -388,9 +415,28 @@ fn skips(rt: HostRuntime) {
     skip_row(&rt, &[0x81, 0xff], 1, CllAnswer::BreakDue, 2, 1);
     skip_row(&rt, &[0xbf, 0x01, 0xff], 1, CllAnswer::BreakDue, 3, 2);
     skip_row(&rt, &[0x5f, 0x41, 0x01, 0xff], 0, CllAnswer::Ok, 4, 0);
-    skip_row(&rt, &[0x82, 0x01], 1, CllAnswer::Short, 2, 0);
     skip_row(&rt, &[0x81, 0x1f], 1, CllAnswer::Syntax, 2, 1);
     skip_row(&rt, &[0xff], 0, CllAnswer::BreakDue, 1, 0);
+}
+
+// The same of items.
+#[test]
+fn cut_items(rt: HostRuntime) {
+    skip_row(&rt, &[], 0, CllAnswer::Short, 0, 1);
+    skip_row(&rt, &[0x82, 0x01], 1, CllAnswer::Short, 2, 1);
+    skip_row(&rt, &[0x81, 0x3b, 0x01, 0x02], 1, CllAnswer::Short, 2, 6);
+    skip_row(
+        &rt,
+        &[0x9f, 0x5a, 0x00, 0x01, 0x00, 0x00, 0x07],
+        1,
+        CllAnswer::Short,
+        7,
+        0xffff,
+    );
+    skip_row(&rt, &[0x7f, 0x62, 0xc3], 0, CllAnswer::Short, 3, 1);
+    // A tag for which no level is left, and a number within a string.
+    skip_row(&rt, &[0xd9, 0x01], 0, CllAnswer::Short, 1, 0);
+    skip_row(&rt, &[0x7f, 0x19], 0, CllAnswer::Short, 2, 0);
 }
 
 // A strict read of so many elements: the answer, how many bytes were consumed, and the place.
@@ -425,9 +471,16 @@ fn strict_elements(rt: HostRuntime) {
     );
     strict_row(&rt, &[0x5f, 0x41, 0x01, 0xff], 1, CllAnswer::Ok, 4, 0);
     strict_row(&rt, &[0x62, 0x61, 0xff], 1, CllAnswer::Syntax, 3, 0);
-    strict_row(&rt, &[0x43, 0x01], 1, CllAnswer::Short, 1, 0);
-    strict_row(&rt, &[], 1, CllAnswer::Short, 0, 0);
     strict_row(&rt, &[], 0, CllAnswer::Ok, 0, 0);
+}
+
+// The same of elements in their shortest spelling.
+#[test]
+fn cut_strict_elements(rt: HostRuntime) {
+    strict_row(&rt, &[0x43, 0x01], 1, CllAnswer::Short, 1, 2);
+    strict_row(&rt, &[], 1, CllAnswer::Short, 0, 1);
+    strict_row(&rt, &[0x05, 0x9b, 0x01], 2, CllAnswer::Short, 2, 7);
+    strict_row(&rt, &[0x05, 0x9b, 0x00], 2, CllAnswer::Short, 2, 0);
 }
 
 // How far bytes are text: the number, and the report.

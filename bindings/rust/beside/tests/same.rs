@@ -76,7 +76,10 @@ fn same(a: original::Header, b: original::Header) -> bool {
 fn fault<T>(error: original::Error<T>, offset: usize) -> Error {
     match error {
         original::Error::Syntax(place) => Error::Syntax(place),
-        original::Error::Io(_) => Error::Short(offset),
+        original::Error::Io(_) => Error::Short {
+            place: offset,
+            due: 0,
+        },
     }
 }
 
