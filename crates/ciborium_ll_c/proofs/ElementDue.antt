@@ -47,9 +47,11 @@ add strict count bytes word marks are element own = record {
 add_zeros : (strict : Bool) (count more all : ℕ) (bytes : List ℕ) → count + more ≡ all
     → AreElements strict count bytes → (zeros : List ℕ) × AreElements strict all (bytes ++ zeros)
 add_zeros strict count zero all bytes sum are =
-    let same : count ≡ all = omega (arith, sum) in
-    ([], subst (λ (n : ℕ). AreElements strict n (bytes ++ [])) same
-    (subst (AreElements strict count) (sym (append-nil bytes)) are))
+    let same : count ≡ all = omega (arith, sum) in (
+      [],
+      subst (λ (n : ℕ). AreElements strict n (bytes ++ [])) same
+          (subst (AreElements strict count) (sym (append-nil bytes)) are),
+    )
 add_zeros strict count (suc more) all bytes sum are =
     let one = add strict count bytes (0 ∷ []) (Plain (h.Positive 0) ∷ []) are (plain (h.Positive 0) zero_title tt)
     (λ on. (refl, ((λ small. small), tt))) in

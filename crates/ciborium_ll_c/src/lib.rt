@@ -48,8 +48,8 @@ mod wide;
 pub use self::answer::{CllAnswer, CllReport};
 pub use self::checker::CllChecker;
 pub use self::copier::CllCopier;
-pub use self::header::CllHeader;
 use self::due::due_behind;
+pub use self::header::CllHeader;
 use self::tally::{Tally, copy_counted};
 use self::wide::title_in;
 use cbor_skip::{SkipError, skip_item};
@@ -256,12 +256,7 @@ fn copy(bytes: &[u8], count: usize, out: &mut [u8], report: &mut CllReport) -> C
 }
 
 /// The same, and where the bytes end too early the report says how many more are due.
-fn copy_or_due(
-    bytes: &[u8],
-    count: usize,
-    out: &mut [u8],
-    report: &mut CllReport,
-) -> CllAnswer
+fn copy_or_due(bytes: &[u8], count: usize, out: &mut [u8], report: &mut CllReport) -> CllAnswer
     ensures copied { HasRoom count bytes.now (length out.old)
         → CopiesInto count bytes.now out.old result out.new report.new }
     ensures exactly { HasRoom count bytes.now (length out.old)

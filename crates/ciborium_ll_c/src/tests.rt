@@ -430,10 +430,10 @@ fn cut_items(rt: HostRuntime) {
         &[0x9f, 0x5a, 0x00, 0x01, 0x00, 0x00, 0x07],
         1,
         CllAnswer::Short,
-        7,
+        6,
         0xffff,
     );
-    skip_row(&rt, &[0x7f, 0x62, 0xc3], 0, CllAnswer::Short, 3, 1);
+    skip_row(&rt, &[0x7f, 0x62, 0xc3], 0, CllAnswer::Short, 2, 1);
     // A tag for which no level is left, and a number within a string.
     skip_row(&rt, &[0xd9, 0x01], 0, CllAnswer::Short, 1, 0);
     skip_row(&rt, &[0x7f, 0x19], 0, CllAnswer::Short, 2, 0);
@@ -480,7 +480,7 @@ fn cut_strict_elements(rt: HostRuntime) {
     strict_row(&rt, &[0x43, 0x01], 1, CllAnswer::Short, 1, 2);
     strict_row(&rt, &[], 1, CllAnswer::Short, 0, 1);
     strict_row(&rt, &[0x05, 0x9b, 0x01], 2, CllAnswer::Short, 2, 7);
-    strict_row(&rt, &[0x05, 0x9b, 0x00], 2, CllAnswer::Short, 2, 0);
+    strict_row(&rt, &[0x05, 0x19, 0x00], 2, CllAnswer::Short, 2, 0);
 }
 
 // How far bytes are text: the number, and the report.
