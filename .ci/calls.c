@@ -29,12 +29,12 @@ static int takes_null(void)
         && told(cll_push(&header, NULL, 0, &report), CLL_ROOM, 0, 0, 0)
         && told(cll_push_wide(&header, 0, NULL, 0, &report), CLL_ROOM, 0, 0, 0)
         && told(cll_recode(NULL, 0, 0, NULL, 0, &report), CLL_OK, 0, 0, 0)
-        && told(cll_recode(NULL, 0, 1, NULL, 0, &report), CLL_SHORT, 0, 0, 0)
-        && told(cll_recode(NULL, 0, 1, space, SPACE, &report), CLL_SHORT, 0, 0, 0)
+        && told(cll_recode(NULL, 0, 1, NULL, 0, &report), CLL_SHORT, 0, 0, 1)
+        && told(cll_recode(NULL, 0, 1, space, SPACE, &report), CLL_SHORT, 0, 0, 1)
         && told(cll_recode(one, 1, 1, NULL, 0, &report), CLL_ROOM, 1, 0, 0)
         && told(cll_strict(NULL, 0, 0, &report), CLL_OK, 0, 0, 0)
-        && told(cll_strict(NULL, 0, 1, &report), CLL_SHORT, 0, 0, 0)
-        && told(cll_skip(NULL, 0, 256, &report), CLL_SHORT, 0, 0, 0)
+        && told(cll_strict(NULL, 0, 1, &report), CLL_SHORT, 0, 0, 1)
+        && told(cll_skip(NULL, 0, 256, &report), CLL_SHORT, 0, 0, 1)
         && told(cll_utf8(NULL, 0, &report), CLL_OK, 0, 0, 0);
 }
 

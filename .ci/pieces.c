@@ -114,7 +114,7 @@ static struct finding skipped_strictly(const uint8_t *data, size_t len, uint32_t
     return found;
 }
 
-/* Whether a skip of the front says the same, or that it ends too early. */
+/* Whether a skip of the front says the same, or that it ends too early, and then how many bytes more are due. */
 static int skips(const struct finding *found, const uint8_t *data, size_t len, uint32_t depth)
 {
     const struct finding want = strict ? skipped_strictly(data, len, depth) : skipped(data, len, depth);
@@ -122,7 +122,7 @@ static int skips(const struct finding *found, const uint8_t *data, size_t len, u
     case CLL_OK:
         return same(found, &want);
     case CLL_SHORT:
-        return found->answer != CLL_OK;
+        return found->answer != CLL_OK && (strict || want.place == (found->answer == CLL_SHORT ? found->place : 0));
     default:
         return found->answer == want.answer && found->place == want.place && found->taken <= len;
     }

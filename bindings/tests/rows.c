@@ -21,6 +21,15 @@ static const char *shown(char *text, const uint8_t *bytes, uint64_t len)
     return len > 0 ? text : "-";
 }
 
+/* The same, and behind what was made how many bytes more are due. */
+static const char *cut(char *text, const char *made, uint64_t due)
+{
+    if (made != text)
+        strcpy(text, made);
+    sprintf(text + strlen(text), "/due/%" PRIu64, due);
+    return text;
+}
+
 /* A header and the shortest title that cll_push writes of it. */
 static const char *told(char *text, const cll_header *header)
 {
@@ -114,10 +123,15 @@ static int holds(const struct row *row)
     } else if (strcmp(row->call, "recode") == 0) {
         answer = cll_recode(data, row->len, row->number, out, row->len, &report);
         made = shown(text, out, report.written);
-    } else if (strcmp(row->call, "strict") == 0) {
-        answer = cll_strict(data, row->len, row->number, &report);
-    } else if (strcmp(row->call, "skip") == 0) {
-        answer = cll_skip(data, row->len, (uint32_t)row->number, &report);
+        if (answer == CLL_SHORT)
+            made = cut(text, made, report.place);
+    } else if (strcmp(row->call, "strict") == 0 || strcmp(row->call, "skip") == 0) {
+        if (strcmp(row->call, "strict") == 0)
+            answer = cll_strict(data, row->len, row->number, &report);
+        else
+            answer = cll_skip(data, row->len, (uint32_t)row->number, &report);
+        if (answer == CLL_SHORT)
+            made = cut(text, "", report.place) + 1;
     } else if (strcmp(row->call, "utf8") == 0) {
         answer = cll_utf8(data, row->len, &report);
     } else if (strcmp(row->call, "feed") == 0 || strcmp(row->call, "feed_strict") == 0) {

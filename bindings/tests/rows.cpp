@@ -47,6 +47,15 @@ bool fits(const row &row, const cll::result<T> &got, std::uint64_t consumed, con
         && got.fault().place == row.place && made == row.made;
 }
 
+/* What was made, and behind it how many bytes more are due of a call that is short. */
+template <typename T>
+std::string cut(const cll::result<T> &got, const std::string &made)
+{
+    if (got || got.fault().code != cll::answer::too_short)
+        return made.empty() ? "-" : made;
+    return (made.empty() ? made : made + '/') + "due/" + std::to_string(got.fault().due);
+}
+
 /* Gives a checker the bytes one by one. */
 bool feeds(const row &row, const std::vector<std::uint8_t> &data)
 {
@@ -65,7 +74,8 @@ bool feeds(const row &row, const std::vector<std::uint8_t> &data)
     const auto end = checker.end();
     const bool may_end = checker.taken() == 0 ? !end || !got : !end == (name == "ok");
     return name == answer_names[row.answer] && checker.taken() == row.consumed && place == row.place && made == row.made
-        && may_end && (!end || (end->name() == name && end->place == row.place));
+        && may_end && (!end || (end->name() == name && end->place == row.place))
+        && (!end || name != "short" || end->due == got->due);
 }
 
 /* Gives a copier the bytes one by one, with room for one each. */
@@ -109,16 +119,19 @@ int holds(const row *row)
         std::vector<std::uint8_t> out(data.size());
         const auto got = cll::recode(data, row->number, out);
         const auto written = got ? got->written : static_cast<std::size_t>(got.fault().written);
-        return fits(*row, got, got ? got->consumed : 0, shown({out.data(), written}));
+        return fits(*row, got, got ? got->consumed : 0, cut(got, shown({out.data(), written})));
     }
     if (call == "feed" || call == "feed_strict")
         return feeds(*row, data);
     if (call == "copy")
         return copies(*row, data);
     const auto depth = static_cast<std::uint32_t>(row->number);
-    const auto got = call == "strict" ? cll::strict(data, row->number)
-        : call == "skip" ? cll::skip(data, depth) : cll::utf8(data);
-    return fits(*row, got, got ? *got : 0, "-");
+    if (call == "utf8") {
+        const auto got = cll::utf8(data);
+        return fits(*row, got, got ? *got : 0, "-") && (got || got.fault().due == 0);
+    }
+    const auto got = call == "strict" ? cll::strict(data, row->number) : cll::skip(data, depth);
+    return fits(*row, got, got ? *got : 0, cut(got, ""));
 }
 
 /* A fault that is thrown has its name and its place, also as text. */

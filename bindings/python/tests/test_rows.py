@@ -89,7 +89,10 @@ class Rows(unittest.TestCase):
                     got = ("ok", *made(call, number == "-" or int(number), given))
                 except ciborium_ll.Error as error:
                     got = (error.name, error.consumed, error.place)
-                    self.assertEqual(error.written, 0 if want == "-" else len(want) // 2)
+                    text, _, due = want.rpartition("due/")
+                    self.assertEqual(error.due, int(due) if text + due != want else 0)
+                    text = (text if text + due != want else want).strip("/-")
+                    self.assertEqual(error.written, len(text) // 2)
                 self.assertEqual(got, (answer, int(consumed), want if answer == "ok" else int(place)))
 
 
