@@ -1,5 +1,6 @@
 -- What the answers of the libraries, as the program says them, mean of bytes that are told.
-use Rattle.std.proofs.Common.{◌≡◌, ℕ, ◌+◌, Bool, List, [], length, Result, Ok, Err, refl, subst, ◌∙◌, arith}
+use Rattle.std.proofs.Common.{◌≡◌, ℕ, ◌+◌, Bool, List, [], length, None, Result, Ok, Err, refl, subst, ◌∙◌, arith}
+use Rattle.std.specs.declared.io.Error.{Error}
 use Rattle.ciborium_ll.specs.Types.Read.{Ghosts}
 use Rattle.ciborium_ll.specs.Types.Decoder.{Decoder}
 use Rattle.ciborium_ll.specs.Types.Error.TheVariants as e
@@ -12,9 +13,12 @@ use Rattle.cbor_look.specs.declared.sequence.Stopped.{Stopped}
 use Rattle.cbor_look.specs.declared.single.NotOne.{NotOne}
 use Rattle.cbor_look.specs.declared.single.NotOne.TheVariants as n
 use Rattle.cbor_look.specs.Sequences.{ChecksTold}
+use Rattle.cbor_look.specs.declared.dump.DumpError.{DumpError}
+use Rattle.cbor_look.specs.declared.dump.DumpError.TheVariants as u
+use Rattle.cbor_look.specs.Checking.{AnswersAs, AnswersTold}
 use Rattle.cbor_look.specs.Singles.{ChecksOneTold}
 use Rattle.cbor_look_service.specs.Checking.{fault_said, sequence_said, single_said, Stops, StopsBehind}
-use Rattle.cbor_look_service.specs.Checking.{FindsAll, FindsOne}
+use Rattle.cbor_look_service.specs.Checking.{FindsAll, FindsEnd, FindsOne, dump_said}
 
 -- a fault that is named is found of a sequence, and of one item
 fault_found_all : {E : Type 0} (strict : Bool) (depth count : ℕ) (due : List ℕ) (start offset : ℕ) (error : SkipError E)
@@ -49,20 +53,48 @@ module _ {R E : Type 0} (source : Ghosts R E) where
   fault_met strict depth due old new start (s.Read e.TooLong) met from = absurd met
   fault_met strict depth due old new start (s.Read e.Waiting) met from = absurd met
 
+  sequence_stops : (depth : ℕ) (due : List ℕ) (old new : Decoder R) (stopped : Stopped E)
+      → ChecksTold source depth due old (Err stopped) new
+      → StopsBehind old.strict depth stopped.items due old.offset (fault_said stopped.error new.offset)
+  sequence_stops depth due old new stopped told = record {
+    before = told.before;
+    ahead = told.ahead;
+    are_items = told.are_items;
+    is = told.is;
+    stops =
+        fault_met old.strict depth told.ahead told.between new (old.offset + length told.before) stopped.error told.met
+        (told.at ∙ told.place);
+  }
+
   pub sequence_found : (depth : ℕ) (due : List ℕ) (old new : Decoder R) (answer : Result (Sequence E) (Stopped E))
       → ChecksTold source depth due old answer new
       → FindsAll old.strict depth due old.offset (sequence_said answer new.offset)
   sequence_found depth due old new (Ok sequence) told = (told.are_items, told.counted)
   sequence_found depth due old new (Err stopped) told =
-      fault_found_all old.strict depth stopped.items due old.offset new.offset stopped.error (record {
-        before = told.before;
-        ahead = told.ahead;
-        are_items = told.are_items;
-        is = told.is;
-        stops =
-            fault_met old.strict depth told.ahead told.between new (old.offset + length told.before) stopped.error told.met
-            (told.at ∙ told.place);
-      })
+      fault_found_all old.strict depth stopped.items due old.offset new.offset stopped.error
+      (sequence_stops depth due old new stopped told)
+
+  -- the answer of a dump, as a check that answers so has it
+  ends_found : (depth : ℕ) (due : List ℕ) (old new : Decoder R)
+      (checked : Result (Sequence E) (Stopped E)) (result : Result E (DumpError E Error)) → AnswersAs checked result
+      → ChecksTold source depth due old checked new
+      → FindsEnd old.strict depth due old.offset (dump_said result None new.offset)
+  ends_found depth due old new (Ok sequence) (Ok fault) answers told = (sequence.items, told.are_items)
+  ends_found depth due old new (Err stopped) (Ok fault) answers told = absurd answers
+  ends_found depth due old new (Ok sequence) (Err (u.Item error)) answers told = absurd answers
+  ends_found depth due old new (Err stopped) (Err (u.Item error)) answers told = (
+    stopped.items,
+    subst (λ (x : SkipError E). StopsBehind old.strict depth stopped.items due old.offset (fault_said x new.offset))
+        answers (sequence_stops depth due old new stopped told),
+  )
+  ends_found depth due old new (Ok sequence) (Err (u.Rows fault)) answers told = absurd answers
+  ends_found depth due old new (Err stopped) (Err (u.Rows fault)) answers told = absurd answers
+
+  pub dump_found : (depth : ℕ) (due : List ℕ) (old new : Decoder R) (result : Result E (DumpError E Error))
+      → AnswersTold source depth due old result new
+      → FindsEnd old.strict depth due old.offset (dump_said result None new.offset)
+  dump_found depth due old new result answers =
+      ends_found depth due old new answers.checked result answers.answers answers.told
 
   pub single_found : (depth : ℕ) (due : List ℕ) (old new : Decoder R) (answer : Result (Sequence E) (NotOne E))
       → ChecksOneTold source depth due old answer new

@@ -134,6 +134,11 @@ abbrev pub FindsAll : Bool → ℕ → List ℕ → ℕ → Verdict → Type 0
 FindsAll strict depth due start (v.Well items bytes) = AreItems strict depth items due × (bytes ≡ length due)
 FindsAll strict depth due start verdict = (count : ℕ) × StopsBehind strict depth count due start verdict
 
+-- what is found behind the rows of a dump: the end of a sequence, or its first fault
+abbrev pub FindsEnd : Bool → ℕ → List ℕ → ℕ → Result (Unit {0}) Verdict → Type 0
+FindsEnd strict depth due start (Ok done) = IsSequence strict depth due
+FindsEnd strict depth due start (Err verdict) = (count : ℕ) × StopsBehind strict depth count due start verdict
+
 -- what is found where one item is wanted
 abbrev pub FindsOne : Bool → ℕ → List ℕ → ℕ → Verdict → Type 0
 FindsOne strict depth due start (v.Well items bytes) = (items ≡ 1) × IsItem strict depth due × (bytes ≡ length due)

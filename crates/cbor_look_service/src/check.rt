@@ -5,6 +5,7 @@ ghost use Rattle.ciborium_ll.specs.Decoding.{offset_of, strict_of};
 ghost use Rattle.ciborium_ll.specs.Items.{IsItem};
 ghost use Rattle.cbor_skip.specs.SkippingTold.{IsReadyToSkip};
 ghost use Rattle.cbor_look.specs.Sequences.{IsSequence};
+ghost use Rattle.cbor_look.specs.Takings.{IsAlike};
 ghost use Rattle.cbor_look_service.specs.Checking.{Finds, FindsAll, FindsOne, IsWanted, IsWell, Says, SaysItems, SaysOne};
 ghost use Rattle.cbor_look_service.specs.Checking.{end_said, fault_said, sequence_said, single_said, unless_failed};
 
@@ -27,14 +28,21 @@ const BUFFER_SIZE: usize = 512;
 pub fn check_input<R: io::Read + Drop>(reader: R, options: Options) -> Verdict {
     let mut ahead = [0; ROOM];
     let reader = BufferedReader::new(reader, &mut ahead);
-    let mut decoder = if options.strict {
-        Decoder::strict(reader)
-    } else {
-        Decoder::from(reader)
-    };
+    let mut decoder = decoder_of(reader, options.strict);
     let verdict = wanted(&mut decoder, options.one, options.depth);
     let (_, _, fault) = decoder.into_inner().into_parts();
     failed_or(fault, verdict)
+}
+
+/// A decoder of what a reader gives, strict where that is asked for.
+pub fn decoder_of<R: Read>(reader: R, strict: bool) -> Decoder<R>
+    ensures { IsAlike strict result }
+{
+    if strict {
+        Decoder::strict(reader)
+    } else {
+        Decoder::from(reader)
+    }
 }
 
 /// What is found, unless a read failed for another reason than the end. A fault of the bytes is met by no read that

@@ -5,7 +5,7 @@ ghost use Rattle.cbor_look_service.specs.Checking.{diag_said};
 ghost use Rattle.cbor_look_service.specs.Showing.{EndsShow, ShowsItems};
 
 use crate::arguments::Options;
-use crate::check::{ROOM, end_verdict, failed_or, fault_of};
+use crate::check::{ROOM, decoder_of, end_verdict, failed_or, fault_of};
 use crate::verdict::Verdict;
 use cbor_diag::{DiagError, Layout, diagnose};
 use cbor_skip::SkipError;
@@ -91,11 +91,7 @@ fn shown<R: io::Read + Drop, W: Write>(
 ) -> Result<Result<(), Verdict>, W::Error> {
     let mut ahead = [0; ROOM];
     let reader = BufferedReader::new(reader, &mut ahead);
-    let mut decoder = if options.strict {
-        Decoder::strict(reader)
-    } else {
-        Decoder::from(reader)
-    };
+    let mut decoder = decoder_of(reader, options.strict);
     let outcome = items(&mut decoder, writer, options.depth, options.layout);
     let offset = decoder.offset();
     let (_, _, fault) = decoder.into_inner().into_parts();

@@ -1,15 +1,20 @@
 //! The word `dump`.
 
-ghost use Rattle.std.specs.Prelude.{◌≡◌, ◌≤◌, length};
-ghost use Rattle.cbor_look_service.specs.Checking.{dump_said};
+ghost use Rattle.std.specs.Prelude.{◌≡◌, ◌≤◌, ◌↔◌, ℕ, List, length, IsOk, None};
+ghost use Rattle.ciborium_ll.specs.Decoding.{offset_of};
+ghost use Rattle.cbor_skip.specs.SkippingTold.{IsReadyToSkip};
+ghost use Rattle.cbor_look.specs.Dumps.{AreTaken};
+ghost use Rattle.cbor_look.specs.Sequences.{IsSequence};
+ghost use Rattle.cbor_look.specs.Takings.{IsAlike, most_bytes};
+ghost use Rattle.cbor_look_service.specs.Checking.{FindsEnd, dump_said};
 
 use crate::arguments::Options;
-use crate::check::{ROOM, end_verdict, failed_or, fault_of};
+use crate::check::{ROOM, decoder_of, end_verdict, failed_or, fault_of};
 use crate::verdict::Verdict;
 use cbor_look::dump::{DumpError, dump};
 use cbor_look::rows::{Meaning, Row, Rows};
 use ciborium_ll::Decoder;
-use ciborium_ll::io::{BufferedReader, ReadFault};
+use ciborium_ll::io::{BufferedReader, Read, ReadFault};
 use std::alloc::{AllocError, Global};
 use std::fmt::Write;
 use std::io;
@@ -132,11 +137,31 @@ fn dumped<R: io::Read + Drop, W: io::Write>(
     options: Options,
 ) -> Result<(), Verdict> {
     let mut ahead = [0; ROOM];
-    let mut decoder = Decoder::from(BufferedReader::new(reader, &mut ahead));
-    let outcome = dump(&mut decoder, options.depth, options.strict, printer);
+    let reader = BufferedReader::new(reader, &mut ahead);
+    let mut decoder = decoder_of(reader, options.strict);
+    let outcome = printed(&mut decoder, options.depth, options.strict, printer);
     let offset = decoder.offset();
     let (_, _, fault) = decoder.into_inner().into_parts();
     dump_verdict(outcome, fault, offset)
+}
+
+/// Prints the rows of what a decoder reads, which is as strict as is asked for.
+fn printed<R: Read, W: io::Write>(
+    decoder: &mut Decoder<R>,
+    depth: usize,
+    strict: bool,
+    printer: &mut Printer<W>,
+) -> Result<R::Error, DumpError<R::Error, io::Error>>
+where
+    R::Error: Drop,
+    requires shallow { depth ≤ 256 }
+    requires alike { IsAlike strict decoder.old }
+    ensures exactly { (due : List ℕ) → IsReadyToSkip R.Read most_bytes decoder.old due → AreTaken result
+        → (IsOk result ↔ IsSequence strict depth due) }
+    ensures told { (due : List ℕ) → IsReadyToSkip R.Read most_bytes decoder.old due → AreTaken result
+        → FindsEnd strict depth due (offset_of decoder.old) (dump_said result None (offset_of decoder.new)) }
+{
+    dump(decoder, depth, strict, printer)
 }
 
 /// What is found by a dump, of which a read that failed stopped at this offset, with this fault.

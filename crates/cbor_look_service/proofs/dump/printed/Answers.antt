@@ -1,0 +1,15 @@
+use Rattle.std.proofs.Common.{Bool, subst, ◌↔◌, IsOk}
+use Rattle.cbor_look.specs.Sequences.{IsSequence}
+use Rattle.cbor_look_service.specs.Checking.{FindsEnd, dump_said}
+use Rattle.cbor_look_service.proofs.FoundLaws.{dump_found}
+use Rattle.cbor_look_service.proofs.dump.printed.Goals as goal
+
+pub returns-clause-exactly : goal.returns-clause-exactly
+returns-clause-exactly g c = λ due ready all.
+    subst (λ (mode : Bool). IsOk c.dump.result ↔ IsSequence mode c.args.depth due) c.requires.alike.mode
+    (c.dump.ensures.exactly due c.requires.alike ready all)
+
+pub returns-clause-told : goal.returns-clause-told
+returns-clause-told g c = λ due ready all.
+    rw c.requires.alike.mode at (dump_found g.R.Read c.args.depth due c.args.decoder.now c.dump.new.decoder
+    c.dump.result (c.dump.ensures.told due c.requires.alike ready all))
