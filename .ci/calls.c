@@ -256,7 +256,10 @@ static int names_places(void)
         && told(cll_strict(alone, sizeof alone, 1, &report), CLL_SYNTAX, 3, 0, 0);
 }
 
-/* A text of 3000 bytes goes wrong at its eleventh. It is found out once 1024 bytes of it are there. */
+/*
+ * A text of 3000 bytes goes wrong at its eleventh. It is found out once 1024 bytes of it are there. Before that nothing
+ * that may follow makes it good.
+ */
 static int cuts_damaged_text(void)
 {
     static uint8_t data[3003] = {0x79, 0x0b, 0xb8};
@@ -265,7 +268,8 @@ static int cuts_damaged_text(void)
     for (size_t there = 11; there < 3000; there++) {
         const uint32_t want = there < 1024 ? CLL_SHORT : CLL_SYNTAX;
         if (cll_recode(data, 3 + there, 1, space, SPACE, &report) != want || report.place != 0
-            || cll_strict(data, 3 + there, 1, &report) != want || cll_skip(data, 3 + there, 0, &report) != want)
+            || cll_strict(data, 3 + there, 1, &report) != want || report.place != 0
+            || cll_skip(data, 3 + there, 0, &report) != want || report.place != 0)
             return 0;
     }
     return 1;
@@ -395,6 +399,36 @@ static int counts_elements(void)
     return cll_skip(rows[0].data, 1, 256, &report) == CLL_OK && report.elements == 0 && report.whole == 0;
 }
 
+/* How many bytes more are due: of a copy, of a strict check and of a skip. 0 is behind what nothing makes good. */
+static int tells_what_is_due(void)
+{
+    static const struct {
+        uint8_t data[8];
+        size_t len;
+        uint64_t copied, checked, skipped;
+    } rows[] = {
+        {{0}, 0, 1, 1, 1},                                  /* an item or an element */
+        {{0x82, 0x05}, 2, 1, 1, 1},                         /* another one */
+        {{0x82, 0x1b, 0x01}, 3, 7, 7, 7},                   /* the rest of a number */
+        {{0x81, 0x9a, 0x00, 0x01}, 4, 2, 2, 2},             /* of the title of a nest */
+        {{0x81, 0x5a, 0, 1, 0, 0, 0x61}, 7, 65535, 65535, 65535}, /* of a body */
+        {{0x81, 0x7f, 0x63, 0xe6}, 4, 2, 2, 2},             /* of a text within an open */
+        {{0x81, 0x7f, 0x61, 0x61}, 4, 1, 1, 1},             /* a piece or a break */
+        {{0x81, 0x19, 0x00}, 3, 1, 0, 1},                   /* a title that is longer than it need be */
+        {{0x81, 0x5f, 0x19, 0x01}, 4, 0, 0, 0},             /* a number within a string */
+        {{0x81, 0x81, 0x81, 0xd9}, 4, 2, 2, 0},             /* a tag for which no level is left */
+    };
+    for (size_t i = 0; i < sizeof rows / sizeof *rows; i++) {
+        const uint8_t *data = rows[i].data;
+        const size_t len = rows[i].len;
+        if (cll_recode(data, len, UINT64_MAX, space, SPACE, &report) != CLL_SHORT || report.place != rows[i].copied
+            || cll_strict(data, len, UINT64_MAX, &report) != CLL_SHORT || report.place != rows[i].checked
+            || cll_skip(data, len, 3, &report) != CLL_SHORT || report.place != rows[i].skipped)
+            return 0;
+    }
+    return 1;
+}
+
 static int is_this_version(void)
 {
     return cll_version() == 65536u * CLL_VERSION_MAJOR + 256u * CLL_VERSION_MINOR + CLL_VERSION_PATCH;
@@ -409,6 +443,7 @@ int main(void)
         {"no bytes", checks_null},      {"cuts", checks_pieces},      {"inside", keeps_inside},
         {"memory", refuses_memory},     {"overwritten", survives_damage}, {"elements", counts_elements},
         {"no bytes to copy", copies_null}, {"no copier", refuses_copiers}, {"a copier", survives_damaged_copiers},
+        {"due", tells_what_is_due},
     };
     for (size_t i = 0; i < sizeof rows / sizeof *rows; i++) {
         if (!rows[i].holds()) {

@@ -8,7 +8,8 @@
  *
  * What has to be answered comes from calls over the whole front, cll_skip, cll_strict and cll_recode, whose answers are
  * proved. Where they say that the bytes end too early, more is due just where some bytes behind them make an item: so
- * such bytes are looked for, and skipped. How many bytes are due at least is known of an item by how it was made.
+ * such bytes are looked for, and skipped. How many bytes are due at least is known of an item by how it was made: a
+ * checker says just that, and so do the calls over a front.
  *
  * usage: pieces [ITEMS [SEED]]
  *
@@ -114,7 +115,7 @@ static struct finding skipped_strictly(const uint8_t *data, size_t len, uint32_t
     return found;
 }
 
-/* Whether a skip of the front says the same, or that it ends too early, and then how many bytes more are due. */
+/* Whether a skip of the front says the same, or that it ends too early. */
 static int skips(const struct finding *found, const uint8_t *data, size_t len, uint32_t depth)
 {
     const struct finding want = strict ? skipped_strictly(data, len, depth) : skipped(data, len, depth);
@@ -122,7 +123,9 @@ static int skips(const struct finding *found, const uint8_t *data, size_t len, u
     case CLL_OK:
         return same(found, &want);
     case CLL_SHORT:
-        return found->answer != CLL_OK && (strict || want.place == (found->answer == CLL_SHORT ? found->place : 0));
+        /* Of any spelling as many bytes are due as a checker says, and none where it has found a fault. */
+        return found->answer != CLL_OK
+            && (strict || want.place == (found->answer == CLL_SHORT ? found->place : 0));
     default:
         return found->answer == want.answer && found->place == want.place && found->taken <= len;
     }
@@ -339,6 +342,16 @@ static int holds(const uint8_t *data, size_t len, uint32_t depth)
     return strict || copies_on(data, len);
 }
 
+/* Whether the calls over the front of an item say that so many bytes are due behind it. */
+static int lacks(const struct item *item, size_t len, uint64_t due)
+{
+    const uint8_t *data = at_end(&input, item->data, len);
+    if (cll_skip(data, len, item->levels, report) != CLL_SHORT || report->place != due
+        || cll_recode(data, len, UINT64_MAX, output.end - len, len, report) != CLL_SHORT || report->place != due)
+        return 0;
+    return !strict || (cll_strict(data, len, UINT64_MAX, report) == CLL_SHORT && report->place == due);
+}
+
 /* Whether as many bytes are due in front of each byte of an item as were, when it was made. */
 static int tells_due(const struct item *item)
 {
@@ -346,7 +359,7 @@ static int tells_due(const struct item *item)
     begin(item->levels);
     for (size_t at = 0; at < item->len; at++) {
         feed(&found, item->data + at, 0);
-        if (found.answer != CLL_SHORT || found.place != item->due[at])
+        if (found.answer != CLL_SHORT || found.place != item->due[at] || !lacks(item, at, item->due[at]))
             return 0;
         feed(&found, item->data + at, 1);
     }

@@ -1,6 +1,7 @@
 /*
  * Prints how many bytes of the stack each call uses, one line NAME BYTES for each: of cll_skip for some depths, each
- * filled with nests of two kinds down to a text and to a byte string of indefinite length.
+ * filled with nests of two kinds down to a text and to a byte string of indefinite length. A line NAME/short is of bytes
+ * that end too early.
  *
  * A call runs on a stack of its own, which was filled before with one value. What it changed is what it used. What a
  * call of nothing uses is taken off.
@@ -45,6 +46,12 @@ static void copier_end(void) { answer = cll_copier_end(&copier, &report); }
 
 /* Of a text with its title in front, which is no UTF-8. */
 static void no_utf8(void) { answer = cll_utf8(data, len, &report) == CLL_SYNTAX ? CLL_OK : CLL_ARGUMENT; }
+
+/* Without the last byte, so that the bytes end too early. */
+static uint32_t cut(uint32_t got) { return got == CLL_SHORT ? CLL_OK : CLL_ARGUMENT; }
+static void recode_cut(void) { answer = cut(cll_recode(data, len - 1, 1, out, sizeof out, &report)); }
+static void strict_cut(void) { answer = cut(cll_strict(data, len - 1, 1, &report)); }
+static void skip_cut(void) { answer = cut(cll_skip(data, len - 1, depth, &report)); }
 
 /* How many bytes of a stack a call changed. It has to answer CLL_OK. */
 static size_t used(void (*call)(void))
@@ -97,6 +104,7 @@ int main(void)
     static const struct { const char *name; void (*call)(void); } calls[] = {
         {"cll_pull", pull},     {"cll_push", push},     {"cll_push_wide", push_wide},
         {"cll_recode", recode}, {"cll_strict", strict}, {"cll_utf8/text", utf8},
+        {"cll_recode/short", recode_cut}, {"cll_strict/short", strict_cut},
         {"cll_utf8/damage", no_utf8},
         {"cll_checker_init", checker_init}, {"cll_checker_feed", checker_feed}, {"cll_checker_end", checker_end},
         {"cll_checker_init_strict", checker_init_strict}, {"cll_checker_feed/strict", checker_feed},
@@ -112,6 +120,7 @@ int main(void)
         for (int is_open = 0; is_open < 2; is_open++) {
             make_nests(is_open, depths[i]);
             printf("cll_skip/%u %zu\n", depths[i], used(skip) - plain);
+            printf("cll_skip/short/%u %zu\n", depths[i], used(skip_cut) - plain);
         }
     }
     return 0;

@@ -21,15 +21,6 @@ static const char *shown(char *text, const uint8_t *bytes, uint64_t len)
     return len > 0 ? text : "-";
 }
 
-/* The same, and behind what was made how many bytes more are due. */
-static const char *cut(char *text, const char *made, uint64_t due)
-{
-    if (made != text)
-        strcpy(text, made);
-    sprintf(text + strlen(text), "/due/%" PRIu64, due);
-    return text;
-}
-
 /* A header and the shortest title that cll_push writes of it. */
 static const char *told(char *text, const cll_header *header)
 {
@@ -95,6 +86,17 @@ static uint32_t copied(char *text, const uint8_t *data, size_t len, uint64_t cou
     return answer;
 }
 
+/* Behind what a call made how many bytes more are due, where it answers that the bytes end too early. */
+static const char *with_due(char *text, const char *made, int alone, uint32_t answer, const cll_report *report)
+{
+    if (answer != CLL_SHORT)
+        return made;
+    if (made != text)
+        strcpy(text, alone ? "" : made);
+    sprintf(text + strlen(text), "%sdue/%" PRIu64, alone ? "" : "/", report->place);
+    return text;
+}
+
 static int holds(const struct row *row)
 {
     /* Of just as many bytes as there are, so that a sanitizer sees each one beyond. */
@@ -122,16 +124,13 @@ static int holds(const struct row *row)
         made = shown(text, out, report.written);
     } else if (strcmp(row->call, "recode") == 0) {
         answer = cll_recode(data, row->len, row->number, out, row->len, &report);
-        made = shown(text, out, report.written);
-        if (answer == CLL_SHORT)
-            made = cut(text, made, report.place);
-    } else if (strcmp(row->call, "strict") == 0 || strcmp(row->call, "skip") == 0) {
-        if (strcmp(row->call, "strict") == 0)
-            answer = cll_strict(data, row->len, row->number, &report);
-        else
-            answer = cll_skip(data, row->len, (uint32_t)row->number, &report);
-        if (answer == CLL_SHORT)
-            made = cut(text, "", report.place) + 1;
+        made = with_due(text, shown(text, out, report.written), 0, answer, &report);
+    } else if (strcmp(row->call, "strict") == 0) {
+        answer = cll_strict(data, row->len, row->number, &report);
+        made = with_due(text, made, 1, answer, &report);
+    } else if (strcmp(row->call, "skip") == 0) {
+        answer = cll_skip(data, row->len, (uint32_t)row->number, &report);
+        made = with_due(text, made, 1, answer, &report);
     } else if (strcmp(row->call, "utf8") == 0) {
         answer = cll_utf8(data, row->len, &report);
     } else if (strcmp(row->call, "feed") == 0 || strcmp(row->call, "feed_strict") == 0) {

@@ -38,6 +38,13 @@ std::string told(const cll::header &header)
         + (header.value ? std::to_string(*header.value) : "*") + '/' + shown({title.data(), length.value()});
 }
 
+/* How many bytes more are due, where the bytes end too early. */
+template <typename T>
+std::string due(const cll::result<T> &got)
+{
+    return !got && got.fault().code == cll::answer::too_short ? "due/" + std::to_string(got.fault().due) : "";
+}
+
 /* Whether a call came out as a row says. */
 template <typename T>
 bool fits(const row &row, const cll::result<T> &got, std::uint64_t consumed, const std::string &made)
@@ -45,15 +52,6 @@ bool fits(const row &row, const cll::result<T> &got, std::uint64_t consumed, con
     const std::string name = got ? "ok" : got.fault().name();
     return name == answer_names[row.answer] && (got ? consumed : got.fault().consumed) == row.consumed
         && got.fault().place == row.place && made == row.made;
-}
-
-/* What was made, and behind it how many bytes more are due of a call that is short. */
-template <typename T>
-std::string cut(const cll::result<T> &got, const std::string &made)
-{
-    if (got || got.fault().code != cll::answer::too_short)
-        return made.empty() ? "-" : made;
-    return (made.empty() ? made : made + '/') + "due/" + std::to_string(got.fault().due);
 }
 
 /* Gives a checker the bytes one by one. */
@@ -75,7 +73,7 @@ bool feeds(const row &row, const std::vector<std::uint8_t> &data)
     const bool may_end = checker.taken() == 0 ? !end || !got : !end == (name == "ok");
     return name == answer_names[row.answer] && checker.taken() == row.consumed && place == row.place && made == row.made
         && may_end && (!end || (end->name() == name && end->place == row.place))
-        && (!end || name != "short" || end->due == got->due);
+        && (!end || !got || end->due == got->due);
 }
 
 /* Gives a copier the bytes one by one, with room for one each. */
@@ -119,19 +117,19 @@ int holds(const row *row)
         std::vector<std::uint8_t> out(data.size());
         const auto got = cll::recode(data, row->number, out);
         const auto written = got ? got->written : static_cast<std::size_t>(got.fault().written);
-        return fits(*row, got, got ? got->consumed : 0, cut(got, shown({out.data(), written})));
+        const auto lacks = due(got);
+        const auto made = shown({out.data(), written});
+        return fits(*row, got, got ? got->consumed : 0, lacks.empty() ? made : made + '/' + lacks);
     }
     if (call == "feed" || call == "feed_strict")
         return feeds(*row, data);
     if (call == "copy")
         return copies(*row, data);
     const auto depth = static_cast<std::uint32_t>(row->number);
-    if (call == "utf8") {
-        const auto got = cll::utf8(data);
-        return fits(*row, got, got ? *got : 0, "-") && (got || got.fault().due == 0);
-    }
-    const auto got = call == "strict" ? cll::strict(data, row->number) : cll::skip(data, depth);
-    return fits(*row, got, got ? *got : 0, cut(got, ""));
+    const auto got = call == "strict" ? cll::strict(data, row->number)
+        : call == "skip" ? cll::skip(data, depth) : cll::utf8(data);
+    const auto lacks = call == "utf8" ? std::string() : due(got);
+    return fits(*row, got, got ? *got : 0, lacks.empty() ? "-" : lacks);
 }
 
 /* A fault that is thrown has its name and its place, also as text. */

@@ -89,10 +89,10 @@ class Rows(unittest.TestCase):
                     got = ("ok", *made(call, number == "-" or int(number), given))
                 except ciborium_ll.Error as error:
                     got = (error.name, error.consumed, error.place)
-                    text, _, due = want.rpartition("due/")
-                    self.assertEqual(error.due, int(due) if text + due != want else 0)
-                    text = (text if text + due != want else want).strip("/-")
-                    self.assertEqual(error.written, len(text) // 2)
+                    # Behind what was written stands how many bytes more are due, or that alone.
+                    out, cut, due = want.rpartition("due/")
+                    out = (out if cut else want).strip("-/")
+                    self.assertEqual((error.written, error.due), (len(out) // 2, int(due) if cut else 0))
                 self.assertEqual(got, (answer, int(consumed), want if answer == "ok" else int(place)))
 
 

@@ -283,6 +283,9 @@ fn copy_or_due(bytes: &[u8], count: usize, out: &mut [u8], report: &mut CllRepor
 /// stands in `out`, and of what did not fit at most a beginning. Behind what was written `out` is as it was, whatever
 /// the answer.
 ///
+/// The place of a `Short` is how many bytes more are due at least, or 0 where nothing that may follow makes so many
+/// elements.
+///
 /// The place of a `Syntax` is the offset of a title; or of a body that is no text, in a string that no open begins, the
 /// end of its title less the length of the shortest one, which may lie inside the title. A text that is damaged and cut
 /// off is answered by `Short` or by `Syntax`, as the buffer falls.
@@ -348,8 +351,8 @@ fn check_or_due(bytes: &[u8], count: usize, report: &mut CllReport) -> CllAnswer
 /// Whether the bytes begin with `count` elements in their shortest spelling, with no simple value from 24 to 31 and no
 /// string of indefinite length inside another (RFC 7049, 2.2.2, 2.3 and 3.9). Nothing is written.
 ///
-/// The answers are `Ok`; `Short` where the bytes end before so many elements do; and `Syntax` as of `cll_recode`, and
-/// for a title that is longer than it need be, for such a simple value and for such a string.
+/// The answers are `Ok`; `Short` where the bytes end before so many elements do, with a place as of `cll_recode`; and
+/// `Syntax` as there, and for a title that is longer than it need be, for such a simple value and for such a string.
 #[unsafe(no_mangle)]
 #[tactic(auto, using(crate::proofs::PullLaws::code_exactly, crate::proofs::PullLaws::code_short))]
 pub extern "C" fn cll_strict(bytes: &[u8], count: u64, report: &mut CllReport) -> u32
@@ -410,8 +413,9 @@ fn skip_or_due(bytes: &[u8], depth: usize, report: &mut CllReport) -> CllAnswer
 /// Skips the item in front of the bytes, with tags, arrays and maps nested at most `depth` levels deep (RFC 7049, 2.1
 /// to 2.4). A tag, an array and a map take a level, an empty one too; a string takes none.
 ///
-/// The answers are `Ok`; `Short` where the bytes end before the item does; `Syntax` for a title that is none or may not
-/// stand within its string, and for a body of a text that is no UTF-8; `BreakDue` for a break in place of an item;
+/// The answers are `Ok`; `Short` where the bytes end before the item does, with how many bytes more are due at least as
+/// the place, or 0 where nothing that may follow makes an item; `Syntax` for a title that is none or may not stand
+/// within its string, and for a body of a text that is no UTF-8; `BreakDue` for a break in place of an item;
 /// `TooDeep` for a tag, an array or a map for which no level is left; and `Argument` for a depth above 256.
 #[unsafe(no_mangle)]
 #[tactic(auto, using(crate::proofs::PullLaws::code_exactly, crate::proofs::PullLaws::code_short))]
