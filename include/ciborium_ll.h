@@ -16,7 +16,7 @@
  * cll_checker_init_strict, cll_checker_end and cll_copier_init take less than 128 bytes, cll_copier_feed and
  * cll_copier_end less than 1 KiB, cll_recode and cll_strict less than 2 KiB, and cll_checker_feed less than 6 KiB.
  * cll_skip takes less than 2 KiB and 328 bytes for each level that it goes down: 8 KiB at 16 levels, 23 KiB at 64, and
- * 84 KiB at 256.
+ * 84 KiB at 256. Where the bytes end too early cll_recode, cll_strict and cll_skip take up to 4 KiB, if that is more.
  */
 #ifndef CIBORIUM_LL_H
 #define CIBORIUM_LL_H
@@ -148,8 +148,8 @@ uint32_t cll_push_wide(const cll_header *header, uint32_t width, uint8_t *out, s
  *
  * `elements` of them were copied whole, and `data` has no more of them in front of the fault or of its end, or with
  * CLL_ROOM one more does not fit into `out`. So a `count` of UINT64_MAX copies all that are there: `data` ends behind a
- * whole element where the answer is CLL_SHORT and `whole` is `len`, and else within one. With CLL_SHORT `place` says how
- * many bytes more are due at least, or 0 where no such elements begin so.
+ * whole element where the answer is CLL_SHORT and `whole` is `len`, and else within one. With CLL_SHORT `place` says
+ * how many bytes more are due at least, or 0 where no such elements begin so.
  *
  * Bodies are read through a buffer of 1,024 bytes. So the body of a text that is no UTF-8, and of which `data` ends too
  * early, is answered by CLL_SHORT or by CLL_SYNTAX, depending on its length and on where it goes wrong.
@@ -172,8 +172,8 @@ uint32_t cll_strict(const uint8_t *data, size_t len, uint64_t count, cll_report 
  *
  * CLL_OK; CLL_SHORT where `data` ends before the item does: `place` says how many bytes more are due at least, or 0
  * where no item begins so; CLL_SYNTAX as in cll_recode; CLL_BREAK_DUE for a break in place of an item, also in place of
- * a value of a map; CLL_TOO_DEEP, of which the title is consumed; and CLL_ARGUMENT for a depth above 256. A text that is
- * no UTF-8 and ends too early is answered as by cll_recode.
+ * a value of a map; CLL_TOO_DEEP, of which the title is consumed; and CLL_ARGUMENT for a depth above 256. A text that
+ * is no UTF-8 and ends too early is answered as by cll_recode.
  */
 uint32_t cll_skip(const uint8_t *data, size_t len, uint32_t depth, cll_report *report);
 
