@@ -22,7 +22,7 @@ module _ {R E W : Type 0} (source : Ghosts R E) where
     pub answers : AnswersAs checked result
     pub checks : ChecksItems source depth room old checked new
 
-  -- the same where the bytes are told
+  -- a dump where the bytes are told: it does what a check does, and answers the same
   pub record AnswersTold (depth : ℕ) (due : List ℕ) (old : Decoder R) (result : Result E (DumpError E W))
       (new : Decoder R) : Type 0 where
     pub checked : Result (Sequence E) (Stopped E)

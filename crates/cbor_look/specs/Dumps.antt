@@ -22,22 +22,23 @@ abbrev pub AreTaken : {A E W : Type 0} → Result A (DumpError E W) → Type 0
 AreTaken (Ok value) = Unit {0}
 AreTaken (Err error) = IsTaken error
 
--- no row was refused: what was answered is this error of the read
+-- what was answered is this error of the read, unless a row was not taken
 abbrev pub SaysFault : {E W : Type 0} → Error E → DumpError E W → Type 0
 SaysFault error (d.Item why) = why ≡ s.Read error
 SaysFault error (d.Rows fault) = Unit {0}
 
--- an error is that of a row that was refused
+-- an error is that of a row that was not taken
 abbrev pub IsRefusal : {E W : Type 0} → DumpError E W → Type 0
 IsRefusal (d.Item error) = ⊥
 IsRefusal (d.Rows fault) = Unit {0}
 
--- what the read of a title that failed says: at its end, where outside of all nests no byte of it came, that the
--- sequence ends, and else why it is at fault
+-- an error is that of the end: the reader failed, where outside of all nests no byte of a title came
 abbrev pub IsEndOf : {E : Type 0} → Error E → ℕ → ℕ → Type 0
 IsEndOf (e.Io fault) level len = (level ≡ 0) × (len ≡ 0)
 IsEndOf error level len = ⊥
 
+-- what a dump answers where the read of a title failed so, of which so many bytes came: at its end, outside of all
+-- nests, that the sequence ends, and else why it is at fault
 abbrev pub EndsTitles : {E W : Type 0} → Error E → ℕ → ℕ → Result E (DumpError E W) → Type 0
 EndsTitles error level len (Ok fault) = (error ≡ e.Io fault) × (level ≡ 0) × (len ≡ 0)
 EndsTitles error level len (Err why) = SaysFault error why × (IsEndOf error level len → ⊥)

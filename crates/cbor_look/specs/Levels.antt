@@ -29,7 +29,8 @@ pub data StandsBehind (strict : Bool) (depth whole : ℕ) : List Nest → List �
       → StandsBehind strict depth whole (record { header = header; count = count } ∷ nests)
       (before ++ (title ++ items))
 
--- the same in any spelling, behind any number of whole items: a level does not depend on the spelling
+-- `StandsBehind` in any spelling, behind any number of whole items: a level does not depend on the spelling (RFC 7049,
+-- 2.1, 2.2.1 and 2.4; RFC 8742)
 abbrev pub StandsWithin : ℕ → List Nest → List ℕ → Type 0
 StandsWithin depth nests bytes = (whole : ℕ) × StandsBehind false depth whole nests bytes
 
@@ -52,7 +53,7 @@ pub record TitleDue (depth : ℕ) (nests : List Nest) (opens : ℕ) (bytes : Lis
   pub sound : AreWritable kind bodies
   pub is : bytes ≡ items ++ parts
 
--- a break may stand there: it closes the last open, or else the innermost nest
+-- a break may stand there: it closes the last open, or else the innermost nest (RFC 7049, 2.2)
 abbrev pub closes_one : List Nest → ℕ → Bool
 closes_one nests (suc opens) = true
 closes_one [] zero = false
@@ -67,7 +68,7 @@ title_level header nests opens = length nests + opens
 
 -- ---- lines
 
--- a line of a dump
+-- a line of a dump: its level, its offset, its bytes, and what they mean
 pub record Line : Type 0 where
   pub level : ℕ
   pub offset : ℕ

@@ -16,7 +16,7 @@ abbrev pub is_between : State → Bool
 is_between t.Between = true
 is_between state = false
 
--- they end inside one
+-- they end inside one (Unicode, Table 3-7)
 abbrev pub is_inside : State → Bool
 is_inside t.Between = false
 is_inside t.Damaged = false
@@ -29,12 +29,13 @@ IsSound left bytes false = IsNoText [] left bytes
 
 module _ {R E : Type 0} (source : Ghosts R E) where
   -- bytes of a text were read, of which so many were left, or the read of them failed as that of the whole body does
+  -- (RFC 7049, 2.1; RFC 3629, 4)
   abbrev pub ReadsText : ℕ → List ℕ → Decoder R → Result Bool (Error E) → Decoder R → Type 0
   ReadsText left bytes old (Ok whole) new = Passes source old bytes new × IsSound left bytes whole
   ReadsText left bytes old (Err error) new = (place : ℕ) → EndsBody source Text [] left most_bytes place old (Err
       error) new
 
-  -- the same of either kind
+  -- the same of a body of either kind (RFC 7049, 2.1; RFC 3629, 4)
   abbrev pub ReadsPart : Kind → ℕ → ℕ → List ℕ → Decoder R → Result (Unit {0}) (Error E) → Decoder R → Type 0
   ReadsPart kind left place bytes old (Ok done) new = Passes source old bytes new
   ReadsPart kind left place bytes old (Err error) new = EndsBody source kind [] left most_bytes place old (Err error)

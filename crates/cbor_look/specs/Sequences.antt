@@ -53,7 +53,7 @@ module _ {R E : Type 0} (source : Ghosts R E) where
     pub fails : SkipsItem source depth room between (Err stopped.error) new
     pub no_end : IsEnd stopped.error between.offset new.offset → ⊥
 
-  -- `check` through a buffer of so much room, by its answer
+  -- what `check` does through a buffer of so much room, by its answer, behind so many items
   abbrev pub ChecksItems : ℕ → ℕ → Decoder R → Result (Sequence E) (Stopped E) → Decoder R → Type 0
   ChecksItems depth room old (Ok sequence) new = FindsEnd depth room old sequence new
   ChecksItems depth room old (Err stopped) new = FindsNoItem depth room old stopped new
@@ -80,7 +80,8 @@ module _ {R E : Type 0} (source : Ghosts R E) where
     pub at : between.offset ≡ stopped.place
     pub met : SkipsTold source old.strict depth ahead between (Err stopped.error) new
 
-  -- `check` where the bytes are told, by its answer
+  -- what `check` does where the bytes are told, by its answer: a sequence, or the items before the fault and what
+  -- `SkipsTold` says of the next one
   abbrev pub ChecksTold : ℕ → List ℕ → Decoder R → Result (Sequence E) (Stopped E) → Decoder R → Type 0
   ChecksTold depth due old (Ok sequence) new = FindsSequence depth due old sequence new
   ChecksTold depth due old (Err stopped) new = FindsFault depth due old stopped new

@@ -41,7 +41,7 @@ module _ {R E : Type 0} (source : Ghosts R E) where
     pub pulls : PullsHeader source between next new
     pub no_end : (fault : E) → next ≡ Err (e.Io fault) → new.offset ≡ between.offset → ⊥
 
-  -- `check_one` through a buffer of so much room, by its answer
+  -- what `check_one` does through a buffer of so much room, by its answer: one item alone, no item, or more behind it
   abbrev pub ChecksOne : ℕ → ℕ → Decoder R → Result (Sequence E) (NotOne E) → Decoder R → Type 0
   ChecksOne depth room old (Ok sequence) new = FindsAlone depth old sequence new
   ChecksOne depth room old (Err (n.Item error)) new = SkipsItem source depth room old (Err error) new
@@ -53,7 +53,7 @@ module _ {R E : Type 0} (source : Ghosts R E) where
     pub some : front.rest ≡ [] → ⊥
     pub place : at ≡ old.offset + length front.item
 
-  -- `check_one` where the bytes are told, by its answer
+  -- what `check_one` does where the bytes are told, by its answer
   abbrev pub ChecksOneTold : ℕ → List ℕ → Decoder R → Result (Sequence E) (NotOne E) → Decoder R → Type 0
   ChecksOneTold depth due old (Ok sequence) new = (sequence.items ≡ 1) × FindsSequence source depth due old sequence new
   ChecksOneTold depth due old (Err (n.Item error)) new = SkipsTold source old.strict depth due old (Err error) new

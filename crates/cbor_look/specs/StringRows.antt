@@ -34,7 +34,7 @@ abbrev pub meaning_of : CodeKind → Meaning
 meaning_of k.Bytes = m.Bytes
 meaning_of k.Text = m.Text
 
--- what a header is within an open of the kind; a strict read takes a further open for a fault
+-- what a header is within an open of the kind; a strict read takes a further open for a fault (RFC 7049, 2.2.2)
 abbrev pub IsPart : Bool → Kind → Header → Part → Type 0
 IsPart strict kind header p.Break = header ≡ h.Break
 IsPart strict kind header (p.Piece len) = header ≡ kind_header kind (Some len)
@@ -51,14 +51,14 @@ pub record EndsString (strict : Bool) (kind : Kind) (bytes : List ℕ) : Type 0 
   pub sound : AreWritable kind bodies
   pub is : bytes ≡ strings ++ 0xff ∷ []
 
--- what follows the title of a string of this length
+-- what follows the title of a string of this length (RFC 7049, 2.2.2)
 abbrev pub IsRest : Bool → Kind → Option ℕ → List ℕ → Type 0
 IsRest strict kind (Some len) bytes = (length bytes ≡ len) × IsWritable kind bytes
 IsRest strict kind None bytes = EndsString strict kind bytes
 
 module _ {R E W : Type 0} (source : Ghosts R E) where
   -- how the read of what follows a string's title stops: as a skip of it does, through a buffer of as much room as a
-  -- row has; the place is that of the title of a body
+  -- row has; the place is that of the title of a body (RFC 7049, 2.2)
   abbrev pub StopsRest : Kind → Option ℕ → ℕ → Decoder R → Result (Unit {0}) (DumpError E W) → Decoder R → Type 0
   StopsRest kind len place old (Ok done) new = Unit {0}
   StopsRest kind (Some len) place old (Err (d.Item (s.Read error))) new =

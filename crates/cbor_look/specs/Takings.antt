@@ -10,7 +10,7 @@ use Rattle.ciborium_ll.specs.Title.{IsTitle, IsStrictTitle, IsRefused}
 use Rattle.ciborium_ll.specs.Decoding.{view, IsSteady, PullsHeader, PullsTitle, ReadsBytes}
 use Rattle.cbor_look.specs.declared.taken.Taken.{Taken}
 
--- the bytes that were read
+-- the bytes that were read for a row
 abbrev pub taken_bytes : Taken → List ℕ
 taken_bytes taken = take taken.len taken.bytes
 
@@ -19,7 +19,8 @@ abbrev pub most_bytes : ℕ
 most_bytes = 16
 
 -- what a decoder says of a first byte and as many as that announces, where it is strict or not: they are a title of the
--- header, and where it is strict one that it takes; or none is, by the first byte or where it is strict by all
+-- header, and where it is strict one that it takes; or none is, by the first byte or where it is strict by all (RFC
+-- 7049, 2.1 to 2.3 and 3.9)
 abbrev pub Means : Bool → List ℕ → Option Header → Type 0
 Means strict bytes (Some header) = IsTitle bytes header × (IsTrue strict → IsStrictTitle bytes header)
 Means strict bytes None = ((byte : ℕ) × IsRefused byte × (bytes ≡ byte ∷ []))
@@ -50,7 +51,7 @@ module _ {R E : Type 0} (source : Ghosts R E) where
     pub steady : IsSteady source decoder
     pub none_waits : decoder.waiting ≡ None
 
-  -- these bytes were read
+  -- these bytes were read: the offset rose by their number, and an idle decoder consumed just them
   pub record Takes (old : Decoder R) (bytes : List ℕ) (new : Decoder R) : Type 0 where
     pub offset : new.offset ≡ old.offset + length bytes
     pub consumed : IsIdle old → Consumes (view source old) (view source new) bytes × IsIdle new

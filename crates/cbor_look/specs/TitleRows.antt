@@ -32,7 +32,8 @@ pub record IsStringDue (strict : Bool) (depth whole : ℕ) (before : List ℕ) (
   pub is : header ≡ kind_header kind len
 
 module _ {E W : Type 0} where
-  -- how a title that is no string's ends a dump, at its place: a break where none may stand, or a nest too deep
+  -- how a title that is no string's ends a dump, at its place: a break where none may stand, or a nest too deep (RFC
+  -- 7049, 2.2)
   abbrev pub StopsAlone : Bool → ℕ → ℕ → Header → ℕ → List ℕ → Result (Unit {0}) (DumpError E W) → Type 0
   StopsAlone strict depth whole header place before (Ok done) = Unit {0}
   StopsAlone strict depth whole header place before (Err (d.Item (s.Read error))) = ⊥
@@ -51,7 +52,7 @@ module _ {E W : Type 0} where
     pub stops : StopsAlone strict depth whole header place before result
 
 module _ {R E W : Type 0} (source : Ghosts R E) where
-  -- how a title ends a dump, or the string that it begins, which stops as a skip of it does
+  -- how a title ends a dump, or the string that it begins, which stops as a skip of it does (RFC 7049, 2.2)
   abbrev pub StopsTitle : Bool → ℕ → ℕ → Header → ℕ → List ℕ → Decoder R → Result (Unit {0}) (DumpError E W)
       → Decoder R → Type 0
   StopsTitle strict depth whole header place before old (Ok done) new = Unit {0}

@@ -38,6 +38,21 @@ pub enum DumpError<E, W> {
 ///
 /// `Ok` has what the reader answered where a further item would begin. Before an error all that was read is shown; the
 /// last row has the bytes at fault, where some were read. Nothing is read ahead of the rows, and no memory is taken.
+///
+/// Each row stands at its level, and has the offset of its first byte. The level of a title is the number of tags,
+/// arrays, maps and opens that it stands within in the grammar, and a break that closes one has the level of its title;
+/// a part of a body stands a level deeper than its string's title. This holds after a fault too, unless a row was not
+/// taken. Where the reader is steady and no header waits, the bytes of the rows, one behind the other, are just those
+/// that were consumed, and on `Ok` they are a sequence of items to the depth, of a strict dump in their shortest
+/// spelling.
+///
+/// Where no header waits, and the decoder is as strict as the dump, it does what `check` could do through a buffer of
+/// 16 bytes, and answers the same, unless a row was not taken. Where besides a steady reader tells its bytes and the
+/// offset fits, `Ok` comes exactly where the bytes are a sequence of items to the depth; else the error is the fault
+/// behind the items before it.
+///
+/// No clause says how rows are printed, nor what is consumed where a header waits, nor where a dump stops whose decoder
+/// is not as strict: a title is then taken or refused as the dump is strict or not.
 pub fn dump<R: Read, S: Rows>(
     decoder: &mut Decoder<R>,
     depth: usize,

@@ -39,8 +39,13 @@ pub struct Stopped<E> {
 /// it came. Over a reader that fails only where bytes are missing that is the end of a sequence (RFC 8742). Of a strict
 /// decoder it says that each item was there in its shortest spelling (RFC 7049, 3.9).
 ///
-/// The error is that of `skip_item` on the item that could not be read, with what it consumed. Strings go through
-/// `buffer`. No memory is taken but for the stack, of which each level takes a frame.
+/// The error is that of `skip_item` on the item that could not be read, with what it consumed, behind so many whole
+/// items, and not at its end. Strings go through `buffer`. No memory is taken but for the stack, of which each level
+/// takes a frame.
+///
+/// Where a steady reader tells its bytes, the offset fits, and no header waits on a strict decoder, `Ok` comes exactly
+/// where the bytes are a sequence of items to the depth, of a strict decoder in their shortest spelling, and has their
+/// number and that of the bytes; else the error has the items before the fault, and the fault.
 pub fn check<R: Read>(
     decoder: &mut Decoder<R>,
     depth: usize,

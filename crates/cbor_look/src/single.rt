@@ -28,6 +28,10 @@ pub enum NotOne<E> {
 /// strict decoder it says that the item was there in its shortest spelling (RFC 7049, 3.9).
 ///
 /// `Item` carries the error of `skip_item`. `More` names the offset behind the item.
+///
+/// Where a steady reader tells its bytes, the offset fits, and no header waits on a strict decoder, `Ok` comes exactly
+/// where the bytes are one item to the depth, of a strict decoder in its shortest spelling; else no item is in front,
+/// or bytes follow it.
 pub fn check_one<R: Read>(
     decoder: &mut Decoder<R>,
     depth: usize,

@@ -105,7 +105,7 @@ IsWanted true strict depth due = IsItem strict depth due
 IsWanted false strict depth due = IsSequence strict depth due
 
 -- `Stops strict depth due start verdict`: what stops the read of an item in front of these bytes, which begin at the
--- offset, is so named, with its offset
+-- offset, is so named, with its offset (RFC 7049, 2.1 to 2.4)
 abbrev pub Stops : Bool → ℕ → List ℕ → ℕ → Verdict → Type 0
 Stops strict depth due start (v.Syntax place) = (fault : HasItemFault strict depth due) × (at : ℕ)
     × (fault.answer ≡ Syntax at) × (place ≡ start + at)

@@ -38,7 +38,8 @@ module _ {R E : Type 0} (source : Ghosts R E) where
     pub fails : SkipsItem source depth 64 between (Err error) new
     pub no_end : IsEnd error between.offset new.offset → ⊥
 
-  -- the show of a sequence, by its answer
+  -- the show of a sequence, by its answer: whole items, up to the end or up to where the read of a further one failed
+  -- (RFC 8742)
   abbrev pub ShowsItems : {F : Type 0} → ℕ → Decoder R → Result E (DiagError E F) → Decoder R → Type 0
   ShowsItems depth old (Ok fault) new = EndsItems depth old fault new
   ShowsItems depth old (Err (d.Read error)) new = StopsItems depth old error new

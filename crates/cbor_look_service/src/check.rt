@@ -25,6 +25,9 @@ pub const ROOM: usize = 8192;
 const BUFFER_SIZE: usize = 512;
 
 /// Checks what a reader gives, up to its end.
+///
+/// A reader of a file reads ahead and is never steady, so of a file it is said only that what the library answers is
+/// said as it is.
 pub fn check_input<R: io::Read + Drop>(reader: R, options: Options) -> Verdict {
     let mut ahead = [0; ROOM];
     let reader = BufferedReader::new(reader, &mut ahead);
@@ -67,6 +70,12 @@ pub fn end_verdict(fault: Option<ReadFault>) -> Result<(), Verdict>
 }
 
 /// Checks what is wanted: one item, or a sequence of items.
+///
+/// What the library answers is said as it is: the numbers of items and bytes, or the fault with its offset. Where a
+/// steady reader tells its bytes, the offset fits, and no header waits on a strict decoder, all is well exactly where
+/// the bytes are what is wanted, to the depth, of a strict decoder in their shortest spelling. The numbers are then
+/// theirs; else behind so many items the first fault is named, with its offset, or where one is wanted the offset from
+/// which on bytes follow.
 fn wanted<R: Read>(decoder: &mut Decoder<R>, one: bool, depth: usize) -> Verdict
 where
     R::Error: Drop,

@@ -98,8 +98,8 @@ fn shown<R: io::Read + Drop, W: Write>(
     diag_verdict(outcome, fault, offset)
 }
 
-/// What is found by a show, of which a read that failed stopped at this offset, with this fault. The error is the
-/// writer's.
+/// What is found by a show, of which a read that failed stopped at this offset, with this fault: the answer of the
+/// library as it is, but a read that failed for another reason than the end goes before. The error is the writer's.
 fn diag_verdict<E: Drop, F>(
     outcome: Result<E, DiagError<E, F>>,
     fault: Option<ReadFault>,
@@ -115,6 +115,8 @@ fn diag_verdict<E: Drop, F>(
 }
 
 /// Writes items, each with a line end behind it. `Ok` has what the reader answered where a further one would begin.
+/// Where the writer does not fail, whole items were read, each as `skip_item` reads it, up to where the reader failed
+/// with nothing consumed, or a further one stopped as `skip_item` says.
 fn items<R: Read, W: Write>(
     decoder: &mut Decoder<R>,
     writer: &mut W,

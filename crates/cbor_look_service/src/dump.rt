@@ -146,6 +146,10 @@ fn dumped<R: io::Read + Drop, W: io::Write>(
 }
 
 /// Prints the rows of what a decoder reads, which is as strict as is asked for.
+///
+/// Where every row was printed, a steady reader tells its bytes and the offset fits, all is well exactly where the
+/// bytes are a sequence of items to the depth, of a strict dump in their shortest spelling; else behind so many items
+/// the first fault is named, with its offset.
 fn printed<R: Read, W: io::Write>(
     decoder: &mut Decoder<R>,
     depth: usize,
@@ -164,7 +168,8 @@ where
     dump(decoder, depth, strict, printer)
 }
 
-/// What is found by a dump, of which a read that failed stopped at this offset, with this fault.
+/// What is found by a dump, of which a read that failed stopped at this offset, with this fault: the answer of the
+/// library as it is, but a read that failed for another reason than the end goes before.
 fn dump_verdict<E: Drop>(
     outcome: Result<E, DumpError<E, io::Error>>,
     fault: Option<ReadFault>,

@@ -44,7 +44,7 @@ may_close header count = false
 
 -- `ItemDue strict outer depth bytes levels closable`: the bytes are a beginning of an item to the depth, in its
 -- shortest spelling where only that is taken, and behind them an item to so many levels is due. `closable` says whether
--- a break may stand in its place; `outer` says it of the whole
+-- a break may stand in its place; `outer` says it of the whole (RFC 7049, 2.1 to 2.4)
 pub data ItemDue (strict : Bool) : Bool → ℕ → List ℕ → ℕ → Bool → Type 0 where
   -- nothing was read
   here : {outer : Bool} {depth : ℕ} → ItemDue strict outer depth [] depth outer
@@ -63,7 +63,7 @@ IsTakenInside false kind opens bodies = Unit {0}
 
 -- `ReachesItem strict depth bytes place`: the bytes are a beginning of an item to the depth, in its shortest spelling
 -- where only that is taken, and what is due behind them is the place: an item; within a string a further one or its
--- end; or a body
+-- end; or a body (RFC 7049, 2.2.2 and 3.9)
 pub data ReachesItem (strict : Bool) (depth : ℕ) : List ℕ → Place → Type 0 where
   at_item : {bytes : List ℕ} {levels : ℕ} {closable : Bool} → ItemDue strict false depth bytes levels closable
       → ReachesItem strict depth bytes Due

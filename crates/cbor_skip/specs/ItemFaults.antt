@@ -7,7 +7,8 @@ use Rattle.ciborium_ll.specs.Items.{IsItem, IsTakenTitle}
 use Rattle.ciborium_ll.specs.Faults.{Place, Answer, FirstFault}
 use Rattle.cbor_skip.specs.Due.{IsNest, ItemDue, ReachesItem}
 
--- an item to the depth stands in front of the bytes (RFC 7049, 2.1 to 2.4)
+-- an item to the depth stands in front of the bytes, in any spelling or in the shortest one (RFC 7049, 2.1 to 2.4 and
+-- 3.9)
 pub record ItemInFront (strict : Bool) (depth : ℕ) (bytes : List ℕ) : Type 0 where
   pub item : List ℕ
   pub rest : List ℕ
@@ -16,7 +17,8 @@ pub record ItemInFront (strict : Bool) (depth : ℕ) (bytes : List ℕ) : Type 0
 
 -- Behind a beginning of an item the bytes are at fault: a title is cut off, none, or may not stand within its string,
 -- or a body is cut off or no text; where only the shortest spelling is taken, also a title that isn't the shortest, a
--- small simple value, or an open within a string
+-- small simple value, or an open within a string (RFC 7049, 2.2.2 and 3.9). It is a row of `FirstFault strict`, whose
+-- word on writing is left open
 pub record HasItemFault (strict : Bool) (depth : ℕ) (bytes : List ℕ) : Type 0 where
   pub before : List ℕ
   pub place : Place

@@ -4,7 +4,7 @@ use Rattle.ciborium_ll.specs.ErrorTexts.{error_text}
 use Rattle.cbor_skip.specs.declared.SkipError.{SkipError}
 use Rattle.cbor_skip.specs.declared.SkipError.TheVariants as s
 
--- the decoder's error, or what stands at the place
+-- what `{}` writes of an error of `skip_item`: the decoder's error, or what stands at the place
 abbrev pub skip_error_text : {E : Type 0} → (E → Option (List ℕ)) → SkipError E → Option (List ℕ)
 skip_error_text shown (s.Read error) = error_text shown error
 skip_error_text shown (s.Break place) = Some (codes "a break that ends nothing at offset " ++ decimal place)

@@ -7,7 +7,7 @@ use Rattle.ciborium_ll.specs.Types.Decoder.{Decoder}
 use Rattle.ciborium_ll.specs.Types.Error.{Error}
 use Rattle.ciborium_ll.specs.Strings.{Kind, kind_header}
 use Rattle.ciborium_ll.specs.Items.{Completes, AreItems, IsItem}
-use Rattle.ciborium_ll.specs.Decoding.{IsSteady, Passes, PullsHeader, PullsTitle}
+use Rattle.ciborium_ll.specs.Decoding.{IsSteady, MovesOn, Passes, PullsHeader, PullsTitle}
 use Rattle.ciborium_ll.specs.Skipping.{SkipsString}
 use Rattle.cbor_skip.specs.declared.Begun.{Begun}
 use Rattle.cbor_skip.specs.declared.Begun.TheVariants as b
@@ -21,8 +21,17 @@ abbrev pub strict_unless_waiting : Option Header → Bool → Bool
 strict_unless_waiting None strict = strict
 strict_unless_waiting (Some header) strict = false
 
+-- whether only the shortest spelling is taken (RFC 7049, 3.9): by a strict decoder on which no header waits
 abbrev pub strictness : {R : Type 0} → Decoder R → Bool
 strictness decoder = strict_unless_waiting decoder.waiting decoder.strict
+
+-- what the header of a nest says of it: how many items it contains, or, where that is not told or not counted, which
+-- nest it is
+abbrev pub BeginsNest : Header → Begun → Type 0
+BeginsNest header b.Item = ⊥
+BeginsNest header b.Break = ⊥
+BeginsNest header (b.Items count) = item_count header ≡ Some count
+BeginsNest header (b.Nest nest) = nest ≡ header
 
 module _ {R E : Type 0} (source : Ghosts R E) where
   -- the title of a string came, and the read of the string failed behind it
@@ -106,7 +115,8 @@ module _ {R E : Type 0} (source : Ghosts R E) where
   SkipsCounted count depth room old (Ok done) new = ReadsCounted count depth old new
   SkipsCounted count depth room old (Err error) new = StopsCounted count depth room old error new
 
-  -- `skip_item` through a buffer of so much room, by its answer
+  -- what `skip_item` does through a buffer of so much room, by its answer: an item was read, or a beginning of one and
+  -- there it stops. Both are as the old decoder's `strictness` says
   abbrev pub SkipsItem : ℕ → ℕ → Decoder R → Result (Unit {0}) (SkipError E) → Decoder R → Type 0
   SkipsItem depth room old (Ok done) new = ReadsItem depth old new
   SkipsItem depth room old (Err error) new = StopsItem false depth room old error new
@@ -132,3 +142,9 @@ module _ {R E : Type 0} (source : Ghosts R E) where
   abbrev pub SkipsWithin : Header → ℕ → ℕ → Decoder R → Result (Unit {0}) (SkipError E) → Decoder R → Type 0
   SkipsWithin header depth room old (Ok done) new = ReadsWithin header depth old new
   SkipsWithin header depth room old (Err error) new = StopsWithin header depth room old error new
+
+  -- what `skip_item` does, whatever fails, and what it keeps
+  pub record SkipsOne (depth room : ℕ) (old : Decoder R) (result : Result (Unit {0}) (SkipError E)) (new : Decoder R) :
+      Type 0 where
+    pub skipped : SkipsItem depth room old result new
+    pub moves_on : MovesOn source old new

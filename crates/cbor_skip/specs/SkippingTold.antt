@@ -10,8 +10,8 @@ use Rattle.cbor_skip.specs.declared.SkipError.TheVariants as s
 use Rattle.cbor_skip.specs.ItemFaults.{HasDeepNest, HasEarlyBreak, HasItemFault, ItemInFront}
 
 module _ {R E : Type 0} (source : Ghosts R E) where
-  -- the reader gives the bytes that it tells, the offset takes every read, through a buffer of so much room, and on a
-  -- strict decoder no header waits
+  -- the reader gives the bytes that it tells, the offset fits what is due, with 8 and with the buffer's length to
+  -- spare, and on a strict decoder no header waits
   pub record IsReadyToSkip (room : ℕ) (decoder : Decoder R) (due : List ℕ) : Type 0 where
     pub none_waits : decoder.strict ≡ true → decoder.waiting ≡ None
     pub steady : IsSteady source decoder
@@ -49,7 +49,8 @@ module _ {R E : Type 0} (source : Ghosts R E) where
       pub left : view source new ≡ Some fault.rest
       pub offset : new.offset ≡ at + length fault.title
 
-  -- `skip_item`: one item is skipped, in any spelling or in the shortest one, or what stops the read of it is met
+  -- what `skip_item` then does: one item is skipped, in any spelling or in the shortest one, or what stops the read of
+  -- it is met, each with what is left and the offset
   abbrev pub SkipsTold : Bool → ℕ → List ℕ → Decoder R → Result (Unit {0}) (SkipError E) → Decoder R → Type 0
   SkipsTold strict depth due old (Ok done) new = SkipsFront strict depth due old new
   SkipsTold strict depth due old (Err (s.Break at)) new = FindsBreak strict depth due old at new

@@ -1,11 +1,15 @@
 //! One item of CBOR (RFC 7049, 2.1 to 2.4) skipped, whatever it contains. No call takes memory.
+//!
+//! It stands on the contracts of `ciborium_ll`, its laws and the lemmas that it hands on, and returns over any reader,
+//! one that never ends too.
 #![tactic(auto)]
 
 ghost use Rattle.std.specs.Prelude.{◌≡◌, ◌<◌, ◌≤◌, ◌↔◌, ℕ, List, length, IsOk, MatchResult, Some};
 ghost use Rattle.ciborium_ll.specs.Decoding.{MovesOn, offset_of, strict_of, view};
 ghost use Rattle.cbor_skip.specs.Due.{IsNest};
 ghost use Rattle.cbor_skip.specs.ItemFaults.{ItemInFront};
-ghost use Rattle.cbor_skip.specs.Skipping.{IsBegun, SkipsItem, SkipsCounted, SkipsWithin, StopsTitle, strictness};
+ghost use Rattle.cbor_skip.specs.Skipping.{BeginsNest, IsBegun, SkipsCounted, SkipsOne, SkipsWithin, StopsTitle};
+ghost use Rattle.cbor_skip.specs.Skipping.{strictness};
 ghost use Rattle.cbor_skip.specs.SkippingTold.{IsReadyToSkip, SkipsFront, SkipsTold};
 
 pub mod laws;
@@ -60,12 +64,7 @@ fn skip_title<R: Read>(
     match title.start(header) {
         Start::Value => Ok(Begun::Item),
         Start::Break => Ok(Begun::Break),
-        Start::Nest(Header::Tag(_)) => Ok(Begun::Items(1)),
-        Start::Nest(Header::Array(Some(count))) => Ok(Begun::Items(count)),
-        Start::Nest(Header::Map(Some(pairs))) if pairs <= usize::MAX / 2 => {
-            Ok(Begun::Items(2 * pairs))
-        }
-        Start::Nest(nest) => Ok(Begun::Nest(nest)),
+        Start::Nest(nest) => Ok(nest_begun(nest)),
         Start::Bytes(len) => {
             skip_bytes(decoder, len, buffer)?;
             Ok(Begun::Item)
@@ -74,6 +73,20 @@ fn skip_title<R: Read>(
             skip_text(decoder, len, buffer)?;
             Ok(Begun::Item)
         }
+    }
+}
+
+/// What the header of a tag, an array or a map begins.
+#[inline(always)]
+fn nest_begun(nest: Header) -> Begun
+    requires { IsNest nest }
+    ensures { BeginsNest nest result }
+{
+    match nest {
+        Header::Tag(_) => Begun::Items(1),
+        Header::Array(Some(count)) => Begun::Items(count),
+        Header::Map(Some(pairs)) if pairs <= usize::MAX / 2 => Begun::Items(2 * pairs),
+        _ => Begun::Nest(nest),
     }
 }
 
@@ -178,9 +191,15 @@ fn skip_within<R: Read>(
 /// level is left. Both have consumed that title alone behind what they read.
 ///
 /// `Read` carries the decoder's error. `Syntax` names the offset of a title that is none or may not stand within its
-/// string, and of a strict decoder also of one that isn't strict, or of an open within a string; of a body that is no text the offset of its title, or, where a whole string's title is longer than its
-/// shortest one, of the byte from which the shortest would reach the body. `Io` says that the reader failed, `TooLong`
-/// that the offset can't take the next read.
+/// string, and of a strict decoder also of one that isn't strict, or of an open within a string; of a body that is no
+/// text the offset of its title, or, where a whole string's title is longer than its shortest one, of the byte from
+/// which the shortest would reach the body. `Io` says that the reader failed, `TooLong` that the offset can't take the
+/// next read.
+///
+/// Over a reader that tells its bytes `Ok` says that what was due began with that item, and that just what follows it
+/// is due. Where besides the reader is steady, the offset fits, and no header waits on a strict decoder, `Ok` comes
+/// exactly where an item to the depth is in front, of a strict decoder in its shortest spelling; else `Break`, `Deep`
+/// or a fault of the bytes does, with its place. Whatever the answer, the decoder moves on as [`Decoder`] says.
 ///
 /// ```rust
 /// let mut decoder = Decoder::from(SliceReader::new(bytes));
@@ -194,14 +213,13 @@ pub fn skip_item<R: Read>(
 ) -> Result<(), SkipError<R::Error>>
     requires shallow { depth ≤ 256 }
     requires room { 4 ≤ length buffer.old }
-    ensures skipped { SkipsItem R.Read depth (length buffer.old) decoder.old result decoder.new }
+    ensures skipped { SkipsOne R.Read depth (length buffer.old) decoder.old result decoder.new }
     ensures told { (due : List ℕ) → IsReadyToSkip R.Read (length buffer.old) decoder.old due
         → SkipsTold R.Read (strict_of decoder.old) depth due decoder.old result decoder.new }
     ensures exactly { (due : List ℕ) → IsReadyToSkip R.Read (length buffer.old) decoder.old due
         → (IsOk result ↔ ItemInFront (strict_of decoder.old) depth due) }
     ensures front { (due : List ℕ) → view R.Read decoder.old ≡ Some due → IsOk result
         → SkipsFront R.Read (strictness decoder.old) depth due decoder.old decoder.new }
-    ensures moves_on { MovesOn R.Read decoder.old decoder.new }
 {
     skip_items(decoder, 1, depth, buffer)
 }

@@ -107,7 +107,7 @@ module _ {R E : Type 0} (source : Reader R E) (k : Kind) where
         → (reads : ReadsRest source k [] body.length new ended)
         → HasReadBody len opened (bodies ++ reads.read ∷ []) after ended
     lone_more body ended (inl start) advances reads =
-        let only = only_one (Ok (Some body)) start advances in
+        let only_first = only_one (Ok (Some body)) start advances in let only = only_first in
         let found = only.found in
         let same : body ≡ only.body = cc in
         let lengths = ap (λ (b : Body). b.length) same ∙ only.length-is in

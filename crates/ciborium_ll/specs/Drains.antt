@@ -15,9 +15,10 @@ use Rattle.ciborium_ll_decoder.specs.declared.seg.Segment.{Segment}
 use Rattle.ciborium_ll_grammar.specs.Strings.{Kind, Text, IsWritable, most_kept}
 use Rattle.ciborium_ll_text.specs.Text.{IsCharacters}
 use Rattle.ciborium_ll_decoder.specs.Kept.{kept_bytes}
-use Rattle.ciborium_ll_decoder.specs.Decoding.{offset_limit, IsSteady, Passes}
+use Rattle.ciborium_ll_decoder.specs.Decoding.{offset_limit, IsSteady, MovesOn, Passes}
 use Rattle.ciborium_ll_encoder.specs.Encoding.{WritesAll, WritesFront}
 use Rattle.ciborium_ll_decoder.specs.Chunks.{GivesChunk, PullsChunk, SegmentEnds, left_of, rest}
+use Rattle.ciborium_ll_decoder.specs.Chunks.{segment_decoder, segment_reference}
 
 -- ---- sizes
 
@@ -52,7 +53,8 @@ pub record AddUp (sizes : List ℕ) (bytes count : ℕ) : Type 0 where
 -- ---- over any reader and writer
 
 module _ {R E P W F : Type 0} {parser : Parser P} (source : Reader R E) (sink : Writer W F) where
-  -- of the body these bytes were handed out, and read before that, by calls that all succeeded
+  -- of the body these bytes were handed out, and read before that, by calls that all succeeded: what was kept and read
+  -- is what was given and what is kept now
   pub record HandsOut (old : Segment R P parser) (given : List ℕ) (new : Segment R P parser) : Type 0 where
     pub read : List ℕ
     pub passed : Passes source old.decoder.now read new.decoder.now
@@ -62,7 +64,8 @@ module _ {R E P W F : Type 0} {parser : Parser P} (source : Reader R E) (sink : 
     pub place : new.place ≡ old.place
     pub damaged : new.damaged ≡ old.damaged
 
-  -- with buffers of these sizes chunks were handed out and written
+  -- with buffers of these sizes chunks were handed out and written: no chunk is longer than its buffer, each buffer was
+  -- filled as far as the body reaches, and no size was used once those before it had brought all
   pub record DrainsSome (sizes : List ℕ) (old : Segment R P parser) (writer : W) (new : Segment R P parser)
       (writer' : W) : Type 0 where
     pub given : List ℕ
@@ -121,16 +124,25 @@ module _ {R E P W F : Type 0} {parser : Parser P} (source : Reader R E) (sink : 
   EndsDrain sizes old writer calls end.Ended new writer' = DrainsAll sizes old writer calls new writer'
   EndsDrain sizes old writer calls end.OutOfSizes new writer' = DrainsSizes sizes old writer calls new writer'
 
-  -- a drain, by its answer
+  -- what `drain_bytes` and `drain_text` do, by their answer, each behind chunks for the sizes before
   abbrev pub Drains : List ℕ → Segment R P parser → W → Result Drained (RecodeError E F) → Segment R P parser → W
       → Type 0
   Drains sizes old writer (Ok drained) new writer' = EndsDrain sizes old writer drained.calls drained.end new writer'
   Drains sizes old writer (Err (r.Read error)) new writer' = DrainFails sizes old writer error new writer'
   Drains sizes old writer (Err (r.Write fault)) new writer' = DrainUnwritten sizes old writer new writer'
 
+  -- the same, and what both keep; the writer stays on its slice
+  pub record DrainsSegment (sizes : List ℕ) (old : Segment R P parser) (writer : W)
+      (result : Result Drained (RecodeError E F)) (new : Segment R P parser) (writer' : W) : Type 0 where
+    pub drains : Drains sizes old writer result new writer'
+    pub moves_on : MovesOn source (segment_decoder old) (segment_decoder new)
+    pub same_reference : segment_reference new ≡ segment_reference old
+    pub target : sink.target writer' ≡ sink.target writer
+
   -- ---- where the bytes are told, and no side fails by itself
 
-  -- the body is told and whole, no fault of it was found, the offset takes it, and the writer has room for it
+  -- the body is told and whole, no fault of it was found, the reader is steady, the offset takes it, and the writer has
+  -- room for it
   pub record IsDrainable (segment : Segment R P parser) (writer : W) (body written : List ℕ) : Type 0 where
     pub sound : segment.damaged ≡ false
     pub steady : IsSteady source segment.decoder.now
@@ -182,7 +194,7 @@ module _ {R E P W F : Type 0} {parser : Parser P} (source : Reader R E) (sink : 
   EndsTold sizes body written old calls end.Ended new writer' = WritesBody sizes body written calls new writer'
   EndsTold sizes body written old calls end.OutOfSizes new writer' = LeavesRest sizes body written calls old new writer'
 
-  -- a drain: the body is written, or the sizes are not enough, or the body is no text
+  -- what a drain then does: the body is written, or the sizes are not enough, or the body is no text
   abbrev pub DrainsTold : List ℕ → List ℕ → List ℕ → Segment R P parser → Result Drained (RecodeError E F)
       → Segment R P parser → W → Type 0
   DrainsTold sizes body written old (Ok drained) new writer' =

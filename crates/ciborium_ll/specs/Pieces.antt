@@ -12,7 +12,8 @@ use Rattle.ciborium_ll_grammar.specs.Values.{value_limit, IsWritten, segments}
 use Rattle.ciborium_ll_decoder.specs.Decoding.{view}
 use Rattle.ciborium_ll_encoder.specs.Encoding.{WritesBytes}
 
--- a header that is a piece begins no string: strings are written as values of bytes and of text
+-- a piece is what one call writes. One that is a header begins no string: strings are written as values of bytes and of
+-- text
 abbrev pub IsPlainPiece : Piece → Type 0
 IsPlainPiece (p.Header header) = IsPlain header
 IsPlainPiece (p.Bytes value segment) = Unit {0}
@@ -24,7 +25,7 @@ pub record IsValue (kind : Kind) (segment : Option ℕ) (value : List ℕ) (mark
   pub written : IsWritten kind (value_limit kind segment value) value marks
   pub whole : joined (segments marks) ≡ value
 
--- the marks of one piece
+-- the marks of one piece: a header's own, or those of a value under its limit
 abbrev pub IsPiece : Piece → List Mark → Type 0
 IsPiece (p.Header header) marks = marks ≡ Plain header ∷ []
 IsPiece (p.Bytes value segment) marks = IsValue Bytes segment value.now marks
@@ -56,16 +57,22 @@ pub record HasMarks (kind : Kind) (segment : Option ℕ) (value : List ℕ) : Ty
   pub element : IsElement (spelling marks) marks
 
 module _ {W F : Type 0} (sink : Ghosts W F) where
-  -- the spelling of one piece
+  -- the spelling of one piece was written, or a beginning of it
   pub record WritesPiece {T : Type 0} (piece : Piece) (old : W) (result : Result T F) (new : W) : Type 0 where
     pub marks : List Mark
     pub is_piece : IsPiece piece marks
     pub bytes : WritesBytes sink old result (spelling marks) new
 
-  -- the spelling of the pieces, which is an element for each
+  -- what `write_pieces` does, by its answer: the spelling of the pieces, which is an element for each, was written, or
+  -- a beginning of it
   pub record WritesElements {T : Type 0} (pieces : List Piece) (old : W) (result : Result T F) (new : W) : Type 0 where
     pub spelled : AreSpelled pieces
     pub bytes : WritesBytes sink old result (spelling spelled.marks) new
+
+  -- the same; the writer stays on its slice
+  pub record WritesPieceList {T : Type 0} (pieces : List Piece) (old : W) (result : Result T F) (new : W) : Type 0 where
+    pub elements : WritesElements pieces old result new
+    pub target : sink.target new ≡ sink.target old
 
 module _ {R E W F : Type 0} (source : Reader R E) (sink : Ghosts W F) where
   -- the bytes were copied unchanged, and just what follows them is left

@@ -10,7 +10,7 @@ use Rattle.ciborium_ll_grammar.specs.Strings.{Kind, kind_header, IsString}
 use Rattle.ciborium_ll_grammar.specs.Elements.{AreWritable}
 use Rattle.ciborium_ll_grammar.specs.Faults.{IsInside, IsRefusedIn}
 use Rattle.ciborium_ll_grammar.specs.Items.{AreTakenStrings}
-use Rattle.ciborium_ll_decoder.specs.Decoding.{IsSteady, Passes, PullsHeader, PullsTitle}
+use Rattle.ciborium_ll_decoder.specs.Decoding.{IsSteady, MovesOn, Passes, PullsHeader, PullsTitle}
 use Rattle.ciborium_ll_decoder.specs.Finishing.{EndsBody}
 use Rattle.ciborium_ll_decoder.specs.Segments.{PullsOther}
 
@@ -22,7 +22,8 @@ IsTakenBehind strict kind None behind bodies =
     (strings : List ℕ) × (behind ≡ strings ++ 0xff ∷ []) × AreTakenStrings strict kind strings bodies
 
 module _ {R E : Type 0} (source : Ghosts R E) (kind : Kind) where
-  -- all of the string was read: the bytes behind its header make one string, and its bodies are sound
+  -- all of the string was read: the bytes behind its header make one string, and its bodies are sound; of a strict
+  -- decoder it is in its shortest spelling (RFC 7049, 2.2.2 and 3.9)
   pub record SkipsWhole (len : Option ℕ) (old new : Decoder R) : Type 0 where
     pub behind : List ℕ
     pub bodies : List (List ℕ)
@@ -32,7 +33,7 @@ module _ {R E : Type 0} (source : Ghosts R E) (kind : Kind) where
     pub passed : Passes source old behind new
 
   -- a beginning of a string of indefinite length was read, behind its open: further opens, and whole strings; by a
-  -- strict decoder strings of a definite length alone, each under a strict title
+  -- strict decoder strings of a definite length alone, each under a strict title (RFC 7049, 2.2.2 and 3.9)
   pub record SkipsInside (old between : Decoder R) : Type 0 where
     pub behind : List ℕ
     pub bodies : List (List ℕ)
@@ -41,19 +42,20 @@ module _ {R E : Type 0} (source : Ghosts R E) (kind : Kind) where
     pub sound : AreWritable kind bodies
     pub passed : Passes source old behind between
 
-  -- there `pull` failed, where a title is due
+  -- there `pull` failed, where a title is due (RFC 7049, 2.2.2)
   pub record MeetsNoTitle (old : Decoder R) (error : Error E) (new : Decoder R) : Type 0 where
     pub between : Decoder R
     pub part : SkipsInside old between
     pub fails : PullsHeader source between (Err error) new
 
-  -- there a title came that may not stand within the string, at this offset
+  -- there a title came that may not stand within the string, at this offset (RFC 7049, 2.2.2)
   pub record MeetsOther (old : Decoder R) (at : ℕ) (new : Decoder R) : Type 0 where
     pub between : Decoder R
     pub part : SkipsInside old between
     pub other : PullsOther source (IsRefusedIn between.strict kind) between at new
 
-  -- there the title of a segment came, and the read of its body failed: its place is the offset of that title
+  -- there the title of a segment came, and the read of its body failed: its place is the offset of that title (RFC
+  -- 7049, 2.2.2)
   pub record MeetsBody (room : ℕ) (old : Decoder R) (error : Error E) (new : Decoder R) : Type 0 where
     pub between : Decoder R
     pub part : SkipsInside old between
@@ -63,7 +65,7 @@ module _ {R E : Type 0} (source : Ghosts R E) (kind : Kind) where
     pub steady : IsSteady source old → IsSteady source titled
     pub ends : EndsBody source kind [] len room between.offset titled (Err error) new
 
-  -- how the read of a string of indefinite length fails
+  -- how the read of a string of indefinite length fails (RFC 7049, 2.2.2)
   abbrev pub StopsInside : ℕ → Decoder R → Error E → Decoder R → Type 0
   StopsInside room old (e.Io fault) new = MeetsNoTitle old (e.Io fault) new ⊎ MeetsBody room old (e.Io fault) new
   StopsInside room old (e.Syntax at) new = MeetsNoTitle old (e.Syntax at) new ⊎
@@ -78,3 +80,9 @@ module _ {R E : Type 0} (source : Ghosts R E) (kind : Kind) where
   SkipsString None room old (Err error) new = StopsInside room old error new
   SkipsString (Some len) room old (Err error) new =
       EndsBody source kind [] len room (old.offset - title_len (kind_header kind (Some len))) old (Err error) new
+
+  -- the same, and what both keep
+  pub record SkipsOver (len : Option ℕ) (room : ℕ) (old : Decoder R) (result : Result (Unit {0}) (Error E))
+      (new : Decoder R) : Type 0 where
+    pub skipped : SkipsString len room old result new
+    pub moves_on : MovesOn source old new

@@ -1,6 +1,10 @@
 //! Functions whose contracts tie the calls of the library together, and the laws of its definitions.
 //!
 //! The functions for laws are empty: their contracts are the laws.
+//!
+//! The laws on strings, elements, runs, faults and items are about the definitions alone. `recode` is tied to
+//! elements, runs and faults by its clauses `exactly` and `told`, `Encoder::bytes` and `Encoder::text` to elements,
+//! and `skip_item` of `cbor_skip` to items.
 
 mod copy;
 mod drains;

@@ -1,9 +1,8 @@
 -- What the calls on a segment do, which gives its body chunk by chunk.
 use Rattle.std.specs.Prelude.{◌≡◌, ℕ, ◌+◌, ◌-◌, ◌<◌, ◌≤◌, ◌⊎◌, min, Bool, true, false, List, [], ◌++◌, length, take}
-use Rattle.std.specs.Prelude.{Option}
-use Rattle.std.specs.Prelude.{Some, None, Result, Ok, Err}
+use Rattle.std.specs.Prelude.{Option, Some, None, Result, Ok, Err, IfOk, IfSome}
 use Rattle.std.specs.Borrow.{Bor, GName}
-use Rattle.std.specs.Io.KnownBytes.{prepend_known}
+use Rattle.std.specs.Io.KnownBytes.{Consumes, prepend_known}
 use Rattle.std.specs.Option.{option_map}
 use Rattle.ciborium_ll_io.specs.declared.io.Read.{Ghosts}
 use Rattle.ciborium_ll_decoder.specs.declared.dec.Decoder.{Decoder}
@@ -20,7 +19,7 @@ use Rattle.ciborium_ll_decoder.specs.Kept.{kept_bytes}
 use Rattle.ciborium_ll_decoder.specs.Progress.{opens_of}
 use Rattle.ciborium_ll_decoder.specs.Segments.{AdvancesTo}
 
--- of a text the longest front that is text is handed out, of bytes all
+-- what is handed out, and what is kept: of a text the longest front that is text and the rest, of bytes all and none
 abbrev pub IsSplit : Kind → List ℕ → List ℕ → List ℕ → Type 0
 IsSplit Bytes bytes front rest = (front ≡ bytes) × (rest ≡ [])
 IsSplit Text bytes front rest = IsFront bytes front rest
@@ -28,14 +27,15 @@ IsSplit Text bytes front rest = IsFront bytes front rest
 -- ---- what a segment is to its callers
 
 module _ {R P : Type 0} {parser : Parser P} where
-  -- the decoder that the segment holds, and its reference
+  -- the decoder that the segment holds
   abbrev pub segment_decoder : Segment R P parser → Decoder R
   segment_decoder s = s.decoder.now
 
+  -- the reference by which it holds its decoder
   abbrev pub segment_reference : Segment R P parser → GName
   segment_reference s = s.decoder.ghost_name
 
-  -- how many bytes of the body were not handed out
+  -- how many bytes of the body were not handed out: the unread and the kept ones
   abbrev pub left_of : Segment R P parser → ℕ
   left_of s = s.unread + length (kept_bytes s.kept)
 
@@ -74,11 +74,11 @@ module _ {R E : Type 0} (source : Ghosts R E) where
   FillsBehind front old (Err e.Waiting) filled new = ⊥
 
 module _ {R E P : Type 0} {parser : Parser P} (source : Ghosts R E) where
-  -- the kept bytes, and as much of the body as is told
+  -- what is to come of the body: the kept bytes, and as much of it as is told
   abbrev pub rest : Segment R P parser → Option (List ℕ)
   rest s = prepend_known (kept_bytes s.kept) (option_map (take s.unread) (source.ahead s.decoder.now.reader))
 
-  -- the body has ended
+  -- the body has ended: nothing was unread or kept, and nothing changed
   pub record SegmentEnds (old new : Segment R P parser) : Type 0 where
     pub none_unread : old.unread ≡ 0
     pub none_kept : kept_bytes old.kept ≡ []
@@ -125,7 +125,8 @@ module _ {R E P : Type 0} {parser : Parser P} (source : Ghosts R E) where
     pub same : IsSame old new
     pub decoder : new.decoder.now ≡ old.decoder.now
 
-  -- the body is no text; the place is the segment's, and nothing is kept
+  -- the body is no text: it was damaged before, bytes are kept at its end, or there are more than three to keep; the
+  -- place is the segment's, and nothing is kept
   pub record FindsDamage (room : ℕ) (old : Segment R P parser) (at : ℕ) (new : Segment R P parser) : Type 0 where
     pub place : at ≡ old.place
     pub same_place : new.place ≡ old.place
@@ -133,14 +134,14 @@ module _ {R E P : Type 0} {parser : Parser P} (source : Ghosts R E) where
     pub cause : StaysDamaged old new ⊎ (EndsInCharacter old new ⊎ KeepsTooMuch room old new)
     pub none_kept : StaysDamaged old new ⊎ (kept_bytes new.kept ≡ [])
 
-  -- the reader failed
+  -- the reader failed, and the segment is as it was
   pub record ChunkFails (room : ℕ) (old new : Segment R P parser) : Type 0 where
     pub some_unread : 0 < old.unread
     pub sound : old.damaged ≡ false
     pub fails : ReadFails source old.decoder.now (read_count room old) new.decoder.now
     pub same : IsSame old new
 
-  -- the offset can't take the read
+  -- the offset can't take the read, and the segment is as it was
   pub record ChunkPasses (room : ℕ) (old new : Segment R P parser) : Type 0 where
     pub some_unread : 0 < old.unread
     pub sound : old.damaged ≡ false
@@ -148,7 +149,7 @@ module _ {R E P : Type 0} {parser : Parser P} (source : Ghosts R E) where
     pub untouched : IsUntouched old.decoder.now new.decoder.now
     pub same : IsSame old new
 
-  -- a pull into so much room
+  -- what `pull` of a segment does into so much room, by its answer
   abbrev pub PullsChunk : ℕ → Segment R P parser → Result (Option (Bor (List ℕ))) (Error E) → Segment R P parser
       → Type 0
   PullsChunk room old (Ok None) new = SegmentEnds old new
@@ -157,6 +158,16 @@ module _ {R E P : Type 0} {parser : Parser P} (source : Ghosts R E) where
   PullsChunk room old (Err (e.Syntax place)) new = FindsDamage room old place new
   PullsChunk room old (Err e.TooLong) new = ChunkPasses room old new
   PullsChunk room old (Err e.Waiting) new = ⊥
+
+  -- what `pull` of a segment does, and what it keeps. Before it the body was to go on with the chunk, and then with what
+  -- is to come behind it
+  pub record IsPulled (room : ℕ) (old : Segment R P parser) (result : Result (Option (Bor (List ℕ))) (Error E))
+      (new : Segment R P parser) : Type 0 where
+    pub chunk : PullsChunk room old result new
+    pub left : IfOk result (λ chunk. IfSome chunk (λ c. length c.now + left_of new ≡ left_of old))
+    pub rest_due : IfOk result (λ chunk. IfSome chunk (λ c. Consumes (rest old) (rest new) c.now))
+    pub same_reference : segment_reference new ≡ segment_reference old
+    pub moves_on : MovesOn source (segment_decoder old) (segment_decoder new)
 
 module _ {R E : Type 0} (source : Ghosts R E) (kind : Kind) (strict : Bool) where
   -- `advance` gave this answer and left this decoder, whose offset rose by one at least for each further open
@@ -174,7 +185,7 @@ module _ {R E P : Type 0} {parser : Parser P} (source : Ghosts R E) (kind : Kind
     pub goes_on : GoesOnTo source kind strict progress old (Ok (Some body)) segment.decoder.now
     pub whole : IsWhole body segment
 
-  -- `pull` answers as `advance` does, with a whole segment for a body
+  -- what `pull` of a string does: it answers as `advance` does, with a whole segment for a body
   abbrev pub PullsSegment : Progress → Decoder R → Result (Option (Segment R P parser)) (Error E) → Type 0
   PullsSegment progress old (Ok (Some segment)) = LendsWhole progress old segment
   PullsSegment progress old (Ok None) = (new : Decoder R) × GoesOnTo source kind strict progress old (Ok None) new

@@ -10,7 +10,7 @@ use Rattle.ciborium_ll_decoder.specs.declared.recode.RecodeError.{RecodeError}
 use Rattle.ciborium_ll_decoder.specs.declared.recode.RecodeError.TheVariants as r
 use Rattle.ciborium_ll_decoder.specs.declared.dec.Error.TheVariants as e
 use Rattle.ciborium_ll_grammar.specs.Title.{IsTitle, shortest_title, BeginsRefused, IsCutTitle}
-use Rattle.ciborium_ll_decoder.specs.Decoding.{offset_limit, view, IsSteady, Passes, PullsHeader}
+use Rattle.ciborium_ll_decoder.specs.Decoding.{offset_limit, view, IsSteady, MovesOn, Passes, PullsHeader}
 use Rattle.ciborium_ll_decoder.specs.Sides.{Sides, sides}
 use Rattle.ciborium_ll_encoder.specs.Encoding.{WritesAll, WritesFront}
 
@@ -67,15 +67,23 @@ module _ {R E W F : Type 0} (source : Reader R E) (sink : Writer W F) where
     pub pulled : PullsHeader source between.decoder (Ok last) new.decoder
     pub stopped : WritesFront sink between.writer (shortest_title last) new.writer
 
-  -- the copy of so many headers, by its answer
+  -- what `copy_headers` does with so many headers, by its answer
   abbrev pub CopiesHeaders : ℕ → Sides R W → Result (Unit {0}) (RecodeError E F) → Sides R W → Type 0
   CopiesHeaders count old (Ok done) new = CopiesEach count old new
   CopiesHeaders count old (Err (r.Read error)) new = StopsAtPull count old error new
   CopiesHeaders count old (Err (r.Write fault)) new = StopsAtPush count old new
 
+  -- what `copy_headers` does, whatever fails, and what it keeps; the writer stays on its slice
+  pub record CopiesByHeaders (count : ℕ) (old : Sides R W) (result : Result (Unit {0}) (RecodeError E F))
+      (new : Sides R W) : Type 0 where
+    pub copied : CopiesHeaders count old result new
+    pub moves_on : MovesOn source old.decoder new.decoder
+    pub target : sink.target new.writer ≡ sink.target old.writer
+
   -- ---- what that means where the bytes are told
 
-  -- the reader gives the bytes that it tells, the writer has room for as many, and the offset fits
+  -- the decoder isn't strict, the reader gives the bytes that it tells, the writer has room for as many, and the offset
+  -- fits, with 8 to spare
   pub record IsReadyForTitles (now : Sides R W) (due written : List ℕ) : Type 0 where
     pub lenient : now.decoder.strict ≡ false
     pub steady : IsSteady source now.decoder
@@ -123,7 +131,8 @@ module _ {R E W F : Type 0} (source : Reader R E) (sink : Writer W F) where
       pub left : view source new.decoder ≡ Some (drop 1 copied.rest)
       pub offset : new.decoder.offset ≡ place + 1
 
-  -- copying ends with all titles, or at the first place where none stands
+  -- what `copy_headers` then does: it ends with all titles, or at the first place where none stands, each with what was
+  -- copied, what is left and the offset
   abbrev pub CopiesTold : ℕ → List ℕ → List ℕ → Decoder R → Result (Unit {0}) (RecodeError E F) → Sides R W → Type 0
   CopiesTold count due written old (Ok done) new = CopiesSoMany count due written old new
   CopiesTold count due written old (Err (r.Read (e.Io fault))) new = MeetsCutTitle count due written old new

@@ -3,17 +3,20 @@
 -- Bytes are spoken of where the reader tells them: `Consumes` says nothing of bytes that are not told. All else holds
 -- over any reader.
 use Rattle.std.specs.Prelude.{◌≡◌, ℕ, ◌+◌, ◌<◌, ◌≤◌, ◌^◌, List, [], ◌∷◌, ◌++◌, length, take, Bool, true, false}
-use Rattle.std.specs.Prelude.{Option, Some, None, Result, Ok, Err, ◌⊎◌, IfSome, IsSome, IsTrue, ◌%◌, ◌/◌}
+use Rattle.std.specs.Prelude.{Option, Some, None, Result, Ok, Err, ◌⊎◌, IfSome, IsSome, IsTrue, ◌%◌, ◌/◌, ◌-◌}
+use Rattle.std.specs.Prelude.{IfOk, IsErrOf, MatchResult}
 use Rattle.std.specs.Io.KnownBytes.{Consumes, prepend_known}
 use Rattle.ciborium_ll_io.specs.declared.io.Read.{Ghosts}
 use Rattle.ciborium_ll_grammar.specs.declared.hdr.Header.{Header}
 use Rattle.ciborium_ll_grammar.specs.declared.hdr.Minor.{Minor}
+use Rattle.ciborium_ll_grammar.specs.declared.hdr.Title.{Title}
 use Rattle.ciborium_ll_decoder.specs.declared.dec.Decoder.{Decoder}
 use Rattle.ciborium_ll_decoder.specs.declared.dec.Error.{Error}
 use Rattle.ciborium_ll_decoder.specs.declared.dec.Error.TheVariants as e
 use Rattle.ciborium_ll_grammar.specs.Title.{IsTitle, IsStrictTitle, IsRefused, IsReserved, IsCutTitle, affix_len}
 use Rattle.ciborium_ll_grammar.specs.Title.{shortest_title, title_len}
-use Rattle.ciborium_ll_grammar.specs.Parts.{IsMinor, longer_parts, minor_code, minor_affix}
+use Rattle.ciborium_ll_grammar.specs.Parts.{IsMinor, IsParts, longer_parts, minor_code, minor_affix}
+use Rattle.ciborium_ll_grammar.specs.Parts.{title_bytes}
 
 -- offsets are below this one: at most usize::MAX
 abbrev pub offset_limit : ℕ
@@ -52,7 +55,7 @@ module _ {R : Type 0} where
   abbrev pub strict_of : Decoder R → Bool
   strict_of d = d.strict
 
-  -- it holds where the decoder is strict and no header waits
+  -- this holds where the decoder is strict and no header waits
   abbrev pub Strictly : Decoder R → Type 0 → Type 0
   Strictly d Holds = IsTrue d.strict → d.waiting ≡ None → Holds
 
@@ -80,14 +83,14 @@ module _ {R : Type 0} where
   IsFresh r start d = IsFreshAs false r start d
 
 module _ {E : Type 0} where
-  -- the errors by which a decoder refuses a read are counted, and no others
+  -- the errors by which a decoder refuses a read, `Waiting` and `TooLong`, are counted, and no others
   abbrev pub CountsRefusal : Error E → ℕ → ℕ → Type 0
   CountsRefusal e.Waiting old new = new ≡ old + 1
   CountsRefusal e.TooLong old new = new ≡ old + 1
   CountsRefusal (e.Io fault) old new = new ≡ old
   CountsRefusal (e.Syntax place) old new = new ≡ old
 
--- how many bytes a pull asks for next, behind those that it read
+-- how many bytes a pull asks for next, behind those that it read: one, or the affix that the first announces
 abbrev pub next_read : List ℕ → ℕ
 next_read [] = 1
 next_read (byte ∷ more) = affix_len (byte % 32)
@@ -97,7 +100,7 @@ abbrev pub Begins : List ℕ → List ℕ → Type 0
 Begins front all = (rest : List ℕ) × (all ≡ front ++ rest)
 
 module _ {R E : Type 0} (source : Ghosts R E) where
-  -- the bytes that are due
+  -- the bytes that are due: the shortest title of a waiting header, and then what the reader has ahead
   abbrev pub view : Decoder R → Option (List ℕ)
   view d = behind_waiting d.waiting (source.ahead d.reader)
 
@@ -119,7 +122,7 @@ module _ {R E : Type 0} (source : Ghosts R E) where
 
   -- ---- pull
 
-  -- `pull` gave a header: the view began with a title of it, which is gone
+  -- `pull` gave a header: the view began with a title of it, which is gone, and the offset rose by its length
   pub record PullsTitle (old : Decoder R) (header : Header) (new : Decoder R) : Type 0 where
     pub title : List ℕ
     pub is_title : IsTitle title header
@@ -185,13 +188,29 @@ module _ {R E : Type 0} (source : Ghosts R E) where
     pub none_waits : new.waiting ≡ None
     pub failures : failures_of new ≡ failures_of old
 
-  -- `pull`, by its answer
+  -- what `pull` does, by its answer
   abbrev pub PullsHeader : Decoder R → Result Header (Error E) → Decoder R → Type 0
   PullsHeader old (Ok header) new = PullsTitle old header new
   PullsHeader old (Err (e.Io fault)) new = StopsInTitle old new
   PullsHeader old (Err (e.Syntax place)) new = RefusesTitle old place new ⊎ RefusesLonger old place new
   PullsHeader old (Err e.TooLong) new = PassesOffset old new
   PullsHeader old (Err e.Waiting) new = ⊥
+
+  -- what `pull` does: its answer, and what it keeps
+  pub record Pulls (old : Decoder R) (result : Result Header (Error E)) (new : Decoder R) : Type 0 where
+    pub header : PullsHeader old result new
+    -- the header may be pushed back
+    pub covered : IfOk result (λ header. title_len header ≤ new.offset)
+    -- where the offset can't rise, nothing is read
+    pub full : old.waiting ≡ None → old.offset ≡ offset_limit - 1 → IsErrOf result e.TooLong
+    pub moves_on : MovesOn old new
+
+  -- what `pull_title` does: it answers as `pull` does, with a title of the header in its parts
+  pub record PullsParts (old : Decoder R) (result : Result (Header × Title) (Error E)) (new : Decoder R) : Type 0 where
+    pub header : MatchResult result (λ pulled. PullsTitle old pulled.0 new) (λ error. PullsHeader old (Err error) new)
+    pub parts : IfOk result (λ pulled. IsParts pulled.1)
+    pub title : IfOk result (λ pulled. IsTitle (title_bytes pulled.1) pulled.0)
+    pub moves_on : MovesOn old new
 
   -- these bytes were consumed, by calls that all succeeded
   pub record Passes (old : Decoder R) (bytes : List ℕ) (new : Decoder R) : Type 0 where
@@ -207,17 +226,18 @@ module _ {R E : Type 0} (source : Ghosts R E) where
 
   -- ---- push
 
-  -- the header waits in front of what was due
+  -- what `push` does: the header waits in front of what was due, and the offset fell by its shortest title
   pub record TakesBack (old : Decoder R) (header : Header) (new : Decoder R) : Type 0 where
     pub waits : new.waiting ≡ Some header
     pub due : view new ≡ prepend_known (shortest_title header) (view old)
     pub offset : new.offset + title_len header ≡ old.offset
     pub reader : new.reader ≡ old.reader
     pub mode : new.strict ≡ old.strict
+    pub refusals : refusals_of new ≡ refusals_of old
 
   -- ---- pull, push of what it gave, and pull again
 
-  -- what the three calls left, one after the other
+  -- what these three calls left, one after the other
   pub record PullsTwice (old : Decoder R) (header : Header) (new : Decoder R) : Type 0 where
     pub pulled : Decoder R
     pub pushed : Decoder R
@@ -229,10 +249,15 @@ module _ {R E : Type 0} (source : Ghosts R E) where
     pub offset : new.offset ≡ pulled.offset
     pub none_waits : new.waiting ≡ None
 
-  -- the three calls, by the last answer
+  -- `pull`, `push` of what it gave, and `pull` again, by the last answer
   abbrev pub PullsAgain : Decoder R → Result Header (Error E) → Decoder R → Type 0
   PullsAgain old (Ok header) new = PullsTwice old header new
   PullsAgain old (Err error) new = PullsHeader old (Err error) new
+
+  -- what `pull_again` does: its answer, and what it keeps
+  pub record PullsBack (old : Decoder R) (result : Result Header (Error E)) (new : Decoder R) : Type 0 where
+    pub again : PullsAgain old result new
+    pub moves_on : MovesOn old new
 
   -- ---- read_exact
 
@@ -256,7 +281,8 @@ module _ {R E : Type 0} (source : Ghosts R E) where
     pub steady : IsSteady old → (source.ahead new.reader ≡ source.ahead old.reader)
         × IfSome (source.ahead old.reader) (λ bytes. length bytes < count)
 
-  -- a read of as many bytes as the list has, which holds them where the answer is Ok
+  -- what `read_exact` does, by its answer: a read of as many bytes as the list has, which holds them where the answer
+  -- is Ok; the reader failed; or a refusal, which leaves the decoder untouched
   abbrev pub ReadsBytes : Decoder R → Result (Unit {0}) (Error E) → List ℕ → Decoder R → Type 0
   ReadsBytes old (Ok done) bytes new = ReadsAll old bytes new
   ReadsBytes old (Err (e.Io fault)) bytes new = ReadFails old (length bytes) new
@@ -264,6 +290,15 @@ module _ {R E : Type 0} (source : Ghosts R E) where
   ReadsBytes old (Err e.TooLong) bytes new = (old.waiting ≡ None) × (offset_limit ≤ old.offset + length bytes)
       × IsUntouched old new
   ReadsBytes old (Err (e.Syntax place)) bytes new = ⊥
+
+  -- what `read_exact` does: its answer, and what it keeps. A refusal is counted
+  pub record Reads (old : Decoder R) (result : Result (Unit {0}) (Error E)) (bytes : List ℕ) (new : Decoder R) :
+      Type 0 where
+    pub read : ReadsBytes old result bytes new
+    pub steady : IsSteady old → IsSteady new
+    pub mode : new.strict ≡ old.strict
+    pub refusals : MatchResult result (λ done. refusals_of new ≡ refusals_of old)
+        (λ error. CountsRefusal error (refusals_of old) (refusals_of new))
 
   -- ---- the affix of a title, inside `pull`
 
@@ -273,12 +308,12 @@ module _ {R E : Type 0} (source : Ghosts R E) where
     pub code : first % 32 ≡ minor_code read
     pub all : ReadsAll old (minor_affix read) new
 
-  -- it was read, and no strict decoder refuses its number
+  -- the affix was read, and no strict decoder refuses its number
   pub record ReadsAffix (first : ℕ) (old : Decoder R) (read : Minor) (new : Decoder R) : Type 0 where
     pub holds : HoldsAffix first old read new
     pub taken : IsTrue old.strict → longer_parts (first / 32) read ≡ false
 
-  -- it was read, and a strict decoder refused its number
+  -- the affix was read, and a strict decoder refused its number
   pub record RefusesAffix (first : ℕ) (old new : Decoder R) : Type 0 where
     pub read : Minor
     pub holds : HoldsAffix first old read new

@@ -10,14 +10,15 @@ abbrev pub behind : List ℕ → Option (List ℕ) → Option (List ℕ)
 behind front None = None
 behind front (Some text) = Some (front ++ text)
 
--- what an error of a decoder says, by what the reader's own one says
+-- what `{}` writes of an error of a decoder, by what the reader's own one says
 abbrev pub error_text : {T : Type 0} → (T → Option (List ℕ)) → Error T → Option (List ℕ)
 error_text shown (e.Io fault) = behind (codes "the reader failed: ") (shown fault)
 error_text shown (e.Syntax place) = Some (codes "no CBOR that may stand at offset " ++ decimal place)
 error_text shown e.TooLong = Some (codes "the offset can't take the next read")
 error_text shown e.Waiting = Some (codes "a header waits in front of the bytes")
 
--- what an error of a copy says: the decoder's, or that the writer failed
+-- what `{}` writes of an error of a copy, by what the reader's and the writer's own one say: the decoder's error, or
+-- that the writer failed
 abbrev pub recode_error_text : {E F : Type 0} → (E → Option (List ℕ)) → (F → Option (List ℕ)) → RecodeError E F
     → Option (List ℕ)
 recode_error_text shown told (r.Read error) = error_text shown error

@@ -22,13 +22,14 @@ abbrev pub with_decoder : {R P : Type 0} {parser : Parser P} → Segments R P pa
 with_decoder s d = record s { decoder = record s.decoder { now = d } }
 
 module _ {R E P : Type 0} {parser : Parser P} (source : Ghosts R E) (kind : Kind) where
-  -- all that `advance` promises of the string: its answer is this result, and it leads from the old string to the new
+  -- what `advance` of a string does: its answer is this result, and it leads from the old string to the new. The opens
+  -- that aren't closed rise by no more than the offset does
   pub record IsAdvanced (old : Segments R P parser) (result : Result (Option Body) (Error E))
       (new : Segments R P parser) : Type 0 where
     pub same_reference : new.decoder.ghost_name ≡ old.decoder.ghost_name
     pub advances : AdvancesTo source kind old.strict old.progress old.decoder.now result new.progress
         new.decoder.now
-    pub same_mode : new.strict ≡ old.strict
+    pub mode : new.strict ≡ old.strict
     pub opens : opens_of new.progress + offset_of old.decoder.now ≤ opens_of old.progress + offset_of new.decoder.now
     pub moves_on : MovesOn source old.decoder.now new.decoder.now
 

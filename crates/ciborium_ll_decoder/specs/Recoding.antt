@@ -1,4 +1,5 @@
--- Elements copied from a decoder to a writer: what was read and written, over any reader and writer.
+-- Elements copied from a decoder to a writer: what was read and written, over any reader and writer. Bytes are spoken
+-- of where they are told. Each relation leads from the old two sides of the copy to the new ones.
 use Rattle.std.specs.Prelude.{◌≡◌, ℕ, suc, ◌+◌, ◌-◌, ◌<◌, ◌≤◌, ◌⊎◌, min, List, [], ◌∷◌, ◌++◌, length, Some, None}
 use Rattle.std.specs.Prelude.{Result, Ok, Err}
 use Rattle.ciborium_ll_io.specs.declared.io.Read.{Ghosts as Reader}
@@ -7,6 +8,9 @@ use Rattle.ciborium_ll_grammar.specs.declared.hdr.Header.{Header}
 use Rattle.ciborium_ll_decoder.specs.declared.dec.Decoder.{Decoder}
 use Rattle.ciborium_ll_decoder.specs.declared.dec.Error.{Error}
 use Rattle.ciborium_ll_decoder.specs.declared.dec.Error.TheVariants as e
+use Rattle.ciborium_ll_decoder.specs.declared.seg.Body.{Body}
+use Rattle.ciborium_ll_decoder.specs.declared.seg.Parser.{Ghosts as Parser}
+use Rattle.ciborium_ll_decoder.specs.declared.seg.Segments.{Segments}
 use Rattle.ciborium_ll_decoder.specs.declared.recode.RecodeError.{RecodeError}
 use Rattle.ciborium_ll_decoder.specs.declared.recode.RecodeError.TheVariants as r
 use Rattle.ciborium_ll_grammar.specs.Title.{IsTitle, IsStrictTitle, shortest_title}
@@ -14,9 +18,11 @@ use Rattle.ciborium_ll_grammar.specs.Strings.{Kind, kind_header, IsWritable, mos
 use Rattle.ciborium_ll_grammar.specs.Elements.{Mark, Open, mark_spelling, pieces, open_marks, spelling, IsElement}
 use Rattle.ciborium_ll_grammar.specs.Elements.{IsRun, IsStrictSpelling}
 use Rattle.ciborium_ll_grammar.specs.Faults.{Place, Due, In, BodyDue, Reaches, IsAtTitle, IsRefusedIn, with_front}
-use Rattle.ciborium_ll_decoder.specs.Decoding.{offset_limit, Begins, Strictly, Passes, PullsHeader, PullsTitle}
+use Rattle.ciborium_ll_decoder.specs.Decoding.{offset_limit, Begins, MovesOn, Strictly, Passes, PullsHeader}
+use Rattle.ciborium_ll_decoder.specs.Decoding.{PullsTitle}
 use Rattle.ciborium_ll_decoder.specs.Finishing.{EndsBody, handed_out}
-use Rattle.ciborium_ll_decoder.specs.Segments.{PullsOther}
+use Rattle.ciborium_ll_decoder.specs.Segments.{PullsOther, progress_of, string_decoder, string_reference}
+use Rattle.ciborium_ll_decoder.specs.Segments.{string_strict}
 use Rattle.ciborium_ll_decoder.specs.Sides.{Sides, sides}
 use Rattle.ciborium_ll_encoder.specs.Encoding.{WritesAll, WritesFront}
 
@@ -55,7 +61,8 @@ module _ {R E W F : Type 0} (source : Reader R E) (sink : Writer W F) (kind : Ki
     pub written : WritesAll sink old.writer front between
     pub stopped : WritesFront sink between chunk new.writer
 
-  -- the copy of a body of so many bytes through a buffer of so much room, at this place
+  -- the copy of a body of so many bytes through a buffer of so much room, at this place, which is that of its title:
+  -- all that was read and handed out of it was written, or the writer failed at a chunk
   abbrev pub CopiesBody : ℕ → ℕ → ℕ → Sides R W → Result (Unit {0}) (RecodeError E F) → Sides R W → Type 0
   CopiesBody len room place old (Ok done) new = BodyWritten len room place old (Ok done) new
   CopiesBody len room place old (Err (r.Read error)) new = BodyWritten len room place old (Err error) new
@@ -107,7 +114,8 @@ module _ {R E W F : Type 0} (source : Reader R E) (sink : Writer W F) where
     -- what a strict decoder reads is written again
     pub strict : Strictly old.decoder (IsStrictSpelling bytes marks [])
 
-  -- all elements were copied. What was written are the same elements again, with the same marks, and no longer
+  -- all elements were copied. What was written are the same elements again, with the same marks, and no longer. Behind
+  -- an element no header waits
   pub record CopiesAll (count : ℕ) (old new : Sides R W) : Type 0 where
     pub elements : CopiesRun count old new
     pub again : IsRun count (spelling elements.marks) elements.marks
@@ -115,7 +123,7 @@ module _ {R E W F : Type 0} (source : Reader R E) (sink : Writer W F) where
     -- behind an element no header waits
     pub settled : 0 < count → new.decoder.waiting ≡ None
 
-  -- `pull` failed where a title is due
+  -- a copy came to where a title is due, and there `pull` failed
   pub record StopsAtTitle (count : ℕ) (old : Sides R W) (error : Error E) (new : Sides R W) : Type 0 where
     pub bytes : List ℕ
     pub marks : List Mark
@@ -138,7 +146,7 @@ module _ {R E W F : Type 0} (source : Reader R E) (sink : Writer W F) where
     pub other : PullsOther source (IsRefusedIn between.strict kind) between at new.decoder
     pub strict : Strictly old.decoder (IsStrictSpelling bytes marks [])
 
-  -- there are more opens than can be counted, and as many bytes at least
+  -- there are more opens than can be counted, and as many bytes at least; the offset is then the greatest number
   pub record StopsTooDeep (count : ℕ) (old new : Sides R W) : Type 0 where
     pub bytes : List ℕ
     pub marks : List Mark
@@ -149,7 +157,7 @@ module _ {R E W F : Type 0} (source : Reader R E) (sink : Writer W F) where
     pub pulled : PullsTitle source between (kind_header kind None) new.decoder
     pub full : offset_limit ≤ new.decoder.offset + 1
 
-  -- a body stopped, behind its title
+  -- the title of a body was written, and the copy of the body failed
   pub record StopsInBody (count room : ℕ) (old : Sides R W) (error : Error E) (new : Sides R W) : Type 0 where
     pub bytes : List ℕ
     pub marks : List Mark
@@ -166,7 +174,8 @@ module _ {R E W F : Type 0} (source : Reader R E) (sink : Writer W F) where
     pub strict : Strictly old.decoder
         (IsStrictSpelling bytes marks (shortest_title (kind_header kind (Some len))))
 
-  -- the writer failed at one title or one chunk. All before it was written
+  -- the writer failed at one title or one chunk. All before it was written, and it has a beginning of what was to be
+  -- written so far
   pub record StopsWriting (count room : ℕ) (old new : Sides R W) : Type 0 where
     pub bytes : List ℕ
     pub marks : List Mark
@@ -195,7 +204,7 @@ module _ {R E W F : Type 0} (source : Reader R E) (sink : Writer W F) where
   StopsCopy count room old (r.Read e.Waiting) new = ⊥
   StopsCopy count room old (r.Write fault) new = StopsWriting count room old new
 
-  -- the copy of so many elements
+  -- what `recode` does with so many elements, by its answer: all were copied, or one of the stops
   abbrev pub CopiesElements : ℕ → ℕ → Sides R W → Result (Unit {0}) (RecodeError E F) → Sides R W → Type 0
   CopiesElements count room old (Ok done) new = CopiesAll count old new
   CopiesElements count room old (Err error) new = StopsCopy count room old error new
@@ -216,7 +225,7 @@ module _ {R E W F : Type 0} (source : Reader R E) (sink : Writer W F) where
   GoesOn count before room old (Ok done) new = CopiesRun (suc before) old new
   GoesOn count before room old (Err error) new = StopsCopy count room old error new
 
-  -- the copy of an element
+  -- the copy of an element, which goes on from any copy that came so far
   abbrev pub CopiesElement : ℕ → Sides R W → Result (Unit {0}) (RecodeError E F) → Sides R W → Type 0
   CopiesElement room now result new = (count before : ℕ) (old : Sides R W) → IsBehind count before [] old now
       → GoesOn count before room old result new
@@ -256,3 +265,33 @@ module _ {R E W F : Type 0} (source : Reader R E) (sink : Writer W F) where
   abbrev pub CopiesSegments : Kind → ℕ → Sides R W → Result (Unit {0}) (RecodeError E F) → Sides R W → Type 0
   CopiesSegments kind room now result new = (count before : ℕ) (old : Sides R W) → IsWithin count before kind old now
       → GoesOnWithin count before kind room old result new
+
+  -- ---- the calls, with what they keep
+
+  -- what `copy_element` does: it goes on from any copy that came so far, and the writer stays on its slice
+  pub record CopiesOne (room : ℕ) (old : Sides R W) (result : Result (Unit {0}) (RecodeError E F)) (new : Sides R W) :
+      Type 0 where
+    pub copied : CopiesElement room old result new
+    pub moves_on : MovesOn source old.decoder new.decoder
+    pub target : sink.target new.writer ≡ sink.target old.writer
+
+  -- what `recode` does with so many elements through a buffer of so much room, whatever fails; the writer stays on its
+  -- slice
+  pub record Recodes (count room : ℕ) (old : Sides R W) (result : Result (Unit {0}) (RecodeError E F))
+      (new : Sides R W) : Type 0 where
+    pub copied : CopiesElements count room old result new
+    pub moves_on : MovesOn source old.decoder new.decoder
+    pub target : sink.target new.writer ≡ sink.target old.writer
+
+module _ {R E W F P : Type 0} {parser : Parser P} (source : Reader R E) (sink : Writer W F) where
+  -- what `copy` of a string does with the body that `advance` gave last, and what it keeps; the writer stays on its
+  -- slice
+  pub record CopiesSegment (body : Body) (room : ℕ) (old : Segments R P parser) (writer : W)
+      (result : Result (Unit {0}) (RecodeError E F)) (new : Segments R P parser) (writer' : W) : Type 0 where
+    pub copied : CopiesBody source sink parser.kind body.length room body.place (sides (string_decoder old) writer)
+        result (sides (string_decoder new) writer')
+    pub same_reference : string_reference new ≡ string_reference old
+    pub progress : progress_of new ≡ progress_of old
+    pub mode : string_strict new ≡ string_strict old
+    pub moves_on : MovesOn source (string_decoder old) (string_decoder new)
+    pub target : sink.target writer' ≡ sink.target writer

@@ -66,8 +66,9 @@ module _ {R E W F : Type 0} (source : Reader R E) (sink : Writer W F) where
     pub written-told : sink.written now.writer ≡ Some written
     pub none_waits : strict ≡ true → now.decoder.waiting ≡ None
 
-  -- the reader gives the bytes that it tells, the writer has room, and the offset takes every read, through
-  -- a buffer of so much room
+  -- the reader gives the bytes that it tells, and the offset fits what is due, with 8 and with the buffer's length to
+  -- spare. The writer has room for the spelling of the elements where that many stand in front, else for as many bytes
+  -- as are due
   pub record IsReady (strict : Bool) (count room-in : ℕ) (now : Sides R W)
       (due written : List ℕ) : Type 0 where
     pub steady : IsSteady source now.decoder
@@ -103,7 +104,8 @@ module _ {R E W F : Type 0} (source : Reader R E) (sink : Writer W F) where
     pub left : view source new.decoder ≡ Some (drop fault.consumed fault.ahead)
     pub offset : new.decoder.offset ≡ old.offset + length fault.before + fault.consumed
 
-  -- `recode`: all elements are copied, or the first fault stops it
+  -- what `recode` then does: all elements are copied, or the first fault stops it, with what is written, what is left
+  -- and the offset
   abbrev pub RecodesTold : Bool → ℕ → List ℕ → List ℕ → Decoder R → Result (Unit {0}) (RecodeError E F) → Sides R W
       → Type 0
   RecodesTold strict count due written old (Ok done) new = CopiesFront strict count due written old new

@@ -9,7 +9,7 @@ pub record Sides (R W : Type 0) : Type 0 where
   pub writer : W
 
 module _ {R W : Type 0} where
-  -- these two
+  -- a decoder, and a writer
   abbrev pub sides : Decoder R → W → Sides R W
   sides decoder writer = record { decoder = decoder; writer = writer }
 

@@ -33,6 +33,9 @@ impl<T> From<T> for Error<T> {
 /// Reads headers, and counts the bytes that it consumed.
 ///
 /// A header that was pulled may be pushed back. It then waits, and is the next one to be pulled.
+///
+/// Each call that reads moves the decoder on, whatever it answers: the offset never falls, a steady reader stays
+/// steady, and a strict decoder strict. `Io` comes only where the reader failed in that call, and it then failed once.
 #[derive(Drop)]
 pub struct Decoder<R> {
     reader: R,
@@ -61,11 +64,11 @@ impl<R: Read> Decoder<R> {
     ghost use Rattle.ciborium_ll_grammar.specs.Parts.{IsParts, longer_parts, title_bytes};
     ghost use Rattle.ciborium_ll_grammar.specs.TitleRows.{IsAffix};
     ghost use Rattle.ciborium_ll_decoder.specs.Decoding.{IsFresh, IsFreshAs, IsWaiting, MovesOn, PullsHeader};
-    ghost use Rattle.ciborium_ll_decoder.specs.Decoding.{PullsTitle, ReadsAll, ReadsBytes};
+    ghost use Rattle.ciborium_ll_decoder.specs.Decoding.{Pulls, PullsTitle, ReadsAll, ReadsBytes};
     ghost use Rattle.ciborium_ll_decoder.specs.Decoding.{ReadsMinor, TakesBack, offset_of};
     ghost use Rattle.ciborium_ll_decoder.specs.Decoding.{reader_of, refusals_of, strict_of, waiting_of};
 
-    /// A decoder that counts from this offset, in bytes.
+    /// A decoder that counts from this offset, in bytes. No header waits, and it isn't strict.
     pub fn with_offset(reader: R, offset: usize) -> Decoder<R>
         ensures { IsFresh reader offset result }
     {
@@ -78,8 +81,9 @@ impl<R: Read> Decoder<R> {
         }
     }
 
-    /// A strict decoder at the offset 0. It takes each header by its shortest title alone (RFC 7049, 3.9), no simple
-    /// value from 24 to 31 (2.3), and no string of indefinite length within another one (2.2.2).
+    /// A strict decoder at the offset 0, on which no header waits. It takes each header by its shortest title alone
+    /// (RFC 7049, 3.9), no simple value from 24 to 31 (2.3), and no string of indefinite length within another one
+    /// (2.2.2).
     ///
     /// Its [`Decoder::pull`] answers `Syntax` for any other title, and its strings for an open behind one that isn't
     /// closed: with the offset of that title's start, and all of the title is consumed. A header that was pushed back
@@ -103,7 +107,8 @@ impl<R: Read> Decoder<R> {
         self.reader
     }
 
-    /// How many bytes were consumed, counted from the offset at the start. A waiting header is not consumed.
+    /// How many bytes were consumed, counted from the offset at the start. A waiting header is not consumed. The
+    /// decoder stays as it is.
     pub fn offset(&mut self) -> usize
         ensures value { result ≡ offset_of self.old }
         ensures same { self.new ≡ self.old }
@@ -125,11 +130,14 @@ impl<R: Read> Decoder<R> {
         self.strict
     }
 
-    /// Takes the next header (RFC 7049, 2.1 to 2.3): the waiting one, or else one title from the reader.
+    /// Takes the next header (RFC 7049, 2.1 to 2.3): the waiting one, or else one title from the reader. `Ok` says that
+    /// what was due began with a title of that header, and that just this title is gone; so the header may be pushed
+    /// back.
     ///
-    /// The errors are `Syntax` with the offset of the title's start, for one of the 27 first bytes with which no
-    /// title begins, and that byte is consumed; `Io` where the reader failed; and `TooLong` where the offset
-    /// can't take the next read. After the last two a first byte that was read stays consumed.
+    /// The errors are `Syntax` with the offset of the title's start, for one of the 27 first bytes with which no title
+    /// begins, and that byte is consumed; `Io` where the reader failed; and `TooLong` where the offset can't take the
+    /// next read. After the last two a first byte that was read stays consumed, and no more. Over a steady reader `Io`
+    /// says that the bytes end before a title or inside it.
     ///
     /// A strict decoder answers `Syntax` also for a title that isn't the shortest of its header, and for a simple value
     /// below 32 in two bytes. All of that title is then consumed. See [`Decoder::push`] and [`Decoder::strict`].
@@ -145,10 +153,7 @@ impl<R: Read> Decoder<R> {
     #[inline(always)]
     #[tactic(auto, using(ciborium_ll_grammar::proofs::TitleLaws::shortest_no_longer))]
     pub fn pull(&mut self) -> Result<Header, Error<R::Error>>
-        ensures header { PullsHeader R.Read self.old result self.new }
-        ensures covered { IfOk result (λ header. title_len header ≤ offset_of self.new) }
-        ensures full { waiting_of self.old ≡ None → offset_of self.old ≡ usize.MAX → IsErrOf result Error.TooLong }
-        ensures moves_on { MovesOn R.Read self.old self.new }
+        ensures { Pulls R.Read self.old result self.new }
     {
         // No call here takes `&mut self`: so in a loop over a slice the decoder's fields stay in registers.
         if let Some(header) = self.waiting {
@@ -223,7 +228,10 @@ impl<R: Read> Decoder<R> {
     }
 
     /// Gives a header back, to be given by the next [`Decoder::pull`]. The offset falls by the length of its shortest
-    /// title, [`Header::title_len`].
+    /// title, [`Header::title_len`], and the header waits in front of what was due. The reader is left alone.
+    ///
+    /// No header may wait, and the offset has to cover that title. Both are so behind the [`Decoder::pull`] that gave
+    /// the header; [`Decoder::is_waiting`] and [`Decoder::offset`] test them.
     ///
     /// ```rust
     /// let header = decoder.pull()?;
@@ -233,8 +241,7 @@ impl<R: Read> Decoder<R> {
     pub fn push(&mut self, item: Header)
         requires none_waits { waiting_of self.old ≡ None }
         requires covered { title_len item ≤ offset_of self.old }
-        ensures back { TakesBack R.Read self.old item self.new }
-        ensures refusals { refusals_of self.new ≡ refusals_of self.old }
+        ensures { TakesBack R.Read self.old item self.new }
     {
         self.offset -= item.title_len();
         self.waiting = Some(item);
@@ -310,11 +317,11 @@ impl<R: Read> Decoder<R> {
 }
 
 impl<R: Read> Read for Decoder<R> {
-    ghost use Rattle.std.specs.Prelude.{false, IsTrue, OnOk, OnErr, length, MatchResult};
+    ghost use Rattle.std.specs.Prelude.{false, IsTrue, OnOk, OnErr, length};
     ghost use Rattle.std.specs.Io.KnownBytes.{Consumes};
     ghost use Rattle.std.proofs.Common.{rules};
-    ghost use Rattle.ciborium_ll_decoder.specs.Decoding.{CountsRefusal, IsSteady, ReadsBytes, reader_of};
-    ghost use Rattle.ciborium_ll_decoder.specs.Decoding.{refusals_of, strict_of, told_unless_waiting, waiting_of};
+    ghost use Rattle.ciborium_ll_decoder.specs.Decoding.{Reads, reader_of, refusals_of, told_unless_waiting};
+    ghost use Rattle.ciborium_ll_decoder.specs.Decoding.{waiting_of};
 
     type Error = Error<R::Error>;
 
@@ -340,11 +347,7 @@ impl<R: Read> Read for Decoder<R> {
             ≡ refusals_of self.old + R.failures (reader_of self.old) + 1) }
 
         // The decoder's own.
-        ensures read { ReadsBytes R.Read self.old result «data».new self.new }
-        ensures steady { IsSteady R.Read self.old → IsSteady R.Read self.new }
-        ensures mode { strict_of self.new ≡ strict_of self.old }
-        ensures refusals { MatchResult result (λ _. refusals_of self.new ≡ refusals_of self.old)
-            (λ error. CountsRefusal error (refusals_of self.old) (refusals_of self.new)) }
+        ensures reads { Reads R.Read self.old result «data».new self.new }
     {
         let outcome = if self.waiting.is_some() {
             Err(Error::Waiting)

@@ -7,7 +7,7 @@ ghost use Rattle.ciborium_ll_decoder.specs.Decoding.{MovesOn, offset_of, waiting
 ghost use Rattle.ciborium_ll_encoder.specs.Encoding.{writer_of};
 ghost use Rattle.ciborium_ll_grammar.specs.Faults.{RunInFront};
 ghost use Rattle.ciborium_ll_decoder.specs.RecodingTold.{IsReady, IsTold, RecodesAnyhow, RecodesTold};
-ghost use Rattle.ciborium_ll_decoder.specs.Recoding.{CopiesBehind, CopiesElement, CopiesElements};
+ghost use Rattle.ciborium_ll_decoder.specs.Recoding.{CopiesBehind, CopiesOne, Recodes};
 ghost use Rattle.ciborium_ll_decoder.specs.Recoding.{CopiesSegments, WritesHeader};
 ghost use Rattle.ciborium_ll_decoder.specs.Sides.{sides_of};
 
@@ -145,10 +145,8 @@ pub fn copy_element<R: Read, W: Write>(
     buffer: &mut [u8],
 ) -> Result<(), RecodeError<R::Error, W::Error>>
     requires room { 4 ≤ length buffer.old }
-    ensures copied { CopiesElement R.Read W.Write (length buffer.old)
-        (sides_of decoder.old encoder.old) result (sides_of decoder.new encoder.new) }
-    ensures moves_on { MovesOn R.Read decoder.old decoder.new }
-    ensures target { W.target (writer_of encoder.new) ≡ W.target (writer_of encoder.old) }
+    ensures { CopiesOne R.Read W.Write (length buffer.old) (sides_of decoder.old encoder.old) result
+        (sides_of decoder.new encoder.new) }
 {
     let (header, title) = match decoder.pull_title() {
         Ok(pulled) => pulled,
@@ -170,15 +168,30 @@ pub fn copy_element<R: Read, W: Write>(
 ///
 /// Every title becomes the shortest one of its header. The bodies of a string of indefinite length stay the segments
 /// that they were, in one string: strings within it lose their opens and breaks. Bodies go through `buffer`, each chunk
-/// as soon as it is read, and each body of a text is UTF-8 by itself.
+/// as soon as it is read, and each body of a text is UTF-8 by itself. `Ok` says that so many elements were read, and
+/// that their spelling, which is no longer, was written.
 ///
 /// `Read` carries the decoder's error. `Syntax` names the offset of a title that is none or may not stand there; of a
 /// body that is no text the offset of its title, or, where a whole string's title is longer than its shortest one, of
-/// the byte from which the shortest would reach the body. `Io` says that the reader failed, `TooLong` that the offset
-/// can't take the next read. `Write` carries the writer's error. The titles and chunks before the error are written.
+/// the byte from which the shortest would reach the body. `Io` says that the reader failed where a title was due or
+/// within a body, `TooLong` that the offset can't take the next read, or that the opens can't be counted. `Write`
+/// carries the writer's error. The titles and chunks before the error are written, and of a `Write` a beginning of the
+/// title or of the chunk that was due next.
 ///
 /// A strict decoder gives elements in their shortest spelling alone, with no string of indefinite length inside
 /// another, and they are written as they are. [`strict_len`] is such a copy that keeps nothing.
+///
+/// Where the reader is steady, the offset fits, no header waits on a strict decoder, and the writer has room for the
+/// spelling of the elements where that many are next, else for all that is due: `Ok` comes exactly where that many are
+/// next, of a strict decoder in their shortest spelling. Just that spelling was then appended, and what follows is
+/// left. Else the first fault was met, with its place, and of a strict decoder a title that it refuses is one.
+///
+/// Where bytes are told on both sides, `Ok` and `Syntax` mean the same whatever fails: after `Io` and `TooLong` a part
+/// of the elements was read and written, and after `Write` a beginning of that. Where a body of a text is cut and is no
+/// text either, the answer is `Io` or `Syntax`, by what the buffer held.
+///
+/// Whatever the answer, the decoder moves on as [`Decoder`] says, `Waiting` never comes, and the writer stays on its
+/// slice.
 ///
 /// ```rust
 /// let mut buffer = [0; 64];
@@ -193,8 +206,8 @@ pub fn recode<R: Read, W: Write>(
     buffer: &mut [u8],
 ) -> Result<(), RecodeError<R::Error, W::Error>>
     requires room { 4 ≤ length buffer.old }
-    ensures copied { CopiesElements R.Read W.Write count (length buffer.old)
-        (sides_of decoder.old encoder.old) result (sides_of decoder.new encoder.new) }
+    ensures copied { Recodes R.Read W.Write count (length buffer.old) (sides_of decoder.old encoder.old) result
+        (sides_of decoder.new encoder.new) }
     ensures told { (strict : Bool) (due written : List ℕ)
         → IsReady R.Read W.Write strict count (length buffer.old) (sides_of decoder.old encoder.old) due written
         → RecodesTold R.Read W.Write strict count due written decoder.old result
@@ -206,8 +219,6 @@ pub fn recode<R: Read, W: Write>(
         → IsTold R.Read W.Write strict (sides_of decoder.old encoder.old) due written
         → RecodesAnyhow R.Read W.Write strict count (length buffer.old) due written decoder.old result
         (sides_of decoder.new encoder.new) }
-    ensures moves_on { MovesOn R.Read decoder.old decoder.new }
-    ensures target { W.target (writer_of encoder.new) ≡ W.target (writer_of encoder.old) }
 {
     'elements: for _copied in 0..count {
         copy_element(decoder, encoder, buffer)?;

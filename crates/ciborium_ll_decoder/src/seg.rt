@@ -97,6 +97,9 @@ pub(crate) enum Progress {
 }
 
 /// The segments of a string: its one body, or the bodies between an open and its break, to any depth.
+///
+/// [`Segments::advance`], [`Segments::finish`] and [`Segments::copy`] move the decoder on, as its own calls do, and no
+/// call answers `Waiting`.
 #[derive(Drop)]
 pub struct Segments<'r, R, P: Parser> {
     pub(crate) decoder: &'r mut Decoder<R>,
@@ -109,12 +112,13 @@ pub struct Segments<'r, R, P: Parser> {
 impl<'r, R: Read, P: Parser> Segments<'r, R, P> {
     ghost use Rattle.std.specs.Prelude.{OnOk};
     ghost use Rattle.ciborium_ll_decoder.specs.declared.seg.Progress.TheVariants.{Open};
-    ghost use Rattle.ciborium_ll_decoder.specs.Decoding.{MovesOn, offset_of, strict_of, waiting_of};
+    ghost use Rattle.ciborium_ll_decoder.specs.declared.dec.Decoder.{Decoder as AnyDecoder};
+    ghost use Rattle.ciborium_ll_decoder.specs.Decoding.{MovesOn, PullsTitle, offset_of, strict_of, waiting_of};
     ghost use Rattle.std.specs.Borrow.{sem};
-    ghost use Rattle.ciborium_ll_decoder.specs.Segments.{AdvancesTo, GivesAgain, IsAtBeginning, StepsOver};
+    ghost use Rattle.ciborium_ll_decoder.specs.Segments.{GivesAgain, IsAtBeginning, StepsOver};
     ghost use Rattle.ciborium_ll_decoder.specs.Segments.{progress_of, string_decoder, string_reference, string_strict};
     ghost use Rattle.ciborium_ll_decoder.specs.Chunks.{IsWhole, PullsSegment, segment_decoder};
-    ghost use Rattle.ciborium_ll_decoder.specs.Lend.{lends_segment, pulls_segment};
+    ghost use Rattle.ciborium_ll_decoder.specs.Lend.{IsAdvanced, lends_segment, pulls_segment};
 
     /// The segments of the string whose header waits.
     pub(crate) fn new(decoder: &'r mut Decoder<R>) -> Segments<'r, R, P>
@@ -150,19 +154,20 @@ impl<'r, R: Read, P: Parser> Segments<'r, R, P> {
 
     /// Goes on to the next segment, past opens and breaks, and gives its body's length and place.
     ///
-    /// `None` says that the string has ended, and stays. The errors are `Syntax` with the offset of a title that may
-    /// not stand there or is none, which stays; `Io` where the reader failed, and `TooLong` where the offset can't
-    /// take the next read: the opens so far stay counted, and the next call reads on; and `TooLong` for an open that
-    /// can't be counted, which stays. An answer that stays reads nothing.
+    /// Behind opens and breaks that don't close the string came a title of the kind, with this length and at this
+    /// place. `None` says that the string has ended, by the break that closes the first open or before, and stays. The
+    /// errors are `Syntax` with the offset of a title that may not stand there or is none, which stays; `Io` where the
+    /// reader failed, and `TooLong` where the offset can't take the next read: the opens so far stay counted, and the
+    /// next call reads on; and `TooLong` for an open that can't be counted, which stays. An answer that stays reads
+    /// nothing.
+    ///
+    /// A strict decoder's string answers `Syntax` also for a title that its [`Decoder::pull`] refuses, and for an open
+    /// behind one that isn't closed. That title is then consumed. So no title leads on to a segment but the first open.
+    ///
+    /// The opens that aren't closed rise by no more than the offset does.
     #[inline(always)]
     pub fn advance(&mut self) -> Result<Option<Body>, Error<R::Error>>
-        ensures advances { AdvancesTo R.Read P.kind (string_strict self.old) (progress_of self.old)
-            (string_decoder self.old) result (progress_of self.new) (string_decoder self.new) }
-        ensures opens { opens_of (progress_of self.new) + offset_of (string_decoder self.old)
-            ≤ opens_of (progress_of self.old) + offset_of (string_decoder self.new) }
-        ensures mode { string_strict self.new ≡ string_strict self.old }
-        ensures same_reference { string_reference self.new ≡ string_reference self.old }
-        ensures moves_on { MovesOn R.Read (string_decoder self.old) (string_decoder self.new) }
+        ensures { IsAdvanced R.Read P.kind self.old result self.new }
     {
         'titles: while let Progress::Open(opens) = self.progress {
             if let Some(body) = self.step(opens)? {
@@ -176,7 +181,8 @@ impl<'r, R: Read, P: Parser> Segments<'r, R, P> {
         }
     }
 
-    /// The segment of a body that [`Segments::advance`] gave last. It lends the decoder on.
+    /// The segment of a body that [`Segments::advance`] gave last. It lends the decoder on: nothing of the body is read
+    /// yet, and once the segment is gone the string has the decoder that the segment left.
     ///
     /// A body that was not given by the last [`Segments::advance`] makes a segment of so many bytes all the same.
     pub fn segment(&mut self, body: Body) -> Segment<'_, R, P>
@@ -196,7 +202,9 @@ impl<'r, R: Read, P: Parser> Segments<'r, R, P> {
         }
     }
 
-    /// The next segment of the string. The answers are those of [`Segments::advance`].
+    /// The next segment of the string. The answers are those of [`Segments::advance`], with a whole segment for a body.
+    /// Who has to know what the loan leaves takes [`Segments::advance`], and then [`Segments::finish`] or
+    /// [`Segments::copy`].
     ///
     /// A segment that is dropped early leaves the rest of its body in the reader, where the next call reads on.
     ///
@@ -243,37 +251,49 @@ impl<'r, R: Read, P: Parser> Segments<'r, R, P> {
                 return Err(error);
             }
         };
+        let (progress, found) = Self::found_by(header, place, opens, self.strict);
+        self.progress = progress;
+        found
+    }
+
+    /// What the header of a title at this place says to a string with so many opens that aren't closed: how far the
+    /// string then is, and the body that was found.
+    #[inline(always)]
+    fn found_by(
+        header: Header,
+        place: usize,
+        opens: usize,
+        strict: bool,
+    ) -> (Progress, Result<Option<Body>, Error<R::Error>>)
+        ensures steps { (old new : AnyDecoder R) → PullsTitle R.Read old header new → place ≡ offset_of old
+            → StepsOver R.Read P.kind strict opens old result.1 result.0 new }
+        ensures opens { opens_of result.0 ≤ opens + 1 }
+        ensures shallow { IsTrue strict → opens ≤ 1 → opens_of result.0 ≤ 1 }
+    {
         match P::length(header) {
             Some(Some(length)) => {
-                if opens == 0 {
-                    self.progress = Progress::Ended;
-                }
-                Ok(Some(Body { length, place }))
+                let progress = if opens == 0 {
+                    Progress::Ended
+                } else {
+                    Progress::Open(opens)
+                };
+                (progress, Ok(Some(Body { length, place })))
             }
-            Some(None) if opens == usize::MAX => {
-                self.progress = Progress::TooDeep;
-                Err(Error::TooLong)
-            }
-            Some(None) if opens > 0 && self.strict => {
-                self.progress = Progress::Damaged(place);
-                Err(Error::Syntax(place))
-            }
-            Some(None) => {
-                self.progress = Progress::Open(opens + 1);
-                Ok(None)
-            }
+            Some(None) if opens == usize::MAX => (Progress::TooDeep, Err(Error::TooLong)),
+            Some(None) if opens > 0 && strict => (
+                Progress::Damaged(place),
+                Err(Error::Syntax(place)),
+            ),
+            Some(None) => (Progress::Open(opens + 1), Ok(None)),
             None if header == Header::Break && opens > 0 => {
-                self.progress = if opens == 1 {
+                let progress = if opens == 1 {
                     Progress::Ended
                 } else {
                     Progress::Open(opens - 1)
                 };
-                Ok(None)
+                (progress, Ok(None))
             }
-            None => {
-                self.progress = Progress::Damaged(place);
-                Err(Error::Syntax(place))
-            }
+            None => (Progress::Damaged(place), Err(Error::Syntax(place))),
         }
     }
 }
@@ -389,22 +409,18 @@ impl<'r, R: Read, P: Parser> Segment<'r, R, P> {
 }
 
 impl<'r, R: Read> Segment<'r, R, Bytes> {
-    ghost use Rattle.std.specs.Io.KnownBytes.{Consumes};
-    ghost use Rattle.ciborium_ll_decoder.specs.Decoding.{MovesOn};
-    ghost use Rattle.ciborium_ll_decoder.specs.Chunks.{PullsChunk, left_of, rest, segment_decoder, segment_reference};
+    ghost use Rattle.ciborium_ll_decoder.specs.Chunks.{IsPulled};
 
     /// Reads the next bytes of the body, as many as there are and the buffer holds.
     ///
-    /// `None` says that the body has ended. An empty buffer gives an empty chunk while bytes are left. The errors are
-    /// `Io` where the reader failed, and `TooLong` where the offset would pass `usize::MAX`; both leave the segment as
-    /// it was.
+    /// [`Segment::left`] falls by the chunk's length, and what was to come of the body is the chunk and what is to come
+    /// now. `None` says that the body has ended: it was read and handed out whole, and nothing changes. An empty buffer
+    /// gives an empty chunk while bytes are left. The errors are `Io` where the reader failed, and `TooLong` where the
+    /// offset would pass `usize::MAX`; both leave the segment as it was.
+    ///
+    /// A segment of bytes keeps nothing back, so a whole one never comes to a `Syntax`.
     pub fn pull<'a>(&mut self, buffer: &'a mut [u8]) -> Result<Option<&'a [u8]>, Error<R::Error>>
-        ensures chunk { PullsChunk R.Read (length buffer.old) self.old result self.new }
-        ensures left { IfOk result (λ chunk. IfSome chunk (λ c. length c.now + left_of self.new ≡ left_of self.old)) }
-        ensures rest { IfOk result (λ chunk. IfSome chunk
-            (λ c. Consumes (rest R.Read self.old) (rest R.Read self.new) c.now)) }
-        ensures same_reference { segment_reference self.new ≡ segment_reference self.old }
-        ensures moves_on { MovesOn R.Read (segment_decoder self.old) (segment_decoder self.new) }
+        ensures { IsPulled R.Read (length buffer.old) self.old result self.new }
     {
         if self.damaged {
             return Err(Error::Syntax(self.place));
@@ -423,24 +439,22 @@ impl<'r, R: Read> Segment<'r, R, Bytes> {
 impl<'r, R: Read> Segment<'r, R, Text> {
     ghost use Rattle.std.specs.Io.KnownBytes.{Consumes};
     ghost use Rattle.ciborium_ll_decoder.specs.Decoding.{MovesOn, ReadsBytes};
-    ghost use Rattle.ciborium_ll_decoder.specs.Chunks.{FillsBehind, IsSame, PullsChunk, left_of, rest, segment_decoder};
-    ghost use Rattle.ciborium_ll_decoder.specs.Chunks.{segment_reference};
+    ghost use Rattle.ciborium_ll_decoder.specs.Chunks.{FillsBehind, IsPulled, IsSame, PullsChunk, left_of, rest};
+    ghost use Rattle.ciborium_ll_decoder.specs.Chunks.{segment_decoder, segment_reference};
 
     /// Reads the next bytes of the body, as many as there are and the buffer holds, and hands out the longest front of
     /// them that is text. Up to three bytes behind it are kept. They may begin a character; where they don't, or where
     /// the body ends with them, a later call answers `Syntax`.
     ///
-    /// `None` says that the body has ended. A buffer of fewer than four bytes may give an empty chunk while bytes are
-    /// left. The errors are `Syntax` with the segment's place where the body is no text, which stays and reads nothing;
-    /// `Io` where the reader failed, and `TooLong` where the offset would pass `usize::MAX`: both leave the segment as
-    /// it was. A damaged end can give a chunk first, and its error on the next call.
+    /// [`Segment::left`] falls by the chunk's length, and what was to come of the body is the chunk and what is to come
+    /// now. `None` says that the body has ended: it was read and handed out whole, and nothing changes. A buffer of
+    /// fewer than four bytes may give an empty chunk while bytes are left. The errors are `Syntax` with the segment's
+    /// place where the body is no text, which stays and reads nothing: behind the longest front that is text stand more
+    /// than three bytes, or some are kept and the body has ended; `Io` where the reader failed, and `TooLong` where the
+    /// offset would pass `usize::MAX`: both leave the segment as it was. A damaged end can give a chunk first, and its
+    /// error on the next call.
     pub fn pull<'a>(&mut self, buffer: &'a mut [u8]) -> Result<Option<&'a str>, Error<R::Error>>
-        ensures chunk { PullsChunk R.Read (length buffer.old) self.old result self.new }
-        ensures left { IfOk result (λ chunk. IfSome chunk (λ c. length c.now + left_of self.new ≡ left_of self.old)) }
-        ensures rest { IfOk result (λ chunk. IfSome chunk
-            (λ c. Consumes (rest R.Read self.old) (rest R.Read self.new) c.now)) }
-        ensures same_reference { segment_reference self.new ≡ segment_reference self.old }
-        ensures moves_on { MovesOn R.Read (segment_decoder self.old) (segment_decoder self.new) }
+        ensures { IsPulled R.Read (length buffer.old) self.old result self.new }
     {
         match self.pull_front(buffer)? {
             Some(front) => Ok(Some(text_of(front))),

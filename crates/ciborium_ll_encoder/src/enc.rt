@@ -1,9 +1,8 @@
 //! The encoder: headers and values into a writer.
 
-ghost use Rattle.std.specs.Prelude.{◌≡◌, ◌<◌, ◌⊎◌, ℕ, List, length};
-ghost use Rattle.ciborium_ll_grammar.specs.Title.{IsTitle, shortest_title};
+ghost use Rattle.std.specs.Prelude.{◌≡◌};
 ghost use Rattle.ciborium_ll_grammar.specs.Parts.{IsMinor, IsParts, minor_affix, title_bytes};
-ghost use Rattle.ciborium_ll_encoder.specs.Encoding.{WritesBytes, writer_of};
+ghost use Rattle.ciborium_ll_encoder.specs.Encoding.{Pushes, WritesBytes, WritesTitle, writer_of};
 
 mod values;
 
@@ -13,6 +12,9 @@ use ciborium_ll_io::io::Write;
 /// Writes headers, each as its shortest title, and values of bytes and of text.
 ///
 /// As a writer it passes on to the writer that it holds, which takes the bytes of bodies.
+///
+/// Where a call that writes fails, a beginning of what it writes was appended, the writer failed once, and a room that
+/// it tells was smaller than that. No call takes the writer off its slice.
 #[derive(Drop)]
 pub struct Encoder<W> {
     writer: W,
@@ -59,16 +61,14 @@ impl<W: Write> Encoder<W> {
         self.writer
     }
 
-    /// Writes the shortest title of a header (RFC 7049, 3.9), as its first byte and its affix.
+    /// Writes the shortest title of a header (RFC 7049, 3.9), as its first byte and its affix. Every other title of the
+    /// header is longer.
     ///
     /// The error is the writer's. A beginning of the title was then written.
     #[inline(always)]
     #[tactic(auto, using(crate::proofs::Writes::headers))]
     pub fn push(&mut self, header: Header) -> Result<(), W::Error>
-        ensures title { WritesBytes W.Write (writer_of self.old) result (shortest_title header) (writer_of self.new) }
-        ensures shortest { (other : List ℕ) → IsTitle other header
-            → (other ≡ shortest_title header) ⊎ (length (shortest_title header) < length other) }
-        ensures target { W.target (writer_of self.new) ≡ W.target (writer_of self.old) }
+        ensures { Pushes W.Write header (writer_of self.old) result (writer_of self.new) }
     {
         push_title(self, shortest(header))
     }
@@ -95,8 +95,7 @@ impl<W: Write> Encoder<W> {
 #[tactic(auto, using(crate::proofs::Writes::behind_byte, crate::proofs::Writes::byte_unwritten))]
 pub fn push_title<W: Write>(encoder: &mut Encoder<W>, title: Title) -> Result<(), W::Error>
     requires { IsParts title }
-    ensures title { WritesBytes W.Write (writer_of encoder.old) result (title_bytes title) (writer_of encoder.new) }
-    ensures target { W.target (writer_of encoder.new) ≡ W.target (writer_of encoder.old) }
+    ensures { WritesTitle W.Write (title_bytes title) (writer_of encoder.old) result (writer_of encoder.new) }
 {
     encoder.writer.write_all(&[title.first_byte()])?;
     encoder.affix(title.minor)

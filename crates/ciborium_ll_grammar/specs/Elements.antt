@@ -1,4 +1,5 @@
--- Elements, which are titles and whole strings, the marks that they leave, and the marks' shortest spelling.
+-- Elements, the marks that they leave, and the marks' shortest spelling. An *element* is what a copy takes as one: a
+-- title that begins no string, or a whole string.
 use Rattle.std.specs.Prelude.{◌≡◌, ℕ, zero, suc, List, [], ◌∷◌, ◌++◌, length, Some, None}
 use Rattle.std.specs.List.{AllByRecursion}
 use Rattle.ciborium_ll_grammar.specs.declared.hdr.Header.{Header}
@@ -25,11 +26,11 @@ pub data Mark : Type 0 where
   Piece : Kind → List ℕ → Mark
   Close : Mark
 
--- a body behind its shortest title
+-- a body behind its shortest title (RFC 7049, 2.1 and 3.9)
 abbrev pub body_spelling : Kind → List ℕ → List ℕ
 body_spelling kind body = shortest_title (kind_header kind (Some (length body))) ++ body
 
--- the shortest bytes of a mark (RFC 7049, 2.1 and 2.2.2)
+-- the shortest bytes of a mark (RFC 7049, 2.1, 2.2.2 and 3.9)
 abbrev pub mark_spelling : Mark → List ℕ
 mark_spelling (Plain header) = shortest_title header
 mark_spelling (Whole kind body) = body_spelling kind body
@@ -37,12 +38,12 @@ mark_spelling (Open kind) = shortest_title (kind_header kind None)
 mark_spelling (Piece kind body) = body_spelling kind body
 mark_spelling Close = 0xff ∷ []
 
--- the shortest bytes of marks
+-- the shortest bytes of marks, one behind the other
 abbrev pub spelling : List Mark → List ℕ
 spelling [] = []
 spelling (mark ∷ marks) = mark_spelling mark ++ spelling marks
 
--- a piece for each body
+-- a piece for each body (RFC 7049, 2.2.2)
 abbrev pub pieces : Kind → List (List ℕ) → List Mark
 pieces kind [] = []
 pieces kind (body ∷ bodies) = Piece kind body ∷ pieces kind bodies
@@ -78,12 +79,14 @@ abbrev pub IsMeant : Mark → Type 0
 IsMeant (Plain header) = IsSmallSimple header → ⊥
 IsMeant mark = Unit {0}
 
--- the bytes are the marks' shortest spelling, with more behind it, and no mark is a small simple value
+-- the bytes are the marks' shortest spelling, with more behind it, and no mark is a small simple value (RFC 7049, 2.3
+-- and 3.9)
 pub record IsStrictSpelling (bytes : List ℕ) (marks : List Mark) (more : List ℕ) : Type 0 where
   pub same : bytes ≡ spelling marks ++ more
   pub meant : AllByRecursion IsMeant marks
 
--- so many elements in their shortest spelling, and none a small simple value
+-- so many elements in their shortest spelling, and none a small simple value. Each title is then the shortest of its
+-- header, and no string of indefinite length stands inside another (RFC 7049, 2.2.2, 2.3 and 3.9)
 pub record IsStrictRun (count : ℕ) (bytes : List ℕ) (marks : List Mark) : Type 0 where
   pub run : IsRun count bytes marks
   pub same : bytes ≡ spelling marks

@@ -63,13 +63,14 @@ pub data Answer : Type 0 where
   Short : Answer
   Syntax : ℕ → Answer
 
--- the marks, the shortest title of a string of this length, and a front of its body
+-- what is written of a body under way: the spelling of the marks, the shortest title of a string of this length, and a
+-- front of its body
 abbrev pub with_front : List Mark → Kind → ℕ → List ℕ → List ℕ
 with_front marks kind len front = spelling marks ++ (shortest_title (kind_header kind (Some len)) ++ front)
 
 -- `FirstFault strict before marks place ahead answer written consumed`: behind the bytes before, which left the marks,
 -- the bytes ahead are at fault where the place is due. The answer, what is written in all, and how many bytes ahead are
--- consumed
+-- consumed (RFC 7049, 2.1, 2.2.2, 2.3 and 3.9)
 pub data FirstFault (strict : Bool) (before : List ℕ) (marks : List Mark) :
     Place → List ℕ → Answer → List ℕ → ℕ → Type 0 where
   -- a title is due, and the bytes end before it or within it
@@ -117,13 +118,14 @@ pub record RunInFront (strict : Bool) (count : ℕ) (bytes : List ℕ) : Type 0 
   pub is : bytes ≡ elements ++ rest
   pub spelled : strict ≡ true → IsStrictSpelling elements marks []
 
--- the title of a body that is due, in its shortest spelling
+-- the title of a body that is due, in its shortest spelling, which alone is taken where `strict` holds
 abbrev pub due_title : Place → List ℕ
 due_title Due = []
 due_title (In kind) = []
 due_title (BodyDue kind len start) = shortest_title (kind_header kind (Some len))
 
--- a fault stops a copy of so many elements. What stands before it is spelled as they are
+-- a fault stops a copy of so many elements. What stands before it is spelled as they are. By the laws `run_or_fault`
+-- and `no_fault` some bytes have so many elements in front (`RunInFront`) or such a fault, never both
 pub record HasFault (strict : Bool) (count : ℕ) (bytes : List ℕ) : Type 0 where
   pub before : List ℕ
   pub marks : List Mark

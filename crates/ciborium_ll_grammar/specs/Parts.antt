@@ -1,4 +1,5 @@
--- A title in the parts in which the code handles it.
+-- A title in the parts in which the code handles it: a major type, and a minor with its number. A law of `proofs/` says
+-- that such parts are a title.
 use Rattle.std.specs.Prelude.{ℕ, ◌<◌, List, [], ◌∷◌, Option, Some, None, Bool, false, if◌then◌else◌}
 use Rattle.std.specs.Prelude.{nat_lt, ◌==◌}
 use Rattle.ciborium_ll_grammar.specs.declared.hdr.Minor.{Minor}
@@ -6,7 +7,7 @@ use Rattle.ciborium_ll_grammar.specs.declared.hdr.Minor.TheVariants as m
 use Rattle.ciborium_ll_grammar.specs.declared.hdr.Title.{Title}
 use Rattle.ciborium_ll_grammar.specs.Title.{Small, One, Two, Four, Eight, size_limit, byte_of, minor_of, affix_of}
 
--- the minor as it stands in the first byte
+-- the minor as it stands in the first byte, as `minor_of` has it (RFC 7049, 2.1)
 abbrev pub minor_code : Minor → ℕ
 minor_code (m.Small n) = minor_of Small n
 minor_code (m.One n) = minor_of One n
@@ -15,7 +16,7 @@ minor_code (m.Four n) = minor_of Four n
 minor_code (m.Eight n) = minor_of Eight n
 minor_code m.Open = 31
 
--- the bytes behind a first byte (RFC 7049, 2.1)
+-- the bytes behind a first byte, as `affix_of` has them (RFC 7049, 2.1)
 abbrev pub minor_affix : Minor → List ℕ
 minor_affix (m.Small n) = affix_of Small n
 minor_affix (m.One n) = affix_of One n
@@ -33,7 +34,7 @@ minor_number (m.Four n) = Some n
 minor_number (m.Eight n) = Some n
 minor_number m.Open = None
 
--- its number fits where it stands
+-- its number fits where it stands, by `size_limit` (RFC 7049, 2.1)
 abbrev pub IsMinor : Minor → Type 0
 IsMinor (m.Small n) = n < size_limit Small
 IsMinor (m.One n) = n < size_limit One
@@ -50,16 +51,17 @@ parts_first major minor = byte_of major (minor_code minor)
 abbrev pub parts_bytes : ℕ → Minor → List ℕ
 parts_bytes major minor = parts_first major minor ∷ minor_affix minor
 
--- the bytes of a title
+-- the bytes of a title (RFC 7049, 2.1)
 abbrev pub title_bytes : Title → List ℕ
 title_bytes t = parts_bytes t.major t.minor
 
--- the parts are those of some title
+-- the parts are those of some title: the number fits, and the major type is below 8 (RFC 7049, 2.1)
 pub record IsParts (t : Title) : Type 0 where
   pub major : t.major < 8
   pub minor : IsMinor t.minor
 
--- a smaller form holds the number, or it is a simple value below 32 in two bytes (RFC 7049, 2.3 and 3.9)
+-- a smaller form holds the number, or it is a simple value below 32 in two bytes (RFC 7049, 2.3 and 3.9). By a lemma
+-- these are the parts of the titles that aren't strict
 abbrev pub longer_parts : ℕ → Minor → Bool
 longer_parts major (m.Small n) = false
 longer_parts major (m.One n) = nat_lt n (if major == 7 then 32 else 24)

@@ -4,8 +4,8 @@ use Rattle.ciborium_ll_grammar.specs.declared.hdr.Header.TheVariants as h
 use Rattle.ciborium_ll_grammar.specs.declared.hdr.start.Start.{Start}
 use Rattle.ciborium_ll_grammar.specs.declared.hdr.start.Start.TheVariants as s
 
--- what a title of the header begins: a value, a string, a tag, an array or a map, which items follow, or the end of an
--- indefinite form (RFC 7049, 2.1 to 2.4)
+-- what a title of the header begins: a value, a string with its length, a tag, an array or a map, which items follow (a
+-- *nest*), or the end of an indefinite form (RFC 7049, 2.1 to 2.4)
 abbrev pub start_of : Header → Start
 start_of (h.Positive number) = s.Value
 start_of (h.Negative number) = s.Value

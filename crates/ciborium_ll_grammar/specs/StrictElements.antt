@@ -24,7 +24,8 @@ pub data IsStrictElement : List ℕ → List Mark → Type 0 where
       → AreFlat kind strings bodies → AreWritable kind bodies
       → IsStrictElement (title ++ (strings ++ 0xff ∷ [])) (open_marks kind bodies)
 
--- the bytes are so many of them, joined, with these marks
+-- the bytes are so many of them, joined, with these marks. By the law `strict_run` they are just the runs that are
+-- their own spelling, without a simple value from 24 to 31
 pub data AreStrictElements : ℕ → List ℕ → List Mark → Type 0 where
   done : AreStrictElements zero [] []
   next : {count : ℕ} {first rest : List ℕ} {marks others : List Mark} → IsStrictElement first marks

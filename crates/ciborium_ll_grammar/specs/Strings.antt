@@ -10,15 +10,14 @@ use Rattle.ciborium_ll_text.specs.Text.{IsCharacters}
 pub data Kind : Type 0 where
   Bytes Text : Kind
 
--- the header of a string of this length, or of the indefinite form
+-- the header of a string of this length, or of the indefinite form (RFC 7049, 2.1)
 abbrev pub kind_header : Kind → Option ℕ → Header
 kind_header Bytes len = h.Bytes len
 kind_header Text len = h.Text len
 
--- `IsString kind bytes bodies`: the bytes are a title and as many bytes as it says, the one body; or an open, strings
--- of the same kind and a break (RFC 7049, 2.2.2), and their bodies in order. `AreStrings`: any number of strings,
--- joined
 mutual
+  -- `IsString kind bytes bodies`: the bytes are a title and as many bytes as it says, the one body; or an open, strings
+  -- of the same kind and a break, and their bodies in order (RFC 7049, 2.1 and 2.2.2)
   pub data IsString (kind : Kind) : List ℕ → List (List ℕ) → Type 0 where
     definite : {title body : List ℕ} → IsTitle title (kind_header kind (Some (length body)))
         → IsString kind (title ++ body) (body ∷ [])
@@ -26,6 +25,8 @@ mutual
         → AreStrings kind strings bodies
         → IsString kind (title ++ (strings ++ 0xff ∷ [])) bodies
 
+  -- any number of strings, joined, and their bodies. Inside a string they may be of indefinite length again, where
+  -- RFC 7049, 2.2.2, has those of a definite length alone
   pub data AreStrings (kind : Kind) : List ℕ → List (List ℕ) → Type 0 where
     none : AreStrings kind [] []
     more : {first rest : List ℕ} {bodies others : List (List ℕ)} → IsString kind first bodies

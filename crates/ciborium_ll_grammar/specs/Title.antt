@@ -1,6 +1,6 @@
--- Titles: the first byte of an item and the number behind it (RFC 7049, 2.1 to 2.3), and the headers that they mean.
---
--- A number here has no range. `IsInRange header` says that a header's numbers are those of its Rust type.
+-- Titles (RFC 7049, 2.1 to 2.3), and the headers that they mean. An item begins with a *title*: a first byte, and 0, 1,
+-- 2, 4 or 8 bytes behind it, the *affix*. A *header* is what a title means. A body may follow, which is no part of the
+-- title. A number here has no range. `IsInRange header` says that a header's numbers are those of its Rust type.
 use Rattle.std.specs.Prelude.{◌≡◌, ℕ, ◌+◌, ◌*◌, ◌/◌, ◌%◌, ◌<◌, ◌≤◌, ◌^◌, ◌⊎◌, List, [], ◌∷◌, length, Option, Some}
 use Rattle.std.specs.Prelude.{None, IfSome, if◌then◌else◌, nat_lt, ◌==◌}
 use Rattle.std.specs.List.{AllByRecursion}
@@ -10,11 +10,11 @@ use Rattle.ciborium_ll_grammar.specs.declared.hdr.Header.TheVariants as h
 use Rattle.ciborium_ll_grammar.specs.declared.hdr.Float.{Float}
 use Rattle.ciborium_ll_grammar.specs.declared.hdr.Float.TheVariants as f
 
--- the major type, which the upper three bits of a first byte give (RFC 7049, 2.1)
+-- the eight major types, of which the upper three bits of a first byte give one (RFC 7049, 2.1)
 pub data Major : Type 0 where
   Unsigned Negative ByteString TextString Array Map Tag Other : Major
 
--- the number of a major type (RFC 7049, 2.1)
+-- the number of a major type, from 0 to 7 (RFC 7049, 2.1)
 abbrev pub major_code : Major → ℕ
 major_code Unsigned = 0
 major_code Negative = 1
@@ -25,12 +25,12 @@ major_code Map = 5
 major_code Tag = 6
 major_code Other = 7
 
--- a first byte by its two numbers: the major type in the upper three bits, and the minor in the lower five (RFC 7049,
--- 2.1)
+-- a first byte by its two numbers, 32 * major + minor: the major type in the upper three bits, and the minor in the
+-- lower five (RFC 7049, 2.1)
 abbrev pub byte_of : ℕ → ℕ → ℕ
 byte_of major minor = 32 * major + minor
 
--- the first byte of a major type and a minor
+-- the first byte of a major type and a minor (RFC 7049, 2.1)
 abbrev pub first_byte : Major → ℕ → ℕ
 first_byte major minor = byte_of (major_code major) minor
 
@@ -38,7 +38,7 @@ first_byte major minor = byte_of (major_code major) minor
 pub data Size : Type 0 where
   Small One Two Four Eight : Size
 
--- the numbers of a size are below this one (RFC 7049, 2.1)
+-- the numbers of a size are below this one: 24, 2^8, 2^16, 2^32 and 2^64 (RFC 7049, 2.1)
 abbrev pub size_limit : Size → ℕ
 size_limit Small = 24
 size_limit One = 2 ^ 8
@@ -46,7 +46,7 @@ size_limit Two = 2 ^ 16
 size_limit Four = 2 ^ 32
 size_limit Eight = 2 ^ 64
 
--- the minor of a size (RFC 7049, 2.1): the number itself, or how many bytes follow
+-- the minor of a size (RFC 7049, 2.1): the number itself, or 24, 25, 26 or 27, which say how many bytes follow
 abbrev pub minor_of : Size → ℕ → ℕ
 minor_of Small n = n
 minor_of One n = 24
@@ -66,7 +66,7 @@ affix_of Eight n = to_be_bytes w64 n
 abbrev pub numbered_title : Major → Size → ℕ → List ℕ
 numbered_title major size n = first_byte major (minor_of size n) ∷ affix_of size n
 
--- major type 7: simple values and floats of 16, 32 and 64 bits (RFC 7049, 2.3)
+-- major type 7: simple values for the sizes small and one, floats of 16, 32 and 64 bits for the others (RFC 7049, 2.3)
 abbrev pub other_header : Size → ℕ → Header
 other_header Small n = h.Simple n
 other_header One n = h.Simple n
@@ -85,7 +85,8 @@ numbered_header Map size n = h.Map (Some n)
 numbered_header Tag size n = h.Tag n
 numbered_header Other size n = other_header size n
 
--- what the minor 31 says: the indefinite forms and the break (RFC 7049, 2.2)
+-- what the minor 31 says: the four indefinite forms and the break, or nothing under the major types 0, 1 and 6 (RFC
+-- 7049, 2.2)
 abbrev pub open_header : Major → Option Header
 open_header Unsigned = None
 open_header Negative = None
@@ -97,7 +98,7 @@ open_header Tag = None
 open_header Other = Some h.Break
 
 -- the bytes are a title of the header: a first byte with its number, or a first byte of minor 31 alone (RFC 7049, 2.1
--- and 2.2)
+-- to 2.4)
 pub data IsTitle : List ℕ → Header → Type 0 where
   numbered : (major : Major) (size : Size) (n : ℕ) → n < size_limit size
       → IsTitle (numbered_title major size n) (numbered_header major size n)
@@ -127,7 +128,8 @@ float_title (f.Half n) = numbered_title Other Two n
 float_title (f.Single n) = numbered_title Other Four n
 float_title (f.Double n) = numbered_title Other Eight n
 
--- the title of a header that is shorter than every other one (RFC 7049, 3.9)
+-- the title of a header that is shorter than every other one, as the law `shortest_titles` says: by the smallest size,
+-- of an indefinite form the first byte of minor 31, of a float its one title (RFC 7049, 3.9)
 abbrev pub shortest_title : Header → List ℕ
 shortest_title (h.Positive n) = shortest_numbered Unsigned n
 shortest_title (h.Negative n) = shortest_numbered Negative n
@@ -150,11 +152,12 @@ IsSmallSimple (h.Simple n) = (24 ≤ n) × (n < 32)
 IsSmallSimple header = ⊥
 
 -- a title that a strict decoder takes: the shortest one of its header (RFC 7049, 3.9), and of no small simple value
+-- (2.3)
 pub record IsStrictTitle (title : List ℕ) (header : Header) : Type 0 where
   pub shortest : title ≡ shortest_title header
   pub meant : IsSmallSimple header → ⊥
 
--- the length of the title of a waiting header
+-- the length of the title of a waiting header, and 0 where none waits
 abbrev pub waiting_len : Option Header → ℕ
 waiting_len None = 0
 waiting_len (Some header) = title_len header
@@ -190,12 +193,13 @@ IsReserved minor = (28 ≤ minor) × (minor ≤ 30)
 abbrev pub IsNeverOpen : ℕ → Type 0
 IsNeverOpen major = (major ≡ 0) ⊎ ((major ≡ 1) ⊎ (major ≡ 6))
 
--- no title has this major type and minor (RFC 7049, 2.1 and 2.2)
+-- no title has this major type and minor: the minor is reserved, or 31 under a major type that has no indefinite form
+-- (RFC 7049, 2.1 and 2.2)
 abbrev pub NamesNoTitle : ℕ → ℕ → Type 0
 NamesNoTitle major minor = IsReserved minor ⊎ ((minor ≡ 31) × IsNeverOpen major)
 
--- The first bytes with which no title begins: 27 of the 256. By the law `refused_first_bytes` they are those of the
--- list `refused_bytes`
+-- the first bytes with which no title begins, by their major type and minor: 27 of the 256 (RFC 7049, 2.1 and 2.2). By
+-- the law `refused_first_bytes` they are those of the list `refused_bytes`
 abbrev pub IsRefused : ℕ → Type 0
 IsRefused byte = NamesNoTitle (byte / 32) (byte % 32)
 
@@ -209,17 +213,17 @@ abbrev pub affix_len : ℕ → ℕ
 affix_len minor = if minor == 24 then 1 else (if minor == 25 then 2 else
     (if minor == 26 then 4 else (if minor == 27 then 8 else 0)))
 
--- The bytes end inside a title: they are none, or fewer follow the first byte than it announces. By the law
--- `cut_titles` just these, of lists of bytes, are the proper beginnings of titles.
+-- the bytes end inside a title: they are none, or fewer follow the first byte than it announces. By the law
+-- `cut_titles` just these, of lists of bytes, are made a title by one byte or more
 abbrev pub IsCutTitle : List ℕ → Type 0
 IsCutTitle [] = Unit {0}
 IsCutTitle (byte ∷ rest) = length rest < affix_len (byte % 32)
 
--- each element is a byte
+-- each element is a byte: below 256
 abbrev pub AreBytes : List ℕ → Type 0
 AreBytes bytes = AllByRecursion (λ byte. byte < 256) bytes
 
--- the 27 refused bytes, in order
+-- the 27 refused bytes, in order (RFC 7049, 2.1 and 2.2)
 abbrev pub refused_bytes : List ℕ
 refused_bytes =
     0x1c ∷ 0x1d ∷ 0x1e ∷ 0x1f ∷ 0x3c ∷ 0x3d ∷ 0x3e ∷ 0x3f ∷ 0x5c ∷ 0x5d ∷ 0x5e ∷ 0x7c ∷ 0x7d ∷ 0x7e ∷ 0x9c ∷ 0x9d ∷

@@ -16,17 +16,18 @@ abbrev pub value_limit : Kind → Option ℕ → List ℕ → ℕ
 value_limit kind (Some limit) value = max (least_limit kind) limit
 value_limit kind None value = max (least_limit kind) (length value)
 
--- each piece has as many bytes as the limit, but for the last one, which has at most as many, and at least one
+-- each piece has as many bytes as the limit, but for the last one, which has at most as many, and at least one (RFC
+-- 7049, 2.2.2)
 abbrev pub AreFullPieces : ℕ → List (List ℕ) → Type 0
 AreFullPieces limit [] = ⊥
 AreFullPieces limit (piece ∷ []) = (0 < length piece) × (length piece ≤ limit)
 AreFullPieces limit (piece ∷ following ∷ others) = (length piece ≡ limit) × AreFullPieces limit (following ∷ others)
 
--- the pieces of bytes that are longer than the limit
+-- the pieces of bytes that are longer than the limit: as many bytes as that, and the remainder last (RFC 7049, 2.2.2)
 abbrev pub AreBytePieces : ℕ → List ℕ → List (List ℕ) → Type 0
 AreBytePieces limit value members = (value ≡ joined members) × AreFullPieces limit members
 
--- the pieces of a text that is longer than the limit
+-- the pieces of a text that is longer than the limit: a full cut of it (RFC 7049, 2.2.2)
 abbrev pub AreTextPieces : ℕ → List ℕ → List (List ℕ) → Type 0
 AreTextPieces limit value members = IsFullCut value limit members
 
@@ -35,14 +36,14 @@ abbrev pub ArePieces : Kind → ℕ → List ℕ → List (List ℕ) → Type 0
 ArePieces Bytes limit value members = AreBytePieces limit value members
 ArePieces Text limit value members = AreTextPieces limit value members
 
--- `IsWritten kind limit value marks`: the marks of a value under the limit: one string of a definite length where it
--- is no longer than the limit, else its pieces in a string of indefinite length
+-- `IsWritten kind limit value marks`: the marks of a value under the limit: one string of a definite length where it is
+-- no longer than the limit, else its pieces in a string of indefinite length (RFC 7049, 2.2.2)
 pub data IsWritten (kind : Kind) (limit : ℕ) (value : List ℕ) : List Mark → Type 0 where
   in_one : length value ≤ limit → IsWritten kind limit value (Whole kind value ∷ [])
   in_pieces : (members : List (List ℕ)) → limit < length value → ArePieces kind limit value members
       → IsWritten kind limit value (open_marks kind members)
 
--- the segments of what is written: the body of a string of a definite length, or each piece
+-- the segments of what is written: the body of a string of a definite length, which counts as one, or each piece
 abbrev pub segments : List Mark → List (List ℕ)
 segments [] = []
 segments (Plain header ∷ marks) = segments marks
@@ -55,7 +56,8 @@ segments (Close ∷ marks) = segments marks
 abbrev pub segment_count : List Mark → ℕ
 segment_count marks = length (segments marks)
 
--- the segments are texts that aren't empty, and joined they are the text; no cut within the limit has fewer members
+-- the segments are texts that aren't empty, and joined they are the text; no cut of it within the limit has fewer
+-- members
 pub record HasFewestSegments (limit : ℕ) (text : List ℕ) (marks : List Mark) : Type 0 where
   pub cut : IsCut text limit (segments marks)
   pub nonempty : AllByRecursion IsNonempty (segments marks)

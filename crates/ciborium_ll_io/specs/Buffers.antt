@@ -8,7 +8,7 @@ use Rattle.ciborium_ll_io.specs.declared.io.streams.ReadFault.{ReadFault}
 use Rattle.ciborium_ll_io.specs.declared.io.streams.WriteFault.{WriteFault}
 use Rattle.ciborium_ll_io.specs.declared.io.window.Window.{Window}
 
--- the bytes that are held
+-- the bytes that wait in a part of a lent slice
 abbrev pub held : Window → List ℕ
 held w = slice_range w.space.now w.start w.end
 
@@ -25,7 +25,7 @@ module _ {T : Type 0} where
   abbrev pub buffered_ahead : (T → Option (List ℕ)) → BufferedReader T → Option (List ℕ)
   buffered_ahead remaining r = prepend_known (held r.window) (remaining r.source)
 
-  -- the fault of the last read that failed
+  -- the fault of the last read that failed, where one is kept
   abbrev pub buffered_read_fault : BufferedReader T → Option ReadFault
   buffered_read_fault r = r.fault
 
@@ -49,7 +49,7 @@ module _ {T : Type 0} where
   abbrev pub buffered_written : (T → Option (List ℕ)) → BufferedWriter T → Option (List ℕ)
   buffered_written contents w = append_known (contents w.sink) (held w.window)
 
-  -- the fault of the last write or flush that failed
+  -- the fault of the last write or flush that failed, where one is kept
   abbrev pub buffered_write_fault : BufferedWriter T → Option WriteFault
   buffered_write_fault w = w.fault
 

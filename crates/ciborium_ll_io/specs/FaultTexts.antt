@@ -5,12 +5,13 @@ use Rattle.ciborium_ll_io.specs.declared.io.streams.ReadFault.TheVariants as rea
 use Rattle.ciborium_ll_io.specs.declared.io.streams.WriteFault.{WriteFault}
 use Rattle.ciborium_ll_io.specs.declared.io.streams.WriteFault.TheVariants as writing
 
--- of a reader that has ended, and of one that failed
+-- what `{}` writes of an error of `StdReader`: that it has ended, or what std's own error says, which is open (`None`)
 abbrev pub read_fault_text : ReadFault → Option (List ℕ)
 read_fault_text reading.End = Some (codes "the reader has ended")
 read_fault_text (reading.Failed error) = None
 
--- of a writer that takes nothing, and of one that failed
+-- what `{}` writes of an error of `StdWriter`: that it takes nothing, or what std's own error says, which is open
+-- (`None`)
 abbrev pub write_fault_text : WriteFault → Option (List ℕ)
 write_fault_text writing.Zero = Some (codes "the writer takes no more bytes")
 write_fault_text (writing.Failed error) = None

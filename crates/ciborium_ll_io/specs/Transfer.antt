@@ -1,5 +1,6 @@
--- What a write does to the bytes and the room that a writer tells. A read consumes bytes by std's `Consumes`,
--- and a write appends them by std's `Appends`.
+-- What a read and a write do to the bytes that a reader and a writer tell. A reader may tell the bytes ahead, a writer
+-- the bytes written and its room. What is not told, nothing is said of. Std has `Consumes old new bytes` (the bytes
+-- ahead began with these, and they are gone) and `Appends old new bytes`.
 use Rattle.std.specs.Prelude.{◌≡◌, ℕ, ◌+◌, ◌<◌, ◌≤◌, List, length, take, ⊤, None, Some}
 use Rattle.std.specs.Borrow.{GName}
 use Rattle.std.specs.Io.KnownBytes.{Appends, Consumes}
@@ -16,7 +17,7 @@ abbrev pub AppendsFirst : Option (List ℕ) → Option (List ℕ) → Option ℕ
 AppendsFirst written written' room room' bytes count =
     Appends written written' (take count bytes) × Shrinks room room' count × (count ≤ length bytes)
 
--- a beginning of the bytes was appended
+-- a beginning of the bytes was appended, and a room that is told is less by as many
 abbrev pub AppendsFront : Option (List ℕ) → Option (List ℕ) → Option ℕ → Option ℕ → List ℕ → Type 0
 AppendsFront written written' room room' bytes = (count : ℕ) × AppendsFirst written written' room room' bytes count
 
@@ -28,7 +29,9 @@ AppendsPart written written' bytes = (count : ℕ) × Appends written written' (
 abbrev pub ConsumesPart : Option (List ℕ) → Option (List ℕ) → List ℕ → Type 0
 ConsumesPart ahead ahead' bytes = (count : ℕ) × Consumes ahead ahead' (take count bytes) × (count < length bytes)
 
--- a slice that was lent to a writer: the name of the loan, and the bytes that stood in it then
+-- a slice that was lent to a writer: the name of the loan, and the bytes that stood in it then. No call changes it, so
+-- who lent the slice knows that the writer is still on it, whatever generic call had that writer, and thus which bytes
+-- stand in it
 pub record Target : Type 0 where
   pub loan : GName
   pub before : List ℕ

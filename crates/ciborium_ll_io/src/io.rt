@@ -23,7 +23,7 @@ pub use self::failures::Failures;
 pub use self::slices::{EndOfFile, OutOfSpace, SliceReader, SliceWriter};
 pub use self::streams::{ReadFault, StdReader, StdWriter, WriteFault};
 
-/// A source of bytes.
+/// A source of bytes. Each call that fails raises `failures` by one, and no other does.
 pub trait Read {
     /// Why a read failed.
     type Error;
@@ -37,7 +37,8 @@ pub trait Read {
     /// How many calls failed so far.
     ghost failures: { Self → ℕ };
 
-    /// Fills the whole of `data` with the next bytes, or fails.
+    /// Fills the whole of `data` with the next bytes, or fails. On `Ok` just these bytes are gone. A steady reader
+    /// fails only where they are missing, and keeps what there is.
     ///
     /// After a failure the contents of `data` are open, and nothing is known of the bytes to come unless the
     /// reader is steady.
@@ -56,7 +57,7 @@ pub trait Read {
     ghost steady_is_told: { (reader : Self) → IsTrue (steady reader) → IsSome (ahead reader) };
 }
 
-/// A sink of bytes.
+/// A sink of bytes. Each call that fails raises `failures` by one, and no other does.
 pub trait Write {
     /// Why a write failed.
     type Error;
@@ -70,10 +71,14 @@ pub trait Write {
     /// How many calls failed so far.
     ghost failures: { Self → ℕ };
 
-    /// What a flush that succeeds does to the writer, as it was before and as it is behind.
+    /// What a flush that succeeds does to the writer, as it was before and as it is behind. Of a slice, of a `Discard`
+    /// and of a `Vec` the bytes written are the same; of a writer of std they are where that tells them, and of a
+    /// buffered one nothing is kept back any more besides; an `Encoder` says what its writer says.
     ghost flushed: { Self → Self → Type 0 };
 
-    /// The lent slice that it writes into, where the writer tells it. No call changes it.
+    /// The lent slice that it writes into, where the writer tells it. No call changes it. A `SliceWriter` tells it, and
+    /// an `Encoder` what its writer tells; others tell none. So who lent the slice knows that the writer is still on
+    /// it, whatever generic call had that writer.
     ghost target: { Self → Option Target };
 
     /// Appends the whole of `data`, or fails with a beginning of it appended. It does not fail where the room is
@@ -90,7 +95,8 @@ pub trait Write {
 
         ensures target { target self.new ≡ target self.old };
 
-    /// Passes on what was kept back, if anything was. A writer that tells its room keeps nothing back.
+    /// Passes on what was kept back, if anything was. A writer that tells its room keeps nothing back: its bytes and
+    /// its room stay as they are. What an `Ok` means the writer says itself (`flushed`).
     fn flush(&mut self) -> Result<(), Self::Error>
         ensures bytes { IsSome (room self.old) → written self.new ≡ written self.old }
         ensures room { IsSome (room self.old) → room self.new ≡ room self.old }

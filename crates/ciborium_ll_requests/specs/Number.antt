@@ -14,7 +14,8 @@ most_size = 65536
 abbrev pub most_depth : ℕ
 most_depth = 256
 
--- the word has digits alone, of which the first is a zero only where it is the only one, and the number is their value
+-- the word has digits alone, of which the first is a zero only where it is the only one, and the number is their value.
+-- It is at most 4294967295
 pub record IsNumber (word : List ℕ) (n : ℕ) : Type 0 where
   pub numeral : IsNumeral 10 word
   pub shortest : slice_index word 0 ≡ 48 → length word ≡ 1

@@ -22,7 +22,7 @@ abbrev pub IsWriteError : WriteFault → ToolError → Type 0
 IsWriteError w.Zero error = fault_of error ≡ f.Write
 IsWriteError (w.Failed own) error = error ≡ e.Write own
 
--- the fault of an error that stopped a copy
+-- the fault of an error that ended a copy of raw bytes
 abbrev pub fault_of_copy : RecodeError ReadFault WriteFault → Fault
 fault_of_copy (r.Read (d.Io error)) = f.Read
 fault_of_copy (r.Read (d.Syntax place)) = f.Syntax place
@@ -38,7 +38,7 @@ fault_text f.Read = codes "read"
 fault_text f.Write = codes "write"
 fault_text f.Memory = codes "memory"
 
--- what the error of a run says to a person. What std's own error says is open
+-- what `{}` writes of the error of a run. What std's own error says is open (`None`)
 abbrev pub tool_error_text : ToolError → Option (List ℕ)
 tool_error_text e.Memory = Some (codes "there is no memory left")
 tool_error_text (e.Read error) = None

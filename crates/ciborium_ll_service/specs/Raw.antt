@@ -54,7 +54,10 @@ module _ {R W : Type 0} (left : R → List ℕ → Type 0) (got : W → List ℕ
     pub rest : left reader front.rest
 
 module _ {R W E F : Type 0} (left : R → List ℕ → Type 0) (got : W → List ℕ → Type 0) where
-  -- the copy of so many elements through a buffer of 64 bytes, by its answer
+  -- what a copy of so many elements between a reader and a writer of std does, through a buffer of 64 bytes, by its
+  -- answer. It is stated over what is said of the bytes that are left, and of those that the writer got: just these
+  -- (`Tells`), these but for some at the end (`TellsFront`), that only where the flush behind the copy failed
+  -- (`TellsFlushed`), or nothing (`Untold`)
   abbrev pub CopiesRaw : ℕ → List ℕ → List ℕ → Result (Unit {0}) (RecodeError E F) → R → W → Type 0
   CopiesRaw count due written (Ok done) reader writer = CopiesCount left got count due written reader writer
   CopiesRaw count due written (Err (r.Read (e.Io fault))) reader writer = ReadsShort got count due written writer

@@ -25,16 +25,27 @@ pub fn elements<T: Write>(
     let mut space = vec![in alloc; 0u8; length]?;
     let mut encoder = Encoder::from(SliceWriter::new(space.as_mut_slice()));
     let last = copied(&mut decoder, &mut encoder, count);
+    let writer = encoder.into_inner();
+    let reader = decoder.into_inner();
+    told(alloc, last, writer.written(), reader.left(), sink)
+}
+
+/// Says what was written, and what is left or why the copy stopped. Where it stopped for want of room that is all.
+fn told<T: Write>(
+    alloc: Global,
+    last: Option<Last>,
+    written: &[u8],
+    left: &[u8],
+    sink: &mut T,
+) -> fmt::Result {
     if let Some(Last::Room) = last {
         return writeln!(sink, "{}", Last::Room);
     }
-    let writer = encoder.into_inner();
-    let output = word_of(alloc, writer.written())?;
+    let output = word_of(alloc, written)?;
     if let Some(last) = last {
         return writeln!(sink, "{output} {last}");
     }
-    let reader = decoder.into_inner();
-    let rest = word_of(alloc, reader.left())?;
+    let rest = word_of(alloc, left)?;
     writeln!(sink, "{output} rest {rest}")
 }
 

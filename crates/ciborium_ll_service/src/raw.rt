@@ -19,6 +19,9 @@ const ROOM: usize = 8192;
 ///
 /// Bytes behind the last element stay with the reader. The flush comes after a failure too. The error is that of the
 /// copy, else `Write` where the flush failed.
+///
+/// Where bytes are told on both sides, `Ok` and `Syntax` mean what they do of `recode`; after another error the writer
+/// got the spelling of a part of the elements, or a beginning of it.
 pub fn raw<R: io::Read, W: io::Write>(
     reader: R,
     writer: W,
@@ -58,6 +61,9 @@ pub struct BufferedCopy<R, W> {
 ///
 /// The flush comes after a failure too. A write that fails is told by the call that passes it on, which may come behind
 /// a read that failed, or be the flush.
+///
+/// Where bytes are told on both sides it is the same but for bytes that were read ahead. The faults of the copy and of
+/// the flush are told, and only where the flush failed may the writer lack bytes.
 pub fn raw_buffered<R: io::Read, W: io::Write>(
     reader: R,
     writer: W,

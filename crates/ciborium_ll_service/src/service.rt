@@ -73,6 +73,8 @@ impl From<WriteFault> for ToolError {
 /// The errors are `Memory`, after the line `error: memory` where that can still be written; `Read` where the
 /// reader failed; and `Write` where the writer failed or took no byte of some. The answers to the lines before
 /// were then written, and of a `Write` some of the next answer may be.
+///
+/// It is safe and returns; what it reads and writes no clause says.
 pub fn run<R: io::Read + Drop, W: io::Write + Drop>(
     alloc: Global,
     reader: R,

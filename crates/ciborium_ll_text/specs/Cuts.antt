@@ -11,7 +11,7 @@ IsMember limit member = IsCharacters member × (length member ≤ limit)
 abbrev pub IsNonempty : List ℕ → Type 0
 IsNonempty member = 0 < length member
 
--- the members joined are the text
+-- the members joined are the text, and each is a text of at most as many bytes as the limit (RFC 7049, 2.2.2)
 pub record IsCut (text : List ℕ) (limit : ℕ) (members : List (List ℕ)) : Type 0 where
   pub whole : text ≡ joined members
   pub each : AllByRecursion (IsMember limit) members
@@ -27,7 +27,7 @@ AreFilled limit [] = Unit {0}
 AreFilled limit (member ∷ []) = Unit {0}
 AreFilled limit (member ∷ following ∷ members) = IsFilled limit member following × AreFilled limit (following ∷ members)
 
--- a cut into members that aren't empty, of which each but the last is filled
+-- a cut into members that aren't empty, of which each but the last is filled: it has no room for the next character
 pub record IsFullCut (text : List ℕ) (limit : ℕ) (members : List (List ℕ)) : Type 0 where
   pub cut : IsCut text limit members
   pub nonempty : AllByRecursion IsNonempty members

@@ -3,7 +3,7 @@ use Rattle.std.specs.Prelude.{ℕ}
 use Rattle.ciborium_ll_text.specs.declared.state.State.{State}
 use Rattle.ciborium_ll_text.specs.declared.state.State.TheVariants as s
 
--- six bits for each state
+-- which bits of a row of the table tell of this state: six for each
 abbrev pub shift_of : State → ℕ
 shift_of s.Between = 0
 shift_of s.OneDue = 6

@@ -8,7 +8,8 @@ use Rattle.ciborium_ll_text.specs.declared.state.State.TheVariants as s
 unfoldable pub is_from : ℕ → ℕ → ℕ → Bool
 is_from lowest highest byte = nat_le lowest byte && nat_le byte highest
 
--- the state behind a first byte, by the first column of the table
+-- the state behind a first byte, by the first column of the table: how many bytes are due and from where to where the
+-- next one is, or that no text goes on (Unicode, Table 3-7)
 unfoldable pub after_first : ℕ → State
 after_first byte =
     if is_from 0x00 0x7f byte then s.Between
@@ -26,8 +27,8 @@ after_first byte =
 unfoldable pub after_next : ℕ → ℕ → State → ℕ → State
 after_next lowest highest state byte = if is_from lowest highest byte then state else s.Damaged
 
--- the state behind one more byte, by the further columns of the table: only the second byte's range depends on the
--- first
+-- the state behind one more byte, by the further columns of the table: only behind e0, ed, f0 and f4 the next byte has
+-- a range of its own (Unicode, Table 3-7)
 abbrev pub after_byte : State → ℕ → State
 after_byte s.Between byte = after_first byte
 after_byte s.OneDue byte = after_next 0x80 0xbf s.Between byte
@@ -39,7 +40,8 @@ after_byte s.BehindF0 byte = after_next 0x90 0xbf s.TwoDue byte
 after_byte s.BehindF4 byte = after_next 0x80 0x8f s.TwoDue byte
 after_byte s.Damaged byte = s.Damaged
 
--- the state behind more bytes
+-- the state behind more bytes. By the laws `text_by_state` and `damage_by_state` bytes are text just where it is
+-- `Between`, from `Between` on, and a text begins with them just where it is not `Damaged`
 abbrev pub after : State → List ℕ → State
 after state [] = state
 after state (byte ∷ bytes) = after (after_byte state byte) bytes

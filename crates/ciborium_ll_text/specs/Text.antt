@@ -10,7 +10,8 @@ IsFrom lowest highest byte = (lowest ≤ byte) × (byte ≤ highest)
 abbrev pub IsTail : ℕ → Type 0
 IsTail byte = IsFrom 0x80 0xbf byte
 
--- the bytes of one character: the nine rows of Unicode's Table 3-7
+-- the bytes of one character: the nine rows of Unicode's Table 3-7, which say which bytes may stand first, second,
+-- third and fourth
 pub data IsCharacter : List ℕ → Type 0 where
   row1 : {a : ℕ} → IsFrom 0x00 0x7f a → IsCharacter (a ∷ [])
   row2 : {a b : ℕ} → IsFrom 0xc2 0xdf a → IsTail b → IsCharacter (a ∷ b ∷ [])
@@ -29,7 +30,7 @@ abbrev pub joined : List (List ℕ) → List ℕ
 joined [] = []
 joined (list ∷ lists) = list ++ joined lists
 
--- the bytes are text: characters, joined (Unicode, Table 3-7)
+-- the bytes are text: characters, joined (Unicode, Table 3-7). By the law `same_text` this is std's UTF-8
 pub record IsCharacters (bytes : List ℕ) : Type 0 where
   pub characters : List (List ℕ)
   pub each : AllByRecursion IsCharacter characters

@@ -11,7 +11,7 @@ use Rattle.ciborium_ll.specs.Elements.{body_spelling}
 use Rattle.ciborium_ll.specs.Decoding.{PullsTitle}
 use Rattle.ciborium_ll.specs.Encoding.{WritesBytes, WritesValue}
 use Rattle.ciborium_ll.proofs.EncodingLaws.{WritesBytes-stopped, WritesBytes-then}
-use Rattle.ciborium_ll_uses.specs.Sums.{SumsArray, SumsBehind}
+use Rattle.ciborium_ll_uses.specs.Sums.{SumsOrStops, SumsBehind}
 use Rattle.ciborium_ll_uses.specs.declared.sums.SumError.{SumError}
 use Rattle.ciborium_ll_uses.proofs.MapLaws.{text_bytes}
 use Rattle.ciborium_ll_uses.proofs.SumLaws.{opens_array}
@@ -20,7 +20,7 @@ module _ {R E : Type 0} (source : Reader R E) where
   -- the header of an array was pulled of a decoder that was asked for its offset, and its integers were added
   pub array_sums : (len : Option ℕ) (old asked opened new : Decoder R) (header : Header) (result : Result ℤ (SumError E))
       → asked ≡ old → header ≡ h.Array len → PullsTitle source asked header opened
-      → SumsBehind source (h.Array len) opened result new → SumsArray source old result new
+      → SumsBehind source (h.Array len) opened result new → SumsOrStops source old result new
   array_sums len old asked opened new header result same array pulled sums =
       opens_array source len old opened new result (rw (same, array) at pulled) sums
 

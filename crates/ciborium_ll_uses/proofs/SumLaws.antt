@@ -8,7 +8,7 @@ use Rattle.ciborium_ll.proofs.DecodingLaws.{Passes-none, Passes-pull}
 use Rattle.ciborium_ll.proofs.NestLaws.{title_some}
 use Rattle.ciborium_ll_uses.specs.declared.sums.SumError.{SumError}
 use Rattle.ciborium_ll_uses.specs.declared.sums.SumError.TheVariants as s
-use Rattle.ciborium_ll_uses.specs.Sums.{HaveSum, none, more, AddsInteger, ReadsIntegers, SumsArray, SumsBehind}
+use Rattle.ciborium_ll_uses.specs.Sums.{HaveSum, none, more, AddsInteger, ReadsIntegers, SumsOrStops, SumsBehind}
 
 module _ {R E : Type 0} (source : Ghosts R E) where
   pub reads_none : (old : Decoder R) → ReadsIntegers source old 0 (pos 0) old
@@ -33,7 +33,7 @@ module _ {R E : Type 0} (source : Ghosts R E) where
   -- what is said of the integers is said of the array
   pub opens_array : (len : Option ℕ) (old opened new : Decoder R) (result : Result ℤ (SumError E))
       → PullsTitle source old (h.Array len) opened → SumsBehind source (h.Array len) opened result new
-      → SumsArray source old result new
+      → SumsOrStops source old result new
   opens_array len old opened new (Ok total) pulled sums = record
       { len = len; opened = opened; pulled = pulled; sums = sums }
   opens_array len old opened new (Err (s.Read error)) pulled sums =

@@ -42,7 +42,7 @@ abbrev pub IsPayload : List ℕ → ℕ → Option Span → Type 0
 IsPayload bytes at None = bytes ≡ 0xf6 ∷ []
 IsPayload bytes at (Some span) = IsByteString bytes at span
 
--- the bytes begin with a tagged COSE_Sign1: tag 18, an array of four, and its parts at these places
+-- the bytes begin with a tagged COSE_Sign1: tag 18, an array of four, and its parts at these places (RFC 9052, 4.2)
 pub record BeginsSign1 (bytes : List ℕ) (parts : Sign1) : Type 0 where
   pub protected : List ℕ
   pub unprotected : List ℕ
@@ -58,13 +58,15 @@ pub record BeginsSign1 (bytes : List ℕ) (parts : Sign1) : Type 0 where
 
 -- ---- how far a read comes
 
--- the header of a byte string of a definite length, of a payload, of a map
+-- the header of a byte string of a definite length
 abbrev pub BeginsBytes : Header → Type 0
 BeginsBytes header = (len : ℕ) × (header ≡ h.Bytes (Some len))
 
+-- the header of a payload: null, or that of such a byte string (RFC 9052, 4.2)
 abbrev pub BeginsPayload : Header → Type 0
 BeginsPayload header = (header ≡ h.Simple 22) ⊎ BeginsBytes header
 
+-- the header of a map
 abbrev pub BeginsMap : Header → Type 0
 BeginsMap header = (len : Option ℕ) × (header ≡ h.Map len)
 
@@ -86,7 +88,7 @@ IsAllowed UnprotectedDue header = BeginsMap header
 IsAllowed PayloadDue header = BeginsPayload header
 IsAllowed SignatureDue header = BeginsBytes header
 
--- `Reaches bytes due`: the bytes are a beginning of a tagged COSE_Sign1, behind which this is due
+-- `Reaches bytes due`: the bytes are a beginning of a tagged COSE_Sign1, behind which this is due (RFC 9052, 4.2)
 pub data Reaches : List ℕ → Due → Type 0 where
   to_tag : Reaches [] TagDue
   to_array : Reaches (0xd2 ∷ []) ArrayDue

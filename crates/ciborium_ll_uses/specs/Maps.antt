@@ -6,7 +6,7 @@ use Rattle.ciborium_ll.specs.Strings.{Text}
 use Rattle.ciborium_ll.specs.Elements.{body_spelling}
 use Rattle.ciborium_ll_uses.specs.declared.maps.Entry.{Entry}
 
--- the key and then the value, each behind the shortest title of its length
+-- the key and then the value, each behind the shortest title of its length (RFC 7049, 2.1 and 3.9)
 abbrev pub entry_bytes : Entry → List ℕ
 entry_bytes entry = body_spelling Text entry.key.now ++ body_spelling Text entry.value.now
 
@@ -15,6 +15,6 @@ abbrev pub entries_bytes : List Entry → List ℕ
 entries_bytes [] = []
 entries_bytes (entry ∷ entries) = entry_bytes entry ++ entries_bytes entries
 
--- the shortest title with their count, and the pairs
+-- the shortest title with their count, and the pairs (RFC 7049, 2.1 and 3.9)
 abbrev pub map_bytes : List Entry → List ℕ
 map_bytes entries = shortest_title (h.Map (Some (length entries))) ++ entries_bytes entries

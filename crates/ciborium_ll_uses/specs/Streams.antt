@@ -18,8 +18,8 @@ module _ {R E W F : Type 0} (source : Reader R E) (sink : Writer W F) where
     pub ahead : source.ahead reader ≡ Some due
     pub output : sink.written writer ≡ Some written
 
-  -- they do, the reader fails only where bytes are missing, the offset fits, and the writer has room: for the spelling
-  -- of the elements where they stand in front, else for as many bytes as are due
+  -- both tell their bytes, the reader fails only where bytes are missing, the offset fits, and the writer has room: for
+  -- the spelling of the elements where they stand in front, else for as many bytes as are due
   pub record AreReady (count : ℕ) (reader : R) (writer : W) (due written : List ℕ) : Type 0 where
     pub tell : TellBytes reader writer due written
     pub steady : IsTrue (source.steady reader)
@@ -72,8 +72,8 @@ module _ {R E W F : Type 0} (source : Reader R E) (sink : Writer W F) where
 
   -- ---- both, by the answer
 
-  -- a copy where all is ready: an error of the reader's side names the first fault, and one of the writer's is that of
-  -- the flush
+  -- what `normalise` does where all is ready: an error of the reader's side names the first fault, and one of the
+  -- writer's is that of the flush
   abbrev pub IsNormalised : ℕ → List ℕ → List ℕ → Result (Unit {0}) (RecodeError E F) → R → W → Type 0
   IsNormalised count due written (Ok done) reader writer = Normalises count due written reader writer
   IsNormalised count due written (Err (r.Read (e.Io fault))) reader writer =
@@ -84,7 +84,7 @@ module _ {R E W F : Type 0} (source : Reader R E) (sink : Writer W F) where
   IsNormalised count due written (Err (r.Read e.Waiting)) reader writer = ⊥
   IsNormalised count due written (Err (r.Write fault)) reader writer = CopiesSo count due written reader writer
 
-  -- a copy whatever fails
+  -- what `normalise` does, whatever fails
   abbrev pub NormalisesAnyhow : ℕ → List ℕ → List ℕ → Result (Unit {0}) (RecodeError E F) → R → W → Type 0
   NormalisesAnyhow count due written (Ok done) reader writer = Normalises count due written reader writer
   NormalisesAnyhow count due written (Err (r.Read (e.Io fault))) reader writer = StopsReading count due written writer

@@ -7,7 +7,7 @@ use Rattle.ciborium_ll.specs.Types.Header.{Header}
 use Rattle.ciborium_ll.specs.Types.Header.TheVariants as h
 use Rattle.ciborium_ll.specs.Types.Decoder.{Decoder}
 use Rattle.ciborium_ll.specs.Title.{IsTitle}
-use Rattle.ciborium_ll.specs.Decoding.{Passes, PullsHeader, PullsTitle}
+use Rattle.ciborium_ll.specs.Decoding.{MovesOn, Passes, PullsHeader, PullsTitle}
 use Rattle.ciborium_ll_uses.specs.declared.sums.SumError.{SumError}
 use Rattle.ciborium_ll_uses.specs.declared.sums.SumError.TheVariants as s
 
@@ -17,7 +17,7 @@ IsInteger (h.Positive n) number = number ≡ pos n
 IsInteger (h.Negative n) number = number ≡ negsuc n
 IsInteger header number = ⊥
 
--- `HaveSum count bytes total`: the bytes are titles of so many integers, and the total is their sum
+-- `HaveSum count bytes total`: the bytes are titles of so many integers, and the total is their sum (RFC 7049, 2.1)
 pub data HaveSum : ℕ → List ℕ → ℤ → Type 0 where
   none : HaveSum zero [] (pos 0)
   more : {count : ℕ} {bytes title : List ℕ} {total : ℤ} {header : Header} (number : ℤ) → HaveSum count bytes total
@@ -57,7 +57,7 @@ module _ {R E : Type 0} (source : Ghosts R E) where
   StopsNext total old (s.NoNumber at) new = MeetsNoInteger old at new
   StopsNext total old (s.OutOfRange at) new = PassesRange total old at new
 
-  -- the sum with one integer more, or a break
+  -- the sum with one integer more, or a break (RFC 7049, 2.1 and 2.2.1)
   abbrev pub AddsNext : ℤ → Decoder R → Result (Option ℤ) (SumError E) → Decoder R → Type 0
   AddsNext total old (Ok (Some sum)) new = AddsInteger total old sum new
   AddsNext total old (Ok None) new = PullsTitle source old h.Break new
@@ -83,14 +83,14 @@ module _ {R E : Type 0} (source : Ghosts R E) where
   ArrayGoesOn (h.Array None) count = Unit {0}
   ArrayGoesOn header count = ⊥
 
-  -- all integers of the array were read
+  -- all integers of the array were read (RFC 7049, 2.1 and 2.2.1)
   pub record SumsAll (header : Header) (old : Decoder R) (total : ℤ) (new : Decoder R) : Type 0 where
     pub count : ℕ
     pub between : Decoder R
     pub reads : ReadsIntegers old count total between
     pub ends : EndsArray header count between new
 
-  -- some were read, and no sum with one more came
+  -- some were read, and no sum with one more came (RFC 7049, 2.1 and 2.2.1)
   pub record SumStops (header : Header) (old : Decoder R) (error : SumError E) (new : Decoder R) : Type 0 where
     pub count : ℕ
     pub total : ℤ
@@ -118,11 +118,16 @@ module _ {R E : Type 0} (source : Ghosts R E) where
     pub place : at ≡ old.offset
     pub no_array : (len : Option ℕ) → header ≡ h.Array len → ⊥
 
-  -- the sum of an array of integers, by the answer
-  abbrev pub SumsArray : Decoder R → Result ℤ (SumError E) → Decoder R → Type 0
-  SumsArray old (Ok total) new = OpensArray old (Ok total) new
-  SumsArray old (Err (s.Read error)) new =
+  -- the sum of an array, or why there is none, by the answer (RFC 7049, 2.1)
+  abbrev pub SumsOrStops : Decoder R → Result ℤ (SumError E) → Decoder R → Type 0
+  SumsOrStops old (Ok total) new = OpensArray old (Ok total) new
+  SumsOrStops old (Err (s.Read error)) new =
       PullsHeader source old (Err error) new ⊎ OpensArray old (Err (s.Read error)) new
-  SumsArray old (Err (s.NoArray at)) new = MeetsNoArray old at new
-  SumsArray old (Err (s.NoNumber at)) new = OpensArray old (Err (s.NoNumber at)) new
-  SumsArray old (Err (s.OutOfRange at)) new = OpensArray old (Err (s.OutOfRange at)) new
+  SumsOrStops old (Err (s.NoArray at)) new = MeetsNoArray old at new
+  SumsOrStops old (Err (s.NoNumber at)) new = OpensArray old (Err (s.NoNumber at)) new
+  SumsOrStops old (Err (s.OutOfRange at)) new = OpensArray old (Err (s.OutOfRange at)) new
+
+  -- what `sum_numbers` does, and what it keeps: the decoder stays as strict as it was, and its offset never falls
+  pub record SumsArray (old : Decoder R) (result : Result ℤ (SumError E)) (new : Decoder R) : Type 0 where
+    pub sums : SumsOrStops old result new
+    pub moves_on : MovesOn source old new

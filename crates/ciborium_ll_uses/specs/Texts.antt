@@ -45,7 +45,7 @@ module _ {R E : Type 0} (source : Ghosts R E) where
   -- ---- how it is read
 
   -- `Gathers progress old bodies progress' new`: `advance` announced so many bodies, one after the other, and each was
-  -- read whole, so that the decoder is behind it
+  -- read whole, so that the decoder is behind it (RFC 7049, 2.1 and 2.2.2)
   pub data Gathers (progress : Progress) (old : Decoder R) : List (List ℕ) → Progress → Decoder R → Type 0 where
     none : Gathers progress old [] progress old
     more : {bodies : List (List ℕ)} {last : Progress} {now titled new : Decoder R} (body : Body)
@@ -79,7 +79,7 @@ module _ {R E : Type 0} (source : Ghosts R E) where
     pub back : TakesBack source titled (h.Text len) pushed
     pub done : Done pushed new
 
-  -- the header of a text came, and its segments were read up to the end of the string
+  -- the header of a text came, and its segments were read up to the end of the string (RFC 7049, 2.1 and 2.2.2)
   abbrev pub GathersText : ℕ → Decoder R → List ℕ → Decoder R → Type 0
   GathersText limit old text new = IsBehindHeader (λ pushed left. GathersAll limit (p.Open 0) pushed text left) old new
 
@@ -124,7 +124,7 @@ module _ {R E : Type 0} (source : Ghosts R E) where
     pub goes_on : GoesOn progress old bodies (Ok (Some body)) titled
     pub stops : BodyStops body titled error new
 
-  -- why the segments of a text were not read whole
+  -- why the segments of a text were not read whole (RFC 7049, 2.2.2)
   abbrev pub SegmentsStop : ℕ → Progress → Decoder R → TextError E → Decoder R → Type 0
   SegmentsStop limit progress old (t.Read error) new =
       FailsAtTitle progress old error new ⊎ StopsInBody progress old (t.Read error) new
@@ -138,7 +138,8 @@ module _ {R E : Type 0} (source : Ghosts R E) where
   StopsInText limit old error new =
       IsBehindHeader (λ pushed left. SegmentsStop limit (p.Open 0) pushed error left) old new
 
-  -- why no text was read
+  -- why `read_string` gave no text: `pull` failed, a header came that begins none, or its segments were not read whole
+  -- (RFC 7049, 2.1)
   abbrev pub StopsText : ℕ → Decoder R → TextError E → Decoder R → Type 0
   StopsText limit old (t.Read error) new =
       PullsHeader source old (Err error) new ⊎ StopsInText limit old (t.Read error) new

@@ -75,6 +75,9 @@ impl<E> From<SkipError<E>> for CoseError<E> {
 /// `Unexpected` names the offset of a title that may not stand there. `Read` carries the decoder's error: `Syntax` with
 /// the offset of a title that is none or not the shortest, and `Io` where the bytes end too early. `Skip` carries the
 /// error of the read of the map.
+///
+/// An error says that the bytes begin as one does, and that behind that beginning a strict decoder failed, a title came
+/// that may not stand there, or the read of a body or of the map failed. Else each span is where that part stands.
 pub fn read_sign1<'a>(bytes: &'a [u8]) -> Result<Sign1, CoseError<EndOfFile>>
     ensures begins { IfOk result (λ parts. BeginsSign1 bytes.now parts) }
     ensures stops { IfErr result (λ error. StopsSign1 ⟦<SliceReader<'a> as Read>⟧ bytes.now error) }

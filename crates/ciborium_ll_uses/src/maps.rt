@@ -15,7 +15,8 @@ pub struct Entry<'a> {
     pub value: &'a str,
 }
 
-/// Writes a map of texts to texts (RFC 7049, 2.1), whose pairs are counted, and each text in one string.
+/// Writes a map of texts to texts (RFC 7049, 2.1), whose pairs are counted, and each text in one string, each title the
+/// shortest.
 ///
 /// The only errors are the writer's. A beginning of the map was then written.
 pub fn write_strings<W: Write>(

@@ -13,8 +13,8 @@ pub const DEPTH: usize = 64;
 
 /// How many bytes in front are one item in its shortest spelling, whatever stands behind it (RFC 7049, 3.9).
 ///
-/// It is `None` where no such item stands in front, with tags, arrays and maps nested at most 64 levels deep. A check
-/// of a message that was signed as bytes may rest on it.
+/// It is `None` exactly where no such item stands in front, with tags, arrays and maps nested at most 64 levels deep. A
+/// check of a message that was signed as bytes may rest on it.
 pub fn shortest_item_len(bytes: &[u8]) -> Option<usize>
     ensures { MatchOption result ((len : ℕ) → ShortestInFront DEPTH bytes.now len → ⊥)
         (λ len. ShortestInFront DEPTH bytes.now len) }

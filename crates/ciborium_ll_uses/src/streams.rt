@@ -13,6 +13,16 @@ use ciborium_ll::{Decoder, Encoder, RecodeError};
 /// The errors are those of `recode`, behind which nothing is flushed, and `Write` where the flush failed. The reader
 /// and the writer are then as `recode` left them: what was read of the elements is gone, and what was written of them
 /// stands in the writer.
+///
+/// Where bytes are told on both sides, `Ok` says that the writer got the shortest spelling of so many elements and was
+/// flushed, and that the reader has what follows them. After `Syntax` the first fault was met, with its place: the
+/// writer has what is written up to it, and the reader what follows what it consumes. After `Io` and `TooLong` the
+/// writer has the spelling of a part of the elements. After `Write` it has a beginning of that, and the reader what
+/// follows what was read; or it had all, and the flush failed.
+///
+/// Where besides the reader is steady, the offset fits, and there is room for the spelling of the elements where that
+/// many are next, else for all that is due, an error of the reader's side comes exactly where fewer elements are in
+/// front, with the first fault, and one of the writer's from the flush alone, with all of them written.
 pub fn normalise<R: Read, W: Write>(
     reader: R,
     writer: W,

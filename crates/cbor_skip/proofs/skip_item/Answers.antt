@@ -11,8 +11,7 @@ returns g c =
     let result = c.skip_items.result in
     let skipped = one_item g.R.Read c.args.depth room old result new c.skip_items.ensures.skipped in
     record {
-      skipped = skipped;
-      moves_on = c.skip_items.ensures.moves_on;
+      skipped = record { skipped = skipped; moves_on = c.skip_items.ensures.moves_on };
       told = λ due ready. skip_told g.R.Read c.args.depth room old due ready new result skipped;
       exactly = λ due ready. skip_exactly g.R.Read c.args.depth room old due ready new result skipped;
       front = λ due told. ok_told g.R.Read c.args.depth room old due told new result skipped;

@@ -28,6 +28,11 @@ returns-in-Value-clause-begun g c = λ depth.
     let plain = value_start (strictness c.args.decoder.now) depth c.in_ok-header.header (sym c.start.ensures ∙ c.in-Value.is) in
     reads_plain g.R.Read c.in_ok-header.ensures.header c.pull_title.ensures.moves_on.steady plain
 
+pub returns-in-Break-clause-rises : goal.returns-in-Break-clause-rises
+returns-in-Break-clause-rises g c = λ ok.
+    let pulled = c.in_ok-header.ensures.header in
+    omega (arith, title_some pulled.title _ pulled.is_title, pulled.offset)
+
 -- ---- strings
 
 pub returns-in_ok-skip_bytes-in-Bytes-clause-begun : goal.returns-in_ok-skip_bytes-in-Bytes-clause-begun

@@ -1,9 +1,7 @@
 //! Headers copied from a decoder to an encoder.
 
-ghost use Rattle.std.specs.Prelude.{◌≡◌, ℕ, List, ◌↔◌, IsOk};
-ghost use Rattle.ciborium_ll_decoder.specs.Decoding.{MovesOn};
-ghost use Rattle.ciborium_ll_encoder.specs.Encoding.{writer_of};
-ghost use Rattle.ciborium_ll_decoder.specs.Copying.{CopiesHeaders, CopiesTold, IsReadyForTitles, TitlesInFront};
+ghost use Rattle.std.specs.Prelude.{ℕ, List, ◌↔◌, IsOk};
+ghost use Rattle.ciborium_ll_decoder.specs.Copying.{CopiesByHeaders, CopiesTold, IsReadyForTitles, TitlesInFront};
 ghost use Rattle.ciborium_ll_decoder.specs.Sides.{sides_of};
 
 use ciborium_ll_decoder::dec::Decoder;
@@ -16,16 +14,18 @@ use ciborium_ll_io::io::{Read, Write};
 /// The errors are `RecodeError::Read` with the answer of the `pull` that failed, behind headers that were all
 /// written, and `RecodeError::Write` with the error of the `push` that failed.
 ///
-/// Where the reader is steady, the writer's room covers what is due and the offset fits, the copy succeeds exactly
-/// where that many titles are next. What it wrote is then their shortest spelling, which it would copy unchanged,
-/// and what follows them is left. Else `Syntax` names the offset of the first byte with which no title begins, or `Io`
-/// says that the bytes end within a title, of which the first byte is gone.
+/// Where the decoder isn't strict, the reader is steady, the writer's room covers what is due and the offset fits, the
+/// copy succeeds exactly where that many titles are next. What it wrote is then their shortest spelling, which it would
+/// copy unchanged, and what follows them is left. Else `Syntax` names the offset of the first byte with which no title
+/// begins, or `Io` says that the bytes end within a title, of which the first byte is gone.
+///
+/// Whatever the answer, the decoder moves on as [`Decoder`] says, and the writer stays on its slice.
 pub fn copy_headers<R: Read, W: Write>(
     decoder: &mut Decoder<R>,
     encoder: &mut Encoder<W>,
     count: usize,
 ) -> Result<(), RecodeError<R::Error, W::Error>>
-    ensures copied { CopiesHeaders R.Read W.Write count (sides_of decoder.old encoder.old) result
+    ensures copied { CopiesByHeaders R.Read W.Write count (sides_of decoder.old encoder.old) result
         (sides_of decoder.new encoder.new) }
     ensures told { (due written : List ℕ)
         → IsReadyForTitles R.Read W.Write (sides_of decoder.old encoder.old) due written
@@ -33,8 +33,6 @@ pub fn copy_headers<R: Read, W: Write>(
     ensures exactly { (due written : List ℕ)
         → IsReadyForTitles R.Read W.Write (sides_of decoder.old encoder.old) due written
         → (IsOk result ↔ TitlesInFront count due) }
-    ensures moves_on { MovesOn R.Read decoder.old decoder.new }
-    ensures target { W.target (writer_of encoder.new) ≡ W.target (writer_of encoder.old) }
 {
     'headers: for _copied in 0..count {
         let header = match decoder.pull() {

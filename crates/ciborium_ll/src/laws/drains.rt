@@ -6,7 +6,8 @@ ghost use Rattle.ciborium_ll_decoder.specs.Decoding.{MovesOn};
 ghost use Rattle.ciborium_ll_encoder.specs.Encoding.{writer_of};
 ghost use Rattle.ciborium_ll_grammar.specs.Strings.{Kind, Text as text_strings, most_kept};
 ghost use Rattle.ciborium_ll_text.specs.Text.{IsCharacters};
-ghost use Rattle.ciborium_ll.specs.Drains.{calls_for, AddUp, Drains, DrainsTold, HasEnded, IsDrainable, IsEnough};
+ghost use Rattle.ciborium_ll.specs.Drains.{calls_for, AddUp, Drains, DrainsSegment, DrainsTold, HasEnded, IsDrainable};
+ghost use Rattle.ciborium_ll.specs.Drains.{IsEnough};
 
 use ciborium_ll_decoder::recode::RecodeError;
 use ciborium_ll_decoder::seg::{Bytes, Chunked, Segment, Text};
@@ -75,10 +76,12 @@ pub fn enough_sizes()
 {}
 
 /// Reads a body of bytes through buffers of the sizes, one `pull` for each, and writes each chunk, until the body has
-/// ended, a call fails or the sizes are used up. Each size is that of the front of `buffer` that one `pull` gets.
+/// ended, a call fails or the sizes are used up. Each size is that of the front of `buffer` that one `pull` gets, so
+/// none may pass its length.
 ///
 /// The errors are `Read` with the error of the `pull` that failed, and `Write` with the writer's; the chunks before it
-/// are written.
+/// are written. In any case what was read is what was written and what is kept, no size is used once those before it
+/// brought all, the decoder moves on, and the writer stays on its slice.
 ///
 /// Where the whole body is there, and the writer has room for it, no call fails. The answer is then `Ended` exactly
 /// where the first few of the sizes add up to the body's length, and one more is there to see its end: the whole body
@@ -90,7 +93,7 @@ pub fn drain_bytes<R: Read, W: Write>(
     sink: &mut Encoder<W>,
 ) -> Result<Drained, RecodeError<R::Error, W::Error>>
     requires fit { All (λ size. size ≤ length buffer.old) sizes.now }
-    ensures drains { Drains R.Read W.Write sizes.now segment.old (writer_of sink.old) result segment.new
+    ensures drains { DrainsSegment R.Read W.Write sizes.now segment.old (writer_of sink.old) result segment.new
         (writer_of sink.new) }
     ensures told { (body written : List ℕ) → IsDrainable R.Read W.Write segment.old (writer_of sink.old) body written
         → DrainsTold R.Read W.Write sizes.now body written segment.old result segment.new (writer_of sink.new) }
@@ -99,18 +102,17 @@ pub fn drain_bytes<R: Read, W: Write>(
     ensures soonest { (body written : List ℕ) (count : ℕ)
         → IsDrainable R.Read W.Write segment.old (writer_of sink.old) body written
         → AddUp sizes.now (length body) count → IfOk result (λ drained. drained.calls ≤ count + 1) }
-    ensures moves_on { MovesOn R.Read (segment_decoder segment.old) (segment_decoder segment.new) }
-    ensures same_reference { segment_reference segment.new ≡ segment_reference segment.old }
-    ensures target { W.target (writer_of sink.new) ≡ W.target (writer_of sink.old) }
 {
     drain::<R, W, Bytes>(segment, sizes, buffer, sink)
 }
 
 /// Reads a body of text through buffers of the sizes, one `pull` for each, and writes each chunk, until the body has
-/// ended, a call fails or the sizes are used up. Each size is that of the front of `buffer` that one `pull` gets.
+/// ended, a call fails or the sizes are used up. Each size is that of the front of `buffer` that one `pull` gets, so
+/// none may pass its length.
 ///
 /// The errors are `Read` with the error of the `pull` that failed, and `Write` with the writer's; the chunks before it
-/// are written.
+/// are written. In any case what was read is what was written and what is kept, no size is used once those before it
+/// brought all, the decoder moves on, and the writer stays on its slice.
 ///
 /// Where the whole body is there, and the writer has room for it, no call fails but for a body that is no text. Where
 /// what the sizes have above 3 each adds up to the body's length, and one more size is there, the answer is `Ended`
@@ -122,16 +124,13 @@ pub fn drain_text<R: Read, W: Write>(
     sink: &mut Encoder<W>,
 ) -> Result<Drained, RecodeError<R::Error, W::Error>>
     requires fit { All (λ size. size ≤ length buffer.old) sizes.now }
-    ensures drains { Drains R.Read W.Write sizes.now segment.old (writer_of sink.old) result segment.new
+    ensures drains { DrainsSegment R.Read W.Write sizes.now segment.old (writer_of sink.old) result segment.new
         (writer_of sink.new) }
     ensures told { (body written : List ℕ) → IsDrainable R.Read W.Write segment.old (writer_of sink.old) body written
         → DrainsTold R.Read W.Write sizes.now body written segment.old result segment.new (writer_of sink.new) }
     ensures any_sizes { (body written : List ℕ) (count : ℕ)
         → IsDrainable R.Read W.Write segment.old (writer_of sink.old) body written
         → IsEnough text_strings sizes.now (length body) count → (HasEnded result ↔ IsCharacters body) }
-    ensures moves_on { MovesOn R.Read (segment_decoder segment.old) (segment_decoder segment.new) }
-    ensures same_reference { segment_reference segment.new ≡ segment_reference segment.old }
-    ensures target { W.target (writer_of sink.new) ≡ W.target (writer_of sink.old) }
 {
     drain::<R, W, Text>(segment, sizes, buffer, sink)
 }

@@ -1,7 +1,7 @@
 //! Laws of headers, and of a header that is given back.
 
 ghost use Rattle.std.specs.Prelude.{◌≡◌, ◌↔◌, IsTrue};
-ghost use Rattle.ciborium_ll_decoder.specs.Decoding.{MovesOn, PullsAgain};
+ghost use Rattle.ciborium_ll_decoder.specs.Decoding.{PullsBack};
 
 use ciborium_ll_decoder::dec::{Decoder, Error};
 use ciborium_ll_grammar::hdr::{Float, Header};
@@ -38,11 +38,10 @@ pub fn copied_float(float: &Float) -> Float
 /// Pulls a header, gives it back and pulls it again: the same header, with the reader and the offset as they were
 /// after the first time.
 ///
-/// The errors are those of the first `pull`, and the second one never fails.
+/// The errors are those of the first `pull`, and the second one never fails. The decoder moves on as [`Decoder`] says.
 #[tactic(auto, using(ciborium_ll_decoder::proofs::DecodingLaws::pulls_again))]
 pub fn pull_again<R: Read>(decoder: &mut Decoder<R>) -> Result<Header, Error<R::Error>>
-    ensures again { PullsAgain R.Read decoder.old result decoder.new }
-    ensures moves_on { MovesOn R.Read decoder.old decoder.new }
+    ensures { PullsBack R.Read decoder.old result decoder.new }
 {
     let header = decoder.pull()?;
     decoder.push(header);

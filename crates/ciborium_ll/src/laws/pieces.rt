@@ -6,11 +6,11 @@ ghost use Rattle.ciborium_ll_grammar.specs.Strings.{Bytes, Text};
 ghost use Rattle.ciborium_ll_grammar.specs.Title.{IsInRange};
 ghost use Rattle.ciborium_ll_grammar.specs.Elements.{Mark, IsRun, spelling};
 ghost use Rattle.ciborium_ll_encoder.specs.Encoding.{writer_of};
-ghost use Rattle.ciborium_ll_decoder.specs.Decoding.{MovesOn};
+ghost use Rattle.ciborium_ll_decoder.specs.Recoding.{Recodes};
 ghost use Rattle.ciborium_ll_decoder.specs.Sides.{sides_of};
 ghost use Rattle.ciborium_ll_decoder.specs.RecodingTold.{IsReady};
-ghost use Rattle.ciborium_ll.specs.Pieces.{AreSpelled, CopiesSame, HasMarks, IsPlainPiece, IsSpelled, WritesElements};
-ghost use Rattle.ciborium_ll.specs.Pieces.{WritesPiece};
+ghost use Rattle.ciborium_ll.specs.Pieces.{AreSpelled, CopiesSame, HasMarks, IsPlainPiece, IsSpelled, WritesPiece};
+ghost use Rattle.ciborium_ll.specs.Pieces.{WritesPieceList};
 
 use ciborium_ll_decoder::dec::Decoder;
 use ciborium_ll_decoder::recode::{RecodeError, recode};
@@ -83,14 +83,14 @@ fn write_piece<W: Write>(encoder: &mut Encoder<W>, piece: &Piece<'_>) -> Result<
 /// What is written is an element for each piece, in its shortest spelling, and the bodies of a value joined are the
 /// value. So a copy of as many elements leaves it as it is, as `copy_spelled` says.
 ///
-/// The only errors are the writer's. A beginning of that spelling was then written.
+/// The only errors are the writer's. A beginning of that spelling was then written, the writer failed once, and a room
+/// that it tells was smaller than that. The writer stays on its slice.
 pub fn write_pieces<W: Write>(
     encoder: &mut Encoder<W>,
     pieces: &[Piece<'_>],
 ) -> Result<(), W::Error>
     requires { All IsPlainPiece pieces.now }
-    ensures elements { WritesElements W.Write pieces.now (writer_of encoder.old) result (writer_of encoder.new) }
-    ensures target { W.target (writer_of encoder.new) ≡ W.target (writer_of encoder.old) }
+    ensures { WritesPieceList W.Write pieces.now (writer_of encoder.old) result (writer_of encoder.new) }
 {
     // By this law pieces behind a failure have a spelling too. It writes nothing.
     spelled_pieces(pieces);
@@ -102,8 +102,8 @@ pub fn write_pieces<W: Write>(
 
 /// Copies elements that are in their shortest spelling, as those of [`write_pieces`] are.
 ///
-/// Where the reader is steady, the writer has room and the offset fits, they are copied unchanged, and just what
-/// follows them is left.
+/// Where the decoder isn't strict, the reader is steady, the writer has room and the offset fits, they are copied
+/// unchanged, and just what follows them is left, whatever the limits and the buffer were.
 pub fn copy_spelled<R: Read, W: Write>(
     decoder: &mut Decoder<R>,
     encoder: &mut Encoder<W>,
@@ -111,12 +111,12 @@ pub fn copy_spelled<R: Read, W: Write>(
     buffer: &mut [u8],
 ) -> Result<(), RecodeError<R::Error, W::Error>>
     requires room { 4 ≤ length buffer.old }
+    ensures copied { Recodes R.Read W.Write count (length buffer.old) (sides_of decoder.old encoder.old) result
+        (sides_of decoder.new encoder.new) }
     ensures same { (marks : List Mark) (rest written : List ℕ) → IsRun count (spelling marks) marks
         → IsReady R.Read W.Write false count (length buffer.old) (sides_of decoder.old encoder.old)
         (spelling marks ++ rest) written
         → CopiesSame R.Read W.Write (spelling marks) rest written result decoder.new (writer_of encoder.new) }
-    ensures moves_on { MovesOn R.Read decoder.old decoder.new }
-    ensures target { W.target (writer_of encoder.new) ≡ W.target (writer_of encoder.old) }
 {
     recode(decoder, encoder, count, buffer)
 }

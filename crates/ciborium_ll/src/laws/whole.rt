@@ -7,7 +7,7 @@ ghost use Rattle.ciborium_ll_grammar.specs.Title.{IsInRange, title_len};
 ghost use Rattle.ciborium_ll_grammar.specs.Strings.{Bytes as byte_strings, Text as text_strings, kind_header};
 ghost use Rattle.ciborium_ll_decoder.specs.Decoding.{MovesOn, TakesBack, offset_of, strict_of, waiting_of};
 ghost use Rattle.ciborium_ll_decoder.specs.Segments.{IsAtBeginning, string_decoder, string_reference, string_strict};
-ghost use Rattle.ciborium_ll.specs.Skipping.{SkipsString};
+ghost use Rattle.ciborium_ll.specs.Skipping.{SkipsOver, SkipsString};
 
 use ciborium_ll_decoder::dec::{Decoder, Error};
 use ciborium_ll_decoder::seg::{Bytes, Chunked, Segments, Text, finish_body};
@@ -15,9 +15,15 @@ use ciborium_ll_io::io::Read;
 
 /// Reads a byte string to its end, behind its header with this length, which was just pulled.
 ///
-/// `Ok` says that one whole string was there, and the decoder is behind it. `Syntax` names the offset of a title that
-/// is none or may not stand within the string. `Io` says that the reader failed, `TooLong` that the offset can't take
-/// the next read. What was read before an error is consumed.
+/// `Ok` says that one whole string was there, and the decoder is behind it: just the rest of the string was consumed,
+/// and of a strict decoder only strings of a definite length stood behind its open, each under a strict title. `Syntax`
+/// names the offset of a title that is none or may not stand within the string. `Io` says that the reader failed,
+/// `TooLong` that the offset can't take the next read. In a string of indefinite length an error stands behind a
+/// beginning of it: there `pull` failed, a title came that may not stand there, or the read of a body failed. In one of
+/// a definite length its body failed as `Segment::finish` fails, with the place where the header's shortest title would
+/// begin. What was read before an error is consumed.
+///
+/// The conditions are those of [`Decoder::bytes`]. The decoder moves on as [`Decoder`] says, and `Waiting` never comes.
 #[tactic(auto, using(crate::proofs::SkipLaws::definite_skipped))]
 pub fn skip_bytes<R: Read>(
     decoder: &mut Decoder<R>,
@@ -27,8 +33,7 @@ pub fn skip_bytes<R: Read>(
     requires room { 4 ≤ length buffer.old }
     requires none_waits { waiting_of decoder.old ≡ None }
     requires covered { title_len (Header.Bytes len) ≤ offset_of decoder.old }
-    ensures skipped { SkipsString R.Read byte_strings len (length buffer.old) decoder.old result decoder.new }
-    ensures moves_on { MovesOn R.Read decoder.old decoder.new }
+    ensures { SkipsOver R.Read byte_strings len (length buffer.old) decoder.old result decoder.new }
 {
     match len {
         Some(length) => finish_body::<R, Bytes>(decoder, length, buffer),
@@ -38,9 +43,9 @@ pub fn skip_bytes<R: Read>(
 
 /// Reads a text string to its end, behind its header with this length, which was just pulled.
 ///
-/// The answers are those of [`skip_bytes`], and `Syntax` also where a body is no text by itself. It then names the
-/// offset of that body's title; where the body is the whole string, the byte from which the header's shortest title
-/// would reach the body.
+/// The conditions are those of [`Decoder::text`], and the answers those of [`skip_bytes`], with each body of the text
+/// UTF-8, and `Syntax` also where a body is no text by itself. It then names the offset of that body's title; where the
+/// body is the whole string, the byte from which the header's shortest title would reach the body.
 #[tactic(auto, using(crate::proofs::SkipLaws::definite_skipped))]
 pub fn skip_text<R: Read>(
     decoder: &mut Decoder<R>,
@@ -50,8 +55,7 @@ pub fn skip_text<R: Read>(
     requires room { 4 ≤ length buffer.old }
     requires none_waits { waiting_of decoder.old ≡ None }
     requires covered { title_len (Header.Text len) ≤ offset_of decoder.old }
-    ensures skipped { SkipsString R.Read text_strings len (length buffer.old) decoder.old result decoder.new }
-    ensures moves_on { MovesOn R.Read decoder.old decoder.new }
+    ensures { SkipsOver R.Read text_strings len (length buffer.old) decoder.old result decoder.new }
 {
     match len {
         Some(length) => finish_body::<R, Text>(decoder, length, buffer),

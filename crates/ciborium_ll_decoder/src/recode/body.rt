@@ -3,8 +3,8 @@
 ghost use Rattle.std.specs.Prelude.{◌≡◌, ◌≤◌, None, length};
 ghost use Rattle.ciborium_ll_decoder.specs.Chunks.{IsWhole, segment_decoder, segment_reference};
 ghost use Rattle.ciborium_ll_decoder.specs.Decoding.{MovesOn, waiting_of};
-ghost use Rattle.ciborium_ll_decoder.specs.Recoding.{CopiesBody};
-ghost use Rattle.ciborium_ll_decoder.specs.Segments.{progress_of, string_decoder, string_reference, string_strict};
+ghost use Rattle.ciborium_ll_decoder.specs.Recoding.{CopiesBody, CopiesSegment};
+ghost use Rattle.ciborium_ll_decoder.specs.Segments.{string_decoder};
 ghost use Rattle.ciborium_ll_decoder.specs.Sides.{sides};
 
 use super::RecodeError;
@@ -16,8 +16,13 @@ impl<'r, R: Read, P: Chunked> Segments<'r, R, P> {
     /// handed out, by pulls through `buffer`.
     ///
     /// `Ok` says that the whole body was read and written, and that it is UTF-8 where it is of a text: the decoder is
-    /// then behind it. `Read` carries the decoder's error, one of those of [`Segments::finish`]. `Write` carries the
-    /// writer's error. What was read before an error is consumed, and the chunks before it are written.
+    /// then behind it, and just the bytes of the body were consumed and written. `Read` carries the decoder's error,
+    /// one of those of [`Segments::finish`]. `Write` carries the writer's error. What was read before an error is
+    /// consumed, and the chunks before it are written: of a `Read` just what was handed out of the body by then; of a
+    /// `Write` a front, and a beginning of the chunk behind it, at which the writer failed, once. Front and chunk were
+    /// then consumed, one byte at least, and of a text up to three bytes behind them.
+    ///
+    /// The string goes on as before, and the writer stays on its slice.
     #[inline(always)]
     pub fn copy<W: Write>(
         &mut self,
@@ -27,13 +32,8 @@ impl<'r, R: Read, P: Chunked> Segments<'r, R, P> {
     ) -> Result<(), RecodeError<R::Error, W::Error>>
         requires room { 4 ≤ length buffer.old }
         requires none_waits { waiting_of (string_decoder self.old) ≡ None }
-        ensures copied { CopiesBody R.Read W.Write P.kind body.length (length buffer.old) body.place
-            (sides (string_decoder self.old) writer.old) result (sides (string_decoder self.new) writer.new) }
-        ensures same_reference { string_reference self.new ≡ string_reference self.old }
-        ensures progress { progress_of self.new ≡ progress_of self.old }
-        ensures mode { string_strict self.new ≡ string_strict self.old }
-        ensures moves_on { MovesOn R.Read (string_decoder self.old) (string_decoder self.new) }
-        ensures target { W.target writer.new ≡ W.target writer.old }
+        ensures { CopiesSegment R.Read W.Write body (length buffer.old) self.old writer.old result self.new
+            writer.new }
     {
         let mut segment = Segment::<R, P>::new(&mut *self.decoder, body);
         copy_body(&mut segment, body, writer, buffer)

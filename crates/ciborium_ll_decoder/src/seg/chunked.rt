@@ -4,9 +4,9 @@ ghost use Rattle.std.specs.Prelude.{◌≡◌, ◌≤◌, ◌+◌, ◌-◌, ◌�
 ghost use Rattle.ciborium_ll_grammar.specs.Title.{title_len};
 ghost use Rattle.ciborium_ll_grammar.specs.Strings.{IsWritable, kind_header};
 ghost use Rattle.ciborium_ll_decoder.specs.Decoding.{MovesOn, offset_of, waiting_of};
-ghost use Rattle.ciborium_ll_decoder.specs.Segments.{progress_of, string_decoder, string_reference, string_strict};
+ghost use Rattle.ciborium_ll_decoder.specs.Segments.{string_decoder};
 ghost use Rattle.ciborium_ll_decoder.specs.Chunks.{PullsChunk, left_of, segment_decoder, segment_reference};
-ghost use Rattle.ciborium_ll_decoder.specs.Finishing.{EndsBody, Finishes};
+ghost use Rattle.ciborium_ll_decoder.specs.Finishing.{EndsBody, Finishes, FinishesBody, FinishesString, IsFinished};
 
 use crate::dec::{Decoder, Error};
 use crate::seg::{Body, Bytes, Parser, Segment, Segments, Text};
@@ -66,13 +66,13 @@ impl<'r, R: Read, P: Chunked> Segment<'r, R, P> {
     /// Reads what is left of the body, by pulls through `buffer`, and lets the segment go.
     ///
     /// `Ok` says that the whole body was read, and that it is UTF-8 where it is of a text: the decoder is then behind
-    /// it. The errors are those of `pull`: `Syntax` with the segment's place where the body is no text; `Io` where the
-    /// reader failed, and `TooLong` where the offset would pass `usize::MAX`. What was read before an error is
-    /// consumed; a segment that was damaged before reads nothing.
+    /// it, and just the bytes that were not read yet are consumed. The errors are those of `pull`: `Syntax` with the
+    /// segment's place where the body is no text: what was consumed of it is none as the whole body, or however it goes
+    /// on; `Io` where the reader failed, and `TooLong` where the offset would pass `usize::MAX`. What was read before
+    /// an error is consumed; a segment that was damaged before reads nothing.
     pub fn finish(self, buffer: &mut [u8]) -> Result<(), Error<R::Error>>
         requires room { 4 ≤ length buffer.old }
-        ensures finishes { Finishes R.Read (length buffer.old) self.entry result self.exit.0.now }
-        ensures moves_on { MovesOn R.Read (segment_decoder self.entry) self.exit.0.now }
+        ensures { IsFinished R.Read (length buffer.old) self.entry result self.exit.0.now }
     {
         let Segment {
             decoder,
@@ -119,16 +119,12 @@ impl<'r, R: Read, P: Chunked> Segments<'r, R, P> {
     ///
     /// `Ok` says that the whole body was read, and that it is UTF-8 where it is of a text: the decoder is then behind
     /// it. The errors are `Syntax` with the body's place where it is no text; `Io` where the reader failed, and
-    /// `TooLong` where the offset would pass `usize::MAX`. What was read before an error is consumed.
+    /// `TooLong` where the offset would pass `usize::MAX`. What was read before an error is consumed. The string goes
+    /// on as before.
     pub fn finish(&mut self, body: Body, buffer: &mut [u8]) -> Result<(), Error<R::Error>>
         requires room { 4 ≤ length buffer.old }
         requires none_waits { waiting_of (string_decoder self.old) ≡ None }
-        ensures finishes { EndsBody R.Read P.kind [] body.length (length buffer.old) body.place
-            (string_decoder self.old) result (string_decoder self.new) }
-        ensures same_reference { string_reference self.new ≡ string_reference self.old }
-        ensures progress { progress_of self.new ≡ progress_of self.old }
-        ensures mode { string_strict self.new ≡ string_strict self.old }
-        ensures moves_on { MovesOn R.Read (string_decoder self.old) (string_decoder self.new) }
+        ensures { FinishesBody R.Read body (length buffer.old) self.old result self.new }
     {
         Segment::<R, P>::new(&mut *self.decoder, body).finish(buffer)
     }
@@ -151,9 +147,7 @@ pub fn finish_body<R: Read, P: Chunked>(
     requires room { 4 ≤ length buffer.old }
     requires none_waits { waiting_of decoder.old ≡ None }
     requires covered { title_len (kind_header P.kind (Some len)) ≤ offset_of decoder.old }
-    ensures finishes { EndsBody R.Read P.kind [] len (length buffer.old)
-        (offset_of decoder.old - title_len (kind_header P.kind (Some len))) decoder.old result decoder.new }
-    ensures moves_on { MovesOn R.Read decoder.old decoder.new }
+    ensures { FinishesString R.Read P.kind len (length buffer.old) decoder.old result decoder.new }
 {
     let place = decoder.offset() - P::header(Some(len)).title_len();
     let body = Body { length: len, place };

@@ -3,8 +3,8 @@
 ghost use Rattle.std.specs.Prelude.{◌≡◌, ◌≤◌, None};
 ghost use Rattle.ciborium_ll_grammar.specs.Title.{title_len};
 ghost use Rattle.ciborium_ll_grammar.specs.Strings.{kind_header};
-ghost use Rattle.ciborium_ll_decoder.specs.Decoding.{TakesBack, offset_of, refusals_of, strict_of, waiting_of};
-ghost use Rattle.ciborium_ll_decoder.specs.Segments.{IsAtBeginning, string_decoder, string_reference, string_strict};
+ghost use Rattle.ciborium_ll_decoder.specs.Decoding.{offset_of, waiting_of};
+ghost use Rattle.ciborium_ll_decoder.specs.Segments.{BeginsString};
 
 use crate::dec::Decoder;
 use crate::seg::{Bytes, Parser, Segments, Text};
@@ -16,14 +16,12 @@ impl<R: Read> Decoder<R> {
     ///
     /// The header waits again until the first segment is asked for. Another length than the header's is not refused:
     /// the string is then read with that length.
+    ///
+    /// The conditions are those of [`Decoder::push`] for that header. The string is as strict as the decoder.
     pub fn bytes(&mut self, len: Option<usize>) -> Segments<'_, R, Bytes>
         requires none_waits { waiting_of self.old ≡ None }
         requires covered { title_len (Header.Bytes len) ≤ offset_of self.old }
-        ensures back { TakesBack R.Read self.old (Header.Bytes len) (string_decoder result) }
-        ensures fresh { IsAtBeginning result }
-        ensures mode { string_strict result ≡ strict_of self.old }
-        ensures same_reference { string_reference result ≡ self.entry.ghost_name }
-        ensures refusals { refusals_of (string_decoder result) ≡ refusals_of self.old }
+        ensures { BeginsString R.Read self.old (Header.Bytes len) self.entry.ghost_name result }
     {
         self.string(len)
     }
@@ -32,14 +30,12 @@ impl<R: Read> Decoder<R> {
     ///
     /// The header waits again until the first segment is asked for. Another length than the header's is not refused:
     /// the string is then read with that length.
+    ///
+    /// The conditions are those of [`Decoder::push`] for that header. The string is as strict as the decoder.
     pub fn text(&mut self, len: Option<usize>) -> Segments<'_, R, Text>
         requires none_waits { waiting_of self.old ≡ None }
         requires covered { title_len (Header.Text len) ≤ offset_of self.old }
-        ensures back { TakesBack R.Read self.old (Header.Text len) (string_decoder result) }
-        ensures fresh { IsAtBeginning result }
-        ensures mode { string_strict result ≡ strict_of self.old }
-        ensures same_reference { string_reference result ≡ self.entry.ghost_name }
-        ensures refusals { refusals_of (string_decoder result) ≡ refusals_of self.old }
+        ensures { BeginsString R.Read self.old (Header.Text len) self.entry.ghost_name result }
     {
         self.string(len)
     }
@@ -48,11 +44,7 @@ impl<R: Read> Decoder<R> {
     pub(crate) fn string<P: Parser>(&mut self, len: Option<usize>) -> Segments<'_, R, P>
         requires none_waits { waiting_of self.old ≡ None }
         requires covered { title_len (kind_header P.kind len) ≤ offset_of self.old }
-        ensures back { TakesBack R.Read self.old (kind_header P.kind len) (string_decoder result) }
-        ensures fresh { IsAtBeginning result }
-        ensures mode { string_strict result ≡ strict_of self.old }
-        ensures same_reference { string_reference result ≡ self.entry.ghost_name }
-        ensures refusals { refusals_of (string_decoder result) ≡ refusals_of self.old }
+        ensures { BeginsString R.Read self.old (kind_header P.kind len) self.entry.ghost_name result }
     {
         self.push(P::header(len));
         Segments::new(self)

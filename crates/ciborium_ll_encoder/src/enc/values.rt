@@ -1,12 +1,12 @@
 //! Values of bytes and of text, in pieces of limited length.
 
-ghost use Rattle.std.specs.Prelude.{◌≡◌, max, unwrap_or, ◌<◌, ◌≤◌, ◌+◌, ◌++◌, ◌↔◌, ℕ, length, IsTrue, OnOk};
+ghost use Rattle.std.specs.Prelude.{◌≡◌, max, unwrap_or, ◌<◌, ◌≤◌, ◌+◌, ◌++◌, ◌↔◌, ℕ, Option, length, IsTrue, OnOk};
 ghost use Rattle.std.specs.Str.{IsCharBoundary};
 ghost use Rattle.ciborium_ll_grammar.specs.Title.{shortest_title};
 ghost use Rattle.ciborium_ll_grammar.specs.Strings.{Bytes, Text};
 ghost use Rattle.ciborium_ll_text.specs.Text.{IsTail};
 ghost use Rattle.ciborium_ll_grammar.specs.Values.{value_limit};
-ghost use Rattle.ciborium_ll_encoder.specs.Encoding.{WritesBytes, WritesPieces, WritesValue, WritesFewest, writer_of};
+ghost use Rattle.ciborium_ll_encoder.specs.Encoding.{WritesBytes, WritesPieces, WritesString, WritesValue, WritesFewest, writer_of};
 
 use crate::enc::Encoder;
 use ciborium_ll_grammar::hdr::Header;
@@ -30,8 +30,7 @@ impl<W: Write> Encoder<W> {
     /// The only errors are the writer's. A beginning of the string was then written.
     #[tactic(auto, using(crate::proofs::Writes::values))]
     pub fn bytes(&mut self, value: &[u8], segment: Option<usize>) -> Result<(), W::Error>
-        ensures value { WritesValue W.Write Bytes segment value.now (writer_of self.old) result (writer_of self.new) }
-        ensures target { W.target (writer_of self.new) ≡ W.target (writer_of self.old) }
+        ensures { WritesString W.Write Bytes segment value.now (writer_of self.old) result (writer_of self.new) }
     {
         let limit = limit(segment, value.len(), 1);
         if value.len() <= limit {
@@ -47,7 +46,8 @@ impl<W: Write> Encoder<W> {
     ///
     /// A limit below 4 counts as 4, which is the length of the longest character. A value no longer than the limit is
     /// one string of a definite length. A longer one is a string of indefinite length, whose segments are texts: each
-    /// is as long as the limit allows with no character cut. No other segments within the limit are fewer.
+    /// is as long as the limit allows with no character cut. None of them is empty, joined they are the text, and no
+    /// other segments within the limit are fewer.
     ///
     /// The only errors are the writer's. A beginning of the string was then written.
     ///
@@ -57,16 +57,28 @@ impl<W: Write> Encoder<W> {
     /// ```
     #[tactic(auto, using(crate::proofs::Writes::texts))]
     pub fn text(&mut self, value: &str, segment: Option<usize>) -> Result<(), W::Error>
-        ensures value { WritesValue W.Write Text segment value.now (writer_of self.old) result (writer_of self.new) }
+        ensures written { WritesString W.Write Text segment value.now (writer_of self.old) result
+            (writer_of self.new) }
         ensures fewest { OnOk result (0 < length value.now
             → WritesFewest W.Write (value_limit Text segment value.now) value.now (writer_of self.old)
             (writer_of self.new)) }
-        ensures target { W.target (writer_of self.new) ≡ W.target (writer_of self.old) }
     {
         let limit = limit(segment, value.len(), 4);
         if value.len() <= limit {
             return self.string(Header::Text(Some(value.len())), value.as_bytes());
         }
+        self.long_text(value, limit)
+    }
+
+    /// Writes a text that is longer than the limit.
+    #[tactic(auto, using(crate::proofs::Writes::texts))]
+    fn long_text(&mut self, value: &str, limit: usize) -> Result<(), W::Error>
+        requires four { 4 ≤ limit }
+        requires longer { limit < length value.now }
+        ensures value { (segment : Option ℕ) → limit ≡ max 4 (unwrap_or segment (length value.now))
+            → WritesValue W.Write Text segment value.now (writer_of self.old) result (writer_of self.new) }
+        ensures target { W.target (writer_of self.new) ≡ W.target (writer_of self.old) }
+    {
         self.push(Header::Text(None))?;
         self.text_pieces(value, limit)?;
         self.push(Header::Break)

@@ -23,7 +23,7 @@ pub fn one_fault()
 {}
 
 /// In any bytes either a run of so many elements stands in front, or a fault stops it, whether any spelling is taken or
-/// the shortest alone.
+/// the shortest alone. By [`no_fault`] never both.
 pub fn run_or_fault()
     ensures { (strict : Bool) (count : ℕ) (bytes : List ℕ) → AreBytes bytes
         → RunInFront strict count bytes ⊎ HasFault strict count bytes }

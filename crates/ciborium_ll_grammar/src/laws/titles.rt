@@ -30,7 +30,7 @@ pub fn title_length()
     ensures { (title : List ℕ) (header : Header) → IsTitle title header → (1 ≤ length title) × (length title ≤ 9) }
 {}
 
-/// With just 27 of the 256 bytes no title begins.
+/// With just 27 of the 256 bytes no title begins: those of a list, which ascend.
 pub fn refused_first_bytes()
     ensures none { (byte : ℕ) (rest : List ℕ) (header : Header) → IsRefused byte → IsTitle (byte ∷ rest) header → ⊥ }
     ensures others { (byte : ℕ) → byte < 256

@@ -195,8 +195,9 @@ impl<'a, T: io::Read> Read for BufferedReader<'a, T> {
 
     /// Fills the whole of `data` from what was read ahead, else by as many single calls of `read` as that takes.
     ///
-    /// After an error the fault is kept: `End` where a call moved no byte, and `Failed` where a call failed. The bytes
-    /// that came before it then stand at the front of `data`, and are fewer than `data` has room for.
+    /// After an error the fault is kept: `End` where a call moved no byte, behind which none that is told is left, and
+    /// `Failed` where a call failed. The bytes that came before it then stand at the front of `data`, and are fewer
+    /// than `data` has room for.
     #[inline(always)]
     fn read_exact(&mut self, data: &mut [u8]) -> Result<(), FaultKept>
         // The trait's.

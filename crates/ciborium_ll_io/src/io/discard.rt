@@ -7,7 +7,7 @@ use super::failures::Failures;
 use super::slices::OutOfSpace;
 use super::taken::Taken;
 
-/// Takes bytes and keeps none of them, so it takes no memory. It tells what it took, and its room.
+/// Takes bytes and keeps none of them, so it takes no memory. It tells what it took, to contracts alone, and its room.
 ///
 /// It is for a copy whose answer alone matters. Where the room covers what is due, no write is refused.
 #[derive(Drop)]

@@ -110,7 +110,7 @@ fn copy_array<const N: usize>(to: &mut [u8], from: &[u8])
 pub struct OutOfSpace;
 
 /// Writes into a slice, from its front on. It tells what it wrote, its room and its slice, which is behind what was
-/// written as it was when it was lent.
+/// written as it was when it was lent. It stays on that slice.
 #[derive(Drop)]
 pub struct SliceWriter<'a> {
     buffer: &'a mut [u8],

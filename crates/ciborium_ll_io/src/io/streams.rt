@@ -83,8 +83,9 @@ impl<T: io::Read> Read for StdReader<T> {
 
     /// Fills the whole of `data`, by as many single calls of `read` as that takes. An empty `data` takes none.
     ///
-    /// The errors are `End` where a call moved no byte, and `Failed` where a call failed. The bytes that the calls
-    /// before it gave then stand at the front of `data`, and are fewer than `data` has room for.
+    /// The errors are `End` where a call moved no byte, behind which none that is told is left, and `Failed` where a
+    /// call failed. The bytes that the calls before it gave then stand at the front of `data`, and are fewer than
+    /// `data` has room for.
     fn read_exact(&mut self, data: &mut [u8]) -> Result<(), ReadFault>
         // The trait's.
         ensures bytes { OnOk result (Consumes (T.remaining (stream_source self.old))

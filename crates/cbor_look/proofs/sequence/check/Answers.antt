@@ -14,7 +14,7 @@ items-init g c = record {
 pub overflow_add-items : goal.overflow_add-items
 overflow_add-items g c =
     let item : ReadsItem g.R.Read c.args.depth c.items.decoder c.skip_item.new.decoder =
-    rw c.offset-place.ensures.same at c.in-Ok.ensures.skipped in
+    rw c.offset-place.ensures.same at c.in-Ok.ensures.skipped.skipped in
     let some = items_counted (strictness c.items.decoder) c.args.depth 1 item.item item.is_item in
     let reads = c.items.invariant.reads in
     let all = items_counted (strictness c.args.decoder.now) c.args.depth c.items.items reads.bytes reads.are_items in
@@ -23,14 +23,14 @@ overflow_add-items g c =
 pub items-smaller : goal.items-smaller
 items-smaller g c =
     let item : ReadsItem g.R.Read c.args.depth c.items.decoder c.skip_item.new.decoder =
-    rw c.offset-place.ensures.same at c.in-Ok.ensures.skipped in
+    rw c.offset-place.ensures.same at c.in-Ok.ensures.skipped.skipped in
     let some = items_counted (strictness c.items.decoder) c.args.depth 1 item.item item.is_item in
     omega (arith, some, item.passed.offset)
 
 pub items-preserved : goal.items-preserved
 items-preserved g c =
     let item : ReadsItem g.R.Read c.args.depth c.items.decoder c.skip_item.new.decoder =
-    rw c.offset-place.ensures.same at c.in-Ok.ensures.skipped in
+    rw c.offset-place.ensures.same at c.in-Ok.ensures.skipped.skipped in
     record {
       reads = rw add-one (one_more g.R.Read c.args.depth c.items.items _ _ _ c.items.invariant.reads item);
       start = c.items.invariant.start;
@@ -44,7 +44,7 @@ returns-in-Err g c =
     let new = c.offset.new.self in
     let result = c.ended.result in
     let fails : SkipsItem g.R.Read depth room c.items.decoder (Err c.in-Err.error) new =
-    rw (c.offset.ensures.same) (rw (c.offset-place.ensures.same, c.items.auto.buffer) at c.in-Err.ensures.skipped) in
+    rw (c.offset.ensures.same) (rw (c.offset-place.ensures.same, c.items.auto.buffer) at c.in-Err.ensures.skipped.skipped) in
     let checks =
     ends g.R.Read depth room c.items.items c.offset-start.result c.offset-place.result c.offset.result old
     c.items.decoder new c.in-Err.error result c.items.invariant.reads fails c.ended.ensures c.items.invariant.start

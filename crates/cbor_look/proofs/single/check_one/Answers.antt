@@ -11,7 +11,7 @@ returns-in-Err-clause-exactly g c =
     let room = length c.args.buffer.now in
     let new = c.skip_item.new.decoder in
     let fails : SkipsItem g.R.Read depth room old (Err c.in-Err.error) new =
-    rw c.offset-start.ensures.same at c.in-Err.ensures.skipped in
+    rw c.offset-start.ensures.same at c.in-Err.ensures.skipped.skipped in
     λ due ready. one_exactly g.R.Read depth room old due ready new (Err (n.Item c.in-Err.error)) fails
 
 pub returns : goal.returns
@@ -22,7 +22,7 @@ returns g c =
     let new = c.offset.new.self in
     let result = c.alone.result in
     let reads : ReadsItem g.R.Read depth old c.skip_item.new.decoder =
-    rw c.offset-start.ensures.same at c.in_default.ensures.skipped in
+    rw c.offset-start.ensures.same at c.in_default.ensures.skipped.skipped in
     let pulls = rw (← c.offset.ensures.same, c.offset-place.ensures.same) at c.pull-pulled.ensures.header in
     let checks =
     ends_one g.R.Read depth room c.offset-start.result c.offset-place.result c.offset.result old

@@ -17,7 +17,7 @@ returns-in-Err g c =
     subst (λ x. OnReading {T = Unit {0}} (λ answer. SkipsItem g.R.Read c.args.depth 64 c.items.decoder answer x)
     (Err c.in-Err.error)) (sym c.offset.ensures.same)
     (subst (λ x. OnReading {T = Unit {0}} (λ answer. SkipsItem g.R.Read c.args.depth 64 x answer c.diagnose.new.decoder)
-    (Err c.in-Err.error)) c.offset-place.ensures.same c.in-Err.ensures.reads) in
+    (Err c.in-Err.error)) c.offset-place.ensures.same c.in-Err.ensures.reads.reads) in
     show_ends g.R.Read c.args.depth c.items.invariant.0 c.offset-place.result c.offset.result c.args.decoder.now
     c.items.decoder new c.in-Err.error c.ended.result c.items.invariant.1 fails c.ended.ensures
     c.offset-place.ensures.value (rw c.offset.ensures.same c.offset.ensures.value)
@@ -26,12 +26,12 @@ returns-in-Err g c =
 pub items-smaller : goal.items-smaller
 items-smaller g c =
     let item : ReadsItem g.R.Read c.args.depth c.items.decoder c.diagnose.new.decoder =
-    rw c.offset-place.ensures.same at c.in_default.ensures.reads in
+    rw c.offset-place.ensures.same at c.in_default.ensures.reads.reads in
     let some = items_counted (strictness c.items.decoder) c.args.depth 1 item.item item.is_item in
     omega (arith, some, item.passed.offset)
 
 pub items-preserved : goal.items-preserved
 items-preserved g c =
     let item : ReadsItem g.R.Read c.args.depth c.items.decoder c.diagnose.new.decoder =
-    rw c.offset-place.ensures.same at c.in_default.ensures.reads in
+    rw c.offset-place.ensures.same at c.in_default.ensures.reads.reads in
     (suc c.items.invariant.0, one_more g.R.Read c.args.depth c.items.invariant.0 _ _ _ c.items.invariant.1 item)

@@ -1,4 +1,4 @@
-use Rattle.std.proofs.Common.{rules, subst, ◌≡◌, ◌≤◌, Ok, Err, List, ℕ, length}
+use Rattle.std.proofs.Common.{rules, refl, subst, ◌≡◌, ◌≤◌, Ok, Err, List, ℕ, length}
 use Rattle.ciborium_ll_grammar.specs.declared.hdr.Header.{Header}
 use Rattle.ciborium_ll_grammar.specs.declared.hdr.Header.TheVariants as h
 use Rattle.ciborium_ll_decoder.specs.declared.recode.RecodeError.TheVariants as r
@@ -7,13 +7,18 @@ use Rattle.ciborium_ll_encoder.specs.Encoding.{WritesAll, WritesFront}
 use Rattle.ciborium_ll_grammar.specs.Elements.{IsPlain}
 use Rattle.ciborium_ll_decoder.specs.Decoding.{PullsTitle}
 use Rattle.ciborium_ll_decoder.specs.Sides.{sides, sides_of}
+use Rattle.ciborium_ll_decoder.proofs.DecodingLaws.{MovesOn-then}
 use Rattle.ciborium_ll_decoder.proofs.CopyLaws.{pulled_covers, behind_pulled, title_taken, pull_stops, plain_goes_on}
 use Rattle.ciborium_ll_decoder.proofs.recode.copy_element.Goals as goal
 
-pub returns-in-Err-clause-copied : goal.returns-in-Err-clause-copied
-returns-in-Err-clause-copied g c = λ count before old behind.
-    pull_stops g.R.Read g.W.Write count before old (sides_of c.args.decoder.now c.args.encoder.now)
-    (length c.args.buffer.now) c.pull_title.new.self c.in-Err.error behind c.in-Err.ensures.header
+pub returns-in-Err : goal.returns-in-Err
+returns-in-Err g c = record {
+  copied = λ count before old behind.
+      pull_stops g.R.Read g.W.Write count before old (sides_of c.args.decoder.now c.args.encoder.now)
+      (length c.args.buffer.now) c.pull_title.new.self c.in-Err.error behind c.in-Err.ensures.header;
+  moves_on = c.pull_title.ensures.moves_on;
+  target = refl;
+}
 
 pub copy_string-requires-clause-covered : goal.copy_string-requires-clause-covered
 copy_string-requires-clause-covered g c =
@@ -31,29 +36,39 @@ copy_string-requires-in-Text-clause-covered g c =
     (pulled_covers g.R.Read g.W.Write c.args.decoder.now c.pull_title.new.self c.in-Ok.pulled.0
     c.in-Ok.ensures.header)
 
-pub returns-in-Bytes-clause-copied : goal.returns-in-Bytes-clause-copied
-returns-in-Bytes-clause-copied g c = λ count before old behind.
+pub returns-in-Bytes : goal.returns-in-Bytes
+returns-in-Bytes g c =
     let arm = c.in-Bytes in
     let is : c.in-Ok.pulled.0 ≡ h.Bytes arm.len = c.element.ensures.bytes arm.len arm.is in
     let pulled = subst (λ (x : Header). PullsTitle g.R.Read c.args.decoder.now x c.pull_title.new.self) is
     c.in-Ok.ensures.header in
-    c.copy_string.ensures.copied count before old pulled.title pulled.is_title
-    (title_taken g.R.Read g.W.Write count before old (sides_of c.args.decoder.now c.args.encoder.now)
-    c.pull_title.new.self (h.Bytes arm.len) behind pulled)
-    (behind_pulled g.R.Read g.W.Write count before old (sides_of c.args.decoder.now c.args.encoder.now)
-    c.pull_title.new.self (h.Bytes arm.len) behind pulled c.pull_title.ensures.moves_on.steady)
+    record {
+      copied = λ count before old behind.
+          c.copy_string.ensures.copied count before old pulled.title pulled.is_title
+          (title_taken g.R.Read g.W.Write count before old (sides_of c.args.decoder.now c.args.encoder.now)
+          c.pull_title.new.self (h.Bytes arm.len) behind pulled)
+          (behind_pulled g.R.Read g.W.Write count before old (sides_of c.args.decoder.now c.args.encoder.now)
+          c.pull_title.new.self (h.Bytes arm.len) behind pulled c.pull_title.ensures.moves_on.steady);
+      moves_on = MovesOn-then g.R.Read _ _ _ c.pull_title.ensures.moves_on c.copy_string.ensures.moves_on;
+      target = c.copy_string.ensures.target;
+    }
 
-pub returns-in-Text-clause-copied : goal.returns-in-Text-clause-copied
-returns-in-Text-clause-copied g c = λ count before old behind.
+pub returns-in-Text : goal.returns-in-Text
+returns-in-Text g c =
     let arm = c.in-Text in
     let is : c.in-Ok.pulled.0 ≡ h.Text arm.len = c.element.ensures.text arm.len arm.is in
     let pulled = subst (λ (x : Header). PullsTitle g.R.Read c.args.decoder.now x c.pull_title.new.self) is
     c.in-Ok.ensures.header in
-    c.copy_string-in-Text.ensures.copied count before old pulled.title pulled.is_title
-    (title_taken g.R.Read g.W.Write count before old (sides_of c.args.decoder.now c.args.encoder.now)
-    c.pull_title.new.self (h.Text arm.len) behind pulled)
-    (behind_pulled g.R.Read g.W.Write count before old (sides_of c.args.decoder.now c.args.encoder.now)
-    c.pull_title.new.self (h.Text arm.len) behind pulled c.pull_title.ensures.moves_on.steady)
+    record {
+      copied = λ count before old behind.
+          c.copy_string-in-Text.ensures.copied count before old pulled.title pulled.is_title
+          (title_taken g.R.Read g.W.Write count before old (sides_of c.args.decoder.now c.args.encoder.now)
+          c.pull_title.new.self (h.Text arm.len) behind pulled)
+          (behind_pulled g.R.Read g.W.Write count before old (sides_of c.args.decoder.now c.args.encoder.now)
+          c.pull_title.new.self (h.Text arm.len) behind pulled c.pull_title.ensures.moves_on.steady);
+      moves_on = MovesOn-then g.R.Read _ _ _ c.pull_title.ensures.moves_on c.copy_string-in-Text.ensures.moves_on;
+      target = c.copy_string-in-Text.ensures.target;
+    }
 
 pub returns-in-Ok-push_title : goal.returns-in-Ok-push_title
 returns-in-Ok-push_title g c =

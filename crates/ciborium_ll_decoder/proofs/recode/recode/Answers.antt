@@ -46,9 +46,11 @@ returns-in_err-copy_element g c =
     let all : CopiesElements g.R.Read g.W.Write c.args.count (length c.args.buffer.now) old c.from_residual.result
     (sides_of c.copy_element.new.decoder c.copy_element.new.encoder) = rw same stopped in
     record {
-      copied = all;
-      moves_on = MovesOn-then g.R.Read _ _ _ c.elements.invariant.moves_on c.copy_element.ensures.moves_on;
-      target = c.copy_element.ensures.target ∙ c.elements.invariant.target;
+      copied = record {
+        copied = all;
+        moves_on = MovesOn-then g.R.Read _ _ _ c.elements.invariant.moves_on c.copy_element.ensures.moves_on;
+        target = c.copy_element.ensures.target ∙ c.elements.invariant.target;
+      };
       told = λ strict due written ready. recode_told g.R.Read g.W.Write c.args.count (length c.args.buffer.now) old due
           written ready _ c.from_residual.result all;
       exactly = λ strict due written ready. recode_exactly g.R.Read g.W.Write c.args.count (length c.args.buffer.now) old due
@@ -66,9 +68,11 @@ returns g c =
     let run = subst (λ (n : ℕ). CopiesRun g.R.Read g.W.Write n old now) counted c.elements.invariant.so_far in
     let all = copies_all g.R.Read g.W.Write c.args.count old now run in
     record {
-      copied = all;
-      moves_on = c.elements.invariant.moves_on;
-      target = c.elements.invariant.target;
+      copied = record {
+        copied = all;
+        moves_on = c.elements.invariant.moves_on;
+        target = c.elements.invariant.target;
+      };
       told = λ strict due written ready. recode_told g.R.Read g.W.Write c.args.count (length c.args.buffer.now) old due
           written ready _ (Ok (tt {0})) all;
       exactly = λ strict due written ready. recode_exactly g.R.Read g.W.Write c.args.count (length c.args.buffer.now) old due

@@ -19,7 +19,7 @@ returns g c = λ due written told-due told-written.
     ∙ ap contents c.new-2.ensures.sink ∙ told-written in
     let told = told_ahead _ _ old c.from-encoder.result.writer due written c.from-decoder.ensures.mode
     c.from-decoder.ensures.none_waits ahead output in
-    let copied = c.recode-copied.ensures.copied in
+    let copied = c.recode-copied.ensures.copied.copied in
     let anyhow = c.recode-copied.ensures.anyhow _ due written told in
     let same = sym (ap remaining (c.into_inner-reader.ensures ∙ ap (λ (r : StdReader g.row.R.Denot). r.source)
     c.into_inner.ensures)) in

@@ -20,7 +20,7 @@ returns g c = λ due written told-due told-written.
     let output = ap (buffered_written contents) c.from-encoder.ensures ∙ c.new-2.ensures.written ∙ told-written in
     let told = told_ahead _ _ old first due written c.from-decoder.ensures.mode c.from-decoder.ensures.none_waits
     ahead output in
-    let copied = c.recode-copied.ensures.copied in
+    let copied = c.recode-copied.ensures.copied.copied in
     let anyhow = c.recode-copied.ensures.anyhow _ due written told in
     let leaves = λ (bytes : List ℕ) (is : buffered_ahead remaining new.reader ≡ Some bytes). tt {0} in
     let behind = λ (bytes : List ℕ) (is : buffered_written contents last ≡ Some bytes).

@@ -6,7 +6,7 @@ use Rattle.ciborium_ll_uses.proofs.cose.body.Goals as goal
 pub chunks-preserved : goal.chunks-preserved
 chunks-preserved g c =
     let kept = c.chunks.invariant in
-    let reads = c.in_ok-read_exact.ensures.read in
+    let reads = c.in_ok-read_exact.ensures.reads.read in
     let read = c.read_exact.new.data in
     let fits : c.min-size.result ≤ length c.chunks.buffer = search rules in (
       kept.0 ++ read,
@@ -18,7 +18,7 @@ chunks-preserved g c =
         length-take-le c.min-size.result c.chunks.buffer fits,
       ),
       Passes-read g.R.Read c.offset-start.new.self c.chunks.decoder c.read_exact.new.self kept.0 read kept.2 reads
-          c.in_ok-read_exact.ensures.steady,
+          c.in_ok-read_exact.ensures.reads.steady,
       reads.none_waits,
     )
 
@@ -40,5 +40,5 @@ returns-in_err-read_exact-clause-fails g c =
       passed = rw c.offset-start.ensures.same at kept.2;
       some = omega (arith, asked, c.read_exact.auto.data, some);
       within = omega (arith, asked, c.read_exact.auto.data, fewer, kept.1);
-      fails = c.in_err-read_exact.ensures.read;
+      fails = c.in_err-read_exact.ensures.reads.read;
     })

@@ -9,8 +9,8 @@ pub returns-clause-took : goal.returns-clause-took
 returns-clause-took g c =
     let is_map : c.in_ok-header.header ≡ h.Map c.in-Map.field-0 = search rules in
     let pulled = rw (c.offset-start.ensures.same, is_map) at c.in_ok-header.ensures.header in
-    let back = rw is_map at c.push.ensures.back in
-    let reads = c.in_ok-skip_item.ensures.skipped in
+    let back = rw is_map at c.push.ensures in
+    let reads = c.in_ok-skip_item.ensures.skipped.skipped in
     rw c.offset-end.ensures.same (took_map g.R.Read c.args.decoder.now _ _ _ c.in-Map.field-0 _ c.requires.strict
     c.requires.none_waits pulled back reads c.offset-start.ensures.value c.offset-end.ensures.value)
 
@@ -28,6 +28,6 @@ returns-in_err-skip_item-clause-stops g c =
       pushed = c.push.new.self;
       allowed = (c.in-Map.field-0, refl);
       pulled = rw (c.offset-start.ensures.same, is_map) at c.in_ok-header.ensures.header;
-      back = rw is_map at c.push.ensures.back;
-      fails = c.in_err-skip_item.ensures.skipped;
+      back = rw is_map at c.push.ensures;
+      fails = c.in_err-skip_item.ensures.skipped.skipped;
     })

@@ -23,7 +23,7 @@ returns-clause-anyhow g c = λ due written tell.
           )
       | in-Err w ↦ (
           let failed = rw w.in-Err.is at anyhow in
-          let stops = rw w.in-Err.is at c.recode-copied.ensures.copied in
+          let stops = rw w.in-Err.is at c.recode-copied.ensures.copied.copied in
           rw (w.writer-is, w.outcome-is) (rw c.into_inner-writer.ensures (error_anyhow R W c.args.count due written
           c.args.reader _ _ _ new _ fresh same w.in-Err.error stops failed))
           )
@@ -42,7 +42,7 @@ returns-clause-exactly g c = λ due written are.
     elim c.match-copied.branch [
       | in-Ok w ↦ (
           let copied = rw w.in-Ok.is at copy in
-          let all = rw w.in-Ok.is at c.recode-copied.ensures.copied in
+          let all = rw w.in-Ok.is at c.recode-copied.ensures.copied.copied in
           let copies = copies_so R W c.args.count due written c.args.reader _ c.args.writer _ new _ fresh same copied in
           let told = room_told R W c.args.count due written c.args.reader _ _ _ new _ fresh same is_ready.room
           is_ready.room-told all in
@@ -52,7 +52,7 @@ returns-clause-exactly g c = λ due written are.
           )
       | in-Err w ↦ (
           let failed = rw w.in-Err.is at copy in
-          let stops = rw w.in-Err.is at c.recode-copied.ensures.copied in
+          let stops = rw w.in-Err.is at c.recode-copied.ensures.copied.copied in
           rw (w.writer-is, w.outcome-is) (rw c.into_inner-writer.ensures (error_told R W c.args.count due written
           c.args.reader _ _ _ new _ fresh same w.in-Err.error stops failed))
           )

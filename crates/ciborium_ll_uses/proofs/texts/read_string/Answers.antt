@@ -70,7 +70,7 @@ returns-in_err-read_segments-clause-moves_on g c =
     (text_moves_on g.R.Read c.in-Text.len c.args.decoder.now c.pull.new.self
     c.text-segments.result.decoder.now pulled c.text-segments.ensures.back c.read_segments.new.segments.decoder.now
     first
-    c.text-segments.ensures.refusals c.read_segments.ensures.moves_on)
+    c.text-segments.ensures.back.refusals c.read_segments.ensures.moves_on)
 
 pub returns-clause-moves_on : goal.returns-clause-moves_on
 returns-clause-moves_on g c =
@@ -80,4 +80,4 @@ returns-clause-moves_on g c =
     (text_moves_on g.R.Read c.in-Text.len c.args.decoder.now c.pull.new.self
     c.text-segments.result.decoder.now pulled c.text-segments.ensures.back c.read_segments.new.segments.decoder.now
     first
-    c.text-segments.ensures.refusals c.read_segments.ensures.moves_on)
+    c.text-segments.ensures.back.refusals c.read_segments.ensures.moves_on)

@@ -41,13 +41,15 @@ returns-in-Err g c =
       stopped = c.in-Err.ensures.header;
     } in
     record {
-      copied = copied;
+      copied = record {
+        copied = copied;
+        moves_on = MovesOn-then g.R.Read _ _ _ c.headers.invariant.3 c.in-Err.ensures.moves_on;
+        target = c.headers.invariant.4;
+      };
       told = λ due written ready. told g.R.Read g.W.Write c.args.count _ _ due written
           (Err (r.Read c.in-Err.error)) ready copied;
       exactly = λ due written ready. exactly g.R.Read g.W.Write c.args.count _ _ due written
           (Err (r.Read c.in-Err.error)) ready copied;
-      moves_on = MovesOn-then g.R.Read _ _ _ c.headers.invariant.3 c.in-Err.ensures.moves_on;
-      target = c.headers.invariant.4;
     }
 
 pub returns-in-Err-push : goal.returns-in-Err-push
@@ -64,13 +66,15 @@ returns-in-Err-push g c =
       stopped = c.in-Err-push.ensures.title;
     } in
     record {
-      copied = copied;
+      copied = record {
+        copied = copied;
+        moves_on = MovesOn-then g.R.Read _ _ _ c.headers.invariant.3 c.in-Ok.ensures.moves_on;
+        target = c.in-Err-push.ensures.target ∙ c.headers.invariant.4;
+      };
       told = λ due written ready. told g.R.Read g.W.Write c.args.count _ _ due written
           (Err (r.Write c.in-Err-push.fault)) ready copied;
       exactly = λ due written ready. exactly g.R.Read g.W.Write c.args.count _ _ due written
           (Err (r.Write c.in-Err-push.fault)) ready copied;
-      moves_on = MovesOn-then g.R.Read _ _ _ c.headers.invariant.3 c.in-Ok.ensures.moves_on;
-      target = c.in-Err-push.ensures.target ∙ c.headers.invariant.4;
     }
 
 pub returns : goal.returns
@@ -84,10 +88,12 @@ returns g c =
       again = AreTitles-shortest _ _ c.headers.invariant.2.titles;
     } in
     record {
-      copied = copied;
+      copied = record {
+        copied = copied;
+        moves_on = c.headers.invariant.3;
+        target = c.headers.invariant.4;
+      };
       told = λ due written ready. told g.R.Read g.W.Write c.args.count _ _ due written (Ok (tt {0})) ready copied;
       exactly = λ due written ready. exactly g.R.Read g.W.Write c.args.count _ _ due written (Ok (tt {0})) ready
           copied;
-      moves_on = c.headers.invariant.3;
-      target = c.headers.invariant.4;
     }

@@ -20,4 +20,4 @@ pub returns-in-Text-clause-piece : goal.returns-in-Text-clause-piece
 returns-in-Text-clause-piece g c =
     subst (λ (piece : Piece). WritesPiece g.W.Write piece c.args.encoder.now.writer c.text.result
     c.text.new.self.writer) (sym c.in-Text.is)
-    (writes_text g.W.Write c.in-Text.value c.in-Text.segment _ _ c.text.result c.text.ensures.value)
+    (writes_text g.W.Write c.in-Text.value c.in-Text.segment _ _ c.text.result c.text.ensures.written.value)

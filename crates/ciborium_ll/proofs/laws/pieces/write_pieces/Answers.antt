@@ -9,12 +9,15 @@ pieces-init g c = record {
   target = refl;
 }
 
-pub returns-in_err-write_piece-clause-elements : goal.returns-in_err-write_piece-clause-elements
-returns-in_err-write_piece-clause-elements g c =
+pub returns-in_err-write_piece : goal.returns-in_err-write_piece
+returns-in_err-write_piece g c =
     let all = c.args.pieces.now in
     let wrote = c.in_err-write_piece.ensures.piece in
-    midway_stops g.W.Write all _ _ _ _ _ _ wrote.marks c.from_residual.result c.from_residual.ensures.0
-    (drop_more all c.pieces.piece-index _ (omega arith)) c.pieces.invariant.midway wrote.is_piece wrote.bytes
+    record {
+      elements = midway_stops g.W.Write all _ _ _ _ _ _ wrote.marks c.from_residual.result c.from_residual.ensures.0
+          (drop_more all c.pieces.piece-index _ (omega arith)) c.pieces.invariant.midway wrote.is_piece wrote.bytes;
+      target = c.in_err-write_piece.ensures.target ∙ c.pieces.invariant.target;
+    }
 
 pub pieces-preserved : goal.pieces-preserved
 pieces-preserved g c =
@@ -26,6 +29,9 @@ pieces-preserved g c =
       target = c.in_ok-write_piece.ensures.target ∙ c.pieces.invariant.target;
     }
 
-pub returns-clause-elements : goal.returns-clause-elements
-returns-clause-elements g c = midway_last g.W.Write c.args.pieces.now _ _ _
-    (drop_all c.pieces.piece-index c.args.pieces.now (omega arith)) c.pieces.invariant.midway
+pub returns : goal.returns
+returns g c = record {
+  elements = midway_last g.W.Write c.args.pieces.now _ _ _
+      (drop_all c.pieces.piece-index c.args.pieces.now (omega arith)) c.pieces.invariant.midway;
+  target = c.pieces.invariant.target;
+}

@@ -4,18 +4,23 @@ use Rattle.ciborium_ll_grammar.proofs.TitleLaws.{IsTitle-shortest}
 use Rattle.ciborium_ll_decoder.proofs.DecodingLaws.{Consumes-waiting}
 use Rattle.ciborium_ll_decoder.proofs.dec.Decoder.pull.Goals as goal
 
-pub returns-in-Some-clause-header : goal.returns-in-Some-clause-header
-returns-in-Some-clause-header g c =
+pub returns-in-Some : goal.returns-in-Some
+returns-in-Some g c =
     let header = c.in-Some.header in
     let waited = c.in-Some.is in
     record {
-      title = shortest_title header;
-      is_title = IsTitle-shortest header c.title_len.ensures.range;
-      bytes = Consumes-waiting _ _ header (g.R.Read.ahead c.args.self.now.reader) waited refl;
-      offset = search rules;
-      none_waits = refl;
-      failures = refl;
-      waited = rw waited (refl, refl, refl);
-      mode = refl;
-      strict = λ on none. absurd (let some = sym waited ∙ none in cc);
+      header = record {
+        title = shortest_title header;
+        is_title = IsTitle-shortest header c.title_len.ensures.range;
+        bytes = Consumes-waiting _ _ header (g.R.Read.ahead c.args.self.now.reader) waited refl;
+        offset = search rules;
+        none_waits = refl;
+        failures = refl;
+        waited = rw waited (refl, refl, refl);
+        mode = refl;
+        strict = λ on none. absurd (let some = sym waited ∙ none in cc);
+      };
+      covered = search rules;
+      full = λ none most. absurd (let some = sym waited ∙ none in cc);
+      moves_on = search rules;
     }

@@ -30,8 +30,8 @@ titles-preserved g c =
       moves_on = MovesOn-then g.R.Read _ _ _ kept.moves_on step.moves_on;
     }
 
-pub returns-in_err-body-clause-advances : goal.returns-in_err-body-clause-advances
-returns-in_err-body-clause-advances g c =
+pub returns-in_err-body : goal.returns-in_err-body
+returns-in_err-body g c =
     let p = err_from_is_err_and c.from_residual.result c.from_residual.ensures.1 in
     let q = p.1 in
     let r = p.2 in
@@ -40,13 +40,24 @@ returns-in_err-body-clause-advances g c =
     let step = subst (λ (strict : Bool). EndsAdvance g.R.Read g.P.Parser.kind strict c.in-Open.opens
     c.titles.self.decoder.now (Err c.in_err-body.field-0.0) c.step.new.self.progress c.step.new.self.decoder.now)
     c.titles.invariant.mode c.in_err-body.ensures.steps in
-    rw same (Reached-ends g.R.Read g.P.Parser.kind c.args.self.now.strict c.args.self.now.progress c.in-Open.opens _ _ _
-    (Err c.in_err-body.field-0.0) _ reached step)
+    record {
+      same_reference = search rules;
+      advances = rw same (Reached-ends g.R.Read g.P.Parser.kind c.args.self.now.strict c.args.self.now.progress
+          c.in-Open.opens _ _ _ (Err c.in_err-body.field-0.0) _ reached step);
+      mode = c.in_err-body.ensures.mode ∙ c.titles.invariant.mode;
+      opens = let counted = rw c.in-Open.is at c.titles.invariant.opens in omega (arith, counted, c.in_err-body.ensures.opens);
+      moves_on = MovesOn-then g.R.Read _ _ _ c.titles.invariant.moves_on c.in_err-body.ensures.moves_on;
+    }
 
-pub returns-in-Some-clause-advances : goal.returns-in-Some-clause-advances
-returns-in-Some-clause-advances g c =
+pub returns-in-Some : goal.returns-in-Some
+returns-in-Some g c =
     let reached = rw c.in-Open.is at c.titles.invariant.reached in
     let step = rw c.in-Some.is at c.in_ok-body.ensures.steps in
-    Reached-ends g.R.Read g.P.Parser.kind c.args.self.now.strict c.args.self.now.progress c.in-Open.opens _ _ _ (Ok
-    (Some c.in-Some.body))
-    _ reached step
+    record {
+      same_reference = search rules;
+      advances = Reached-ends g.R.Read g.P.Parser.kind c.args.self.now.strict c.args.self.now.progress c.in-Open.opens _
+          _ _ (Ok (Some c.in-Some.body)) _ reached step;
+      mode = c.in_ok-body.ensures.mode ∙ c.titles.invariant.mode;
+      opens = let counted = rw c.in-Open.is at c.titles.invariant.opens in omega (arith, counted, c.in_ok-body.ensures.opens);
+      moves_on = MovesOn-then g.R.Read _ _ _ c.titles.invariant.moves_on c.in_ok-body.ensures.moves_on;
+    }

@@ -62,13 +62,12 @@ use Rattle.std.proofs.result.Result.TheLaws as result_laws
 use Rattle.ciborium_ll_decoder.proofs.dec.Error.TheLaws as error_laws
 use Rattle.ciborium_ll_decoder.proofs.seg.Body.TheLaws as body_laws
 use Rattle.ciborium_ll_decoder.proofs.seg.Segment.TheLaws as segment_laws
-use Rattle.std.specs.Prelude.{◌≤◌, ◌+◌, Some, None, Ok, Err}
+use Rattle.std.specs.Prelude.{◌+◌, Some, None, Ok, Err}
 use Rattle.std.specs.contracts.option.Option as option
 use Rattle.std.specs.contracts.result.Result as result
 use Rattle.ciborium_ll_decoder.specs.Chunks.{GoesOnTo, IsWhole, PullsSegment}
-use Rattle.ciborium_ll_decoder.specs.Decoding.{MovesOn, offset_of, waiting_of}
-use Rattle.ciborium_ll_decoder.specs.Progress.{opens_of}
-use Rattle.ciborium_ll_decoder.specs.Segments.{AdvancesTo, GivesAgain}
+use Rattle.ciborium_ll_decoder.specs.Decoding.{waiting_of}
+use Rattle.ciborium_ll_decoder.specs.Segments.{GivesAgain}
 use Rattle.ciborium_ll_decoder.specs.Lend.{with_decoder, HoldsDecoder, IsAdvanced, advance_answer, lent_reference}
 use Rattle.ciborium_ll_io.specs.declared.io.Read as read
 use Rattle.ciborium_ll_decoder.specs.declared.seg.Parser as parser
@@ -409,25 +408,10 @@ module _ (R P E : RattleType) (R-laws : Laws R) (P-laws : Laws P) (E-laws : Laws
         ‵ (Advance'.own_val answer (value ∷ []))) ⊛
         some (λ (news : State × Unit {0}). ‵ (lasts (advance.ended R P E reads reads_dict kind kind_dict)
         given_advance.0.0 given_advance.0.3 news) ⊛
-        raw (fact 𝓤 (AdvancesTo reads kind.kind old.strict old.progress old.decoder.now answer news.0.progress
-        news.0.decoder.now)) ⊛
-        raw (fact 𝓤 (opens_of news.0.progress + offset_of old.decoder.now
-        ≤ opens_of old.progress + offset_of news.0.decoder.now)) ⊛
-        raw (fact 𝓤 (news.0.strict ≡ old.strict)) ⊛
-        raw (fact 𝓤 (news.0.decoder.ghost_name ≡ old.decoder.ghost_name)) ⊛
-        raw (fact 𝓤 (MovesOn reads old.decoder.now news.0.decoder.now)))))) (id⊢ 𝓤 _) $
+        raw (fact 𝓤 (IsAdvanced reads kind.kind old answer news.0)))))) (id⊢ 𝓤 _) $
         await ! tt $ pick ! (λ answer. split ! $ split ! $ move ! (2 ∷ []) $ pick ! (λ news. split ! $ move ! (1 ∷ []) $
-        split ! $ heard ! _ (λ advanced_to. split ! $ heard ! _
-        (λ opens. split ! $ heard ! _ (λ same_mode. split ! $ heard ! _ (λ same_reference. heard ! _ (λ moves_on.
+        heard ! _ (λ promised.
         let new : State = news.0 in
-        let promised : IsAdvanced reads kind.kind old answer new = record {
-          same_reference = same_reference;
-          advances = advanced_to;
-          same_mode = same_mode;
-          opens = opens;
-          moves_on =
-              moves_on;
-        } in
         -- [the loan's last value; the tokens; the answer; the way back; the way to end]
 
         -- given back: the call's lifetime ends, and the reference is whole again, at the value that `advance` left
@@ -575,7 +559,7 @@ module _ (R P E : RattleType) (R-laws : Laws R) (P-laws : Laws P) (E-laws : Laws
         sets_last ! (agg ! (and_then ! (lit ! tt) (and_then ! (get ! refl) (no_more !)))) refl good_out $
         exec ! 𝓣.C 𝓣.Λ locals leaving' (at_ret locals Post) $ sets ! (of_opd ! (get ! refl)) refl good_out $
         returns ! (look_at ! 0 refl) $ free_all ! refl $ by !
-        (leaves out (Err x) new found tt (new.decoder.now, goes_on (Err x) new found))))))))))))))))
+        (leaves out (Err x) new found tt (new.decoder.now, goes_on (Err x) new found))))))))))))
 
   -- the walk, taken to the contract
   meets : Meets 𝓛 ended'.signature (WpFn 𝓤 H 𝓣.C 𝓣.Λ code') (closing 𝓛 ended' spec)
