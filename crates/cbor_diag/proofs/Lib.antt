@@ -1,4 +1,7 @@
+mod BodyShowLaws
 mod FloatLaws
 mod ItemLaws
 mod QuoteLaws
+mod QuotedLaws
 mod ShowLaws
+mod StringShowLaws

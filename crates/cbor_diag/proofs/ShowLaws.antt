@@ -9,6 +9,7 @@ use Rattle.ciborium_ll.specs.Types.Error.{Error}
 use Rattle.ciborium_ll.specs.Strings.{Kind}
 use Rattle.ciborium_ll.specs.Types.Write.{Ghosts as Sink}
 use Rattle.ciborium_ll.specs.Decoding.{MovesOn, PullsHeader, refusals_of}
+use Rattle.ciborium_ll.specs.Sides.{Sides, sides}
 use Rattle.ciborium_ll.specs.Skipping.{SkipsWhole}
 use Rattle.ciborium_ll.proofs.DecodingLaws.{MovesOn-then}
 use Rattle.cbor_skip.specs.declared.SkipError.{SkipError}
@@ -91,20 +92,20 @@ module _ {R E : Type 0} (source : Ghosts R E) where
   moved_then old mid new (Ok done) first then = MovesOn-then source old mid new first then
   moved_then old mid new (Err error) first then = tt
 
--- what a write of a float's text answered, as the answer of a show
-pub float_said : {E W F : Type 0} (sink : Sink W F) (header : Header) (float : Raw) (old new : W)
-    (answer : Result (Unit {0}) F) (result : Result (Unit {0}) (DiagError E F)) → header ≡ h.Float float
-    → result ≡ said_of answer → ShowsOne sink (IsFloatText float) old answer new
-    → ShowsHeader sink header old result new
-float_said sink header float old new (Ok done) result is same shown = rw (is, same)
-    (shown.text, shown.is_text, shown.written)
-float_said sink header float old new (Err fault) result is same shown = rw (is, same)
-    (shown.text, shown.is_text, shown.written)
-
 module _ {R E W F : Type 0} (source : Ghosts R E) (sink : Sink W F) where
+  -- what a write of a float's text answered, as the answer of a show
+  pub float_said : (header : Header) (float : Raw) (old new : Sides R W) (answer : Result (Unit {0}) F)
+      (result : Result (Unit {0}) (DiagError E F)) → header ≡ h.Float float → result ≡ said_of answer
+      → ShowsOne sink (IsFloatText float) old.writer answer new.writer
+      → ShowsHeader source sink header old result new
+  float_said header float old new (Ok done) result is same shown = rw (is, same)
+      (shown.text, shown.is_text, shown.written)
+  float_said header float old new (Err fault) result is same shown = rw (is, same)
+      (shown.text, shown.is_text, shown.written)
+
   -- where no header was pulled, nothing was written
   pub shows_nothing : (before old new : Decoder R) (error : Error E) (writer : W) → before ≡ old
       → PullsHeader source before (Err error) new
-      → ShowsFirst source sink old writer (Err (d.Read (s.Read error))) writer
+      → ShowsFirst source sink (sides old writer) (Err (d.Read (s.Read error))) (sides new writer)
   shows_nothing before old new error writer same fails =
-      nothing error new (subst (λ (first : Decoder R). PullsHeader source first (Err error) new) same fails) refl refl
+      nothing error (subst (λ (first : Decoder R). PullsHeader source first (Err error) new) same fails) refl refl

@@ -4,7 +4,7 @@ use Rattle.cbor_skip.specs.SkipTexts.{skip_error_text}
 use Rattle.cbor_diag.specs.declared.DiagError.{DiagError}
 use Rattle.cbor_diag.specs.declared.DiagError.TheVariants as d
 
--- the error of the read, or that of the writer
+-- what `{}` writes of an error of `diagnose`: the error of the read, or that of the writer
 abbrev pub diag_error_text : {E F : Type 0} → (E → Option (List ℕ)) → (F → Option (List ℕ)) → DiagError E F
     → Option (List ℕ)
 diag_error_text reading writing (d.Read error) = skip_error_text reading error

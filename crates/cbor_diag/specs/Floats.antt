@@ -22,12 +22,14 @@ half_size exponent fraction =
     else (if exponent == 0 then f.Ieee.mul binary64 (f.Ieee.of_int binary64 (pos fraction)) (power_of_two 1)
     else f.Ieee.mul binary64 (f.Ieee.of_int binary64 (pos (fraction + 1024))) (power_of_two exponent))
 
+-- the value of a half by its bits (RFC 7049, 2.3 and appendix D): its fraction times a power of two, as doubles, where
+-- no digit is lost
 abbrev pub half_value : ℕ → Float
 half_value bits =
     let size = half_size (bits / 1024 % 32) (bits % 1024) in
     if nat_lt bits 32768 then size else f.Ieee.neg size
 
--- the value of a float by its width and its bits
+-- the value of a float by its width and its bits (RFC 7049, 2.3)
 abbrev pub float_value : Raw → Float
 float_value (raw.Half bits) = half_value bits
 float_value (raw.Single bits) = from_bits binary32 bits
@@ -43,7 +45,8 @@ with_point (byte ∷ bytes) =
     else (if byte == 101 then codes ".0" ++ byte ∷ bytes
     else byte ∷ with_point bytes)
 
--- the text of a value: digits that are read as just this value, with a point, and a sign at an exponent; or its name
+-- the text of a value: digits that are read as just this value, laid out as the kit's `ryu` promises, with a point, and
+-- a sign at an exponent; or its name: `NaN`, `Infinity`, `-Infinity` (RFC 8949, 8)
 abbrev pub IsNumberText : Float → List ℕ → Type 0
 IsNumberText nan text = text ≡ codes "NaN"
 IsNumberText (inf false) text = text ≡ codes "Infinity"
@@ -64,23 +67,26 @@ is_held width exponent fraction =
     else (not (nat_lt width.most exponent) && (not (nat_lt (exponent + width.digits) width.least)
     && (fraction % 2 ^ ((52 - width.digits) + (width.least - exponent)) == 0))))
 
+-- whether a float of the width has the value of this double
 abbrev pub holds : Width → ℕ → Bool
 holds width double = is_held width (double / 2 ^ 52 % 2048) (double % 2 ^ 52)
 
--- halves: ten bits of fraction, and exponents from -14 to 15, as a double has them; singles: 23, and from -126 to 127
+-- halves: ten bits of fraction, and exponents from -14 to 15, as a double has them
 abbrev pub half_width : Width
 half_width = record { digits = 10; least = 1009; most = 1038 }
 
+-- singles: 23 bits of fraction, and exponents from -126 to 127
 abbrev pub single_width : Width
 single_width = record { digits = 23; least = 897; most = 1150 }
 
--- the mark of a width where a shorter one has the same value (RFC 8949, 8.1): the doubles of a float, and of a half none
+-- the mark of a width where a shorter one has the same value (RFC 8949, 8.1): `_2` of a single whose value a half has,
+-- `_3` of a double whose value a single has, and of a half none
 abbrev pub float_mark : Raw → List ℕ
 float_mark (raw.Half bits) = []
 float_mark (raw.Single bits) = if holds half_width (to_bits binary64 (from_bits binary32 bits)) then codes "_2" else []
 float_mark (raw.Double bits) = if holds single_width bits then codes "_3" else []
 
--- the text of a float: that of its value, and the mark
+-- the text of a float: that of its value, and the mark (RFC 8949, 8)
 abbrev pub IsFloatText : Raw → List ℕ → Type 0
 IsFloatText float text =
     (number : List ℕ) × IsNumberText (float_value float) number × (text ≡ number ++ float_mark float)

@@ -7,7 +7,7 @@ use Rattle.ciborium_ll.specs.Types.Header.TheVariants as h
 use Rattle.cbor_diag.specs.declared.strings.quotes.Quotes.{Quotes}
 use Rattle.cbor_diag.specs.declared.strings.quotes.Quotes.TheVariants as q
 
--- a simple value: the four that have names by these
+-- a simple value: the four that have names by these, and others as `simple(N)` (RFC 8949, 8)
 abbrev pub simple_text : ℕ → List ℕ
 simple_text number =
     if number == 20 then codes "false"
@@ -28,7 +28,7 @@ header_text header = None
 abbrev pub hex_digit : ℕ → ℕ
 hex_digit number = if nat_lt number 10 then 48 + number else 87 + number
 
--- a byte of a byte string, between the quotes of h''
+-- a byte of a byte string, between the quotes of h'' (RFC 8949, 8)
 abbrev pub hex_text : ℕ → List ℕ
 hex_text byte = hex_digit (byte / 16) ∷ hex_digit (byte % 16) ∷ []
 
@@ -46,12 +46,12 @@ escaped_text byte =
     else (if nat_lt byte 32 then (92 ∷ 117 ∷ 48 ∷ 48 ∷ []) ++ hex_text byte
     else byte ∷ [])))))))
 
--- a byte between quotes of the kind
+-- a byte between quotes of the kind (RFC 8949, 8)
 abbrev pub byte_text : Quotes → ℕ → List ℕ
 byte_text q.Hex byte = hex_text byte
 byte_text q.Text byte = escaped_text byte
 
--- bytes between quotes of the kind
+-- bytes between quotes of the kind, one behind the other (RFC 8949, 8)
 abbrev pub body_text : Quotes → List ℕ → List ℕ
 body_text quotes [] = []
 body_text quotes (byte ∷ bytes) = byte_text quotes byte ++ body_text quotes bytes

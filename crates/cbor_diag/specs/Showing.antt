@@ -1,23 +1,27 @@
 -- What a show of an item does to its decoder, as long as the writer does not fail, and what it writes of a header.
-use Rattle.std.specs.Prelude.{◌≡◌, ℕ, Bool, List, Option, Some, None, Result, Ok, Err}
+use Rattle.std.specs.Prelude.{◌≡◌, ℕ, Bool, List, Option, Some, None, Result, Ok, Err, OnOk}
 use Rattle.ciborium_ll.specs.Types.Read.{Ghosts}
 use Rattle.ciborium_ll.specs.Types.Write.{Ghosts as Sink}
 use Rattle.ciborium_ll.specs.Types.Header.{Header}
 use Rattle.ciborium_ll.specs.Types.Header.TheVariants as h
 use Rattle.ciborium_ll.specs.Types.Decoder.{Decoder}
 use Rattle.ciborium_ll.specs.Types.Error.{Error}
-use Rattle.ciborium_ll.specs.Decoding.{PullsHeader, PullsTitle}
+use Rattle.ciborium_ll.specs.Decoding.{MovesOn, PullsHeader, PullsTitle}
 use Rattle.ciborium_ll.specs.Encoding.{WritesBytes}
+use Rattle.ciborium_ll.specs.Sides.{Sides, sides}
+use Rattle.ciborium_ll.specs.Strings.{Bytes, Text}
 use Rattle.cbor_skip.specs.declared.SkipError.{SkipError}
 use Rattle.cbor_skip.specs.declared.SkipError.TheVariants as s
-use Rattle.cbor_skip.specs.Skipping.{ReadsItem, StopsItem}
+use Rattle.cbor_skip.specs.Skipping.{ReadsItem, SkipsItem, StopsItem}
 use Rattle.cbor_diag.specs.declared.DiagError.{DiagError}
 use Rattle.cbor_diag.specs.declared.DiagError.TheVariants as d
 use Rattle.cbor_diag.specs.Floats.{IsFloatText}
+use Rattle.cbor_diag.specs.declared.strings.quotes.Quotes.TheVariants as q
 use Rattle.cbor_diag.specs.Notation.{header_text}
+use Rattle.cbor_diag.specs.StringShows.{ShowsString}
 
 module _ {E F : Type 0} where
-  -- it is the writer that failed
+  -- an error is that of the writer
   abbrev pub IsWriting : DiagError E F → Type 0
   IsWriting (d.Read error) = ⊥
   IsWriting (d.Write fault) = Unit {0}
@@ -47,6 +51,12 @@ module _ {R E : Type 0} (source : Ghosts R E) where
   ReadsFrom outer depth room old (Ok done) new = ReadsItem source depth old new
   ReadsFrom outer depth room old (Err error) new = StopsItem source outer depth room old error new
 
+  -- what `diagnose` does to its decoder, as long as the writer does not fail, and what it keeps
+  pub record ReadsShown {F : Type 0} (depth : ℕ) (old : Decoder R) (result : Result (Unit {0}) (DiagError E F))
+      (new : Decoder R) : Type 0 where
+    pub reads : OnReading (λ answer. SkipsItem source depth 64 old answer new) result
+    pub moves_on : OnOk result (MovesOn source old new)
+
 module _ {E W F : Type 0} (sink : Sink W F) where
   -- the text was written, where there is one: all of it, or a beginning where the writer failed
   abbrev pub ShowsText : Option (List ℕ) → W → Result (Unit {0}) (DiagError E F) → W → Type 0
@@ -55,18 +65,20 @@ module _ {E W F : Type 0} (sink : Sink W F) where
   ShowsText (Some text) old (Err (d.Write fault)) new = WritesBytes sink {T = Unit {0}} old (Err fault) text new
   ShowsText (Some text) old (Err (d.Read error)) new = ⊥
 
-  -- the text of a header was written, where it is a whole item: of a float it is one that fits
-  abbrev pub ShowsHeader : Header → W → Result (Unit {0}) (DiagError E F) → W → Type 0
-  ShowsHeader (h.Float float) old result new =
-      (text : List ℕ) × IsFloatText float text × ShowsText (Some text) old result new
-  ShowsHeader header old result new = ShowsText (header_text header) old result new
-
 module _ {R E W F : Type 0} (source : Ghosts R E) (sink : Sink W F) where
+  -- behind a header its item was read and its text written, where that is an integer, a simple value, a float or a
+  -- string: of a float a text that fits, and of a string that of the bodies that were read
+  abbrev pub ShowsHeader : Header → Sides R W → Result (Unit {0}) (DiagError E F) → Sides R W → Type 0
+  ShowsHeader (h.Float float) old result new =
+      (text : List ℕ) × IsFloatText float text × ShowsText sink (Some text) old.writer result new.writer
+  ShowsHeader (h.Bytes len) old result new = ShowsString source sink Bytes q.Hex len 64 old result new
+  ShowsHeader (h.Text len) old result new = ShowsString source sink Text q.Text len 64 old result new
+  ShowsHeader header old result new = ShowsText sink (header_text header) old.writer result new.writer
+
   -- What `diagnose` writes of the title in front: where a header was pulled that has a text, just that. Where none was
   -- pulled, nothing was written
-  pub data ShowsFirst (old : Decoder R) (before : W) (result : Result (Unit {0}) (DiagError E F)) (after : W)
-      : Type 0 where
-    nothing : (error : Error E) (new : Decoder R) → PullsHeader source old (Err error) new
-        → result ≡ Err (d.Read (s.Read error)) → after ≡ before → ShowsFirst old before result after
-    first : (header : Header) (titled : Decoder R) → PullsTitle source old header titled
-        → ShowsHeader sink header before result after → ShowsFirst old before result after
+  pub data ShowsFirst (old : Sides R W) (result : Result (Unit {0}) (DiagError E F)) (new : Sides R W) : Type 0 where
+    nothing : (error : Error E) → PullsHeader source old.decoder (Err error) new.decoder
+        → result ≡ Err (d.Read (s.Read error)) → new.writer ≡ old.writer → ShowsFirst old result new
+    first : (header : Header) (titled : Decoder R) → PullsTitle source old.decoder header titled
+        → ShowsHeader header (sides titled old.writer) result new → ShowsFirst old result new

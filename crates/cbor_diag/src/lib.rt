@@ -1,10 +1,9 @@
 //! One item of CBOR in diagnostic notation (RFC 8949, section 8). No call takes memory.
 #![tactic(auto)]
 
-ghost use Rattle.std.specs.Prelude.{◌≤◌, OnOk};
-ghost use Rattle.ciborium_ll.specs.Decoding.{MovesOn};
-ghost use Rattle.cbor_skip.specs.Skipping.{SkipsItem};
-ghost use Rattle.cbor_diag.specs.Showing.{OnReading, ShowsFirst};
+ghost use Rattle.std.specs.Prelude.{◌≤◌};
+ghost use Rattle.ciborium_ll.specs.Sides.{sides};
+ghost use Rattle.cbor_diag.specs.Showing.{ReadsShown, ShowsFirst};
 
 mod layout;
 mod messages;
@@ -33,14 +32,27 @@ pub enum DiagError<E, F> {
 /// nested at most `depth` levels deep.
 ///
 /// Where the writer does not fail the item is read as `cbor_skip::skip_item` reads it: `Ok` says that one whole item
-/// was there, and the decoder is behind it; `Read` carries the error that `skip_item` answers, and the decoder is where
-/// that leaves it. What stands before the fault was written. `Write` carries the writer's error.
+/// was there, each body of a text UTF-8, and the decoder is behind it; `Read` carries the error that `skip_item`
+/// answers, and the decoder is where that leaves it. What stands before the fault was written. `Write` carries the
+/// writer's error.
 ///
 /// Of an integer or a simple value just its text is written: the digits in base 10, or the name, or `simple(N)`. Of a
-/// float just digits that are read as its value, or `NaN`, `Infinity`, `-Infinity`, and the indicator of its width.
+/// float just digits that are read as its value, or `NaN`, `Infinity`, `-Infinity`, and the indicator of its width. The
+/// digits are read by the kit's `parse_float`, which rounds to the nearest double, and laid out as the kit's `ryu`
+/// promises, with a point, and with a sign at an exponent.
 ///
 /// That indicator is `_2` or `_3`, and stands exactly where a shorter width holds the same value. No other indicator
 /// is written but that of the indefinite forms: how long the titles of integers, lengths and tags are is not shown.
+///
+/// Of a string just the bodies that were read are written, in quotes: a byte by two digits in `h''`, text with the
+/// escapes of JSON in `""`; of the indefinite form all of them in `(_ )`, with commas, or `''_` or `""_` where there is
+/// none. Where its read stops, the text ends behind what was handed out.
+///
+/// Where the writer fails, a beginning of the text was written, and where no header was pulled nothing. An item within
+/// others is shown in the same way.
+///
+/// Only tested is that a float's digits are the shortest, and what stands between items: of tags, arrays and maps no
+/// clause says what is written. After `Write` it is said of strings alone how far the item was read.
 pub fn diagnose<R: Read, W: Write>(
     decoder: &mut Decoder<R>,
     writer: &mut W,
@@ -48,9 +60,8 @@ pub fn diagnose<R: Read, W: Write>(
     layout: Layout,
 ) -> Result<(), DiagError<R::Error, W::Error>>
     requires shallow { depth ≤ 256 }
-    ensures reads { OnReading (λ answer. SkipsItem R.Read depth 64 decoder.old answer decoder.new) result }
-    ensures text { ShowsFirst R.Read W.Write decoder.old writer.old result writer.new }
-    ensures moves_on { OnOk result (MovesOn R.Read decoder.old decoder.new) }
+    ensures reads { ReadsShown R.Read depth decoder.old result decoder.new }
+    ensures text { ShowsFirst R.Read W.Write (sides decoder.old writer.old) result (sides decoder.new writer.new) }
 {
     let place = decoder.offset();
     let header = match decoder.pull() {

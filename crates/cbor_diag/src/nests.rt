@@ -4,6 +4,7 @@ ghost use Rattle.std.specs.Prelude.{◌≡◌, ◌≤◌, Bool, IfErr, None, OnO
 ghost use Rattle.ciborium_ll.specs.Types.Decoder.{Decoder as AnyDecoder};
 ghost use Rattle.ciborium_ll.specs.Title.{title_len};
 ghost use Rattle.ciborium_ll.specs.Decoding.{IsSteady, MovesOn, PullsTitle, offset_of, waiting_of};
+ghost use Rattle.ciborium_ll.specs.Sides.{sides};
 ghost use Rattle.cbor_skip.specs.Due.{IsNest};
 ghost use Rattle.cbor_skip.specs.Skipping.{SkipsWithin};
 ghost use Rattle.cbor_diag.specs.Showing.{IsWriting, OnReading, ReadsFrom, ShowsHeader};
@@ -69,7 +70,8 @@ pub(crate) fn show_item<R: Read, W: Write>(
     ensures reads { (before : AnyDecoder R) (outer : Bool) → place ≡ offset_of before
         → PullsTitle R.Read before header decoder.old → (IsSteady R.Read before → IsSteady R.Read decoder.old)
         → OnReading (λ answer. ReadsFrom R.Read outer depth 64 before answer decoder.new) result }
-    ensures text { ShowsHeader W.Write header writer.old result writer.new }
+    ensures text { ShowsHeader R.Read W.Write header (sides decoder.old writer.old) result
+        (sides decoder.new writer.new) }
     ensures moves_on { OnOk result (MovesOn R.Read decoder.old decoder.new) }
 {
     match header {

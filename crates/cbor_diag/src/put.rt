@@ -1,8 +1,8 @@
 //! Pieces of text, written.
 
-ghost use Rattle.std.specs.Prelude.{◌≡◌, ◌++◌, IfErr};
+ghost use Rattle.std.specs.Prelude.{◌≡◌, ◌++◌, IfErr, Some};
 ghost use Rattle.ciborium_ll.specs.Encoding.{WritesBytes};
-ghost use Rattle.cbor_diag.specs.Showing.{IsWriting, said_of};
+ghost use Rattle.cbor_diag.specs.Showing.{IsWriting, ShowsText, said_of};
 
 use crate::DiagError;
 use ciborium_ll::io::Write;
@@ -37,7 +37,8 @@ pub(crate) fn put_three<W: Write>(
 
 /// Writes a text. The error is the writer's.
 pub(crate) fn say<E, W: Write>(writer: &mut W, text: &[u8]) -> Result<(), DiagError<E, W::Error>>
-    ensures { IfErr result IsWriting }
+    ensures writing { IfErr result IsWriting }
+    ensures written { ShowsText W.Write (Some text.now) writer.old result writer.new }
 {
     said(put(writer, text))
 }

@@ -1,6 +1,6 @@
 //! Strings, in quotes.
 
-ghost use Rattle.std.specs.Prelude.{◌≡◌, ◌≤◌, ℕ, [], Option, None, IfErr, OnOk};
+ghost use Rattle.std.specs.Prelude.{◌≡◌, ◌≤◌, ℕ, [], Option, None, Some, IfErr, OnOk};
 ghost use Rattle.ciborium_ll.specs.Types.Decoder.{Decoder as AnyDecoder};
 ghost use Rattle.ciborium_ll.specs.Types.Header.TheVariants as Header;
 ghost use Rattle.ciborium_ll.specs.Title.{IsInRange, title_len};
@@ -10,11 +10,16 @@ ghost use Rattle.ciborium_ll.specs.Finishing.{EndsBody};
 ghost use Rattle.ciborium_ll.specs.Segments.{IsAtBeginning, progress_of, string_decoder, string_reference};
 ghost use Rattle.ciborium_ll.specs.Segments.{string_strict};
 ghost use Rattle.ciborium_ll.specs.Skipping.{SkipsString};
-ghost use Rattle.cbor_diag.specs.Showing.{IsWriting, OnString};
+ghost use Rattle.ciborium_ll.specs.Sides.{sides};
+ghost use Rattle.cbor_diag.specs.Showing.{IsWriting, OnString, ShowsText};
+ghost use Rattle.cbor_diag.specs.StringShows.{CopiesQuoted, ShowsBody, ShowsString, end_text, is_indefinite, lead_text};
 
+mod noted;
+mod quoted;
 mod quotes;
 
-use self::quotes::{Quoted, Quotes};
+use self::quoted::Quoted;
+use self::quotes::Quotes;
 use crate::DiagError;
 use crate::put::say;
 use cbor_skip::SkipError;
@@ -30,6 +35,8 @@ pub(crate) fn show_bytes<R: Read, W: Write>(
     requires none_waits { waiting_of decoder.old ≡ None }
     requires covered { title_len (Header.Bytes len) ≤ offset_of decoder.old }
     ensures reads { OnString (λ answer. SkipsString R.Read byte_strings len 64 decoder.old answer decoder.new) result }
+    ensures text { ShowsString R.Read W.Write byte_strings Quotes.Hex len 64 (sides decoder.old writer.old) result
+        (sides decoder.new writer.new) }
     ensures moves_on { OnOk result (MovesOn R.Read decoder.old decoder.new) }
 {
     let mut segments = decoder.bytes(len);
@@ -45,6 +52,8 @@ pub(crate) fn show_text<R: Read, W: Write>(
     requires none_waits { waiting_of decoder.old ≡ None }
     requires covered { title_len (Header.Text len) ≤ offset_of decoder.old }
     ensures reads { OnString (λ answer. SkipsString R.Read text_strings len 64 decoder.old answer decoder.new) result }
+    ensures text { ShowsString R.Read W.Write text_strings Quotes.Text len 64 (sides decoder.old writer.old) result
+        (sides decoder.new writer.new) }
     ensures moves_on { OnOk result (MovesOn R.Read decoder.old decoder.new) }
 {
     let mut segments = decoder.text(len);
@@ -52,6 +61,7 @@ pub(crate) fn show_text<R: Read, W: Write>(
 }
 
 /// Shows the segments of a string that was just begun, in brackets where it is of the indefinite form.
+#[tactic(auto, using(crate::proofs::StringShowLaws::text_start))]
 fn show_segments<R: Read, W: Write, P: Chunked>(
     segments: &mut Segments<'_, R, P>,
     writer: &mut W,
@@ -68,6 +78,10 @@ fn show_segments<R: Read, W: Write, P: Chunked>(
         → string_strict segments.old ≡ strict_of opened
         → refusals_of (string_decoder segments.old) ≡ refusals_of opened
         → OnOk result (MovesOn R.Read opened (string_decoder segments.new)) }
+    ensures text { (opened : AnyDecoder R) (len : Option ℕ) → IsInRange (kind_header P.kind len)
+        → waiting_of opened ≡ None → TakesBack R.Read opened (kind_header P.kind len) (string_decoder segments.old)
+        → is_open ≡ is_indefinite len → ShowsString R.Read W.Write P.kind quotes len 64
+        (sides opened writer.old) result (sides (string_decoder segments.new) writer.new) }
     ensures same_reference { string_reference segments.new ≡ string_reference segments.old }
 {
     let mut is_first = true;
@@ -89,7 +103,8 @@ fn open<E, W: Write>(
     is_open: bool,
     is_first: bool,
 ) -> Result<(), DiagError<E, W::Error>>
-    ensures { IfErr result IsWriting }
+    ensures writing { IfErr result IsWriting }
+    ensures written { ShowsText W.Write (Some (lead_text is_open is_first)) writer.old result writer.new }
 {
     match (is_open, is_first) {
         (false, _) => Ok(()),
@@ -105,7 +120,8 @@ fn close<E, W: Write>(
     is_open: bool,
     is_empty: bool,
 ) -> Result<(), DiagError<E, W::Error>>
-    ensures { IfErr result IsWriting }
+    ensures writing { IfErr result IsWriting }
+    ensures written { ShowsText W.Write (Some (end_text is_open quotes is_empty)) writer.old result writer.new }
 {
     match (is_open, is_empty) {
         (false, _) => Ok(()),
@@ -124,17 +140,37 @@ fn show_body<R: Read, W: Write, P: Chunked>(
     requires none_waits { waiting_of (string_decoder segments.old) ≡ None }
     ensures reads { OnString (λ answer. EndsBody R.Read P.kind [] body.length 64 body.place
         (string_decoder segments.old) answer (string_decoder segments.new)) result }
+    ensures text { ShowsBody R.Read W.Write P.kind body.length 64 body.place quotes
+        (sides (string_decoder segments.old) writer.old) result (sides (string_decoder segments.new) writer.new) }
     ensures same_reference { string_reference segments.new ≡ string_reference segments.old }
     ensures progress { progress_of segments.new ≡ progress_of segments.old }
     ensures mode { string_strict segments.new ≡ string_strict segments.old }
     ensures moves_on { MovesOn R.Read (string_decoder segments.old) (string_decoder segments.new) }
 {
     say::<R::Error, W>(writer, quotes.opening())?;
-    let mut quoted = Quoted::new(writer, quotes);
-    match segments.copy(body, &mut quoted, &mut [0; 64]) {
+    match copy_quoted(segments, writer, body, quotes) {
         Ok(()) => {}
         Err(RecodeError::Read(error)) => return Err(DiagError::Read(SkipError::Read(error))),
         Err(RecodeError::Write(fault)) => return Err(DiagError::Write(fault)),
     }
     say::<R::Error, W>(writer, quotes.closing())
+}
+
+/// Shows what stands between the quotes of that body.
+fn copy_quoted<R: Read, W: Write, P: Chunked>(
+    segments: &mut Segments<'_, R, P>,
+    writer: &mut W,
+    body: Body,
+    quotes: Quotes,
+) -> Result<(), RecodeError<R::Error, W::Error>>
+    requires none_waits { waiting_of (string_decoder segments.old) ≡ None }
+    ensures copied { CopiesQuoted R.Read W.Write P.kind body.length 64 body.place quotes
+        (sides (string_decoder segments.old) writer.old) result (sides (string_decoder segments.new) writer.new) }
+    ensures same_reference { string_reference segments.new ≡ string_reference segments.old }
+    ensures progress { progress_of segments.new ≡ progress_of segments.old }
+    ensures mode { string_strict segments.new ≡ string_strict segments.old }
+    ensures moves_on { MovesOn R.Read (string_decoder segments.old) (string_decoder segments.new) }
+{
+    let mut quoted = Quoted::new(writer, quotes);
+    segments.copy(body, &mut quoted, &mut [0; 64])
 }

@@ -1,11 +1,11 @@
 //! What stands between quotes.
 
-ghost use Rattle.std.specs.Prelude.{◌≡◌, ◌<◌, None};
+ghost use Rattle.std.specs.Prelude.{◌≡◌, ◌<◌, true};
 ghost use Rattle.ciborium_ll.specs.Encoding.{WritesBytes};
 ghost use Rattle.cbor_diag.specs.Notation.{body_text, byte_text, escaped_text, hex_digit, hex_text};
 
 use crate::put::{put, put_two};
-use ciborium_ll::io::{Failures, Write};
+use ciborium_ll::io::Write;
 
 /// How the body of a string is shown.
 #[derive(Clone, Copy)]
@@ -17,8 +17,12 @@ pub(crate) enum Quotes {
 }
 
 impl Quotes {
+    ghost use Rattle.cbor_diag.specs.StringShows.{closing, end_text, opening};
+
     /// What stands in front of a body.
-    pub(crate) fn opening(self) -> &'static [u8] {
+    pub(crate) fn opening(self) -> &'static [u8]
+        ensures { result.now ≡ opening self }
+    {
         match self {
             Quotes::Hex => b"h'",
             Quotes::Text => b"\"",
@@ -26,7 +30,9 @@ impl Quotes {
     }
 
     /// What stands behind it.
-    pub(crate) fn closing(self) -> &'static [u8] {
+    pub(crate) fn closing(self) -> &'static [u8]
+        ensures { result.now ≡ closing self }
+    {
         match self {
             Quotes::Hex => b"'",
             Quotes::Text => b"\"",
@@ -34,7 +40,9 @@ impl Quotes {
     }
 
     /// A string of the indefinite form that has no body (RFC 8949, 8.1).
-    pub(crate) fn none(self) -> &'static [u8] {
+    pub(crate) fn none(self) -> &'static [u8]
+        ensures { result.now ≡ end_text true self true }
+    {
         match self {
             Quotes::Hex => b"''_",
             Quotes::Text => b"\"\"_",
@@ -42,60 +50,12 @@ impl Quotes {
     }
 }
 
-/// Writes bytes to another writer as they stand between quotes.
-#[derive(Drop)]
-pub(crate) struct Quoted<'w, W> {
-    writer: &'w mut W,
-    quotes: Quotes,
-    failures: Failures,
-}
-
-impl<'w, W: Write> Quoted<'w, W> {
-    pub(crate) fn new(writer: &'w mut W, quotes: Quotes) -> Quoted<'w, W> {
-        Quoted {
-            writer,
-            quotes,
-            failures: Failures::new(),
-        }
-    }
-}
-
-impl<'w, W: Write> Write for Quoted<'w, W> {
-    type Error = W::Error;
-
-    ghost written = { λ _. None };
-
-    ghost room = { λ _. None };
-
-    ghost failures = { λ w. w.failures.count };
-
-    ghost flushed = { λ _ _. Unit {0} };
-
-    ghost target = { λ _. None };
-
-    fn write_all(&mut self, data: &[u8]) -> Result<(), W::Error> {
-        match show_quoted(&mut *self.writer, self.quotes, data) {
-            Ok(()) => Ok(()),
-            Err(fault) => {
-                self.failures.raise();
-                Err(fault)
-            }
-        }
-    }
-
-    fn flush(&mut self) -> Result<(), W::Error> {
-        match self.writer.flush() {
-            Ok(()) => Ok(()),
-            Err(fault) => {
-                self.failures.raise();
-                Err(fault)
-            }
-        }
-    }
-}
-
 /// Shows bytes as they stand between quotes.
-fn show_quoted<W: Write>(writer: &mut W, quotes: Quotes, bytes: &[u8]) -> Result<(), W::Error>
+pub(super) fn show_quoted<W: Write>(
+    writer: &mut W,
+    quotes: Quotes,
+    bytes: &[u8],
+) -> Result<(), W::Error>
     ensures { WritesBytes W.Write writer.old result (body_text quotes bytes.now) writer.new }
 {
     'bytes: for byte in bytes {

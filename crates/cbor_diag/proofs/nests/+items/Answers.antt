@@ -40,7 +40,7 @@ show_item-returns-in-Float-clause-reads g t c = λ before outer at pulled steady
 
 pub show_item-returns-in-Float-clause-text : goal.show_item-returns-in-Float-clause-text
 show_item-returns-in-Float-clause-text g t c =
-    float_said g.W.Write c.args.header c.in-Float.float _ _ c.show_float.result c.said-in-Float.result c.in-Float.is
+    float_said g.R.Read g.W.Write c.args.header c.in-Float.float _ _ c.show_float.result c.said-in-Float.result c.in-Float.is
     c.said-in-Float.ensures.same c.show_float.ensures
 
 pub show_item-returns-in-Simple-clause-reads : goal.show_item-returns-in-Simple-clause-reads

@@ -1,11 +1,15 @@
-use Rattle.std.proofs.Common.{rules, sym, ◌≡◌, ◌∙◌, ◌<◌, ◌^◌, [], Result, Err, arith}
+use Rattle.std.proofs.Common.{rules, refl, subst, sym, ◌≡◌, ◌∙◌, ◌<◌, ◌^◌, [], Bool, false, Some, Result, Err, arith}
 use Rattle.std.proofs.lemmas.Result.{err_from_is_err_and}
 use Rattle.ciborium_ll.specs.Types.Error.{Error}
 use Rattle.ciborium_ll.specs.Finishing.{EndsBody}
 use Rattle.ciborium_ll.specs.Skipping.{SkipsString}
 use Rattle.ciborium_ll.proofs.DecodingLaws.{MovesOn-then}
 use Rattle.ciborium_ll.proofs.SkipLaws.{skips_end, skips_error, skips_body, skips_stop, found_rises}
+use Rattle.ciborium_ll.specs.Encoding.{WritesAll}
+use Rattle.cbor_diag.specs.Showing.{ShowsText}
+use Rattle.cbor_diag.specs.StringShows.{end_text, lead_text}
 use Rattle.cbor_diag.proofs.ShowLaws.{string_unread, string_whole, string_stops, when_ok, whole_moves}
+use Rattle.cbor_diag.proofs.StringShowLaws.{text_closed, text_fails, text_more, text_stops, text_unled}
 use Rattle.cbor_diag.proofs.strings.show_segments.Goals as goal
 
 pub segments-smaller : goal.segments-smaller
@@ -32,6 +36,15 @@ segments-preserved g c =
           (c.segments.invariant.so_far opened len range settled back meant)
           c.advance.ensures.moves_on.steady c.show_body.ensures.moves_on.steady
           (rw (sym c.show_body.ensures.progress) at advances) c.in_ok-show_body.ensures.reads;
+      text = λ opened len range settled back form.
+          text_more g.R.Read g.W.Write g.P.Parser.kind c.args.quotes len opened c.args.writer.now c.segments.is_first
+          c.segments.segments.decoder.now c.advance.new.self.decoder.now c.segments.writer c.segments.segments.strict
+          c.segments.segments.progress c.show_body.new.segments.progress settled range
+          (c.segments.invariant.text opened len range settled back form) c.advance.ensures.moves_on.steady
+          c.in-Ok-Some.body (rw (sym c.show_body.ensures.progress) at advances) c.open.new.writer
+          (subst (λ (b : Bool). WritesAll g.W.Write c.segments.writer (lead_text b c.segments.is_first)
+          c.open.new.writer) form c.in_ok-open.ensures.written) 64 false c.show_body.new.segments.decoder.now
+          c.show_body.new.writer refl c.show_body.ensures.moves_on.steady c.in_ok-show_body.ensures.text;
       moves_on = MovesOn-then g.R.Read _ _ _ c.segments.invariant.moves_on
           (MovesOn-then g.R.Read _ _ _ c.advance.ensures.moves_on c.show_body.ensures.moves_on);
     }
@@ -47,7 +60,7 @@ returns-in-Ok-None-clause-reads g c = λ opened len range settled back meant.
     c.segments.segments.progress c.advance.new.self.progress
     (c.segments.invariant.mode ∙ meant)
     (c.segments.invariant.so_far opened len range settled back meant) c.advance.ensures.moves_on.steady advances)
-    c.close.ensures
+    c.close.ensures.writing
 
 pub returns-in-Err-clause-reads : goal.returns-in-Err-clause-reads
 returns-in-Err-clause-reads g c = λ opened len range settled back meant.
@@ -68,7 +81,7 @@ returns-in_err-open-clause-reads g c = λ opened len range settled back meant.
     let ended = c.advance.new.self.decoder.now in
     let Holds : Result (Unit {0}) (Error g.row.R-Error.Denot) → Type 0 =
     λ answer. SkipsString g.R.Read g.P.Parser.kind len 64 opened answer ended in
-    rw same (string_unread Holds error c.in_err-open.ensures)
+    rw same (string_unread Holds error c.in_err-open.ensures.writing)
 
 pub returns-in_err-show_body-clause-reads : goal.returns-in_err-show_body-clause-reads
 returns-in_err-show_body-clause-reads g c = λ opened len range settled back meant.
@@ -104,3 +117,54 @@ returns-in-Ok-None-clause-moves_on g c = λ opened len range settled back meant 
     (c.segments.invariant.so_far opened len range settled back meant) c.advance.ensures.moves_on.steady advances in
     when_ok _ c.close.result (whole_moves g.R.Read g.P.Parser.kind len opened _ ended whole
     (MovesOn-then g.R.Read _ _ _ c.segments.invariant.moves_on c.advance.ensures.moves_on) same)
+
+pub returns-in-Ok-None-clause-text : goal.returns-in-Ok-None-clause-text
+returns-in-Ok-None-clause-text g c = λ opened len range settled back form.
+    let advances = rw c.in-Ok-None.field-0-is at c.in-Ok-None.ensures.advances in
+    text_closed g.R.Read g.W.Write g.P.Parser.kind c.args.quotes len opened c.args.writer.now c.segments.is_first
+    c.segments.segments.decoder.now c.advance.new.self.decoder.now c.segments.writer c.segments.segments.strict
+    c.segments.segments.progress c.advance.new.self.progress settled range
+    (c.segments.invariant.text opened len range settled back form) c.advance.ensures.moves_on.steady 64 c.close.result
+    c.close.new.writer advances
+    (subst (λ (b : Bool). ShowsText g.W.Write (Some (end_text b c.args.quotes c.segments.is_first)) c.segments.writer
+    c.close.result c.close.new.writer) form c.close.ensures.written)
+
+pub returns-in-Err-clause-text : goal.returns-in-Err-clause-text
+returns-in-Err-clause-text g c = λ opened len range settled back form.
+    text_fails g.R.Read g.W.Write g.P.Parser.kind c.args.quotes opened c.args.writer.now 64 c.segments.is_first
+    c.segments.segments.decoder.now c.advance.new.self.decoder.now c.segments.writer c.segments.segments.strict
+    c.segments.segments.progress c.advance.new.self.progress settled len c.in-Err.error range
+    (c.segments.invariant.text opened len range settled back form) c.in-Err.ensures.advances
+
+pub returns-in_err-open-clause-text : goal.returns-in_err-open-clause-text
+returns-in_err-open-clause-text g c = λ opened len range settled back form.
+    let from = err_from_is_err_and c.from_residual.result c.from_residual.ensures.1 in
+    let is_error = from.1 in
+    let is_same = from.2 in
+    let error = c.in_err-open.field-0.0 in
+    let same : c.from_residual.result ≡ Err error = cc in
+    let advances = rw c.in-Ok-Some.field-0-is at c.in-Ok-Some.ensures.advances in
+    rw same (text_unled g.R.Read g.W.Write g.P.Parser.kind c.args.quotes len opened c.args.writer.now
+    c.segments.is_first c.segments.segments.decoder.now c.advance.new.self.decoder.now c.segments.writer
+    c.segments.segments.strict c.segments.segments.progress c.advance.new.self.progress settled range
+    (c.segments.invariant.text opened len range settled back form) c.advance.ensures.moves_on.steady
+    c.in-Ok-Some.body advances 64 error c.open.new.writer
+    (subst (λ (b : Bool). ShowsText g.W.Write (Some (lead_text b c.segments.is_first)) c.segments.writer (Err error)
+    c.open.new.writer) form c.in_err-open.ensures.written))
+
+pub returns-in_err-show_body-clause-text : goal.returns-in_err-show_body-clause-text
+returns-in_err-show_body-clause-text g c = λ opened len range settled back form.
+    let residual = c.from_residual-in_err-show_body in
+    let from = err_from_is_err_and residual.result residual.ensures.1 in
+    let is_error = from.1 in
+    let is_same = from.2 in
+    let error = c.in_err-show_body.field-0.0 in
+    let same : residual.result ≡ Err error = cc in
+    let advances = rw c.in-Ok-Some.field-0-is at c.in-Ok-Some.ensures.advances in
+    rw same (text_stops g.R.Read g.W.Write g.P.Parser.kind c.args.quotes len opened c.args.writer.now
+    c.segments.is_first c.segments.segments.decoder.now c.advance.new.self.decoder.now c.segments.writer
+    c.segments.segments.strict c.segments.segments.progress c.advance.new.self.progress settled range
+    (c.segments.invariant.text opened len range settled back form) c.advance.ensures.moves_on.steady
+    c.in-Ok-Some.body advances c.open.new.writer
+    (subst (λ (b : Bool). WritesAll g.W.Write c.segments.writer (lead_text b c.segments.is_first) c.open.new.writer)
+    form c.in_ok-open.ensures.written) 64 error _ c.in_err-show_body.ensures.text)

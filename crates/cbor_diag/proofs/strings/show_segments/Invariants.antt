@@ -4,6 +4,8 @@ use Rattle.ciborium_ll.specs.Title.{IsInRange}
 use Rattle.ciborium_ll.specs.Strings.{kind_header}
 use Rattle.ciborium_ll.specs.Decoding.{MovesOn, TakesBack, waiting_of}
 use Rattle.ciborium_ll.proofs.SkipLaws.{SkipsSoFar}
+use Rattle.cbor_diag.specs.StringShows.{is_indefinite}
+use Rattle.cbor_diag.proofs.StringShowLaws.{TextSoFar}
 use Rattle.cbor_diag.proofs.strings.show_segments.Given as goal
 
 abbrev pub invariant-segments : goal.invariant-segments
@@ -15,6 +17,12 @@ invariant-segments g l = record {
       → TakesBack g.R.Read opened (kind_header g.P.Parser.kind len) l.initial.segments.decoder.now
       → l.initial.segments.strict ≡ opened.strict → SkipsSoFar g.R.Read g.P.Parser.kind len opened l.segments.progress
       l.segments.decoder.now;
+  text : (opened : Decoder g.row.R.Denot) (len : Option ℕ) → IsInRange (kind_header g.P.Parser.kind len)
+      → waiting_of opened ≡ None
+      → TakesBack g.R.Read opened (kind_header g.P.Parser.kind len) l.initial.segments.decoder.now
+      → l.is_open ≡ is_indefinite len
+      → TextSoFar g.R.Read g.W.Write g.P.Parser.kind l.quotes len opened l.initial.writer l.is_first
+      l.segments.progress l.segments.decoder.now l.writer;
   moves_on : MovesOn g.R.Read l.initial.segments.decoder.now l.segments.decoder.now;
 }
 

@@ -1,0 +1,168 @@
+-- A body that is copied to a writer of what stands between quotes, and shown in them.
+use Rattle.std.proofs.Common.{◌≡◌, ◌∙◌, ℕ, ◌+◌, Bool, true, false, List, [], ◌++◌, take, drop, Option, Some}
+use Rattle.std.proofs.Common.{None, Result, Ok, Err, refl, ap, sym, subst, arith, append_assoc, append-nil}
+use Rattle.std.proofs.Common.{length-append}
+use Rattle.std.proofs.lemmas.List.{take-append-drop}
+use Rattle.ciborium_ll.specs.Types.Read.{Ghosts as Reader}
+use Rattle.ciborium_ll.specs.Types.Write.{Ghosts as Writer}
+use Rattle.ciborium_ll.specs.Types.Decoder.{Decoder}
+use Rattle.ciborium_ll.specs.Types.Error.{Error}
+use Rattle.ciborium_ll.specs.Types.RecodeError.{RecodeError}
+use Rattle.ciborium_ll.specs.Types.RecodeError.TheVariants as r
+use Rattle.ciborium_ll.specs.Transfer.{Target}
+use Rattle.ciborium_ll.specs.Strings.{Kind}
+use Rattle.ciborium_ll.specs.Decoding.{Passes}
+use Rattle.ciborium_ll.specs.Encoding.{WritesAll, WritesFront}
+use Rattle.ciborium_ll.specs.Finishing.{handed_out}
+use Rattle.ciborium_ll.specs.Recoding.{BodyUnwritten, BodyWritten, CopiesBody}
+use Rattle.ciborium_ll.specs.Sides.{sides}
+use Rattle.cbor_diag.specs.declared.strings.quotes.Quotes.{Quotes}
+use Rattle.cbor_diag.specs.Notation.{body_text}
+use Rattle.cbor_diag.specs.Quoting.{failure_count}
+use Rattle.ciborium_ll.proofs.DecodingLaws.{Passes-none}
+use Rattle.ciborium_ll.proofs.EncodingLaws.{WritesBytes-then}
+use Rattle.cbor_skip.specs.declared.SkipError.TheVariants as s
+use Rattle.cbor_diag.specs.declared.DiagError.{DiagError}
+use Rattle.cbor_diag.specs.declared.DiagError.TheVariants as d
+use Rattle.cbor_diag.specs.Showing.{ShowsText}
+use Rattle.cbor_diag.specs.StringShows.{BodyShown, BodyUnshown, CopiesQuoted, ShowsBody, begun_text, closing, opening}
+use Rattle.cbor_diag.proofs.QuotedLaws.{body_text-append, front_longer}
+
+-- no failure, and one
+pub none_failed : (failed : Bool) → failure_count failed ≡ 0 → failed ≡ false
+none_failed false none = refl
+none_failed true none = absurd (omega (arith, none))
+
+pub one_failed : (failed : Bool) → failure_count failed ≡ 1 → failed ≡ true
+one_failed false one = absurd (omega (arith, one))
+one_failed true one = refl
+
+-- a target that is told has just that one
+pub same_target : {one other : Target} → Some one ≡ Some other → one ≡ other
+same_target same = cc
+
+module _ {R E W F V : Type 0} (source : Reader R E) (sink : Writer W F) (given : V → List ℕ) (count : V → ℕ)
+    (flushed : V → V → Type 0) (target : V → Option Target) where
+  -- a writer that tells what it was given
+  abbrev pub quoting : Writer V F
+  quoting = record {
+    written = λ v. Some (given v);
+    room = λ v. None;
+    failures = count;
+    flushed = flushed;
+    target = target;
+  }
+
+  module _ (kind : Kind) (quotes : Quotes) (len room place : ℕ) (old new : Decoder R) (v v' : V) (w w' : W)
+      (none : given v ≡ [])
+      (all : count v' ≡ count v → WritesAll sink w (body_text quotes (given v')) w')
+      (front : count v' ≡ count v + 1 → WritesFront sink w (body_text quotes (given v')) w') where
+    quoted_whole : (result : Result (Unit {0}) (Error E))
+        → BodyWritten source quoting kind len room place (sides old v) result (sides new v')
+        → BodyShown source sink kind len room place (body_text quotes) (sides old w) result (sides new w')
+    quoted_whole result copied =
+        let handed = handed_out source kind [] len room place old result new copied.ends in
+        let is : given v' ≡ handed = copied.written.appended ∙ ap (λ (z : List ℕ). z ++ handed) none in
+        record {
+          ends = copied.ends;
+          written = subst (λ (z : List ℕ). WritesAll sink w (body_text quotes z) w') is (all copied.written.failures);
+        }
+
+    quoted_part : BodyUnwritten source quoting kind len room (sides old v) (sides new v')
+        → BodyUnshown source sink kind len (body_text quotes) (sides old w) (sides new w')
+    quoted_part stops =
+        let n = stops.stopped.front.0 in
+        let given_is : given v' ≡ stops.front ++ take n stops.chunk =
+        stops.stopped.front.1.0 ∙ ap (λ (z : List ℕ). z ++ take n stops.chunk)
+        (stops.written.appended ∙ ap (λ (z : List ℕ). z ++ stops.front) none) in
+        let whole : given v' ++ drop n stops.chunk ≡ stops.front ++ stops.chunk =
+        ap (λ (z : List ℕ). z ++ drop n stops.chunk) given_is
+        ∙ append_assoc stops.front (take n stops.chunk) (drop n stops.chunk)
+        ∙ ap (λ (z : List ℕ). stops.front ++ z) (take-append-drop n stops.chunk) in
+        let text = sym (body_text-append quotes (given v') (drop n stops.chunk)) ∙ ap (body_text quotes) whole in
+        record {
+          bytes = stops.front ++ stops.chunk;
+          kept = stops.kept;
+          passed = subst (λ (z : List ℕ). Passes source old z new)
+              (sym (append_assoc stops.front stops.chunk stops.kept)) stops.passed;
+          within = omega (arith, stops.within, stops.filled, length-append stops.front stops.chunk);
+          few = stops.few;
+          stopped = subst (λ (z : List ℕ). WritesFront sink w z w') text
+              (front_longer sink w w' (body_text quotes (given v')) (body_text quotes (drop n stops.chunk))
+              (front (stops.stopped.failures ∙ ap (λ (m : ℕ). m + 1) stops.written.failures)));
+        }
+
+    -- what was copied to it was copied in quotes
+    pub through_quotes : (result : Result (Unit {0}) (RecodeError E F))
+        → CopiesBody source quoting kind len room place (sides old v) result (sides new v')
+        → CopiesQuoted source sink kind len room place quotes (sides old w) result (sides new w')
+    through_quotes (Ok done) copied = quoted_whole (Ok done) copied
+    through_quotes (Err (r.Read error)) copied = quoted_whole (Err error) copied
+    through_quotes (Err (r.Write fault)) stops = quoted_part stops
+
+module _ {R E W F : Type 0} (source : Reader R E) (sink : Writer W F) (kind : Kind) (quotes : Quotes)
+    (len room place : ℕ) (old : Decoder R) (w : W) where
+  -- the writer failed at the opening quote
+  pub body_unopened : (error : DiagError E F) (w' : W) → ShowsText sink (Some (opening quotes)) w (Err error) w'
+      → ShowsBody source sink kind len room place quotes (sides old w) (Err error) (sides old w')
+  body_unopened (d.Read error) w' said = absurd said
+  body_unopened (d.Write fault) w' said = record {
+    bytes = [];
+    kept = [];
+    passed = Passes-none source old;
+    within = omega arith;
+    few = omega arith;
+    stopped = front_longer sink w w' (opening quotes ++ []) (closing quotes)
+        (subst (λ (z : List ℕ). WritesFront sink w z w') (sym (append-nil (opening quotes))) said);
+  }
+
+  module _ (opened : W) (begun : WritesAll sink w (opening quotes) opened) (new : Decoder R) (behind : W) where
+    -- what was written by then
+    so_far : (bytes : List ℕ) → WritesAll sink opened (body_text quotes bytes) behind
+        → WritesAll sink w (begun_text quotes bytes) behind
+    so_far bytes wrote = WritesBytes-then sink {T = Unit {0}} w opened behind (Ok (tt {0})) (opening quotes)
+        (body_text quotes bytes) begun wrote
+
+    -- the read of the body stopped
+    pub body_stops : (error : Error E)
+        → CopiesQuoted source sink kind len room place quotes (sides old opened) (Err (r.Read error)) (sides new behind)
+        → ShowsBody source sink kind len room place quotes (sides old w) (Err (d.Read (s.Read error)))
+        (sides new behind)
+    body_stops error copied = record { ends = copied.ends; written = so_far _ copied.written }
+
+    -- the writer failed within the body
+    pub body_unshown : (fault : F)
+        → CopiesQuoted source sink kind len room place quotes (sides old opened) (Err (r.Write fault))
+        (sides new behind)
+        → ShowsBody source sink kind len room place quotes (sides old w) (Err (d.Write fault)) (sides new behind)
+    body_unshown fault stops = record {
+      bytes = stops.bytes;
+      kept = stops.kept;
+      passed = stops.passed;
+      within = stops.within;
+      few = stops.few;
+      stopped = front_longer sink w behind (begun_text quotes stops.bytes) (closing quotes)
+          (WritesBytes-then sink {T = Unit {0}} w opened behind (Err fault) (opening quotes)
+          (body_text quotes stops.bytes) begun stops.stopped);
+    }
+
+    -- the body was written, and the closing quote, or the writer failed at that
+    pub body_closed : (result : Result (Unit {0}) (DiagError E F)) (last : W)
+        → CopiesQuoted source sink kind len room place quotes (sides old opened) (Ok (tt {0})) (sides new behind)
+        → ShowsText sink (Some (closing quotes)) behind result last
+        → ShowsBody source sink kind len room place quotes (sides old w) result (sides new last)
+    body_closed (Ok done) last copied said = record {
+      ends = copied.ends;
+      written = WritesBytes-then sink {T = Unit {0}} w behind last (Ok (tt {0})) (begun_text quotes copied.ends.read)
+          (closing quotes) (so_far _ copied.written) said;
+    }
+    body_closed (Err (d.Read error)) last copied said = absurd said
+    body_closed (Err (d.Write fault)) last copied said = record {
+      bytes = copied.ends.read;
+      kept = [];
+      passed = subst (λ (z : List ℕ). Passes source old z new) (sym (append-nil copied.ends.read)) copied.ends.passed;
+      within = omega (arith, copied.ends.all);
+      few = omega arith;
+      stopped = WritesBytes-then sink {T = Unit {0}} w behind last (Err fault) (begun_text quotes copied.ends.read)
+          (closing quotes) (so_far _ copied.written) said;
+    }

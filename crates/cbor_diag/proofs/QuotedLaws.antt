@@ -1,0 +1,171 @@
+-- What a writer of quoted bytes has written to the writer within, step by step.
+use Rattle.std.proofs.Common.{◌≡◌, ◌∙◌, ℕ, ◌+◌, ◌-◌, ◌<◌, ◌≤◌, Bool, true, false, List, [], ◌∷◌, ◌++◌, length, take}
+use Rattle.std.proofs.Common.{Option, Some, None, Ok, Err, IfSome, refl, sym, ap, subst, arith, append_assoc}
+use Rattle.std.proofs.Common.{length-append}
+use Rattle.std.proofs.Math.Logic.{∥∥₁_elim, ∥∥₁_map}
+use Rattle.std.proofs.lemmas.List.{length-take-le}
+use Rattle.std.proofs.Props.{props}
+use mathlib.Core.HLevel.{⊥_prop}
+use Rattle.std.specs.Io.KnownBytes.{Appends}
+use Rattle.ciborium_ll.specs.Types.Write.{Ghosts}
+use Rattle.ciborium_ll.specs.Transfer.{Shrinks, AppendsFirst, AppendsFront}
+use Rattle.ciborium_ll.specs.Encoding.{WritesAll, WritesFront}
+use Rattle.ciborium_ll.proofs.EncodingLaws.{AppendsFront-longer, WritesBytes-then}
+use Rattle.cbor_diag.specs.declared.strings.quotes.Quotes.{Quotes}
+use Rattle.cbor_diag.specs.declared.strings.quotes.Quotes.TheVariants as q
+use Rattle.cbor_diag.specs.Notation.{byte_text, body_text}
+use Rattle.cbor_diag.specs.Quoting.{IsQuoted, WritesUntil, quotes_code, writer_code}
+
+-- ---- the text of joined bytes
+
+pub body_text-append : (quotes : Quotes) (xs ys : List ℕ) → body_text quotes (xs ++ ys)
+    ≡ body_text quotes xs ++ body_text quotes ys
+body_text-append quotes [] ys = refl
+body_text-append quotes (x ∷ xs) ys =
+    ap (λ (z : List ℕ). byte_text quotes x ++ z) (body_text-append quotes xs ys)
+    ∙ sym (append_assoc (byte_text quotes x) (body_text quotes xs) (body_text quotes ys))
+
+-- quotes that have one number are the same
+pub same_quotes : (quotes quotes' : Quotes) → quotes_code quotes ≡ quotes_code quotes' → quotes ≡ quotes'
+same_quotes q.Hex q.Hex p = refl
+same_quotes q.Hex q.Text p = absurd (omega (arith, p))
+same_quotes q.Text q.Hex p = absurd (omega (arith, p))
+same_quotes q.Text q.Text p = refl
+
+-- ---- facts that have one proof at most
+
+Appends-prop : (a b : Option (List ℕ)) (bytes : List ℕ) → IsProp (Appends a b bytes)
+Appends-prop None b bytes = search props
+Appends-prop (Some x) None bytes = ⊥_prop
+Appends-prop (Some x) (Some y) bytes = search props
+
+Shrinks-prop : (a b : Option ℕ) (n : ℕ) → IsProp (Shrinks a b n)
+Shrinks-prop None b n = search props
+Shrinks-prop (Some x) None n = ⊥_prop
+Shrinks-prop (Some x) (Some y) n = search props
+
+full-prop : (room : Option ℕ) (n : ℕ) → IsProp (IfSome room (λ m. m < n))
+full-prop None n = search props
+full-prop (Some m) n = search props
+
+-- a room too small for xs is too small for xs and ys
+full_longer : (room : Option ℕ) (xs ys : List ℕ) → IfSome room (λ n. n < length xs)
+    → IfSome room (λ n. n < length (xs ++ ys))
+full_longer None xs ys full = tt
+full_longer (Some n) xs ys full = omega (arith, length-append xs ys)
+
+-- how many bytes of a beginning were appended, by what the writer tells
+front_count : Option (List ℕ) → Option (List ℕ) → Option ℕ → Option ℕ → ℕ
+front_count (Some x) (Some y) r r' = length y - length x
+front_count (Some x) None r r' = 0
+front_count None w' (Some x) (Some y) = x - y
+front_count None w' (Some x) None = 0
+front_count None w' None r' = 0
+
+-- as many were
+front_told : (w w' : Option (List ℕ)) (r r' : Option ℕ) (bytes : List ℕ) → AppendsFront w w' r r' bytes
+    → AppendsFirst w w' r r' bytes (front_count w w' r r')
+unfolding front_count
+front_told (Some x) (Some y) r r' bytes f =
+    let count = f.0 in
+    let within : count ≤ length bytes = f.1.2 in
+    let long : length y ≡ length x + length (take count bytes) =
+    ap length f.1.0 ∙ length-append x (take count bytes) in
+    let is : count ≡ length y - length x = omega (arith, long, within, length-take-le count bytes within) in
+    subst (λ (n : ℕ). AppendsFirst (Some x) (Some y) r r' bytes n) is f.1
+front_told (Some x) None r r' bytes f = absurd f.1.0
+front_told None w' (Some x) (Some y) bytes f =
+    let is : f.0 ≡ x - y = omega (arith, f.1.1) in
+    subst (λ (n : ℕ). AppendsFirst None w' (Some x) (Some y) bytes n) is f.1
+front_told None w' (Some x) None bytes f = absurd f.1.1
+front_told None w' None r' bytes f = (tt, tt, omega arith)
+
+module _ {W F : Type 0} (sink : Ghosts W F) where
+  -- a write that failed was seen to fail, so it did
+  merely_front : (old : W) (text : List ℕ) (new : W) → ∥ WritesFront sink old text new ∥₁
+      → WritesFront sink old text new
+  merely_front old text new merely =
+      let w = sink.written old in let w' = sink.written new in
+      let r = sink.room old in let r' = sink.room new in
+      let count = front_count w w' r r' in
+      record {
+        front = (
+          count,
+          (
+            ∥∥₁_elim merely (Appends-prop w w' (take count text)) (λ f. (front_told w w' r r' text f.front).0),
+            ∥∥₁_elim merely (Shrinks-prop r r' count) (λ f. (front_told w w' r r' text f.front).1),
+            ∥∥₁_elim merely (search props) (λ f. (front_told w w' r r' text f.front).2),
+          ),
+        );
+        full = ∥∥₁_elim merely (full-prop r (length text)) (λ f. f.full);
+        failures = ∥∥₁_elim merely (search props) (λ f. f.failures);
+      }
+
+  merely_all : (old : W) (text : List ℕ) (new : W) → ∥ WritesAll sink old text new ∥₁ → WritesAll sink old text new
+  merely_all old text new merely = record {
+    appended = ∥∥₁_elim merely (Appends-prop (sink.written old) (sink.written new) text) (λ f. f.appended);
+    room = ∥∥₁_elim merely (Shrinks-prop (sink.room old) (sink.room new) (length text)) (λ f. f.room);
+    failures = ∥∥₁_elim merely (search props) (λ f. f.failures);
+  }
+
+  -- a beginning of xs is one of xs and ys
+  pub front_longer : (old new : W) (xs ys : List ℕ) → WritesFront sink old xs new → WritesFront sink old (xs ++ ys) new
+  front_longer old new xs ys f = record {
+    front = AppendsFront-longer _ _ _ _ xs ys f.front;
+    full = full_longer (sink.room old) xs ys f.full;
+    failures = f.failures;
+  }
+
+  -- ---- step by step
+
+  module _ (began : List ℕ) (quotes : Quotes) (failed : Bool) (given more all : List ℕ) (now : W)
+      (joined : all ≡ given ++ more) (so_far : ∥ IsQuoted sink began quotes failed given now ∥₁) where
+    texts : body_text quotes given ++ body_text quotes more ≡ body_text quotes all
+    texts = sym (ap (body_text quotes) joined ∙ body_text-append quotes given more)
+
+    -- more was given, and written
+    pub quoted_more : (new : W) → failed ≡ false → WritesAll sink now (body_text quotes more) new
+        → ∥ IsQuoted sink began quotes failed all new ∥₁
+    quoted_more new sound wrote =
+        let before_it : ∥ IsQuoted sink began quotes false given now ∥₁ =
+        subst (λ (b : Bool). ∥ IsQuoted sink began quotes b given now ∥₁) sound so_far in
+        subst (λ (b : Bool). ∥ IsQuoted sink began quotes b all new ∥₁) (sym sound)
+        (∥∥₁_map before_it (λ quoted before same. subst (λ (z : List ℕ). WritesAll sink before z new) texts
+        (WritesBytes-then sink {T = Unit {0}} before now new (Ok (tt {0})) (body_text quotes given)
+        (body_text quotes more) (quoted before same) wrote)))
+
+    -- more was given, and the writer failed at it
+    pub quoted_fails : (new : W) (fault : F) → failed ≡ false → WritesFront sink now (body_text quotes more) new
+        → ∥ IsQuoted sink began quotes true all new ∥₁
+    quoted_fails new fault sound stopped =
+        let before_it : ∥ IsQuoted sink began quotes false given now ∥₁ =
+        subst (λ (b : Bool). ∥ IsQuoted sink began quotes b given now ∥₁) sound so_far in
+        ∥∥₁_map before_it (λ quoted before same. subst (λ (z : List ℕ). WritesFront sink before z new) texts
+        (WritesBytes-then sink {T = Unit {0}} before now new (Err fault) (body_text quotes given)
+        (body_text quotes more) (quoted before same) stopped))
+
+    -- more was given behind a failure, and nothing written
+    pub quoted_behind : failed ≡ true → ∥ IsQuoted sink began quotes failed all now ∥₁
+    quoted_behind broken =
+        let before_it : ∥ IsQuoted sink began quotes true given now ∥₁ =
+        subst (λ (b : Bool). ∥ IsQuoted sink began quotes b given now ∥₁) broken so_far in
+        subst (λ (b : Bool). ∥ IsQuoted sink began quotes b all now ∥₁) (sym broken)
+        (∥∥₁_map before_it (λ quoted before same. subst (λ (z : List ℕ). WritesFront sink before z now) texts
+        (front_longer before now (body_text quotes given) (body_text quotes more) (quoted before same))))
+
+  -- ---- in the end
+
+  module _ (began : List ℕ) (quotes quotes' : Quotes) (failed : Bool) (given : List ℕ) (old now : W)
+      (is : began ≡ writer_code sink old) (kind : quotes' ≡ quotes)
+      (quoted : ∥ IsQuoted sink began quotes' failed given now ∥₁) where
+    in_all : (b : Bool) → failed ≡ b → ∥ WritesUntil sink b old (body_text quotes given) now ∥₁
+    in_all b same = ∥∥₁_map (subst (λ (z : Bool). ∥ IsQuoted sink began quotes z given now ∥₁) same
+        (subst (λ (z : Quotes). ∥ IsQuoted sink began z failed given now ∥₁) kind quoted)) (λ since. since old (sym is))
+
+    -- all was written
+    pub quoted_all : failed ≡ false → WritesAll sink old (body_text quotes given) now
+    quoted_all same = merely_all old (body_text quotes given) now (in_all false same)
+
+    -- the writer failed
+    pub quoted_front : failed ≡ true → WritesFront sink old (body_text quotes given) now
+    quoted_front same = merely_front old (body_text quotes given) now (in_all true same)

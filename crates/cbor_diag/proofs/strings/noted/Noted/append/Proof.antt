@@ -1,0 +1,55 @@
+-- `append` touches no byte: the list behind the reference is exchanged for the longer one, and the lent slice is given
+-- up. By hand, since the struct has `also_owns`.
+use Rattle.std.proofs.Common.{◌++◌, [], ◌∷◌, refl}
+use Rattle.std.proofs.raw_atomic.Walks.{proved}
+use mir.Syntax.{named}
+use mir.Val.{vunit}
+use base.Fml.{ftrue, flft}
+use base.Logic.{id⊢}
+use types.Kit.{‵, ◌⊛◌, ◌$◌, ◌∵◌, !, qed, done, move, keep, use1, split, join, fsplit, fsplit3, fjoin, fjoin3, feq_i}
+use types.Kit.{suffices, frame}
+use types.Run.{of_opd, unit_lit, returns, enter}
+use types.ByLocal.{alloc_all, pass_all, free_all, look_at, sets}
+use denote.Builtin.{u8}
+use denote.Exit.{yes}
+use denote.RattleType.{owns}
+use denote.Signature.{plain}
+use denote.Ref.{MutRef, mut_vals, mut_Tells}
+use denote.Slice.{ShrSlice, shr_slice_vals, shr_slice_Tells}
+use denote.Steps.{opens, closes}
+use denote.Triple.Walked.{Stays, walk_of, says, stay_ref, stay_none_slice, Goes-ref, Goes-none_slice, ends_at}
+use Rattle.cbor_diag.specs.contracts.strings.noted.Noted.{the_row as R}
+use Rattle.cbor_diag.specs.contracts.strings.noted.Noted.append as f
+use Rattle.cbor_diag.proofs.strings.noted.Noted.append.Statement.{statement}
+use Rattle.cbor_diag.proofs.strings.noted.Noted.append.Code as code
+
+abbrev stayed : Stays f.ended.signature.params f.ended.kept
+stayed = (stay_ref (0 ∷ []) tt (plain (λ _. R)), (stay_none_slice (1 ∷ []) tt (plain (λ _. u8)) yes, tt))
+
+pub append_spec : {M : Type 1} → statement M
+append_spec 𝓤 𝓛 𝓜 𝓡 wired =
+    let c = f.clauses 𝓛 𝓜.mem 𝓡.returns in let W = walk_of 𝓛 f.ended stayed c in
+    proved 𝓛 f.ended stayed c 𝓜 𝓡
+    (Goes-ref 𝓛 2 0 tt (plain (λ _. R)), (Goes-none_slice 𝓛 2 (1 ∷ []) tt (plain (λ _. u8)) yes, tt))
+    f.Key.name code.function (code.unfolded 𝓤 𝓛.H 𝓜 𝓡 wired)
+    (λ κs. (mut_vals, (shr_slice_vals, tt)))
+    (λ κs. (mut_Tells (named 0) κs.0 R, (shr_slice_Tells (named 1) κs.1.0 u8, tt))) (λ κs qs bounds a _ are.
+    let b = a.0.ref_ptr.0 in let o = a.0.ref_ptr.1 in let h = a.0.now in
+    let vs = mut_vals a.0 in let ds = shr_slice_vals a.1.0 in
+    let longer = record h { bytes = h.bytes ++ a.1.0.now } in
+    let y : W.Ghost = ((κs, qs, bounds, a, (vs, (ds, tt))), tt) in
+    qed 𝓛 (((‵ (flft κs.0 qs.0) ⊛ (‵ (flft κs.1.0 qs.1.0) ⊛ ‵ ftrue)) ⊛
+    ‵ (owns (MutRef (named 0) κs.0 R ∷ ShrSlice (named 1) κs.1.0 u8 ∷ []) a (vs, (ds, tt)))) ∷ ‵ ftrue ∷ []) ∵
+    split ! $ split ! $ move ! (2 ∷ []) $ fsplit ! $ keep ! (0 ∷ 2 ∷ 1 ∷ 3 ∷ []) $
+    enter ! _ _ _ _ _ $
+    alloc_all ! (λ l. pass_all ! refl ((tt, tt), ((tt, (tt, (record { fits = are.1.0.0.1.0 }, tt))), tt)) $
+    -- [the reference; the token of its lifetime; the slice; its token], and then what the struct owns, its cell and the
+    -- open borrow
+    fsplit3 ! $ move ! (1 ∷ 2 ∷ 3 ∷ []) $ opens ! tt R b o (λ us.
+    sets ! (of_opd ! (unit_lit !)) refl (tt, tt) $
+    move ! (1 ∷ []) $ use1 𝓛 (‵ (R.own_val longer us)) (id⊢ 𝓤 _) $ move ! (1 ∷ 0 ∷ []) $
+    closes ! tt R longer us b o $
+    returns ! (look_at ! 0 refl) $ free_all ! refl $
+    suffices ! _ (ends_at 𝓛 f.ended stayed c y vunit tt (longer, (tt, tt)) (tt, (tt, tt))) $ says ! refl $
+    move ! (2 ∷ 5 ∷ []) $ join ! $ frame ! $ move ! (2 ∷ []) $ fjoin3 ! $ fjoin ! $
+    feq_i ! _ (vunit ∷ []) _ refl $ move ! (1 ∷ 0 ∷ []) $ done !)))

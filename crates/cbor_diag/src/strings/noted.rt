@@ -1,0 +1,39 @@
+//! Bytes for contracts alone.
+
+ghost use Rattle.std.specs.Prelude.{◌≡◌, ℕ, List, ◌++◌};
+ghost use Rattle.std.specs.Borrow.{ftrue};
+
+use std::marker::{Model, PhantomData};
+
+/// How numbers are read off a value, in contracts.
+pub(super) trait Tells<T> {
+    ghost told: { T → List ℕ };
+}
+
+/// A list of numbers, of which none is kept.
+#[derive(Drop)]
+pub(super) struct Noted {
+    marker: PhantomData<()>,
+    pub ghost bytes: { List ℕ },
+}
+
+impl Model for Noted {
+    ghost also_owns = { λ _. ftrue };
+}
+
+impl Noted {
+    /// What is read off this value.
+    pub(super) fn of<T, M: Tells<T>>(value: &T) -> Noted
+        ensures { result.bytes ≡ M.told value.now }
+    {
+        let _ = value;
+        Noted {
+            marker: PhantomData,
+        }
+    }
+
+    /// Takes the bytes of `_data` too.
+    pub(super) fn append(&mut self, _data: &[u8])
+        ensures { self.new.bytes ≡ self.old.bytes ++ _data.now }
+    {}
+}
