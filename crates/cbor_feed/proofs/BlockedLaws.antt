@@ -20,10 +20,10 @@ use Rattle.cbor_feed.specs.declared.phase.Within.{Within}
 use Rattle.cbor_feed.specs.declared.phase.Within.TheVariants as w
 use Rattle.cbor_feed.specs.declared.phase.Fault.{Fault}
 use Rattle.cbor_feed.specs.declared.phase.Fault.TheVariants as f
-use Rattle.cbor_feed.specs.Blocked.{blocked}
+use Rattle.cbor_feed.specs.Blocked.{blocked, is_value}
 use Rattle.cbor_feed.specs.Levels.{next}
-use Rattle.cbor_feed.specs.Spots.{Spot, at_phase, settled, string_done, bytes_due, text_due, nested, entered}
-use Rattle.cbor_feed.specs.Spots.{body_placed, refused}
+use Rattle.cbor_feed.specs.Spots.{Spot, at_phase, settled, string_done, bytes_due, text_due, nested, entered, item_done}
+use Rattle.cbor_feed.specs.Spots.{body_placed, item_entered, refused}
 use Rattle.cbor_feed.specs.Steps.{SomeTaken, NoneTaken, titled, TitleStep, cut, early, whole, none}
 
 -- ---- the kind of a major type
@@ -202,6 +202,48 @@ kind_at kind byte m e more i =
     kind_is kind m (byte % 32) (subst (λ (z : ℕ). IsTitleKind kind z (byte % 32)) (sym e) i)
     (λ refuses. let empty = refused_affix byte (subst (λ (z : ℕ). NamesNoTitle z (byte % 32)) e refuses) in
     omega (arith, empty, more))
+
+-- ---- a number, a float or a simple value
+
+-- it may stand wherever an item is due
+pub value_free : (d place : ℕ) (kind : TitleKind) → is_value kind ≡ true → blocked w.Nothing d place kind ≡ None
+value_free zero place k.Positive v = refl
+value_free zero place k.Negative v = refl
+value_free zero place k.Other v = refl
+value_free (suc d) place k.Positive v = refl
+value_free (suc d) place k.Negative v = refl
+value_free (suc d) place k.Other v = refl
+value_free d place k.Bytes v = absurd cc
+value_free d place k.Text v = absurd cc
+value_free d place k.Array v = absurd cc
+value_free d place k.Map v = absurd cc
+value_free d place k.Tag v = absurd cc
+value_free d place k.Refused v = absurd cc
+
+value_numbered : (m : Major) (s : Size) (n : ℕ) (spot : Spot) → is_value (kind_of m) ≡ true
+    → item_entered (numbered_header m s n) spot ≡ item_done spot
+value_numbered Unsigned s n spot v = refl
+value_numbered Negative s n spot v = refl
+value_numbered Other Small n spot v = refl
+value_numbered Other One n spot v = refl
+value_numbered Other Two n spot v = refl
+value_numbered Other Four n spot v = refl
+value_numbered Other Eight n spot v = refl
+value_numbered ByteString s n spot v = absurd cc
+value_numbered TextString s n spot v = absurd cc
+value_numbered Array s n spot v = absurd cc
+value_numbered Map s n spot v = absurd cc
+value_numbered Tag s n spot v = absurd cc
+
+-- where its title announces bytes, its first byte tells it
+pub value_entered : (byte : ℕ) (v t : List ℕ) (x : Header) (kind : TitleKind) (spot : Spot) → IsTitle t x → t ≡ byte ∷ v
+    → 0 < affix_len (byte % 32) → IsTitleKind kind (byte / 32) (byte % 32) → is_value kind ≡ true
+    → item_entered x spot ≡ item_done spot
+value_entered byte v t x kind spot q e more i value =
+    let o = numbered_title byte v t x q e more in
+    let same = kind_at kind byte o.major o.code more i in
+    ap (λ (z : Header). item_entered z spot) o.is
+    ∙ value_numbered o.major o.size o.number spot (ap is_value (sym same) ∙ value)
 
 module _ (spot : Spot) (kind : TitleKind) (byte : ℕ) (bytes : List ℕ) (front : spot.front ≡ byte ∷ bytes)
     (is_cut : length bytes < affix_len (byte % 32)) (is_kind : IsTitleKind kind (byte / 32) (byte % 32)) where

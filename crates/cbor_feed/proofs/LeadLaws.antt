@@ -95,11 +95,11 @@ done_alike w.Nothing s a = settled_alike s.levels s.depth s a
 done_alike (w.Bytes n) s a = refl
 done_alike (w.Text n) s a = refl
 
-due_alike : (len : ℕ) (s : Spot) (a : Phase) → bytes_due len (at_phase a s) ≡ bytes_due len s
+pub due_alike : (len : ℕ) (s : Spot) (a : Phase) → bytes_due len (at_phase a s) ≡ bytes_due len s
 due_alike zero s a = done_alike s.within s a
 due_alike (suc n) s a = refl
 
-left_alike : (m : Bool) (len : ℕ) (x : State) (s : Spot) (a : Phase)
+pub left_alike : (m : Bool) (len : ℕ) (x : State) (s : Spot) (a : Phase)
     → text_left m len x (at_phase a s) ≡ text_left m len x s
 left_alike false len x s a = refl
 left_alike true zero x s a = done_alike s.within s a

@@ -8,6 +8,7 @@ pub mod LiveLaws
 pub mod LongerBegun
 pub mod OneSpot
 pub mod SettledLaws
+pub mod ShortLeads
 pub mod SnapshotLaws
 pub mod StackLaws
 pub mod StepLaws

@@ -4,7 +4,7 @@ use Rattle.std.proofs.Common.{◌∙◌, arith, add-one}
 use Rattle.cbor_feed.specs.declared.level.Level.{Level}
 use Rattle.cbor_feed.specs.Levels.{closes, next}
 use Rattle.cbor_feed.specs.Stack.{innermost, others}
-use Rattle.cbor_feed.specs.Spots.{Spot, settled, item_done, nested, broken}
+use Rattle.cbor_feed.specs.Spots.{Spot, settled, item_done, item_due, nested, broken}
 
 -- the levels and the depth that it had do not count
 settled_by : (o : Option Level) (f : Level) (fs : List Level) (d : ℕ) (s : Spot) (a : ℕ) (b : List Level) → next f ≡ o
@@ -18,17 +18,50 @@ settled_alike : (fs : List Level) (d : ℕ) (s : Spot) (a : ℕ) (b : List Level
 settled_alike [] d s a b = refl
 settled_alike (f ∷ fs) d s a b = settled_by (next f) f fs d s a b refl (settled_alike fs (suc d) s a b)
 
-nested_by : (depth : ℕ) (s new : Spot) (inner : Level) → (depth ≡ 0 → ⊥)
-    → new ≡ item_done (record s { depth = depth - 1; levels = inner ∷ s.levels }) → new ≡ nested depth inner s
-nested_by zero s new inner some e = absurd (some refl)
-nested_by (suc d) s new inner some e =
-    let less : suc d - 1 ≡ d = omega arith in
-    e ∙ (settled_alike (inner ∷ s.levels) (suc d - 1) s (suc d - 1) (inner ∷ s.levels)
-    ∙ ap (λ (z : ℕ). settled z (inner ∷ s.levels) s) less)
+-- ---- an item more of the innermost level
 
-pub nested_done : (s new : Spot) (inner : Level) → (s.depth ≡ 0 → ⊥)
-    → new ≡ item_done (record s { depth = s.depth - 1; levels = inner ∷ s.levels }) → new ≡ nested s.depth inner s
-nested_done s new inner some e = nested_by s.depth s new inner some e
+-- another one is due there
+pub settled_due : (levels new : List Level) (level left : Level) → Some level ≡ innermost levels → next level ≡ Some left
+    → new ≡ left ∷ others levels → (d : ℕ) (s : Spot) → settled d levels s ≡ item_due d new s
+settled_due [] new level left e goes is d s = absurd cc
+settled_due (f ∷ fs) new level left e goes is d s =
+    let same : f ≡ level = cc in
+    let more : next f ≡ Some left = ap next same ∙ goes in
+    rw (more, is, settled) refl
+
+-- the level is done
+pub settled_done : (levels new : List Level) (level : Level) → Some level ≡ innermost levels → next level ≡ None
+    → new ≡ others levels → (d : ℕ) (s : Spot) → settled d levels s ≡ settled (suc d) new s
+settled_done [] new level e ends is d s = absurd cc
+settled_done (f ∷ fs) new level e ends is d s =
+    let same : f ≡ level = cc in
+    let none : next f ≡ None = ap next same ∙ ends in
+    rw (none, is, settled) refl
+
+-- ---- a nest
+
+nest_goes : (depth : ℕ) (s : Spot) (inner left : Level) → (depth ≡ 0 → ⊥) → next inner ≡ Some left
+    → item_due (depth - 1) (left ∷ s.levels) s ≡ nested depth inner s
+nest_goes zero s inner left some e = absurd (some refl)
+nest_goes (suc d) s inner left some e =
+    let less : suc d - 1 ≡ d = omega arith in
+    rw (e, settled) (ap (λ (z : ℕ). item_due z (left ∷ s.levels) s) less)
+
+pub nested_goes : (s new : Spot) (inner left : Level) → (s.depth ≡ 0 → ⊥) → next inner ≡ Some left
+    → new ≡ item_due (s.depth - 1) (left ∷ s.levels) s → new ≡ nested s.depth inner s
+nested_goes s new inner left some e is = is ∙ nest_goes s.depth s inner left some e
+
+nest_ends : (depth : ℕ) (s : Spot) (inner : Level) → (depth ≡ 0 → ⊥) → next inner ≡ None
+    → settled depth s.levels s ≡ nested depth inner s
+nest_ends zero s inner some e = absurd (some refl)
+nest_ends (suc d) s inner some e = rw (e, settled) refl
+
+-- an empty one takes a level and gives it back
+pub nested_ends : (s new : Spot) (inner : Level) → (s.depth ≡ 0 → ⊥) → next inner ≡ None → new ≡ item_done s
+    → new ≡ nested s.depth inner s
+nested_ends s new inner some e is = is ∙ nest_ends s.depth s inner some e
+
+-- ---- a break
 
 broken_by : (levels : List Level) (s new : Spot) (level : Level) → Some level ≡ innermost levels → closes level ≡ true
     → new ≡ item_done (record s { depth = s.depth + 1; levels = others levels }) → new ≡ broken levels s

@@ -3,6 +3,7 @@ use Rattle.std.specs.Prelude.{◌≡◌, Option, Some, None}
 use Rattle.cbor_feed.specs.declared.checker.Checker.{Checker}
 use Rattle.cbor_feed.specs.Spots.{Spot}
 
+-- the spot that a checker has come to
 abbrev pub spot_of : Checker → Spot
 spot_of c = record {
   strict = c.strict;

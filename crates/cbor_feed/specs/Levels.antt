@@ -5,7 +5,7 @@ use Rattle.ciborium_ll_grammar.specs.declared.hdr.Header.TheVariants as h
 use Rattle.cbor_feed.specs.declared.level.Level.{Level}
 use Rattle.cbor_feed.specs.declared.level.Level.TheVariants as l
 
--- all that stands behind the header of a nest
+-- all that stands behind the header of a nest: one item, as many as are counted, or any number up to a break
 abbrev pub contents : Header → Level
 contents (h.Tag number) = l.Items 1
 contents (h.Array (Some count)) = l.Items count
@@ -14,7 +14,7 @@ contents (h.Map (Some count)) = l.Pairs count
 contents (h.Map None) = l.OpenPairs
 contents header = l.Items 0
 
--- what is left behind one item more, where one is due
+-- what is left in a nest behind one item more, where one is due
 abbrev pub next : Level → Option Level
 next (l.Items zero) = None
 next (l.Items (suc count)) = Some (l.Items count)

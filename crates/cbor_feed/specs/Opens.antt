@@ -3,6 +3,7 @@ use Rattle.std.specs.Prelude.{ℕ, suc}
 use Rattle.cbor_feed.specs.declared.phase.Within.{Within}
 use Rattle.cbor_feed.specs.declared.phase.Within.TheVariants as w
 
+-- how many strings are open (RFC 7049, 2.2.2)
 abbrev pub open_count : Within → ℕ
 open_count w.Nothing = 0
 open_count (w.Bytes more) = suc more

@@ -33,7 +33,7 @@ phase_in kind number text =
     (if kind == 6 then Some (p.Faulted (f.Break number)) else
     (if kind == 7 then Some (p.Faulted (f.Deep number)) else None))))))
 
--- whether the shortest spelling alone is taken, by its number
+-- whether the shortest spelling alone is taken, by its number, where it is one
 abbrev pub strict_in : ℕ → Option Bool
 strict_in number = if number == 0 then Some false else (if number == 1 then Some true else None)
 
@@ -76,7 +76,7 @@ pub record IsState (snapshot : Snapshot) (phase : Phase) (within : Within) : Typ
   pub long : snapshot.title_len ≤ 9
   pub begun : snapshot.title_len ≤ affix_len (slice_index (take snapshot.title_len snapshot.title) 0 % 32)
 
--- the numbers are those of this spot
+-- the plain numbers are those of this spot
 pub record Holds (snapshot : Snapshot) (spot : Spot) : Type 0 where
   pub phase : phase_in snapshot.phase snapshot.number snapshot.text ≡ Some spot.phase
   pub strict : strict_in snapshot.strict ≡ Some spot.strict

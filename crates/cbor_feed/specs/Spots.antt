@@ -1,4 +1,6 @@
--- Where the bytes so far have come to, and where a whole title or the end of a string or an item leads.
+-- Where the bytes so far have come to, and where a whole title or the end of a string or an item leads. A *spot* is
+-- where the bytes so far have come to. What it means stands in `proofs/Waiting.antt`: which bytes behind it make a
+-- whole item of all. The law `exact_states` says it of the bytes alone.
 use Rattle.std.specs.Prelude.{ℕ, zero, suc, ◌-◌, Bool, true, false, List, [], ◌∷◌, Some, None}
 use Rattle.ciborium_ll_grammar.specs.declared.hdr.Header.{Header}
 use Rattle.ciborium_ll_grammar.specs.declared.hdr.Header.TheVariants as h
@@ -13,10 +15,8 @@ use Rattle.cbor_feed.specs.declared.phase.Fault.TheVariants as f
 use Rattle.cbor_feed.specs.Levels.{closes, contents, next}
 
 -- whether the shortest spelling alone is taken, what is due, the bytes of a title that isn't whole, the strings that
--- are
--- open, how many levels are left, the nests around the item, the innermost first, the place that a fault would name,
--- and
--- how many bytes came
+-- are open, how many levels are left, the nests around the item, the innermost first, the place that a fault would
+-- name, and how many bytes came
 pub record Spot : Type 0 where
   pub strict : Bool
   pub phase : Phase
@@ -36,7 +36,8 @@ abbrev pub item_due : ℕ → List Level → Spot → Spot
 item_due depth levels spot =
     record spot { phase = p.Title; within = w.Nothing; depth = depth; levels = levels }
 
--- Behind a whole item: the nests that are done end too. Where none is left, the item is the whole one
+-- behind a whole item: the nests that are done end too. Where none is left, the item is the whole one (RFC 7049, 2.1,
+-- 2.2.1 and 2.4)
 abbrev pub settled : ℕ → List Level → Spot → Spot
 settled depth [] spot = record spot { phase = p.Ended; within = w.Nothing; depth = depth; levels = [] }
 settled depth (level ∷ levels) spot =
@@ -46,31 +47,32 @@ settled depth (level ∷ levels) spot =
 abbrev pub item_done : Spot → Spot
 item_done spot = settled spot.depth spot.levels spot
 
--- behind a string of a definite length: it is an item, or a piece of an open string
+-- behind a string of a definite length: it is an item, or a piece of an open string (RFC 7049, 2.2.2)
 abbrev pub string_done : Within → Spot → Spot
 string_done w.Nothing spot = item_done spot
 string_done (w.Bytes more) spot = at_phase p.Title spot
 string_done (w.Text more) spot = at_phase p.Title spot
 
--- behind the title of a string of this length
+-- so many bytes of a byte string are due, and where none are the string is done (RFC 7049, 2.1)
 abbrev pub bytes_due : ℕ → Spot → Spot
 bytes_due zero spot = string_done spot.within spot
 bytes_due (suc len) spot = at_phase (p.Bytes (suc len)) spot
 
+-- the same of a text, of which nothing came yet (RFC 7049, 2.1)
 abbrev pub text_due : ℕ → Spot → Spot
 text_due zero spot = string_done spot.within spot
 text_due (suc len) spot = at_phase (p.Text (suc len) s.Between) spot
 
--- strings are open, and one of their pieces or a break is due
+-- strings are open, and one of their pieces or a break is due (RFC 7049, 2.2.2)
 abbrev pub string_open : Within → Spot → Spot
 string_open within spot = record spot { phase = p.Title; within = within }
 
--- behind the title of a nest
+-- behind the title of a nest (RFC 7049, 2.1 and 2.4)
 abbrev pub nested : ℕ → Level → Spot → Spot
 nested zero inner spot = at_phase (p.Faulted (f.Deep spot.place)) spot
 nested (suc depth) inner spot = settled depth (inner ∷ spot.levels) spot
 
--- behind a break where an item is due
+-- behind a break where an item is due (RFC 7049, 2.2.1)
 abbrev pub broken : List Level → Spot → Spot
 broken [] spot = at_phase (p.Faulted (f.Break spot.place)) spot
 broken (level ∷ levels) spot =
@@ -79,7 +81,7 @@ broken (level ∷ levels) spot =
       | false ↦ at_phase (p.Faulted (f.Break spot.place)) spot
     ]
 
--- what came may not stand here
+-- what came may not stand here: a fault of syntax
 abbrev pub refused : Spot → Spot
 refused spot = at_phase (p.Faulted (f.Syntax spot.place)) spot
 
@@ -87,7 +89,7 @@ refused spot = at_phase (p.Faulted (f.Syntax spot.place)) spot
 abbrev pub body_placed : ℕ → Spot → Spot
 body_placed len spot = record spot { place = spot.offset - title_len (h.Text (Some len)) }
 
--- behind a whole title where an item is due
+-- behind a whole title where an item is due (RFC 7049, 2.1 to 2.4)
 abbrev pub item_entered : Header → Spot → Spot
 item_entered (h.Bytes (Some len)) spot = bytes_due len spot
 item_entered (h.Bytes None) spot = string_open (w.Bytes zero) spot
@@ -100,7 +102,7 @@ item_entered (h.Map count) spot = nested spot.depth (contents (h.Map count)) spo
 item_entered h.Break spot = broken spot.levels spot
 item_entered header spot = item_done spot
 
--- behind a break within strings of which so many more are open
+-- behind a break within strings of which so many more are open (RFC 7049, 2.2.2)
 abbrev pub string_closed : (ℕ → Within) → ℕ → Spot → Spot
 string_closed within zero spot = item_done spot
 string_closed within (suc more) spot = string_open (within more) spot
@@ -110,19 +112,21 @@ abbrev pub open_entered : Bool → Within → Spot → Spot
 open_entered true within spot = refused spot
 open_entered false within spot = string_open within spot
 
--- behind a whole title within a byte string or a text (RFC 7049, 2.2.2)
+-- behind a whole title within a byte string (RFC 7049, 2.2.2)
 abbrev pub bytes_entered : Header → ℕ → Spot → Spot
 bytes_entered (h.Bytes (Some len)) more spot = bytes_due len spot
 bytes_entered (h.Bytes None) more spot = open_entered spot.strict (w.Bytes (suc more)) spot
 bytes_entered h.Break more spot = string_closed w.Bytes more spot
 bytes_entered header more spot = refused spot
 
+-- the same within a text (RFC 7049, 2.2.2)
 abbrev pub text_entered : Header → ℕ → Spot → Spot
 text_entered (h.Text (Some len)) more spot = text_due len spot
 text_entered (h.Text None) more spot = open_entered spot.strict (w.Text (suc more)) spot
 text_entered h.Break more spot = string_closed w.Text more spot
 text_entered header more spot = refused spot
 
+-- behind a whole title, where an item is due or within an open string
 abbrev pub entered : Within → Header → Spot → Spot
 entered w.Nothing header spot = item_entered header spot
 entered (w.Bytes more) header spot = bytes_entered header more spot

@@ -47,13 +47,13 @@ abbrev pub SomeTaken : Bool → List ℕ → Type 0
 SomeTaken strict front =
     (more : List ℕ) × (header : Header) × IsTitle (front ++ more) header × IsTakenTitle strict (front ++ more) header
 
--- what begins so begins with no title that is taken
+-- what begins so begins with no title that is taken (RFC 7049, 2.1 and 3.9)
 abbrev pub NoneTaken : Bool → List ℕ → Type 0
 NoneTaken strict front =
     (more title rest : List ℕ) (header : Header) → IsTitle title header → IsTakenTitle strict title header
     → front ++ more ≡ title ++ rest → ⊥
 
--- Where a byte of a title has led, which now stands at the end of the front
+-- where a byte of a title has led, which now stands at the end of the front (RFC 7049, 2.1)
 pub data TitleStep (spot : Spot) : Spot → Type 0 where
   -- the title isn't whole, some that begin so are taken, and each that begins so may stand here
   cut : IsCutTitle spot.front → SomeTaken spot.strict spot.front
@@ -113,17 +113,18 @@ StepIn (p.Text (suc left) state) spot byte new =
 StepIn p.Ended spot byte new = ⊥
 StepIn (p.Faulted fault) spot byte new = ⊥
 
+-- where one byte more leads from a spot: by a title, or by the body of a string
 abbrev pub Step : Spot → ℕ → Spot → Type 0
 Step spot byte new = StepIn spot.phase spot byte new
 
--- `Leads spot bytes new`: from the spot these bytes lead to the new one, byte by byte
+-- `Leads spot bytes new`: from the spot these bytes lead to the new one, a `Step` for each
 pub data Leads : Spot → List ℕ → Spot → Type 0 where
   stay : {spot : Spot} → Leads spot [] spot
   go : {bytes : List ℕ} {spot next new : Spot} (byte : ℕ) → byte < 256 → Step spot byte next → Leads next bytes new
       → Leads spot (byte ∷ bytes) new
 
 -- `IsFed strict depth bytes spot`: to one item to the depth, and where `strict` holds to one in its shortest spelling,
--- these bytes have led to the spot
+-- these bytes have led to the spot, from `start`, a `Step` for each
 pub data IsFed (strict : Bool) (depth : ℕ) : List ℕ → Spot → Type 0 where
   fresh : IsFed strict depth [] (start strict depth)
   more : {bytes : List ℕ} {spot new : Spot} (byte : ℕ) → byte < 256 → IsFed strict depth bytes spot

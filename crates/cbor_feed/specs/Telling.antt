@@ -28,6 +28,7 @@ abbrev pub title_due : List ℕ → ℕ
 title_due [] = 1
 title_due (byte ∷ bytes) = affix_len (byte % 32) - length bytes
 
+-- the answer where this is due, with how many bytes that lacks
 abbrev pub progress_in : Phase → Spot → Progress
 progress_in p.Title spot = r.More (title_due spot.front)
 progress_in (p.Bytes left) spot = r.More left
@@ -35,6 +36,7 @@ progress_in (p.Text left state) spot = r.More left
 progress_in p.Ended spot = r.Ended spot.offset
 progress_in (p.Faulted fault) spot = r.Fault fault
 
+-- the answer at a spot
 abbrev pub progress_of : Spot → Progress
 progress_of spot = progress_in spot.phase spot
 
@@ -45,6 +47,7 @@ end_in (r.Ended len) = e.Between
 end_in (r.Fault fault) = e.Fault fault
 end_in r.TooLong = e.Between
 
+-- what it means that no more bytes come at a spot
 abbrev pub end_of : Spot → End
 end_of spot = if spot.offset == 0 then e.Between else end_in (progress_of spot)
 
@@ -53,8 +56,8 @@ abbrev pub IsAnswer : Progress → Spot → Type 0
 IsAnswer r.TooLong spot = Unit {0}
 IsAnswer progress spot = progress ≡ progress_of spot
 
--- What is said of all bytes so far. More: they are no item, some more make one of them, and each that do are at least
--- so many. Ended: they are one item, of this length. Fault: no item begins so (RFC 7049, 2.1 to 2.4)
+-- what the answer says of all bytes so far. More: they are no item, some more make one of them, and each that do are at
+-- least so many. Ended: they are one item, of this length. Fault: no item begins so (RFC 7049, 2.1 to 2.4)
 abbrev pub Tells : Bool → ℕ → List ℕ → Progress → Type 0
 Tells strict depth bytes (r.More due) =
     (1 ≤ due) × ((more : List ℕ) × IsItem strict depth (bytes ++ more))
@@ -79,6 +82,7 @@ abbrev pub EndedIn : Phase → Type 0
 EndedIn p.Ended = Unit {0}
 EndedIn phase = ⊥
 
+-- the item is whole at the spot
 abbrev pub HasEnded : Spot → Type 0
 HasEnded spot = EndedIn spot.phase
 
@@ -87,5 +91,6 @@ abbrev pub FaultIn : Phase → Type 0
 FaultIn (p.Faulted fault) = Unit {0}
 FaultIn phase = ⊥
 
+-- no item goes on from the spot
 abbrev pub HasFault : Spot → Type 0
 HasFault spot = FaultIn spot.phase

@@ -1,43 +1,22 @@
 //! The checker: one byte more, and where it leads.
 
 ghost use Rattle.std.specs.Prelude.{◌≡◌, ◌+◌, ◌<◌, ◌≤◌, ◌%◌, length, slice_index, true, false};
-ghost use Rattle.cbor_feed.specs.Snapshots.{IsState, strict_in};
 ghost use Rattle.cbor_feed.specs.Telling.{has_left};
 ghost use Rattle.cbor_feed.specs.Steps.{may_end};
 ghost use Rattle.ciborium_ll_grammar.specs.Title.{affix_len};
 ghost use Rattle.cbor_feed.specs.Opens.{open_count};
-ghost use Rattle.cbor_feed.specs.Blocked.{blocked};
+ghost use Rattle.cbor_feed.specs.Blocked.{blocked, is_value};
 
-use crate::front::{Front, LONGEST};
+use crate::front::Front;
 use crate::level::Level;
-use crate::levels::{Levels, MOST_LEVELS};
+use crate::levels::{Levels, are_levels};
 use crate::phase::{Fault, Phase, Within};
 use crate::progress::{End, Feed, Progress};
-use crate::snapshot::Snapshot;
-use crate::title::{affix_len, begins_none, header_of};
+use crate::snapshot::{Snapshot, is_state, strict_of};
+use crate::title::{affix_len, begins_none, blocked, header_of, is_value};
 use ciborium_ll_grammar::hdr::Header;
-use ciborium_ll_grammar::hdr::table::{TitleKind, row_of};
+use ciborium_ll_grammar::hdr::table::{Affix, TitleKind, row_of};
 use ciborium_ll_text::state::{State, text_front};
-
-/// Why a title of this kind may not stand there, where not all of its bytes came.
-#[inline(always)]
-fn blocked(within: Within, depth: usize, place: usize, kind: TitleKind) -> Option<Fault>
-    ensures { result ≡ blocked within depth place kind }
-{
-    match (within, kind) {
-        (Within::Nothing, TitleKind::Tag | TitleKind::Array | TitleKind::Map) => {
-            if depth == 0 {
-                Some(Fault::Deep(place))
-            } else {
-                None
-            }
-        }
-        (Within::Nothing, _)
-        | (Within::Bytes(_), TitleKind::Bytes)
-        | (Within::Text(_), TitleKind::Text) => None,
-        _ => Some(Fault::Syntax(place)),
-    }
-}
 
 /// Whether so many bytes may end a text that has come to this state.
 #[inline(always)]
@@ -51,65 +30,6 @@ fn may_end(state: State, left: usize) -> bool
         State::ThreeDue | State::BehindF0 | State::BehindF4 => left >= 3,
         State::Damaged => false,
     }
-}
-
-/// Whether a body has bytes left.
-fn has_left(phase: Phase) -> bool
-    ensures { result ≡ has_left phase }
-{
-    !matches!(phase, Phase::Bytes(0) | Phase::Text(0, _))
-}
-
-/// Whether there are no more open strings than bytes came.
-fn are_counted(within: Within, offset: usize) -> bool
-    ensures yes { result ≡ true → open_count within ≤ offset }
-    ensures no { result ≡ false → offset < open_count within }
-{
-    match within {
-        Within::Nothing => true,
-        Within::Bytes(more) | Within::Text(more) => more < offset,
-    }
-}
-
-/// Whether the bytes are too few for a whole title.
-fn are_begun(bytes: &[u8]) -> bool
-    ensures yes { result ≡ true → length bytes.now ≤ affix_len (slice_index bytes.now 0 % 32) }
-    ensures no { result ≡ false → affix_len (slice_index bytes.now 0 % 32) < length bytes.now }
-{
-    bytes.is_empty() || bytes.len() <= affix_len(row_of(bytes[0]).affix)
-}
-
-/// Whether the shortest spelling alone is taken, by its number.
-fn strict_of(number: u8) -> Option<bool>
-    ensures { result ≡ strict_in number }
-{
-    match number {
-        0 => Some(false),
-        1 => Some(true),
-        _ => None,
-    }
-}
-
-/// Whether the numbers that come with what is due and with the open strings are those of a state.
-fn is_state(snapshot: &Snapshot, phase: Phase, within: Within) -> bool
-    ensures yes { result ≡ true → IsState snapshot.now phase within }
-    ensures no { IsState snapshot.now phase within → result ≡ true }
-{
-    let title_len = usize::from(snapshot.title_len);
-    let nests = usize::from(snapshot.nests);
-    if title_len > LONGEST {
-        return false;
-    }
-    if nests > MOST_LEVELS {
-        return false;
-    }
-    if snapshot.depth as usize > MOST_LEVELS - nests {
-        return false;
-    }
-    if !are_counted(within, snapshot.offset as usize) {
-        return false;
-    }
-    has_left(phase) && are_begun(&snapshot.title[..title_len])
 }
 
 /// Checks one item of CBOR (RFC 7049, 2.1 to 2.4) whose bytes come in pieces.
@@ -137,9 +57,11 @@ impl Checker {
     ghost use Rattle.cbor_feed.specs.Checking.{IsAt, spot_of};
     ghost use Rattle.cbor_feed.specs.Snapshots.{Holds};
     ghost use Rattle.std.specs.Prelude.{Bool, ℕ, ◌-◌, ◌/◌, ◌++◌, List, [], IfSome, take, true, false};
+    ghost use Rattle.ciborium_ll_grammar.specs.Title.{IsTitle};
+    ghost use Rattle.ciborium_ll_grammar.specs.Items.{IsTakenTitle};
     ghost use Rattle.ciborium_ll_grammar.specs.TitleRows.{IsTitleKind};
     ghost use Rattle.ciborium_ll_text.specs.States.{after_byte};
-    ghost use Rattle.cbor_feed.specs.Steps.{IsFed, Leads, Step, TitleStep, counted, counted_by, start, text_left};
+    ghost use Rattle.cbor_feed.specs.Steps.{IsFed, Leads, TitleStep, counted, counted_by, start, text_left};
     ghost use Rattle.cbor_feed.specs.Steps.{title_place, with_byte};
     ghost use Rattle.cbor_feed.specs.Telling.{IsAnswer, IsMore, Tells, TellsEnd, end_of, is_due, progress_of, title_due};
     ghost use Rattle.cbor_feed.specs.Spots.{Spot, at_phase, body_placed, broken, bytes_due, bytes_entered, entered};
@@ -193,10 +115,8 @@ impl Checker {
         ensures { spot_of self.new ≡ item_done (spot_of self.old) }
     {
         self.within = Within::Nothing;
-        while let Some(level) = self.levels.innermost() {
-            self.levels.pop();
-            if let Some(left) = level.next() {
-                self.levels.push(left);
+        'levels: while !self.levels.is_empty() {
+            if self.levels.advance() {
                 self.phase = Phase::Title;
                 return;
             }
@@ -249,9 +169,15 @@ impl Checker {
             self.phase = Phase::Faulted(Fault::Deep(self.place));
             return;
         }
-        self.depth -= 1;
-        self.levels.push(inner);
-        self.item_done();
+        match inner.next() {
+            Some(left) => {
+                self.depth -= 1;
+                self.levels.push(left);
+                self.within = Within::Nothing;
+                self.phase = Phase::Title;
+            }
+            None => self.item_done(),
+        }
     }
 
     /// A break has come where an item is due.
@@ -485,6 +411,106 @@ impl Checker {
         self.title_byte(bytes)
     }
 
+    /// All of a title of one byte, which means this header, where an item is due. Of a string of bytes or of ASCII the
+    /// body is taken with it where all of it is there. Says how many bytes.
+    #[inline(always)]
+    fn short_taken(&mut self, bytes: &[u8], header: Header) -> usize
+        requires phase { self.old.phase ≡ p.Title }
+        requires fresh { length self.old.front ≡ 0 }
+        requires due { self.old.within ≡ w.Nothing }
+        requires some { 0 < length bytes.now }
+        requires room { self.old.offset + length bytes.now ≤ usize.MAX }
+        requires title { IsTitle (take 1 bytes.now) header }
+        requires taken { IsTakenTitle self.old.strict (take 1 bytes.now) header }
+        ensures some { 0 < result }
+        ensures within { result ≤ length bytes.now }
+        ensures leads { Leads (spot_of self.old) (take result bytes.now) (spot_of self.new) }
+    {
+        self.place = self.offset;
+        self.offset += 1;
+        let rest = &bytes[1..];
+        match header {
+            Header::Bytes(Some(len)) if len <= rest.len() => {
+                self.bytes_taken(len, len);
+                1 + len
+            }
+            Header::Text(Some(len)) if len <= rest.len() && rest[..len].is_ascii() => {
+                self.text_taken(len, len, State::Between);
+                1 + len
+            }
+            _ => {
+                self.enter_item(header);
+                1
+            }
+        }
+    }
+
+    /// The same where the title's first byte holds its number.
+    #[inline(always)]
+    fn short_run(&mut self, bytes: &[u8]) -> usize
+        requires phase { self.old.phase ≡ p.Title }
+        requires fresh { length self.old.front ≡ 0 }
+        requires due { self.old.within ≡ w.Nothing }
+        requires some { 0 < length bytes.now }
+        requires room { self.old.offset + length bytes.now ≤ usize.MAX }
+        requires short { affix_len (slice_index bytes.now 0 % 32) ≡ 0 }
+        ensures some { 0 < result }
+        ensures within { result ≤ length bytes.now }
+        ensures leads { Leads (spot_of self.old) (take result bytes.now) (spot_of self.new) }
+    {
+        match header_of(&bytes[..1], self.strict) {
+            Some(header) => self.short_taken(bytes, header),
+            None => self.title_byte(bytes),
+        }
+    }
+
+    /// All of a longer title of a number, a float or a simple value, where an item is due and any spelling is taken.
+    /// Its first byte tells that, so that the others are not read.
+    #[inline(always)]
+    fn value_taken(&mut self, bytes: &[u8], len: usize, kind: TitleKind)
+        requires phase { self.old.phase ≡ p.Title }
+        requires fresh { length self.old.front ≡ 0 }
+        requires due { self.old.within ≡ w.Nothing }
+        requires any { self.old.strict ≡ false }
+        requires value { is_value kind ≡ true }
+        requires within { len ≤ length bytes.now }
+        requires room { self.old.offset + length bytes.now ≤ usize.MAX }
+        requires more { 1 < len }
+        requires long { len ≡ 1 + affix_len (slice_index bytes.now 0 % 32) }
+        requires kind { IsTitleKind kind (slice_index bytes.now 0 / 32) (slice_index bytes.now 0 % 32) }
+        ensures { Leads (spot_of self.old) (take len bytes.now) (spot_of self.new) }
+    {
+        self.place = self.offset;
+        self.offset += len;
+        self.item_done();
+    }
+
+    /// A title where an item is due, of which most are told by their first byte, and of a short string the body with it.
+    /// Else it is as [`Checker::title_run`]. Says how many bytes.
+    #[inline(always)]
+    fn item_run(&mut self, bytes: &[u8]) -> usize
+        requires phase { self.old.phase ≡ p.Title }
+        requires due { self.old.within ≡ w.Nothing }
+        requires some { 0 < length bytes.now }
+        requires room { self.old.offset + length bytes.now ≤ usize.MAX }
+        ensures some { 0 < result }
+        ensures within { result ≤ length bytes.now }
+        ensures leads { Leads (spot_of self.old) (take result bytes.now) (spot_of self.new) }
+    {
+        if self.front.len() == 0 {
+            let row = row_of(bytes[0]);
+            if let Affix::Within = row.affix {
+                return self.short_run(bytes);
+            }
+            let len = 1 + affix_len(row.affix);
+            if !self.strict && is_value(row.kind) && 1 < len && len <= bytes.len() {
+                self.value_taken(bytes, len, row.kind);
+                return len;
+            }
+        }
+        self.title_run(bytes)
+    }
+
     /// The same within an open string. It is kept apart from the path of an item's title.
     #[inline(never)]
     fn title_within(&mut self, bytes: &[u8]) -> usize
@@ -607,7 +633,7 @@ impl Checker {
     {
         match self.phase {
             Phase::Title => match self.within {
-                Within::Nothing => self.title_run(bytes),
+                Within::Nothing => self.item_run(bytes),
                 Within::Bytes(_) | Within::Text(_) => self.title_within(bytes),
             },
             Phase::Bytes(left) => self.bytes_run(left, bytes),
@@ -687,10 +713,11 @@ impl Checker {
     /// Takes a piece of the item's bytes, of any length: all of it, or up to the end of the item or up to the byte with
     /// which a fault comes. What follows that is not taken, and a later call takes nothing and answers the same.
     ///
-    /// How a list of bytes is cut into pieces changes nothing. `More` says that at least so many bytes are due: the
-    /// rest of a title or a body. `Ended` has the item's length. `Fault` says that no item begins as the bytes so far
-    /// do; it comes with the first byte of which that is so. `TooLong` says that `usize::MAX` bytes came, and the item
-    /// goes on; none of the others is taken.
+    /// How a list of bytes is cut into pieces changes nothing: fed some bytes and then a piece, a checker is as one
+    /// that was fed both, joined. `More` says that at least so many bytes are due: the rest of a title or a body.
+    /// `Ended` has the item's length. `Fault` says that no item begins as the bytes so far do; it comes with the first
+    /// byte of which that is so. `TooLong` says that `usize::MAX` bytes came, and the item goes on; none of the others
+    /// is taken.
     pub fn feed(&mut self, bytes: &[u8]) -> Feed
         ensures taken { result.taken ≤ length bytes.now }
         ensures all { IsMore result.progress → result.taken ≡ length bytes.now }
@@ -698,6 +725,8 @@ impl Checker {
             → IsFed strict depth (fed ++ take result.taken bytes.now) (spot_of self.new) }
         ensures tells { (strict : Bool) (depth : ℕ) (fed : List ℕ) → IsFed strict depth fed (spot_of self.old)
             → Tells strict depth (fed ++ take result.taken bytes.now) result.progress }
+        ensures counted { (strict : Bool) (depth : ℕ) (fed : List ℕ) → IsFed strict depth fed (spot_of self.old)
+            → length fed + result.taken ≤ usize.MAX }
         ensures answers { IsAnswer result.progress (spot_of self.new) }
         ensures stays { is_due self.old.phase ≡ false → (result.taken ≡ 0) × (spot_of self.new ≡ spot_of self.old) }
     {
@@ -736,30 +765,53 @@ impl Checker {
         snapshot.offset = self.offset as u64;
     }
 
-    /// The checker that [`Checker::save`] wrote, or none where the numbers are those of no checker: where memory was
-    /// overwritten, or never written.
+    /// Becomes the checker that [`Checker::save`] wrote, and says whether there is one. Where the numbers are those of
+    /// no checker, since memory was overwritten or never written, it stays as it was.
+    #[inline(always)]
+    pub fn load(&mut self, snapshot: &Snapshot) -> bool
+        ensures some { result ≡ true → Holds snapshot.now (spot_of self.new) }
+        ensures found { (spot : Spot) → Holds snapshot.now spot → result ≡ true }
+        ensures same { (spot : Spot) → Holds snapshot.now spot → spot_of self.new ≡ spot }
+        ensures none { result ≡ false → self.new ≡ self.old }
+    {
+        let Some(phase) = Phase::of(snapshot.phase, snapshot.number as usize, snapshot.text) else {
+            return false;
+        };
+        let Some(within) = Within::of(snapshot.strings, snapshot.more as usize) else {
+            return false;
+        };
+        let Some(strict) = strict_of(snapshot.strict) else {
+            return false;
+        };
+        if !is_state(snapshot, phase, within) {
+            return false;
+        }
+        let nests = usize::from(snapshot.nests);
+        if !are_levels(nests, &snapshot.kinds, &snapshot.counts) {
+            return false;
+        }
+        self.strict = strict;
+        self.phase = phase;
+        self.front = Front::restore(&snapshot.title, usize::from(snapshot.title_len));
+        self.within = within;
+        self.depth = snapshot.depth as usize;
+        self.levels.load(nests, &snapshot.kinds, &snapshot.counts);
+        self.place = snapshot.place as usize;
+        self.offset = snapshot.offset as usize;
+        true
+    }
+
+    /// The checker that [`Checker::save`] wrote, or none where [`Checker::load`] finds none.
     #[inline(always)]
     pub fn restore(snapshot: &Snapshot) -> Option<Checker>
         ensures some { IfSome result (λ checker. Holds snapshot.now (spot_of checker)) }
         ensures same { (spot : Spot) → Holds snapshot.now spot → IsAt result spot }
     {
-        let phase = Phase::of(snapshot.phase, snapshot.number as usize, snapshot.text)?;
-        let within = Within::of(snapshot.strings, snapshot.more as usize)?;
-        let strict = strict_of(snapshot.strict)?;
-        if !is_state(snapshot, phase, within) {
-            return None;
+        let mut checker = Checker::new(0);
+        if checker.load(snapshot) {
+            Some(checker)
+        } else {
+            None
         }
-        let nests = usize::from(snapshot.nests);
-        let levels = Levels::restore(nests, &snapshot.kinds, &snapshot.counts)?;
-        Some(Checker {
-            strict,
-            phase,
-            front: Front::restore(&snapshot.title, usize::from(snapshot.title_len)),
-            within,
-            depth: snapshot.depth as usize,
-            levels,
-            place: snapshot.place as usize,
-            offset: snapshot.offset as usize,
-        })
     }
 }

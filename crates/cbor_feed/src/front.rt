@@ -70,13 +70,13 @@ impl Front {
         &self.bytes[..self.len]
     }
 
-    /// Writes the bytes in front of these, and says how many they are.
+    /// Writes the bytes in front of these, and says how many they are. What stands behind them means nothing.
     #[inline(always)]
     pub(crate) fn save(&self, bytes: &mut [u8; LONGEST]) -> usize
         ensures saved { take result bytes.new ≡ self.now }
         ensures len { result ≡ length self.now }
     {
-        bytes[..self.len].copy_from_slice(&self.bytes[..self.len]);
+        *bytes = self.bytes;
         self.len
     }
 

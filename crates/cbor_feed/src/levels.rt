@@ -10,6 +10,9 @@ use std::marker::Model;
 /// How many levels there may be.
 pub(crate) const MOST_LEVELS: usize = 256;
 
+/// The number of the kind of [`Level::Items`].
+const ITEMS: u8 = 0;
+
 /// What the nests around an item contain behind it. Seen as a list, the innermost is the first.
 ///
 /// They are kept by their numbers, as a snapshot has them, so that those of a snapshot are taken as they are.
@@ -35,6 +38,9 @@ impl Model for Levels {
 }
 
 impl Levels {
+    ghost use Rattle.std.specs.Prelude.{ℕ, ◌+◌, suc};
+    ghost use Rattle.cbor_feed.specs.Spots.{Spot, item_due, settled};
+
     /// No levels.
     #[inline(always)]
     pub(crate) fn new() -> Levels
@@ -68,6 +74,61 @@ impl Levels {
         }
     }
 
+    /// Whether there are none.
+    #[inline(always)]
+    pub(crate) fn is_empty(&self) -> bool
+        ensures yes { result ≡ true → self.now ≡ [] }
+        ensures no { result ≡ false → 0 < length self.now }
+    {
+        self.len == 0
+    }
+
+    /// Counts an item in the innermost level. Says whether another one is due there, and takes the level off where none
+    /// is.
+    #[inline(always)]
+    pub(crate) fn advance(&mut self) -> bool
+        requires some { 0 < length self.old }
+        requires room { length self.old ≤ 256 }
+        ensures due { result ≡ true → (depth : ℕ) (spot : Spot)
+            → settled depth self.old spot ≡ item_due depth self.new spot }
+        ensures done { result ≡ false → (depth : ℕ) (spot : Spot)
+            → settled depth self.old spot ≡ settled (suc depth) self.new spot }
+        ensures same { result ≡ true → length self.new ≡ length self.old }
+        ensures less { result ≡ false → length self.new + 1 ≡ length self.old }
+    {
+        let at = self.len - 1;
+        if self.kinds[at] == ITEMS && self.counts[at] > 0 {
+            self.counts[at] -= 1;
+            return true;
+        }
+        self.advance_any()
+    }
+
+    /// The same, whichever kind of level it is.
+    #[inline(always)]
+    fn advance_any(&mut self) -> bool
+        requires some { 0 < length self.old }
+        requires room { length self.old ≤ 256 }
+        ensures due { result ≡ true → (depth : ℕ) (spot : Spot)
+            → settled depth self.old spot ≡ item_due depth self.new spot }
+        ensures done { result ≡ false → (depth : ℕ) (spot : Spot)
+            → settled depth self.old spot ≡ settled (suc depth) self.new spot }
+        ensures same { result ≡ true → length self.new ≡ length self.old }
+        ensures less { result ≡ false → length self.new + 1 ≡ length self.old }
+    {
+        let Some(level) = self.innermost() else {
+            unreachable!();
+        };
+        self.pop();
+        match level.next() {
+            Some(left) => {
+                self.push(left);
+                true
+            }
+            None => false,
+        }
+    }
+
     /// Puts a level within the others.
     #[inline(always)]
     pub(crate) fn push(&mut self, level: Level)
@@ -95,31 +156,28 @@ impl Levels {
         self.len
     }
 
-    /// So many levels, of which these are the numbers.
+    /// Becomes so many levels, of which these are the numbers. They are written where they stay: levels that are made
+    /// elsewhere are copied once more.
     #[inline(always)]
-    pub(crate) fn restore(
+    pub(crate) fn load(
+        &mut self,
         len: usize,
         kinds: &[u8; MOST_LEVELS],
         counts: &[u64; MOST_LEVELS],
-    ) -> Option<Levels>
-        requires { len ≤ 256 }
-        ensures { result ≡ levels_in len kinds.now counts.now }
+    )
+        requires most { len ≤ 256 }
+        requires some { IsSome (levels_in len kinds.now counts.now) }
+        ensures { levels_in len kinds.now counts.now ≡ Some self.new }
     {
-        if are_levels(len, kinds, counts) {
-            Some(Levels {
-                kinds: *kinds,
-                counts: *counts,
-                len,
-            })
-        } else {
-            None
-        }
+        self.kinds = *kinds;
+        self.counts = *counts;
+        self.len = len;
     }
 }
 
 /// Whether so many numbers are those of levels.
 #[inline(always)]
-fn are_levels(len: usize, kinds: &[u8; MOST_LEVELS], counts: &[u64; MOST_LEVELS]) -> bool
+pub(crate) fn are_levels(len: usize, kinds: &[u8; MOST_LEVELS], counts: &[u64; MOST_LEVELS]) -> bool
     requires { len ≤ 256 }
     ensures yes { result ≡ true → IsSome (levels_in len kinds.now counts.now) }
     ensures no { result ≡ false → levels_in len kinds.now counts.now ≡ None }

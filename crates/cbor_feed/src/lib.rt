@@ -1,5 +1,8 @@
 //! Items of CBOR (RFC 7049, 2.1 to 2.4) checked as their bytes come, in pieces of any length. No call takes memory, and
 //! none waits for a reader.
+//!
+//! It stands on the table of first bytes, the states of texts and the definitions of items of `ciborium_ll`. Each call
+//! returns, and each byte is taken once.
 #![tactic(auto)]
 
 mod checker;

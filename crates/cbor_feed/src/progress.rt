@@ -5,9 +5,11 @@ use crate::phase::Fault;
 /// How far an item has come.
 #[derive(Clone, Copy, Debug, PartialEq, Eq)]
 pub enum Progress {
-    /// The item isn't whole: at least so many bytes more are due.
+    /// The item isn't whole: at least so many bytes more are due, which is the rest of the title or of the body that
+    /// came so far. Some bytes make the item whole, and all that do are at least so many.
     More(usize),
-    /// The item has ended. It has so many bytes.
+    /// The item has ended: the bytes so far are one, nested to the depth at most, and of a strict checker in its
+    /// shortest spelling. It has so many bytes.
     Ended(usize),
     /// No item begins as the bytes so far do.
     Fault(Fault),

@@ -1,7 +1,17 @@
 //! A checker's state as plain numbers.
 
+ghost use Rattle.std.specs.Prelude.{◌≡◌, ◌<◌, ◌≤◌, ◌%◌, length, slice_index, true, false};
+ghost use Rattle.ciborium_ll_grammar.specs.Title.{affix_len};
+ghost use Rattle.cbor_feed.specs.Opens.{open_count};
 ghost use Rattle.cbor_feed.specs.Spots.{Spot};
-ghost use Rattle.cbor_feed.specs.Snapshots.{Holds};
+ghost use Rattle.cbor_feed.specs.Snapshots.{Holds, IsState, strict_in};
+ghost use Rattle.cbor_feed.specs.Telling.{has_left};
+
+use crate::front::LONGEST;
+use crate::levels::MOST_LEVELS;
+use crate::phase::{Phase, Within};
+use crate::title::affix_len;
+use ciborium_ll_grammar::hdr::table::row_of;
 
 /// The state of a [`Checker`](crate::Checker) as plain numbers, in memory of the caller's own: of a program in C, or of
 /// one that keeps many.
@@ -9,6 +19,9 @@ ghost use Rattle.cbor_feed.specs.Snapshots.{Holds};
 /// [`Checker::save`](crate::Checker::save) writes it, and [`Checker::restore`](crate::Checker::restore) makes a checker
 /// of it again. Which number means what is theirs; numbers that are all 0 are no state. It has no bytes between its
 /// fields and none behind them.
+///
+/// What is saved is restored as it was: the numbers are those of one checker alone, which has come as far. Of any other
+/// numbers none is made, whatever they are.
 #[derive(Drop)]
 #[repr(C)]
 pub struct Snapshot {
@@ -64,4 +77,63 @@ impl Snapshot {
             strings: 0,
         }
     }
+}
+
+/// Whether a body has bytes left.
+fn has_left(phase: Phase) -> bool
+    ensures { result ≡ has_left phase }
+{
+    !matches!(phase, Phase::Bytes(0) | Phase::Text(0, _))
+}
+
+/// Whether there are no more open strings than bytes came.
+fn are_counted(within: Within, offset: usize) -> bool
+    ensures yes { result ≡ true → open_count within ≤ offset }
+    ensures no { result ≡ false → offset < open_count within }
+{
+    match within {
+        Within::Nothing => true,
+        Within::Bytes(more) | Within::Text(more) => more < offset,
+    }
+}
+
+/// Whether the bytes are too few for a whole title.
+fn are_begun(bytes: &[u8]) -> bool
+    ensures yes { result ≡ true → length bytes.now ≤ affix_len (slice_index bytes.now 0 % 32) }
+    ensures no { result ≡ false → affix_len (slice_index bytes.now 0 % 32) < length bytes.now }
+{
+    bytes.is_empty() || bytes.len() <= affix_len(row_of(bytes[0]).affix)
+}
+
+/// Whether the shortest spelling alone is taken, by its number.
+pub(crate) fn strict_of(number: u8) -> Option<bool>
+    ensures { result ≡ strict_in number }
+{
+    match number {
+        0 => Some(false),
+        1 => Some(true),
+        _ => None,
+    }
+}
+
+/// Whether the numbers that come with what is due and with the open strings are those of a state.
+pub(crate) fn is_state(snapshot: &Snapshot, phase: Phase, within: Within) -> bool
+    ensures yes { result ≡ true → IsState snapshot.now phase within }
+    ensures no { IsState snapshot.now phase within → result ≡ true }
+{
+    let title_len = usize::from(snapshot.title_len);
+    let nests = usize::from(snapshot.nests);
+    if title_len > LONGEST {
+        return false;
+    }
+    if nests > MOST_LEVELS {
+        return false;
+    }
+    if snapshot.depth as usize > MOST_LEVELS - nests {
+        return false;
+    }
+    if !are_counted(within, snapshot.offset as usize) {
+        return false;
+    }
+    has_left(phase) && are_begun(&snapshot.title[..title_len])
 }

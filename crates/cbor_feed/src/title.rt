@@ -1,4 +1,4 @@
-//! The header that a whole title means.
+//! The header that a whole title means, and what its first byte tells.
 
 ghost use Rattle.std.specs.Prelude.{ℕ, ◌≡◌, ◌<◌, ◌+◌, ◌%◌, ◌≤◌, true, false, IfSome, IfNone, length, slice_index};
 ghost use Rattle.ciborium_ll_grammar.specs.Title.{IsReserved, IsTitle, affix_len};
@@ -7,23 +7,22 @@ ghost use Rattle.cbor_feed.specs.Steps.{NoneTaken, SomeTaken};
 ghost use Rattle.cbor_feed.specs.Longer.{BeginsLonger, HasZero};
 ghost use Rattle.ciborium_ll_grammar.specs.Parts.{IsMinor, minor_affix, minor_code};
 ghost use Rattle.ciborium_ll_grammar.specs.TitleRows.{IsAffix};
+ghost use Rattle.cbor_feed.specs.Blocked.{blocked, is_value};
 ghost use Rattle.std.specs.Int.{to_be_bytes, w16, w32, w64};
 
-use ciborium_ll_grammar::hdr::table::{Affix, row_of};
+use crate::phase::{Fault, Within};
+use ciborium_ll_grammar::hdr::table::{Affix, TitleKind, row_of};
 use ciborium_ll_grammar::hdr::{Header, Minor, Title};
+
+/// How many bytes stand behind the first one, by the place of the number in [`Affix`]. A look-up takes no branch.
+const AFFIX_LENS: [usize; 7] = [0, 1, 2, 4, 8, 0, 0];
 
 /// How many bytes stand behind the first one.
 #[inline(always)]
 pub(crate) fn affix_len(affix: Affix) -> usize
     ensures { (minor : ℕ) → IsAffix affix minor → result ≡ affix_len minor }
 {
-    match affix {
-        Affix::One => 1,
-        Affix::Two => 2,
-        Affix::Four => 4,
-        Affix::Eight => 8,
-        Affix::Within | Affix::Open | Affix::Reserved => 0,
-    }
+    AFFIX_LENS[affix as usize]
 }
 
 /// The minor of a first byte, with the number that it holds or that the bytes behind it are. A reserved one is none.
@@ -137,4 +136,35 @@ pub(crate) fn begins_none(bytes: &[u8], strict: bool) -> bool
     ensures no { result ≡ false → SomeTaken strict bytes.now }
 {
     if strict { begins_longer(bytes) } else { false }
+}
+
+/// Why a title of this kind may not stand there, where not all of its bytes came.
+#[inline(always)]
+pub(crate) fn blocked(within: Within, depth: usize, place: usize, kind: TitleKind) -> Option<Fault>
+    ensures { result ≡ blocked within depth place kind }
+{
+    match (within, kind) {
+        (Within::Nothing, TitleKind::Tag | TitleKind::Array | TitleKind::Map) => {
+            if depth == 0 {
+                Some(Fault::Deep(place))
+            } else {
+                None
+            }
+        }
+        (Within::Nothing, _)
+        | (Within::Bytes(_), TitleKind::Bytes)
+        | (Within::Text(_), TitleKind::Text) => None,
+        _ => Some(Fault::Syntax(place)),
+    }
+}
+
+/// Whether a title of this kind that has a number is one of an item by itself: a number, a float or a simple value.
+#[inline(always)]
+pub(crate) fn is_value(kind: TitleKind) -> bool
+    ensures { result ≡ is_value kind }
+{
+    matches!(
+        kind,
+        TitleKind::Positive | TitleKind::Negative | TitleKind::Other
+    )
 }

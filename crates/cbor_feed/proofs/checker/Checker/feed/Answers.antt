@@ -47,3 +47,23 @@ returns-clause-stays c = λ off.
     let none = ap length stays.0 in
     let long = length-take-le taken (take c.min-counted.result bytes) c.run_all-taken.ensures.within in
     (omega (arith, none, long), stays.1)
+
+pub returns-then-is_due-clause-counted : goal.returns-then-is_due-clause-counted
+returns-then-is_due-clause-counted c = λ strict depth fed is.
+    let bytes = c.args.bytes.now in
+    let counts = fed_counts strict depth fed (spot_of c.args.self.now) is in
+    let fits : c.min-counted.result ≤ length bytes = search rules in
+    let most = length-take-le c.min-counted.result bytes fits in
+    let within = c.run_all-taken.ensures.within in
+    let least = c.min-counted.ensures in
+    omega (arith, counts, most, within, least)
+
+pub returns-clause-counted : goal.returns-clause-counted
+returns-clause-counted c = λ strict depth fed is.
+    let bytes = c.args.bytes.now in
+    let counts = fed_counts strict depth fed (spot_of c.args.self.now) is in
+    let fits : c.min-counted.result ≤ length bytes = search rules in
+    let most = length-take-le c.min-counted.result bytes fits in
+    let within = c.run_all-taken.ensures.within in
+    let least = c.min-counted.ensures in
+    omega (arith, counts, most, within, least)

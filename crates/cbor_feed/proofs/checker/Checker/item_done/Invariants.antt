@@ -4,8 +4,8 @@ use Rattle.cbor_feed.specs.Checking.{spot_of}
 use Rattle.cbor_feed.specs.Spots.{settled}
 use Rattle.cbor_feed.proofs.checker.Checker.item_done.Given as goal
 
-abbrev pub invariant-loop-level : goal.invariant-loop-level
-invariant-loop-level l =
+abbrev pub invariant-levels : goal.invariant-levels
+invariant-levels l =
     let first = spot_of l.fn.self in
     record {
       same : settled l.self.depth l.self.levels first ≡ settled l.fn.self.depth l.fn.self.levels first;
@@ -16,5 +16,5 @@ invariant-loop-level l =
       offset : l.self.offset ≡ l.fn.self.offset;
     }
 
-abbrev pub decreases-loop-level : goal.decreases-loop-level
-decreases-loop-level l = length l.self.levels
+abbrev pub decreases-levels : goal.decreases-levels
+decreases-levels l = length l.self.levels

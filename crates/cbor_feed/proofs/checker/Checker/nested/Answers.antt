@@ -1,8 +1,14 @@
 use Rattle.std.proofs.Common.{rules}
 use Rattle.cbor_feed.specs.Checking.{spot_of}
-use Rattle.cbor_feed.proofs.SettledLaws.{nested_done}
+use Rattle.cbor_feed.proofs.SettledLaws.{nested_ends, nested_goes}
 use Rattle.cbor_feed.proofs.checker.Checker.nested.Goals as goal
 
-pub returns : goal.returns
-returns c =
-    nested_done (spot_of c.args.self.now) (spot_of c.item_done.new.self) c.args.inner c.if-self-eq0.false (search rules)
+pub returns-in-Some : goal.returns-in-Some
+returns-in-Some c =
+    nested_goes (spot_of c.args.self.now) _ c.args.inner c.in-Some.left c.if-self-eq0.false (search rules)
+    (search rules)
+
+pub returns-in-None : goal.returns-in-None
+returns-in-None c =
+    nested_ends (spot_of c.args.self.now) (spot_of c.item_done.new.self) c.args.inner c.if-self-eq0.false
+    (search rules) (search rules)

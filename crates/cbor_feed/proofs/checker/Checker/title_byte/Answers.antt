@@ -1,4 +1,4 @@
-use Rattle.std.proofs.Common.{rules, arith}
+use Rattle.std.proofs.Common.{rules}
 use Rattle.cbor_feed.specs.Checking.{spot_of}
 use Rattle.cbor_feed.proofs.LeadLaws.{one_leads, title_one}
 use Rattle.cbor_feed.proofs.checker.Checker.title_byte.Goals as goal

@@ -1,4 +1,4 @@
-use Rattle.std.proofs.Common.{rules, take, subst, sym, ap}
+use Rattle.std.proofs.Common.{take, subst, ap}
 use Rattle.cbor_feed.specs.Checking.{spot_of}
 use Rattle.cbor_feed.specs.Spots.{Spot}
 use Rattle.cbor_feed.specs.Steps.{Leads}

@@ -1,4 +1,4 @@
-use Rattle.std.proofs.Common.{◌≡◌, ◌∷◌, ◌+◌, ◌<◌, ◌∙◌, Some, ap, refl, length, arith}
+use Rattle.std.proofs.Common.{◌∷◌, ◌+◌, ◌∙◌, ap, refl, length, arith}
 use Rattle.cbor_feed.specs.Stack.{levels_of}
 use Rattle.cbor_feed.proofs.SnapshotLaws.{levels_push}
 use Rattle.cbor_feed.proofs.StackLaws.{is_some, length_of, some_levels}

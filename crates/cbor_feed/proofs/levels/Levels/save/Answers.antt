@@ -1,4 +1,4 @@
-use Rattle.std.proofs.Common.{◌≡◌, ◌<◌, ◌≤◌, ◌∙◌, ℕ, Some, ap, sym, length, arith, rules}
+use Rattle.std.proofs.Common.{◌≤◌, ◌∙◌, Some, ap, sym, length, arith, rules}
 use Rattle.cbor_feed.proofs.StackLaws.{front_read, length_of, same_levels, some_levels}
 use Rattle.cbor_feed.proofs.levels.Levels.save.Goals as goal
 
