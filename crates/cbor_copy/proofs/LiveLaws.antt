@@ -53,7 +53,7 @@ before_those count bytes more are_bytes o = record {
 zero_element : IsElement (0 ∷ []) (Plain (h.Positive 0) ∷ [])
 zero_element = plain (h.Positive 0) (numbered Unsigned Small 0 (omega arith)) tt
 
-run_goes : (left count : ℕ) (bytes : List ℕ) (marks : List Mark) → RunLeft count left bytes marks
+pub run_goes : (left count : ℕ) (bytes : List ℕ) (marks : List Mark) → RunLeft count left bytes marks
     → Completed count bytes
 run_goes zero count bytes marks r = record {
   more = [];

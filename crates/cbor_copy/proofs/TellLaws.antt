@@ -29,7 +29,7 @@ front_cut : (front : List ℕ) (spot : Spot) (at : ℕ) → FrontAt spot.within 
 front_cut front spot at (inl none) = rw none tt
 front_cut front spot at (inr f) = f.1
 
-title_short : (count : ℕ) (bytes output : List ℕ) (spot : Spot) → Titling count bytes spot output
+pub title_short : (count : ℕ) (bytes output : List ℕ) (spot : Spot) → Titling count bytes spot output
     → ComesTo count bytes Short output
 title_short count bytes output spot o = record {
   fault = record {
@@ -50,7 +50,7 @@ title_short count bytes output spot o = record {
   written = sym o.out;
 }
 
-body_short : (kind : StringKind) (left count : ℕ) (bytes output : List ℕ) (spot : Spot)
+pub body_short : (kind : StringKind) (left count : ℕ) (bytes output : List ℕ) (spot : Spot)
     → Bodying kind left count bytes spot output → 0 < left → ComesTo count bytes Short output
 body_short kind left count bytes output spot o some = record {
   fault = record {

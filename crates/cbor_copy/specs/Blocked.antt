@@ -6,7 +6,7 @@ use Rattle.cbor_copy.specs.declared.phase.StringKind.TheVariants as k
 use Rattle.cbor_copy.specs.declared.phase.Within.{Within}
 use Rattle.cbor_copy.specs.declared.phase.Within.TheVariants as w
 
--- within a string what is none of its kind (RFC 7049, 2.2.2)
+-- no title of the kind may stand there: within a string what is none of its kind (RFC 7049, 2.2.2)
 abbrev pub is_blocked : Within → TitleKind → Bool
 is_blocked w.Nothing kind = false
 is_blocked (w.Open k.Bytes more) t.Bytes = false

@@ -4,6 +4,7 @@ use Rattle.cbor_copy.specs.declared.copier.Copier.{Copier}
 use Rattle.cbor_copy.specs.Spots.{Spot, putting}
 use Rattle.cbor_copy.specs.Steps.{IsFed}
 
+-- the spot that a copier has come to, which has as put out what is pending
 abbrev pub spot_of : Copier → Spot
 spot_of c = record {
   phase = c.phase;
@@ -19,7 +20,7 @@ spot_of c = record {
 abbrev pub IsCopied : ℕ → List ℕ → List ℕ → Copier → Type 0
 IsCopied count fed given c = IsFed count fed (putting [] (spot_of c)) (given ++ c.pending)
 
--- the same by the spot, which has what is pending as what was put out
+-- `IsCopied` by the spot alone, which has what is pending as what was put out
 abbrev pub IsCopiedTo : ℕ → List ℕ → List ℕ → Spot → Type 0
 IsCopiedTo count fed given spot = IsFed count fed (putting [] spot) (given ++ spot.put)
 

@@ -20,19 +20,22 @@ tail_due s.BehindF0 = 3
 tail_due s.BehindF4 = 3
 tail_due s.Damaged = 0
 
--- of a character that is cut, by the bytes that end it: it has at most four
+-- how many bytes at most are held back of a character, by the bytes that end it: it has at most four (Unicode, Table
+-- 3-7)
 abbrev pub most_cut : State → ℕ
 most_cut s.Between = 0
 most_cut s.Damaged = 0
 most_cut state = 4 - tail_due state
 
--- of a title that is cut: fewer follow the first byte than it announces (RFC 7049, 2.1)
+-- how many bytes at most are held back of a title: fewer follow the first byte than it announces (RFC 7049, 2.1); and
+-- of a character
 abbrev pub most_front : Phase → List ℕ → ℕ
 most_front p.Title front = affix_len (slice_index front 0 % 32)
 most_front (p.Text left state) front = most_cut state
 most_front (p.Faulted place) front = 8
 most_front phase front = 0
 
+-- how many strings are open (RFC 7049, 2.2.2)
 abbrev pub open_count : Within → ℕ
 open_count w.Nothing = 0
 open_count (w.Open kind more) = suc more

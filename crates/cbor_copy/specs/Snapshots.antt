@@ -46,7 +46,7 @@ pub record IsState (snapshot : Snapshot) (phase : Phase) (within : Within) : Typ
   pub room : length (front_in snapshot) ≤ most_front phase (front_in snapshot)
   pub few : snapshot.pending_len ≤ 9
 
--- the numbers are those of this spot
+-- the plain numbers are those of this spot
 pub record Holds (snapshot : Snapshot) (spot : Spot) : Type 0 where
   pub phase : phase_in snapshot.phase snapshot.number snapshot.text ≡ Some spot.phase
   pub front : front_in snapshot ≡ spot.front

@@ -1,4 +1,6 @@
--- Where the bytes so far have come to, and where a whole title or the end of a string or an element leads.
+-- Where the bytes so far have come to, and where a whole title or the end of a string or an element leads. A *spot* is
+-- where the bytes so far have come to. What it means stands in `proofs/Reached.antt`: which elements came, what is due
+-- behind them, and what was put out till there. The laws `exact_copies` and `spelled_so_far` say it of the bytes alone.
 use Rattle.std.specs.Prelude.{ℕ, zero, suc, ◌-◌, List, Option, Some, None}
 use Rattle.ciborium_ll_grammar.specs.declared.hdr.Header.{Header}
 use Rattle.ciborium_ll_grammar.specs.declared.hdr.Header.TheVariants as h
@@ -39,25 +41,26 @@ elements_due (suc left) spot = record spot { phase = p.Title; within = w.Nothing
 abbrev pub element_done : Spot → Spot
 element_done spot = elements_due (spot.left - 1) spot
 
--- behind a string of a definite length: it is an element, or a piece of an open string
+-- behind a string of a definite length: it is an element, or a piece of an open string (RFC 7049, 2.2.2)
 abbrev pub string_done : Within → Spot → Spot
 string_done w.Nothing spot = element_done spot
 string_done (w.Open kind more) spot = at_phase p.Title spot
 
--- a body of so many bytes is due
+-- what is due in a body of so many bytes
 abbrev pub body_phase : StringKind → ℕ → Phase
 body_phase k.Bytes len = p.Bytes len
 body_phase k.Text len = p.Text len s.Between
 
+-- so many bytes of a body are due, and where none are the string is done (RFC 7049, 2.1)
 abbrev pub body_due : StringKind → ℕ → Spot → Spot
 body_due kind zero spot = string_done spot.within spot
 body_due kind (suc len) spot = at_phase (body_phase kind (suc len)) spot
 
--- strings are open, and one of their pieces or a break is due
+-- strings are open, and one of their pieces or a break is due (RFC 7049, 2.2.2)
 abbrev pub string_open : StringKind → ℕ → Spot → Spot
 string_open kind more spot = record spot { phase = p.Title; within = w.Open kind more }
 
--- what came may not stand here
+-- what came may not stand here: a fault of syntax
 abbrev pub refused : Spot → Spot
 refused spot = at_phase (p.Faulted spot.place) spot
 
@@ -68,12 +71,13 @@ string_entered kind header (Some len) spot =
     body_due kind len (record spot { place = spot.offset - title_len header })
 string_entered kind header None spot = string_open kind zero spot
 
--- behind a whole title where an element is due, which puts out its shortest one (RFC 7049, 2.1 and 3.9)
+-- behind a whole title where an element is due: in a string, or behind a whole element (RFC 7049, 2.1)
 abbrev pub header_entered : Header → Spot → Spot
 header_entered (h.Bytes len) spot = string_entered k.Bytes (h.Bytes len) len spot
 header_entered (h.Text len) spot = string_entered k.Text (h.Text len) len spot
 header_entered header spot = element_done spot
 
+-- behind a whole title where an element is due, which puts out its shortest one (RFC 7049, 2.1 and 3.9)
 abbrev pub element_entered : Header → Spot → Spot
 element_entered header spot = header_entered header (putting (shortest_title header) spot)
 
@@ -94,7 +98,7 @@ within_entered k.Text more (h.Text len) spot = piece_entered k.Text more (h.Text
 within_entered kind more h.Break spot = string_closed kind more spot
 within_entered kind more header spot = refused spot
 
--- behind a whole title
+-- behind a whole title, where an element is due or within an open string
 abbrev pub entered : Within → Header → Spot → Spot
 entered w.Nothing header spot = element_entered header spot
 entered (w.Open kind more) header spot = within_entered kind more header spot

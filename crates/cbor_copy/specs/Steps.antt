@@ -42,11 +42,11 @@ with_byte byte spot = record spot {
 abbrev pub titled : Header → Spot → Spot
 titled header spot = entered spot.within header (record spot { front = [] })
 
--- it is a fault
+-- the spot is at a fault
 abbrev pub Faults : Spot → Type 0
 Faults spot = (place : ℕ) × (spot.phase ≡ p.Faulted place)
 
--- Where a byte of a title has led, which now stands at the end of the front
+-- where a byte of a title has led, which now stands at the end of the front (RFC 7049, 2.1)
 pub data TitleStep (spot : Spot) : Spot → Type 0 where
   -- the title isn't whole, and each that begins so may stand here
   cut : IsCutTitle spot.front
@@ -95,11 +95,13 @@ StepIn (p.Text (suc left) state) spot byte new =
 StepIn p.Ended spot byte new = ⊥
 StepIn (p.Faulted place) spot byte new = ⊥
 
+-- where one byte more leads from a spot, and what it puts out: by a title, by a character, or by the body of a byte
+-- string
 abbrev pub Step : Spot → ℕ → Spot → Type 0
 Step spot byte new = StepIn spot.phase spot byte new
 
--- `IsFed count bytes spot output`: to a copy of so many elements, these bytes have led to the spot, and all that they
--- put out
+-- `IsFed count bytes spot output`: to a copy of so many elements, these bytes have led to the spot, from `start`, a
+-- `Step` for each, and all that they put out
 pub data IsFed (count : ℕ) : List ℕ → Spot → List ℕ → Type 0 where
   fresh : IsFed count [] (start count) []
   more : {bytes output : List ℕ} {spot : Spot} (byte : ℕ) (new : Spot) → byte < 256 → IsFed count bytes spot output

@@ -359,11 +359,12 @@ impl Copier {
         }
     }
 
-    /// What it means that no more bytes come. The copier stays as it is.
+    /// What it means that no more bytes come, in the words of [`Copier::feed`]. The copier stays as it is.
     ///
-    /// `Ended` says that the bytes so far are so many elements, all of them written. `Short` says that they are cut off:
-    /// more bytes were due, and what is written is all that can be. `Syntax` says that no such elements begin so.
-    /// `Room` says none of these yet: bytes are to be written, and [`Copier::feed`] writes them, also with no piece.
+    /// `Ended` comes exactly where the bytes so far are so many elements, and what was written in all is just their
+    /// shortest spelling. `Short` says that they are cut off: more bytes were due, and what is written is all that can
+    /// be. `Syntax` says that no such elements begin so. `Room` says none of these yet: bytes are to be written, and
+    /// [`Copier::feed`] writes them, also with no piece.
     pub fn end(&self) -> End
         ensures answers { result ≡ end_of self.now.pending self.now.phase }
         ensures tells { (count : ℕ) (fed given : List ℕ) → IsCopied count fed given self.now
@@ -375,18 +376,27 @@ impl Copier {
     }
 
     /// Takes a piece of the elements' bytes, of any length, and writes their shortest spelling in front of `out`. How
-    /// the input is cut into pieces, and how long the outputs are, changes nothing of what is written in all.
+    /// the input is cut into pieces, and how long the outputs are, changes nothing of what is written in all: the
+    /// copier is that of all bytes so far, and what was given is what they put out, but for a few bytes that are
+    /// pending. Behind what was written `out` is as it was.
     ///
     /// Every title becomes the shortest one of its header. The bodies of a string of indefinite length stay the
     /// segments that they were, in one string: strings within it lose their opens and breaks. Of a text whole
     /// characters are written.
     ///
-    /// `More` says that all of the piece was taken, and all that can be written of the bytes so far is. `Room` says
-    /// that `out` is full, and there is more to write: the rest of the piece is to be given again. `Ended` says that
-    /// so many elements came, and they are written; what follows in the piece is not taken. `Syntax` says that no such
+    /// `More` says that all of the piece was taken, and all that can be written of the bytes so far is: where no more
+    /// come, a copy of so many elements is short, with just this written, and some bytes more make so many elements.
+    /// `Room` says that `out` is full, and there is more to write, and with that one of the other answers is so: the
+    /// rest of the piece is to be given again. `Ended` says that so many elements came, and just their shortest
+    /// spelling is written, as `recode` writes it; what follows in the piece is not taken. `Syntax` says that no such
     /// elements begin as the bytes so far do; it comes with the first byte of which that is so, and what is written is
-    /// the spelling of what came before. A later call takes and writes nothing, and answers the same. `TooLong` says
-    /// that `usize::MAX` bytes came, and the elements go on; none of the others is taken.
+    /// what a copy writes that is at a fault of this place, with some bytes behind those so far. A later call takes and
+    /// writes nothing, and answers the same. `TooLong` says that `usize::MAX` bytes came, and the elements go on; none
+    /// of the others is taken; else it says what `More` does.
+    ///
+    /// The answer and its place are those of the state that the bytes so far lead to, which is one (`one_copy`). The
+    /// faults and what is written till them are those by which `recode` is told. Where a body is damaged, `recode` may
+    /// have written less of it, by its buffer: a copier has written each whole character before the damage.
     pub fn feed(&mut self, bytes: &[u8], out: &mut [u8]) -> Copied
         ensures taken { result.taken ≤ length bytes.now }
         ensures written { result.written ≤ length out.old }

@@ -1,5 +1,8 @@
 //! Elements of CBOR (RFC 7049, 2.1 and 2.2) copied to their shortest spelling as their bytes come, in pieces of any
 //! length. No call takes memory, and none waits for a reader or a writer.
+//!
+//! It stands on the table of first bytes, the states of texts and the definitions of elements and of their first faults
+//! of `ciborium_ll`. Each call returns, and each byte is taken once.
 #![tactic(auto)]
 
 mod copier;

@@ -17,6 +17,9 @@ use ciborium_ll_text::state::State;
 /// [`Copier::save`](crate::Copier::save) makes it, and [`Copier::restore`](crate::Copier::restore) makes a copier of it
 /// again. Which number means what is theirs; numbers that are all 0 are no state. It has no bytes between its fields
 /// and none behind them.
+///
+/// What is saved is restored as it was: the numbers are those of one copier alone, which has come as far and has the
+/// same bytes to write. Of any other numbers none is made, whatever they are.
 #[derive(Drop)]
 #[repr(C)]
 pub struct Snapshot {

@@ -79,7 +79,7 @@ pub fn copied(count: usize, bytes: &[u8], cut: usize, room: usize) -> Answer
 }
 
 // What a copy of the whole by `recode` answers. Bytes that end too early are due.
-fn recoded(count: usize, bytes: &[u8]) -> Answer {
+pub fn recoded(count: usize, bytes: &[u8]) -> Answer {
     let mut out = [0; MOST];
     let mut decoder = Decoder::from(SliceReader::new(bytes));
     let mut encoder = Encoder::from(SliceWriter::new(&mut out));

@@ -1,0 +1,59 @@
+use Rattle.std.proofs.Common.{◌≡◌, ◌∙◌, ◌++◌, ℕ, List, false, length, take, sym, ap, subst, rules}
+use Rattle.cbor_feed.specs.Telling.{is_due}
+use Rattle.cbor_copy.proofs.FedLaws.{drop_later}
+use Rattle.cbor_copy_item.specs.declared.copier.ItemCopier.{ItemCopier}
+use Rattle.cbor_copy_item.specs.Copying.{item_spot, elements_spot, pending}
+use Rattle.cbor_copy_item.specs.Telling.{Tells}
+use Rattle.cbor_copy_item.specs.declared.progress.Progress.TheVariants as r
+use Rattle.cbor_copy_item.proofs.AnswerLaws.{not_more}
+use Rattle.cbor_copy_item.proofs.TellLaws.{tells_answer, tells_long}
+use Rattle.cbor_copy_item.proofs.copier.ItemCopier.feed.Goals as goal
+
+pub bytes-preserved : goal.bytes-preserved
+bytes-preserved c =
+    let wrote = c.in-Some.ensures in
+    let before = c.bytes.self in
+    let so_far = c.bytes.invariant in
+    record {
+      written = search rules;
+      long = search rules;
+      kept = wrote.kept ∙ drop_later c.bytes.written c.in-Some.end c.bytes.out c.args.out.now wrote.more so_far.kept;
+      copied = λ strict depth fed given was.
+          wrote.copied strict depth fed given (so_far.copied strict depth fed given was);
+      full = search rules;
+      stays = λ off given.
+          let same = so_far.stays off given in
+          let phase : is_due (item_spot before).phase ≡ false =
+          ap (λ (z : ItemCopier). is_due (item_spot z).phase) same.2 ∙ off in
+          absurd (not_more (pending before) (item_spot before) c.in-More.field-0 phase
+          (sym c.answer.ensures ∙ c.in-More.is));
+    }
+
+pub returns-in_default-clause-tells : goal.returns-in_default-clause-tells
+returns-in_default-clause-tells c = λ strict depth fed given was.
+    let copier = c.bytes.self in
+    tells_answer (pending copier) strict depth (fed ++ take c.bytes.at c.args.bytes.now)
+    (given ++ take c.bytes.written c.bytes.out) (item_spot copier) (elements_spot copier) c.answer.result
+    c.answer.ensures (c.bytes.invariant.copied strict depth fed given was) copier.checker.left copier.checker.begun
+
+pub returns-in-None-clause-tells : goal.returns-in-None-clause-tells
+returns-in-None-clause-tells c = λ strict depth fed given was.
+    let copier = c.bytes.self in
+    let stops = c.in-None.ensures in
+    let so_far = c.bytes.invariant.copied strict depth fed given was in
+    let now = fed ++ take c.bytes.at c.args.bytes.now in
+    subst (λ (z : List ℕ). Tells strict depth now (given ++ take c.bytes.written z) r.TooLong) (sym stops.same)
+    (tells_long (pending copier) strict depth now (given ++ take c.bytes.written c.bytes.out) (item_spot copier)
+    (elements_spot copier) c.in-More.field-0
+    (sym c.in-More.is ∙ c.answer.ensures) so_far (stops.copied strict depth now _ so_far).1)
+
+pub returns-clause-tells : goal.returns-clause-tells
+returns-clause-tells c = λ strict depth fed given was.
+    let copier = c.bytes.self in
+    let bytes = c.args.bytes.now in
+    let all : c.bytes.at ≡ length bytes = search rules in
+    subst (λ (n : ℕ). Tells strict depth (fed ++ take n bytes) (given ++ take c.bytes.written c.bytes.out)
+    c.answer-2.result) all
+    (tells_answer (pending copier) strict depth (fed ++ take c.bytes.at bytes)
+    (given ++ take c.bytes.written c.bytes.out) (item_spot copier) (elements_spot copier) c.answer-2.result
+    c.answer-2.ensures (c.bytes.invariant.copied strict depth fed given was) copier.checker.left copier.checker.begun)

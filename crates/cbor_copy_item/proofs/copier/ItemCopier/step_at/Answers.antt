@@ -1,0 +1,35 @@
+use Rattle.std.proofs.Common.{◌≡◌, ◌-◌, ◌++◌, length, take, drop, refl, inl, inr, rules, arith}
+use Rattle.std.proofs.lemmas.List.{take_all, length-drop}
+use Rattle.cbor_copy_item.specs.Copying.{item_spot, elements_spot, pending}
+use Rattle.cbor_copy_item.proofs.PieceLaws.{out_kept, given_front, fed_front, both_fronts}
+use Rattle.cbor_copy_item.proofs.copier.ItemCopier.step_at.Goals as goal
+
+pub returns : goal.returns
+returns c =
+    let wrote = c.in_ok-more.ensures in
+    let at = c.args.at in
+    let before = c.args.written in
+    let more = c.in_ok-more.more in
+    let out = c.args.out.now in
+    let new = c.step.new.self in
+    let k = length out - before in
+    let room : take k (drop before out) ≡ drop before out =
+    take_all k (drop before out) (omega (arith, length-drop before out)) in
+    let room_len : length (take k (drop before out)) ≡ k = search rules in
+    let long : length c.step.new.out ≡ k = search rules in
+    let few = wrote.within in
+    record {
+      more = omega arith;
+      within = omega (arith, few, room_len, c.requires.room);
+      kept = out_kept before more k out c.step.new.out c.requires.room refl long (take k (drop before out)) room
+          wrote.kept;
+      full = elim wrote.full [
+        | inl none ↦ inl none
+        | inr all ↦ inr (omega (arith, all, room_len, c.requires.room))
+      ];
+      copied = λ strict depth fed given was.
+          both_fronts strict depth (item_spot new) (elements_spot new) _ _ _ _ (pending new)
+          (fed_front fed c.args.bytes.now at c.requires.some)
+          (given_front before more k out c.step.new.out c.requires.room refl long (omega (arith, few, room_len)) given)
+          (wrote.copied strict depth (fed ++ take at c.args.bytes.now) (given ++ take before out) was);
+    }

@@ -1,0 +1,4 @@
+pub mod Copying
+pub mod Snapshots
+pub mod Steps
+pub mod Telling

@@ -1,0 +1,305 @@
+//! The copier of an item: a byte goes to a checker, and where that has no fault to a copier of elements.
+
+ghost use Rattle.std.specs.Prelude.{◌≡◌, ◌≢◌, ◌+◌, ◌<◌, ◌≤◌, ◌^◌, ◌⊎◌, ◌++◌, Bool, ℕ, List, [], length, take, drop};
+ghost use Rattle.std.specs.Prelude.{true, false};
+ghost use Rattle.cbor_copy.specs.Copying.{IsCopied};
+ghost use Rattle.cbor_feed.specs.Checking.{spot_of};
+ghost use Rattle.cbor_feed.specs.Spots.{Spot};
+ghost use Rattle.cbor_feed.specs.Steps.{IsFed};
+ghost use Rattle.cbor_feed.specs.Telling.{HasFault, is_due};
+ghost use Rattle.cbor_copy_item.specs.Copying.{most, rest_of};
+
+use crate::progress::{Copied, End, Progress};
+use crate::snapshot::Snapshot;
+use cbor_copy::Copier;
+use cbor_feed::{Checker, End as CheckedEnd, Progress as Checked};
+
+/// Whether bytes of the spelling are to be written.
+fn lacks_room(copier: &Copier) -> bool
+    ensures yes { result ≡ true → rest_of copier.now ≢ [] }
+    ensures no { result ≡ false → rest_of copier.now ≡ [] }
+{
+    matches!(copier.end(), cbor_copy::End::Room)
+}
+
+/// Whether no item goes on so.
+fn has_fault(checker: &Checker) -> bool
+    ensures yes { result ≡ true → HasFault (spot_of checker.now) }
+    ensures no { result ≡ false → HasFault (spot_of checker.now) → ⊥ }
+{
+    matches!(checker.progress(), Checked::Fault(_))
+}
+
+/// Whether a checker takes the byte. It does, but where no more bytes can be counted.
+fn check(checker: &mut Checker, byte: &[u8]) -> bool
+    requires one { length byte.now ≡ 1 }
+    requires due { is_due (spot_of checker.old).phase ≡ true }
+    ensures taken { (strict : Bool) (depth : ℕ) (fed : List ℕ) → IsFed strict depth fed (spot_of checker.old)
+        → result ≡ true
+        → IsFed strict depth (fed ++ byte.now) (spot_of checker.new) × (length fed + 1 ≤ most) }
+    ensures not { (strict : Bool) (depth : ℕ) (fed : List ℕ) → IsFed strict depth fed (spot_of checker.old)
+        → result ≡ false
+        → IsFed strict depth fed (spot_of checker.new) × (2 ^ 64 ≤ length fed + 1) }
+{
+    checker.feed(byte).taken == 1
+}
+
+/// Copies a byte that a checker took, and says how many bytes were written. Of what was put out before all is given.
+fn copy(copier: &mut Copier, byte: &[u8], out: &mut [u8]) -> usize
+    requires one { length byte.now ≡ 1 }
+    requires given { rest_of copier.old ≡ [] }
+    ensures written { result ≤ length out.old }
+    ensures kept { drop result out.new ≡ drop result out.old }
+    ensures full { (rest_of copier.new ≡ []) ⊎ (result ≡ length out.old) }
+    ensures copied { (strict : Bool) (depth : ℕ) (fed given : List ℕ) (spot : Spot)
+        → IsFed strict depth (fed ++ byte.now) spot → (HasFault spot → ⊥) → length fed + 1 ≤ most
+        → IsCopied most fed given copier.old
+        → IsCopied most (fed ++ byte.now) (given ++ take result out.new) copier.new }
+{
+    copier.feed(byte, out).written
+}
+
+/// Copies one item of CBOR (RFC 7049, 2.1 to 2.4) whose bytes come in pieces, in its shortest spelling.
+///
+/// It takes no memory, and reads and writes nothing by itself: what came is given to [`ItemCopier::feed`], which writes
+/// into memory of the caller.
+#[derive(Drop)]
+pub struct ItemCopier {
+    checker: Checker,
+    copier: Copier,
+}
+
+impl ItemCopier {
+    ghost use Rattle.cbor_copy_item.specs.Copying.{IsItemCopied, item_spot, pending};
+    ghost use Rattle.std.specs.Prelude.{IfSome};
+    ghost use Rattle.cbor_copy.specs.Spots.{Spot as Elements};
+    ghost use Rattle.cbor_copy_item.specs.Snapshots.{Holds, IsAt, kept_spot};
+    ghost use Rattle.cbor_copy_item.specs.Steps.{Takes, TakesAt};
+    ghost use Rattle.cbor_copy_item.specs.Telling.{IsAnswer, IsMore, IsRoom, Tells, TellsEnd, end_of, progress_of};
+
+    /// A copier of an item to which nothing came. Tags, arrays and maps may be nested at most `depth` levels deep: each
+    /// takes a level, an empty one too, and a string takes none.
+    pub fn new(depth: usize) -> ItemCopier
+        requires { depth ≤ 256 }
+        ensures { IsItemCopied false depth [] [] result }
+    {
+        ItemCopier {
+            checker: Checker::new(depth),
+            copier: Copier::new(usize::MAX),
+        }
+    }
+
+    /// A copier of an item that takes its shortest spelling alone (RFC 7049, 3.9): each title is the shortest of its
+    /// header, no simple value from 24 to 31 stands there, and strings within an open one have a definite length.
+    pub fn strict(depth: usize) -> ItemCopier
+        requires { depth ≤ 256 }
+        ensures { IsItemCopied true depth [] [] result }
+    {
+        ItemCopier {
+            checker: Checker::strict(depth),
+            copier: Copier::new(usize::MAX),
+        }
+    }
+
+    /// How far the copy has come, by what is pending and what the checker says.
+    fn answer(&self) -> Progress
+        ensures { result ≡ progress_of (pending self.now) (item_spot self.now) }
+    {
+        if lacks_room(&self.copier) {
+            return Progress::Room;
+        }
+        match self.checker.progress() {
+            Checked::More(due) => Progress::More(due),
+            Checked::Ended(len) => Progress::Ended(len),
+            Checked::Fault(fault) => Progress::Fault(fault),
+            Checked::TooLong => Progress::TooLong,
+        }
+    }
+
+    /// How far the copy has come: what the last [`ItemCopier::feed`] answered, and before the first that one byte is
+    /// due.
+    pub fn progress(&self) -> Progress
+        ensures answers { result ≡ progress_of (pending self.now) (item_spot self.now) }
+        ensures tells { (strict : Bool) (depth : ℕ) (fed given : List ℕ) → IsItemCopied strict depth fed given self.now
+            → Tells strict depth fed given result }
+    {
+        self.answer()
+    }
+
+    /// What it means that no more bytes come, by what is pending and what the checker says.
+    fn at_end(&self) -> End
+        ensures { result ≡ end_of (pending self.now) (item_spot self.now) }
+    {
+        if lacks_room(&self.copier) {
+            return End::Room;
+        }
+        match self.checker.end() {
+            CheckedEnd::Between => End::Between,
+            CheckedEnd::Short(due) => End::Short(due),
+            CheckedEnd::Fault(fault) => End::Fault(fault),
+        }
+    }
+
+    /// What it means that no more bytes come. The copier stays as it is.
+    ///
+    /// `Between` says that no byte came, or that the bytes so far are an item, all of it written. `Short` says that the
+    /// item is cut off: at least so many bytes were due, and what is written is all that can be. `Fault` says that no
+    /// item begins so. `Room` says none of these yet: bytes are to be written, and [`ItemCopier::feed`] writes them,
+    /// also with no piece.
+    pub fn end(&self) -> End
+        ensures answers { result ≡ end_of (pending self.now) (item_spot self.now) }
+        ensures tells { (strict : Bool) (depth : ℕ) (fed given : List ℕ) → IsItemCopied strict depth fed given self.now
+            → TellsEnd strict depth fed given result }
+    {
+        self.at_end()
+    }
+
+    /// Writes what is pending, as far as there is room, and says how many bytes.
+    fn give(&mut self, out: &mut [u8]) -> usize
+        ensures written { result ≤ length out.old }
+        ensures kept { drop result out.new ≡ drop result out.old }
+        ensures full { (pending self.new ≡ []) ⊎ (result ≡ length out.old) }
+        ensures copied { (strict : Bool) (depth : ℕ) (fed given : List ℕ)
+            → IsItemCopied strict depth fed given self.old
+            → IsItemCopied strict depth fed (given ++ take result out.new) self.new }
+        ensures none { pending self.old ≡ [] → (result ≡ 0) × (self.new ≡ self.old) }
+    {
+        if !lacks_room(&self.copier) {
+            return 0;
+        }
+        self.copier.feed(&[], out).written
+    }
+
+    /// Takes one byte more, and says how many bytes were written; or nothing, where no more bytes can be counted.
+    fn step(&mut self, byte: &[u8], out: &mut [u8]) -> Option<usize>
+        requires one { length byte.now ≡ 1 }
+        requires given { pending self.old ≡ [] }
+        requires due { is_due (item_spot self.old).phase ≡ true }
+        ensures { Takes self.old byte.now out.old result out.new self.new }
+    {
+        if !check(&mut self.checker, byte) {
+            return None;
+        }
+        if has_fault(&self.checker) {
+            return Some(0);
+        }
+        Some(copy(&mut self.copier, byte, out))
+    }
+
+    /// Takes the byte of a piece that stands there, and says how many bytes are written behind it, where so many were
+    /// before; or nothing, where no more bytes can be counted.
+    fn step_at(&mut self, bytes: &[u8], at: usize, out: &mut [u8], written: usize) -> Option<usize>
+        requires some { at < length bytes.now }
+        requires room { written ≤ length out.old }
+        requires given { pending self.old ≡ [] }
+        requires due { is_due (item_spot self.old).phase ≡ true }
+        ensures { TakesAt self.old bytes.now at out.old written result out.new self.new }
+    {
+        let more = self.step(&bytes[at..at + 1], &mut out[written..])?;
+        Some(written + more)
+    }
+
+    /// Takes a piece of the item's bytes, of any length, and writes their shortest spelling in front of `out`. How the
+    /// input is cut into pieces, and how long the outputs are, changes nothing of what is written in all.
+    ///
+    /// Every title becomes the shortest one of its header. The bodies of a string of indefinite length stay the
+    /// segments that they were, in one string: strings within it lose their opens and breaks. Of a text whole
+    /// characters are written.
+    ///
+    /// `More` says that all of the piece was taken, that all that can be written of the bytes so far is, and that at
+    /// least so many bytes are due. `Room` says that `out` is full, and there is more to write: the rest of the piece
+    /// is to be given again. `Ended` says that the item is whole, that it is written, and how many bytes of it came;
+    /// what follows in the piece is not taken. `Fault` says that no item begins as the bytes so far do; it comes with
+    /// the first byte of which that is so, and what is written is the spelling of what came before that byte. A later
+    /// call takes and writes nothing, and answers the same. `TooLong` says that `usize::MAX` bytes came, and the item
+    /// goes on; none of the others is taken.
+    pub fn feed(&mut self, bytes: &[u8], out: &mut [u8]) -> Copied
+        ensures taken { result.taken ≤ length bytes.now }
+        ensures written { result.written ≤ length out.old }
+        ensures kept { drop result.written out.new ≡ drop result.written out.old }
+        ensures copied { (strict : Bool) (depth : ℕ) (fed given : List ℕ)
+            → IsItemCopied strict depth fed given self.old
+            → IsItemCopied strict depth (fed ++ take result.taken bytes.now) (given ++ take result.written out.new)
+            self.new }
+        ensures tells { (strict : Bool) (depth : ℕ) (fed given : List ℕ) → IsItemCopied strict depth fed given self.old
+            → Tells strict depth (fed ++ take result.taken bytes.now) (given ++ take result.written out.new)
+            result.progress }
+        ensures answers { IsAnswer result.progress (pending self.new) (item_spot self.new) }
+        ensures all { IsMore result.progress → result.taken ≡ length bytes.now }
+        ensures full { IsRoom result.progress → result.written ≡ length out.old }
+        ensures stays { is_due (item_spot self.old).phase ≡ false → pending self.old ≡ []
+            → (result.taken ≡ 0) × (result.written ≡ 0) × (self.new ≡ self.old) }
+    {
+        let mut written = self.give(out);
+        'bytes: for at in 0..bytes.len() {
+            match self.answer() {
+                Progress::More(_) => {}
+                progress => {
+                    return Copied {
+                        taken: at,
+                        written,
+                        progress,
+                    };
+                }
+            }
+            match self.step_at(bytes, at, out, written) {
+                Some(end) => written = end,
+                None => {
+                    return Copied {
+                        taken: at,
+                        written,
+                        progress: Progress::TooLong,
+                    };
+                }
+            }
+        }
+        Copied {
+            taken: bytes.len(),
+            written,
+            progress: self.answer(),
+        }
+    }
+
+    /// Writes what has come so far into `snapshot`, as plain numbers, of which [`ItemCopier::restore`] makes this
+    /// copier again.
+    pub fn save(&self, snapshot: &mut Snapshot)
+        ensures { Holds snapshot.new (item_spot self.now) (kept_spot self.now) }
+    {
+        self.checker.save(&mut snapshot.checker);
+        snapshot.copier = self.copier.save();
+    }
+
+    /// Becomes the copier that [`ItemCopier::save`] wrote, and says whether there was one. Where the numbers are those of
+    /// no checker or of no copier, since memory was overwritten or never written, it stays as it was.
+    #[inline(always)]
+    pub fn load(&mut self, snapshot: &Snapshot) -> bool
+        ensures some { result ≡ true → Holds snapshot.now (item_spot self.new) (kept_spot self.new) }
+        ensures found { (item : Spot) (elements : Elements) → Holds snapshot.now item elements → result ≡ true }
+        ensures same { (item : Spot) (elements : Elements) → Holds snapshot.now item elements
+            → (item_spot self.new ≡ item) × (kept_spot self.new ≡ elements) }
+        ensures none { result ≡ false → self.new ≡ self.old }
+    {
+        let Some(copier) = Copier::restore(&snapshot.copier) else {
+            return false;
+        };
+        if !self.checker.load(&snapshot.checker) {
+            return false;
+        }
+        self.copier = copier;
+        true
+    }
+
+    /// The copier that [`ItemCopier::save`] wrote, or none where [`ItemCopier::load`] finds none.
+    pub fn restore(snapshot: &Snapshot) -> Option<ItemCopier>
+        ensures some { IfSome result (λ copier. Holds snapshot.now (item_spot copier) (kept_spot copier)) }
+        ensures same { (item : Spot) (elements : Elements) → Holds snapshot.now item elements
+            → IsAt result item elements }
+    {
+        let mut copier = ItemCopier::new(0);
+        if copier.load(snapshot) {
+            Some(copier)
+        } else {
+            None
+        }
+    }
+}
