@@ -63,6 +63,50 @@ static int copies_null(void)
         && told(cll_copier_end(&copier, &report), CLL_OK, 0, 0, 0);
 }
 
+/* A copier of an item takes null too. Nothing came, and that is no end within an item. */
+static int copies_item_null(void)
+{
+    static const uint8_t one[] = {0x05, 0x06};
+    cll_item_copier copier;
+    return cll_item_copier_init(&copier, 257) == CLL_ARGUMENT && cll_item_copier_init(&copier, 0) == CLL_OK
+        && told(cll_item_copier_feed(&copier, NULL, 0, NULL, 0, &report), CLL_SHORT, 0, 0, 1)
+        && told(cll_item_copier_end(&copier, &report), CLL_OK, 0, 0, 0)
+        && told(cll_item_copier_feed(&copier, one, 2, NULL, 0, &report), CLL_ROOM, 1, 0, 0)
+        && told(cll_item_copier_end(&copier, &report), CLL_ROOM, 0, 0, 0)
+        && told(cll_item_copier_feed(&copier, NULL, 0, space, 1, &report), CLL_OK, 0, 1, 1) && space[0] == 0x05
+        && told(cll_item_copier_feed(&copier, one, 2, space, 1, &report), CLL_OK, 0, 0, 1)
+        && told(cll_item_copier_end(&copier, &report), CLL_OK, 0, 0, 0);
+}
+
+/*
+ * One byte of a copier of an item is another one, each in turn, and none stands there at all: nothing is taken or
+ * written that is not there.
+ */
+static int survives_damaged_item_copiers(void)
+{
+    static const uint8_t begun[] = {0x83, 0x19, 0x03, 0xe8, 0x7f, 0x63, 0xe6};
+    static const uint8_t more[] = {0xb0, 0xb4, 0xff, 0x9f, 0x19};
+    static cll_item_copier good, none;
+    if (!told(cll_item_copier_feed(&none, more, sizeof more, space, 12, &report), CLL_ARGUMENT, 0, 0, 0)
+        || !told(cll_item_copier_end(&none, &report), CLL_ARGUMENT, 0, 0, 0)
+        || cll_item_copier_init(&good, 4) != CLL_OK
+        || !told(cll_item_copier_feed(&good, begun, sizeof begun, space, SPACE, &report), CLL_SHORT, 7, 6, 2))
+        return 0;
+    for (size_t at = 0; at < sizeof good; at++) {
+        for (unsigned change = 1; change < 256; change *= 3) {
+            cll_item_copier bad = good;
+            ((uint8_t *)&bad)[at] ^= (uint8_t)change;
+            memset(space, 0xee, 16);
+            const uint32_t answer = cll_item_copier_feed(&bad, more, sizeof more, space, 12, &report);
+            if (answer > CLL_ARGUMENT || report.consumed > sizeof more || report.written > 12
+                || (report.written < 12 && space[report.written] != 0xee) || space[12] != 0xee
+                || cll_item_copier_end(&bad, &report) > CLL_ARGUMENT)
+                return 0;
+        }
+    }
+    return 1;
+}
+
 /* Memory with no copier in it, of a checker too: what stands there stays, and nothing is written. */
 static int refuses_copiers(void)
 {
@@ -443,6 +487,7 @@ int main(void)
         {"no bytes", checks_null},      {"cuts", checks_pieces},      {"inside", keeps_inside},
         {"memory", refuses_memory},     {"overwritten", survives_damage}, {"elements", counts_elements},
         {"no bytes to copy", copies_null}, {"no copier", refuses_copiers}, {"a copier", survives_damaged_copiers},
+        {"no bytes of an item to copy", copies_item_null}, {"a copier of an item", survives_damaged_item_copiers},
         {"due", tells_what_is_due},
     };
     for (size_t i = 0; i < sizeof rows / sizeof *rows; i++) {

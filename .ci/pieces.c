@@ -4,7 +4,8 @@
  * page, and so does the checker, or it begins behind one.
  *
  * A copier gets the same bytes, in random pieces and with random rooms, each of which ends at a guard page: what it
- * makes is what cll_recode makes of them, and goes on from what that has written where they are faulty or cut.
+ * makes is what cll_recode makes of them, and goes on from what that has written where they are faulty or cut. A copier
+ * of an item gets them too, and finds what a checker does, and writes what a copier does of all but a byte at fault.
  *
  * What has to be answered comes from calls over the whole front, cll_skip, cll_strict and cll_recode, whose answers are
  * proved. Where they say that the bytes end too early, more is due just where some bytes behind them make an item: so
@@ -30,11 +31,12 @@ struct front { uint8_t data[PLENTY + MORE]; size_t len; uint32_t answer; uint64_
 /* What a copier makes of bytes: what is found of them, and what is written. */
 struct copy { struct finding found; uint8_t data[MOST]; size_t written; };
 
-static struct guarded input, output, checkers, copiers, reports;
+static struct guarded input, output, checkers, copiers, item_copiers, reports;
 static cll_checker *checker;
 static cll_copier *copier;
+static cll_item_copier *item_copier;
 static cll_report *report;
-static unsigned long answers[CLL_ARGUMENT + 1], completed, copies_made, fronts;
+static unsigned long answers[CLL_ARGUMENT + 1], completed, copies_made, items_made, fronts;
 
 /* Whether the checker is a strict one. */
 static int strict;
@@ -286,6 +288,37 @@ static int copied(struct copy *copy, const uint8_t *data, size_t len, uint64_t c
         && report->place == copy->found.place;
 }
 
+/* Feeds a copier of an item a piece with so much room, and adds to what it made before. Then it moves. */
+static void feed_item_copier(struct copy *copy, const uint8_t *data, size_t len, size_t room)
+{
+    uint8_t *out = output.end - room;
+    uint8_t *other =
+        (uint8_t *)item_copier == item_copiers.start ? item_copiers.end - sizeof *item_copier : item_copiers.start;
+    copy->found.answer = cll_item_copier_feed(item_copier, at_end(&input, data, len), len, out, room, report);
+    copy->found.taken += report->consumed;
+    copy->found.place = report->place;
+    memcpy(copy->data + copy->written, out, (size_t)report->written);
+    copy->written += (size_t)report->written;
+    item_copier = (cll_item_copier *)memmove(other, item_copier, sizeof *item_copier);
+}
+
+/* What a copier of an item makes of bytes so, and whether it says the same of their end, but for that of no bytes. */
+static int item_copied(struct copy *copy, const uint8_t *data, size_t len, uint32_t depth, size_t longest)
+{
+    memset(copy, 0, sizeof *copy);
+    if ((strict ? cll_item_copier_init_strict(item_copier, depth) : cll_item_copier_init(item_copier, depth)) != CLL_OK)
+        return 0;
+    do {
+        const size_t there = (size_t)copy->found.taken, left = len - there;
+        const size_t piece = longest == 1 ? 1 : (size_t)below(longest + 1);
+        const size_t room = longest == 1 ? 1 : (size_t)below(longest + 1);
+        feed_item_copier(copy, data + there, piece < left ? piece : left, room);
+    } while (copy->found.answer == CLL_ROOM || (copy->found.answer == CLL_SHORT && copy->found.taken < len));
+    const uint32_t end = cll_item_copier_end(item_copier, report);
+    return report->consumed == 0 && report->written == 0
+        && (copy->found.taken == 0 ? end == CLL_OK : end == copy->found.answer);
+}
+
 /* Whether the copy is that of the calls over all bytes, which has written so many of `want`. */
 static int is_copy(const struct copy *copy, const struct finding *found, const uint8_t *want, size_t written)
 {
@@ -326,6 +359,26 @@ static int copies_on(const uint8_t *data, size_t len)
     return 1;
 }
 
+/*
+ * Whether a copier of an item finds what a checker finds, and writes what a copier of any number of elements writes of
+ * all bytes but the one at fault, however both are cut.
+ */
+static int copies_item(const struct finding *found, const uint8_t *data, size_t len, uint32_t depth)
+{
+    static struct copy want, got;
+    const int is_sound = found->answer == CLL_OK || found->answer == CLL_SHORT;
+    const size_t sound = (size_t)found->taken - (is_sound ? 0 : 1);
+    if (!copied(&want, data, sound, UINT64_MAX, sound + 1))
+        return 0;
+    for (unsigned i = 0; i < ROUNDS; i++) {
+        if (!item_copied(&got, data, len, depth, i == 0 ? 1 : 2 + (size_t)below(len + 1)) || !same(&got.found, found)
+            || got.written != want.written || memcmp(got.data, want.data, want.written) != 0)
+            return 0;
+    }
+    items_made++;
+    return 1;
+}
+
 /* Tries bytes in all ways. */
 static int holds(const uint8_t *data, size_t len, uint32_t depth)
 {
@@ -339,7 +392,7 @@ static int holds(const uint8_t *data, size_t len, uint32_t depth)
         if (want[cut].answer == CLL_SHORT && !completes(data, cut, depth))
             return 0;
     }
-    return strict || copies_on(data, len);
+    return copies_item(&want[len], data, len, depth) && (strict || copies_on(data, len));
 }
 
 /* Whether the calls over the front of an item say that so many bytes are due behind it. */
@@ -461,9 +514,11 @@ int main(int argc, char **argv)
     output = guard(MOST);
     checkers = guard(sizeof *checker);
     copiers = guard(sizeof *copier);
+    item_copiers = guard(sizeof *item_copier);
     reports = guard(sizeof *report);
     checker = (cll_checker *)checkers.start;
     copier = (cll_copier *)copiers.start;
+    item_copier = (cll_item_copier *)item_copiers.start;
     report = (cll_report *)(reports.end - sizeof *report);
     for (strict = 0; strict < 2; strict++) {
         if (argc < 2 && tries_lists() != 0)
@@ -473,8 +528,9 @@ int main(int argc, char **argv)
                 return 1;
         }
     }
-    printf("%lu fronts: %lu ended, %lu short, of which %lu were completed, %lu syntax, %lu break, %lu deep\n%lu copies\n", fronts,
+    printf("%lu fronts: %lu ended, %lu short, of which %lu were completed, %lu syntax, %lu break, %lu deep\n%lu copies, %lu of items\n",
+        fronts,
         answers[CLL_OK], answers[CLL_SHORT], completed, answers[CLL_SYNTAX], answers[CLL_BREAK_DUE],
-        answers[CLL_TOO_DEEP], copies_made);
+        answers[CLL_TOO_DEEP], copies_made, items_made);
     return answers[CLL_TOO_LONG] + answers[CLL_ARGUMENT] + answers[CLL_ROOM] > 0;
 }

@@ -25,6 +25,7 @@ static cll_report report;
 static size_t consumed;
 static cll_checker checker;
 static cll_copier copier;
+static cll_item_copier item_copier;
 
 static void nothing(void) { answer = CLL_OK; }
 static void pull(void) { answer = cll_pull(data, len, &header, &consumed); }
@@ -43,6 +44,13 @@ static void checker_end(void) { answer = cll_checker_end(&checker, &report); }
 static void copier_init(void) { answer = cll_copier_init(&copier, 1); }
 static void copier_feed(void) { answer = cll_copier_feed(&copier, data, len, out, sizeof out, &report); }
 static void copier_end(void) { answer = cll_copier_end(&copier, &report); }
+
+static void item_copier_init(void) { answer = cll_item_copier_init(&item_copier, DEEPEST); }
+static void item_copier_feed(void)
+{
+    answer = cll_item_copier_feed(&item_copier, data, len, out, sizeof out, &report);
+}
+static void item_copier_end(void) { answer = cll_item_copier_end(&item_copier, &report); }
 
 /* Of a text with its title in front, which is no UTF-8. */
 static void no_utf8(void) { answer = cll_utf8(data, len, &report) == CLL_SYNTAX ? CLL_OK : CLL_ARGUMENT; }
@@ -109,6 +117,8 @@ int main(void)
         {"cll_checker_init", checker_init}, {"cll_checker_feed", checker_feed}, {"cll_checker_end", checker_end},
         {"cll_checker_init_strict", checker_init_strict}, {"cll_checker_feed/strict", checker_feed},
         {"cll_copier_init", copier_init}, {"cll_copier_feed", copier_feed}, {"cll_copier_end", copier_end},
+        {"cll_item_copier_init", item_copier_init}, {"cll_item_copier_feed", item_copier_feed},
+        {"cll_item_copier_end", item_copier_end},
     };
     static const unsigned depths[] = {1, 16, 64, 128, DEEPEST};
     const size_t plain = used(nothing);

@@ -9,12 +9,14 @@
  * writes must not overlap anything else that it is given: so no call works in place. cll_overlap tells whether two
  * pieces of memory overlap.
  *
- * Nothing is kept between calls, but for what a cll_checker and a cll_copier keep in the caller's own memory. So calls
- * may run in several threads at once, where none writes what another one uses.
+ * Nothing is kept between calls, but for what a cll_checker, a cll_copier and a cll_item_copier keep in the caller's
+ * own memory. So calls may run in several threads at once, where none writes what another one uses.
  *
  * Of the stack, as measured on x86-64, cll_pull, cll_push, cll_push_wide, cll_utf8, cll_checker_init,
  * cll_checker_init_strict, cll_checker_end and cll_copier_init take less than 128 bytes, cll_copier_feed and
- * cll_copier_end less than 1 KiB, cll_recode and cll_strict less than 2 KiB, and cll_checker_feed less than 6 KiB.
+ * cll_copier_end less than 1 KiB, cll_recode and cll_strict less than 2 KiB, cll_item_copier_init and
+ * cll_item_copier_init_strict less than 3 KiB, cll_checker_feed less than 6 KiB, cll_item_copier_end less than 10 KiB,
+ * and cll_item_copier_feed less than 16 KiB.
  * cll_skip takes less than 2 KiB and 328 bytes for each level that it goes down: 8 KiB at 16 levels, 23 KiB at 64, and
  * 84 KiB at 256. Where the bytes end too early cll_recode, cll_strict and cll_skip take up to 4 KiB, if that is more.
  */
@@ -77,6 +79,12 @@ typedef struct { uint64_t words[296]; } cll_checker;
  * memory all that stands above of a checker's is so.
  */
 typedef struct { uint64_t words[9]; } cll_copier;
+
+/*
+ * A copier of one item whose bytes come in pieces, and of its shortest spelling, which is taken in pieces too. Of its
+ * memory all that stands above of a checker's is so.
+ */
+typedef struct { uint64_t words[304]; } cll_item_copier;
 
 typedef enum cll_kind {
     CLL_POSITIVE,
@@ -253,10 +261,10 @@ uint32_t cll_copier_init(cll_copier *copier, uint64_t count);
  * what was not taken of `data` has to be given again, and where that is nothing, a call with no bytes writes the rest.
  * `written` is then `room`, so a call that has some room always gets on. CLL_SYNTAX where no so many elements begin as
  * the bytes so far do: it comes with the first byte of which that is so, in a text that is no UTF-8 with the byte that
- * goes wrong, and what was written is the spelling of what stands in front of the fault. CLL_TOO_LONG where the elements
- * go on behind 2^64 - 1 bytes. CLL_ARGUMENT where no copier was set up there, or what stands there now is that of none:
- * nothing was taken or written, and nothing has changed. After CLL_OK and after CLL_SYNTAX a further call takes and
- * writes nothing, and answers the same.
+ * goes wrong, and what was written is the spelling of what stands in front of the fault. CLL_TOO_LONG where the
+ * elements go on behind 2^64 - 1 bytes. CLL_ARGUMENT where no copier was set up there, or what stands there now is that
+ * of none: nothing was taken or written, and nothing has changed. After CLL_OK and after CLL_SYNTAX a further call
+ * takes and writes nothing, and answers the same.
  *
  * Not all memory that was overwritten is found out by CLL_ARGUMENT. But whatever stands there, no call reads or writes
  * beyond what it is given.
@@ -272,6 +280,47 @@ uint32_t cll_copier_feed(cll_copier *copier, const uint8_t *data, size_t len, ui
  * CLL_SYNTAX and CLL_ARGUMENT are answered as by cll_copier_feed.
  */
 uint32_t cll_copier_end(const cll_copier *copier, cll_report *report);
+
+/*
+ * Sets a copier of one item up to which nothing came, whatever stood in `copier` before. Tags, arrays and maps may be
+ * nested at most `depth` levels deep: each takes a level, an empty one too, and a string takes none.
+ *
+ * CLL_OK. CLL_ARGUMENT for a depth above 256: then `copier` is as it was.
+ */
+uint32_t cll_item_copier_init(cll_item_copier *copier, uint32_t depth);
+
+/*
+ * The same for an item that is in its shortest spelling: any other title is CLL_SYNTAX, and so is a string of
+ * indefinite length inside another one.
+ */
+uint32_t cll_item_copier_init_strict(cll_item_copier *copier, uint32_t depth);
+
+/*
+ * Gives a copier the next bytes of its item, as many as there are, and writes in front of `out` as much of their
+ * shortest spelling as it can. `consumed` says how many of the bytes it took, and `written` how many it wrote. Behind
+ * these `out` is as it was. How the bytes are cut into pieces, and how much room each call has, changes nothing of what
+ * is written in all: of the item's elements that is what cll_recode writes.
+ *
+ * CLL_OK where the item has ended, and all of its spelling is written, with its length as `place`; what stands behind
+ * it in `data` is not taken. CLL_SHORT where more is due, with at least how many bytes as `place`: all of `data` was
+ * taken, and all is written that can be before more comes. CLL_ROOM where `out` is full, and there is more to write, as
+ * of cll_copier_feed. CLL_SYNTAX, CLL_BREAK_DUE and CLL_TOO_DEEP where no item begins as the bytes so far do, as of
+ * cll_checker_feed: the byte with which that comes is taken, and nothing of it is written. CLL_TOO_LONG where the item
+ * goes on behind 2^64 - 1 bytes. CLL_ARGUMENT where no copier was set up there, or what stands there now is that of
+ * none: nothing was taken or written, and nothing has changed. After CLL_OK and after a fault a further call takes and
+ * writes nothing, and answers the same.
+ */
+uint32_t cll_item_copier_feed(cll_item_copier *copier, const uint8_t *data, size_t len, uint8_t *out, size_t room,
+    cll_report *report);
+
+/*
+ * Says what it means that no more bytes come, and leaves the copier as it is. `consumed` and `written` are 0.
+ *
+ * CLL_OK where no byte came, or the item has ended and all of its spelling was written; CLL_SHORT where it is cut off,
+ * with at least how many bytes were due as `place`; CLL_ROOM where there is more to write, which cll_item_copier_feed
+ * does. A fault and CLL_ARGUMENT are answered as by cll_item_copier_feed.
+ */
+uint32_t cll_item_copier_end(const cll_item_copier *copier, cll_report *report);
 
 #ifdef __cplusplus
 }

@@ -211,6 +211,15 @@ inline fault fault_of(std::uint32_t code, const cll_report &report) noexcept
         report.elements, report.whole, cut ? report.place : 0};
 }
 
+/* Why no end may stand behind so many bytes, by the answer of a call that is fed and its report. */
+inline std::optional<fault> end_of(std::uint32_t code, const cll_report &report, std::uint64_t taken) noexcept
+{
+    if (code == CLL_OK)
+        return std::nullopt;
+    const bool cut = code == CLL_SHORT;
+    return fault{static_cast<answer>(code), cut ? taken : report.place, 0, 0, 0, 0, cut ? report.place : 0};
+}
+
 } /* namespace detail */
 
 /* Reads the one title in front. The body of a string stands behind it, and is not read. */
@@ -343,10 +352,7 @@ public:
     {
         cll_report report;
         const std::uint32_t code = cll_checker_end(&kept_, &report);
-        if (code == CLL_OK)
-            return std::nullopt;
-        const bool cut = code == CLL_SHORT;
-        return fault{static_cast<answer>(code), cut ? taken_ : report.place, 0, 0, 0, 0, cut ? report.place : 0};
+        return detail::end_of(code, report, taken_);
     }
 
     /* How many bytes were taken of all pieces. */
@@ -368,6 +374,19 @@ struct copying {
     bool full;
 };
 
+namespace detail {
+
+/* How far it has come, by the answer of a copier to a piece and its report. */
+inline result<copying> copying_of(std::uint32_t code, const cll_report &report) noexcept
+{
+    if (code != CLL_OK && code != CLL_SHORT && code != CLL_ROOM)
+        return fault_of(code, report);
+    return copying{static_cast<std::size_t>(report.consumed), static_cast<std::size_t>(report.written),
+        code == CLL_OK, code == CLL_ROOM};
+}
+
+} /* namespace detail */
+
 /*
  * Copies so many elements whose bytes come in pieces to their shortest spelling, however they are cut and how long the
  * outputs are. It takes no memory but its own, and may be copied.
@@ -387,10 +406,7 @@ public:
         cll_report report;
         const std::uint32_t code = cll_copier_feed(&kept_, bytes.data(), bytes.size(), out.data(), out.size(), &report);
         taken_ += report.consumed;
-        if (code != CLL_OK && code != CLL_SHORT && code != CLL_ROOM)
-            return detail::fault_of(code, report);
-        return copying{static_cast<std::size_t>(report.consumed), static_cast<std::size_t>(report.written),
-            code == CLL_OK, code == CLL_ROOM};
+        return detail::copying_of(code, report);
     }
 
     /*
@@ -401,10 +417,7 @@ public:
     {
         cll_report report;
         const std::uint32_t code = cll_copier_end(&kept_, &report);
-        if (code == CLL_OK)
-            return std::nullopt;
-        const bool cut = code == CLL_SHORT;
-        return fault{static_cast<answer>(code), cut ? taken_ : report.place, 0, 0, 0, 0, cut ? report.place : 0};
+        return detail::end_of(code, report, taken_);
     }
 
     /* How many bytes were taken of all pieces. */
@@ -412,6 +425,52 @@ public:
 
 private:
     cll_copier kept_ = {};
+    std::uint64_t taken_ = 0;
+};
+
+/*
+ * Copies one item whose bytes come in pieces to its shortest spelling, as a `copier` does elements, and ends where the
+ * item ends. The item contains at most so many levels, and no more than 256: with more each call is a fault. Where
+ * `shortest` is true it takes an item in its shortest spelling alone.
+ */
+class item_copier {
+public:
+    explicit item_copier(std::uint32_t depth = 256, bool shortest = false) noexcept
+    {
+        (void)(shortest ? cll_item_copier_init_strict(&kept_, depth) : cll_item_copier_init(&kept_, depth));
+    }
+
+    /*
+     * Takes the next bytes, none behind the end of the item, and writes as much as can be written of all so far. Where
+     * `full` is true, what was not taken has to be given again. A fault comes with the first byte behind which no item
+     * goes on, of which nothing is written, and names an offset in the item. Behind the end and behind a fault a further
+     * call takes and writes nothing, and gives the same.
+     */
+    result<copying> feed(input bytes, output out) noexcept
+    {
+        cll_report report;
+        const std::uint32_t code =
+            cll_item_copier_feed(&kept_, bytes.data(), bytes.size(), out.data(), out.size(), &report);
+        taken_ += report.consumed;
+        return detail::copying_of(code, report);
+    }
+
+    /*
+     * Why no end may stand here, or nothing where no byte came, or the item has ended and is written. `too_short` names
+     * how many bytes came, and how many more were due at least.
+     */
+    std::optional<fault> end() const noexcept
+    {
+        cll_report report;
+        const std::uint32_t code = cll_item_copier_end(&kept_, &report);
+        return detail::end_of(code, report, taken_);
+    }
+
+    /* How many bytes were taken of all pieces. */
+    std::uint64_t taken() const noexcept { return taken_; }
+
+private:
+    cll_item_copier kept_ = {};
     std::uint64_t taken_ = 0;
 };
 

@@ -214,6 +214,28 @@ bool copies_on()
         && copy.end()->place == 3 && cll::copier(1).end()->code == cll::answer::too_short && !cll::copier(0).end();
 }
 
+/* An item in two pieces: it ends where the item does, and of the byte with which a fault comes nothing is written. */
+bool copies_item()
+{
+    std::array<std::uint8_t, 4> out;
+    cll::item_copier copier(1);
+    const auto first = copier.feed("\x82\x19\x00"sv, out);
+    const bool begun = shown({out.data(), 1}) == "82";
+    const cll::item_copier copy = copier;
+    const auto early = copy.end();
+    const auto full = copier.feed("\x05\x41\x01\x07"sv, {out.data(), 1});
+    const auto next = copier.feed("\x01\x07"sv, {out.data() + 1, 2});
+    const bool whole = shown({out.data(), 3}) == "054101";
+    cll::item_copier strict(1, true);
+    const auto fault = strict.feed("\x82\x19\x00\x05"sv, out).fault();
+    return first->consumed == 3 && first->written == 1 && !first->ended && !first->full && begun
+        && early->code == cll::answer::too_short && early->place == 3 && early->due == 1 && full->full
+        && full->consumed == 2 && full->written == 1 && next->ended && next->consumed == 1 && next->written == 2 && whole
+        && !copier.end() && copier.taken() == 6 && copier.feed("\x07"sv, out)->consumed == 0
+        && fault.code == cll::answer::syntax && fault.place == 1 && fault.consumed == 3 && fault.written == 1
+        && cll::item_copier(257).feed({}, out).fault().code == cll::answer::argument && !cll::item_copier().end();
+}
+
 /* Spans of what has no bytes, and of other bytes than numbers. */
 bool spans()
 {
@@ -230,7 +252,7 @@ bool spans()
 
 int main(int argc, char **argv)
 {
-    if (argc != 2 || !throws() || !reads() || !joins() || !checks() || !copies_on() || !spans())
+    if (argc != 2 || !throws() || !reads() || !joins() || !checks() || !copies_on() || !copies_item() || !spans())
         return 2;
     return go_through(argv[1], holds);
 }

@@ -10,7 +10,7 @@ import os
 from collections import namedtuple
 
 __all__ = ["Kind", "Header", "Title", "Recoded", "Error", "Short", "Syntax", "Room", "BreakDue", "TooDeep", "Argument",
-           "Progress", "Checker", "Copied", "Copier", "pull", "push", "recode", "strict", "skip", "utf8", "headers"]
+           "Progress", "Checker", "Copied", "Copier", "ItemCopier", "pull", "push", "recode", "strict", "skip", "utf8", "headers"]
 
 Kind = enum.IntEnum("Kind", "POSITIVE NEGATIVE BYTES TEXT ARRAY MAP TAG SIMPLE HALF SINGLE DOUBLE BREAK", start=0)
 
@@ -116,6 +116,10 @@ class _Copier(ctypes.Structure):
     _fields_ = [("words", ctypes.c_uint64 * 9)]
 
 
+class _ItemCopier(ctypes.Structure):
+    _fields_ = [("words", ctypes.c_uint64 * 304)]
+
+
 class _Buffer(ctypes.Structure):
     """The Py_buffer of Python's own interface for C."""
 
@@ -132,7 +136,7 @@ def _library():
     calls = ctypes.CDLL(name)
     data, size, number = ctypes.c_void_p, ctypes.c_size_t, ctypes.c_uint64
     header, report = ctypes.POINTER(_Header), ctypes.POINTER(_Report)
-    checker, copier = ctypes.POINTER(_Checker), ctypes.POINTER(_Copier)
+    checker, copier, item = map(ctypes.POINTER, (_Checker, _Copier, _ItemCopier))
     calls.cll_pull.argtypes = [data, size, header, ctypes.POINTER(size)]
     calls.cll_push.argtypes = [header, data, size, report]
     calls.cll_push_wide.argtypes = [header, ctypes.c_uint32, data, size, report]
@@ -147,9 +151,14 @@ def _library():
     calls.cll_copier_init.argtypes = [copier, number]
     calls.cll_copier_feed.argtypes = [copier, data, size, data, size, report]
     calls.cll_copier_end.argtypes = [copier, report]
+    calls.cll_item_copier_init.argtypes = [item, ctypes.c_uint32]
+    calls.cll_item_copier_init_strict.argtypes = [item, ctypes.c_uint32]
+    calls.cll_item_copier_feed.argtypes = [item, data, size, data, size, report]
+    calls.cll_item_copier_end.argtypes = [item, report]
     calls.cll_version.argtypes = []
     for call in ("version pull push push_wide recode strict skip utf8 checker_init checker_init_strict "
-                 "checker_feed checker_end copier_init copier_feed copier_end").split():
+                 "checker_feed checker_end copier_init copier_feed copier_end item_copier_init "
+                 "item_copier_init_strict item_copier_feed item_copier_end").split():
         getattr(calls, f"cll_{call}").restype = ctypes.c_uint32
     return calls
 
@@ -344,6 +353,7 @@ class Copier:
     """
 
     __slots__ = ("consumed", "_kept")
+    _FEED, _END = _CALLS.cll_copier_feed, _CALLS.cll_copier_end
 
     def __init__(self, count=1):
         self.consumed, self._kept = 0, _Copier()
@@ -361,7 +371,7 @@ class Copier:
             space = bytearray(length + 16)
             there = ctypes.addressof(ctypes.c_char.from_buffer(space))
             while answer == 3:
-                answer = _CALLS.cll_copier_feed(self._kept, at + taken, length - taken, there, len(space), report)
+                answer = self._FEED(self._kept, at + taken, length - taken, there, len(space), report)
                 taken += report.consumed
                 out += memoryview(space)[:report.written]
         self.consumed += taken
@@ -376,7 +386,24 @@ class Copier:
         ``feed`` raised, if it did. Where all of them have come all is well.
         """
         report = _Report()
-        answer = _CALLS.cll_copier_end(self._kept, report)
+        answer = self._END(self._kept, report)
         if answer == 1:
-            raise Short(self.consumed, 0, 0)
+            raise Short(self.consumed, 0, 0, due=report.place)
         _check(answer, report)
+
+
+class ItemCopier(Copier):
+    """Copies one item whose bytes come in pieces to its shortest spelling, and ends where the item ends.
+
+    The item contains at most ``depth`` levels, and no more than 256. Where ``shortest`` is true it is taken in its
+    shortest spelling alone. All else is as of a ``Copier``, of the item's elements: an error comes with the first byte
+    behind which no item goes on, and where no byte came, ``end`` has nothing to say.
+    """
+
+    __slots__ = ()
+    _FEED, _END = _CALLS.cll_item_copier_feed, _CALLS.cll_item_copier_end
+
+    def __init__(self, depth=256, *, shortest=False):
+        self.consumed, self._kept = 0, _ItemCopier()
+        init = _CALLS.cll_item_copier_init_strict if shortest else _CALLS.cll_item_copier_init
+        _check(init(self._kept, _held(depth, 32, "the depth")), _Report())

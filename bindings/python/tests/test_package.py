@@ -194,6 +194,43 @@ class Copiers(unittest.TestCase):
         self.assertRaises(TypeError, ciborium_ll.Copier().feed, "a1")
 
 
+class ItemCopiers(unittest.TestCase):
+    def test_each_cut_gives_the_same(self):
+        data = bytes.fromhex("82 a1 7802c3a9 5f580101ff 1b0000000000000005 07")
+        length = ciborium_ll.skip(data)
+        whole = ciborium_ll.recode(data, 5).data
+        for cut in range(1, length):
+            copier = ciborium_ll.ItemCopier(2)
+            first = copier.feed(data[:cut])
+            self.assertEqual((first.consumed, first.ended), (cut, False))
+            with self.assertRaises(ciborium_ll.Short) as caught:
+                copier.end()
+            self.assertEqual(caught.exception.place, cut)
+            self.assertTrue(0 < caught.exception.due <= length - cut)
+            last = copier.feed(data, cut)
+            self.assertEqual((first.data + last.data, last.consumed, last.ended), (whole, length - cut, True))
+            self.assertEqual(copier.feed(b"\x05"), (b"", 0, True))
+            copier.end()
+
+    def test_a_fault_stays_and_its_byte_is_not_written(self):
+        copier = ciborium_ll.ItemCopier(1)
+        for data, consumed, made in (b"\x82\x05\x81", 3, b"\x82\x05"), (b"\x01", 0, b""):
+            with self.assertRaises(ciborium_ll.TooDeep) as caught:
+                copier.feed(data)
+            error = caught.exception
+            self.assertEqual((error.place, error.consumed, error.data), (2, consumed, made))
+        self.assertRaises(ciborium_ll.TooDeep, copier.end)
+
+    def test_the_shortest_spelling_alone(self):
+        self.assertTrue(ciborium_ll.ItemCopier(shortest=True).feed(b"\x18\x18").ended)
+        self.assertRaises(ciborium_ll.Syntax, ciborium_ll.ItemCopier(shortest=True).feed, b"\x18\x05")
+
+    def test_what_is_refused(self):
+        ciborium_ll.ItemCopier().end()
+        self.assertRaises(ciborium_ll.Argument, ciborium_ll.ItemCopier, 257)
+        self.assertRaises(OverflowError, ciborium_ll.ItemCopier, 1 << 32)
+
+
 class Headers(unittest.TestCase):
     def test_titles_and_bodies(self):
         got = [(title.start, title.end, title.header.kind.name, title.header.value, title.body)

@@ -1,7 +1,7 @@
 //! The calls over slices. This file alone calls what is not safe by its types: each pointer is that of a slice or of a
 //! value, and none that is written overlaps another one.
 
-use crate::sys::{self, cll_checker, cll_copier, cll_header, cll_report};
+use crate::sys::{self, cll_checker, cll_copier, cll_header, cll_item_copier, cll_report};
 use crate::{Error, Header};
 use core::str;
 
@@ -169,11 +169,38 @@ pub(crate) fn feed(checker: &mut cll_checker, bytes: &[u8]) -> (u32, cll_report)
     (answer, report)
 }
 
-/// What it means that no more bytes come to a checker: the answer, and the report.
-pub(crate) fn end(checker: &cll_checker) -> (u32, cll_report) {
+/// A call that says what it means that no more bytes come.
+type EndCall<T> = unsafe extern "C" fn(*const T, *mut cll_report) -> u32;
+
+/// What it means by this call that no more bytes come: the answer, and the report.
+fn end_by<T>(call: EndCall<T>, kept: &T) -> (u32, cll_report) {
     let mut report = cll_report::default();
     // SAFETY: as this file says.
-    let answer = unsafe { sys::cll_checker_end(checker, &mut report) };
+    let answer = unsafe { call(kept, &mut report) };
+    (answer, report)
+}
+
+/// What it means that no more bytes come to a checker: the answer, and the report.
+pub(crate) fn end(checker: &cll_checker) -> (u32, cll_report) {
+    end_by(sys::cll_checker_end, checker)
+}
+
+/// A call that gives a copier the next bytes, and room for what they become.
+type CopyCall<T> =
+    unsafe extern "C" fn(*mut T, *const u8, usize, *mut u8, usize, *mut cll_report) -> u32;
+
+/// Gives a copier by this call the next bytes, and room for what they become: the answer, and the report.
+fn copy_by<T>(
+    call: CopyCall<T>,
+    copier: &mut T,
+    bytes: &[u8],
+    out: &mut [u8],
+) -> (u32, cll_report) {
+    let mut report = cll_report::default();
+    let (data, len) = (bytes.as_ptr(), bytes.len());
+    let (space, room) = (out.as_mut_ptr(), out.len());
+    // SAFETY: as this file says.
+    let answer = unsafe { call(copier, data, len, space, room, &mut report) };
     (answer, report)
 }
 
@@ -191,18 +218,40 @@ pub(crate) fn feed_copier(
     bytes: &[u8],
     out: &mut [u8],
 ) -> (u32, cll_report) {
-    let mut report = cll_report::default();
-    let (data, len) = (bytes.as_ptr(), bytes.len());
-    let (space, room) = (out.as_mut_ptr(), out.len());
-    // SAFETY: as this file says.
-    let answer = unsafe { sys::cll_copier_feed(copier, data, len, space, room, &mut report) };
-    (answer, report)
+    copy_by(sys::cll_copier_feed, copier, bytes, out)
 }
 
 /// What it means that no more bytes come to a copier: the answer, and the report.
 pub(crate) fn end_copier(copier: &cll_copier) -> (u32, cll_report) {
-    let mut report = cll_report::default();
+    end_by(sys::cll_copier_end, copier)
+}
+
+/// A copier of an item that contains at most so many levels, to which nothing came. A strict one takes the shortest
+/// spelling alone.
+pub(crate) fn new_item_copier(depth: u32, strict: bool) -> Result<cll_item_copier, Error> {
+    let mut copier = cll_item_copier { words: [0; 304] };
+    let init = if strict {
+        sys::cll_item_copier_init_strict
+    } else {
+        sys::cll_item_copier_init
+    };
     // SAFETY: as this file says.
-    let answer = unsafe { sys::cll_copier_end(copier, &mut report) };
-    (answer, report)
+    match unsafe { init(&mut copier, depth) } {
+        0 => Ok(copier),
+        answer => Err(Error::of(answer, &cll_report::default(), 0)),
+    }
+}
+
+/// Gives a copier of an item the next bytes, and room for what they become: the answer, and the report.
+pub(crate) fn feed_item_copier(
+    copier: &mut cll_item_copier,
+    bytes: &[u8],
+    out: &mut [u8],
+) -> (u32, cll_report) {
+    copy_by(sys::cll_item_copier_feed, copier, bytes, out)
+}
+
+/// What it means that no more bytes come to a copier of an item: the answer, and the report.
+pub(crate) fn end_item_copier(copier: &cll_item_copier) -> (u32, cll_report) {
+    end_by(sys::cll_item_copier_end, copier)
 }

@@ -1,15 +1,15 @@
 use crate::calls;
-use crate::sys::cll_copier;
+use crate::sys::{cll_copier, cll_item_copier, cll_report};
 use crate::Error;
 
-/// How far elements have come.
+/// How far elements, or an item, have come.
 #[derive(Clone, Copy, Debug, PartialEq, Eq)]
 pub enum Copying {
     /// More bytes are due, and all is written that can be before they come.
     More,
     /// There is more to write, and no room for it: what was not taken has to be given again.
     Room,
-    /// All elements have come, and they are written.
+    /// All elements have come, or the item has ended, and all is written.
     Ended,
 }
 
@@ -22,6 +22,23 @@ pub struct Fed {
     pub written: usize,
     /// How far the elements have come.
     pub progress: Copying,
+}
+
+impl Fed {
+    /// What a copier answered.
+    fn of(answer: u32, report: &cll_report) -> Result<Fed, Error> {
+        let progress = match answer {
+            0 => Copying::Ended,
+            1 => Copying::More,
+            3 => Copying::Room,
+            answer => return Err(Error::of(answer, report, 0)),
+        };
+        Ok(Fed {
+            taken: report.consumed as usize,
+            written: report.written as usize,
+            progress,
+        })
+    }
 }
 
 /// Copies elements whose bytes come in pieces to their shortest spelling, however they are cut and how long the outputs
@@ -58,19 +75,8 @@ impl Copier {
     /// behind an error a further call takes and writes nothing, and answers the same.
     pub fn feed(&mut self, bytes: &[u8], out: &mut [u8]) -> Result<Fed, Error> {
         let (answer, report) = calls::feed_copier(&mut self.kept, bytes, out);
-        let (taken, written) = (report.consumed as usize, report.written as usize);
-        self.taken += taken;
-        let progress = match answer {
-            0 => Copying::Ended,
-            1 => Copying::More,
-            3 => Copying::Room,
-            answer => return Err(Error::of(answer, &report, 0)),
-        };
-        Ok(Fed {
-            taken,
-            written,
-            progress,
-        })
+        self.taken += report.consumed as usize;
+        Fed::of(answer, &report)
     }
 
     /// How many bytes were taken of all pieces.
@@ -86,6 +92,70 @@ impl Copier {
             (1, _) => Err(Error::Short {
                 place: self.taken,
                 due: 0,
+            }),
+            (answer, report) => Err(Error::of(answer, &report, 0)),
+        }
+    }
+}
+
+/// Copies one item whose bytes come in pieces to its shortest spelling, and ends where the item ends. It takes no memory
+/// but its own.
+///
+/// ```
+/// use ciborium_ll_proved::{Copying, ItemCopier};
+///
+/// let mut copier = ItemCopier::new(64).unwrap();
+/// let mut out = [0; 8];
+/// let fed = copier.feed(b"\x82\x19\x00", &mut out).unwrap();
+/// assert_eq!((fed.taken, fed.written, fed.progress), (3, 1, Copying::More));
+/// let fed = copier.feed(b"\x05\x61a\x07", &mut out[1..]).unwrap();
+/// assert_eq!((fed.taken, fed.written, fed.progress), (3, 3, Copying::Ended));
+/// assert_eq!(&out[..4], b"\x82\x05\x61a");
+/// ```
+#[derive(Clone, Debug)]
+pub struct ItemCopier {
+    kept: cll_item_copier,
+    taken: usize,
+}
+
+impl ItemCopier {
+    /// A copier of an item that contains at most so many levels of tags, arrays and maps. `Argument` where that is more
+    /// than 256.
+    pub fn new(depth: u32) -> Result<ItemCopier, Error> {
+        let kept = calls::new_item_copier(depth, false)?;
+        Ok(ItemCopier { kept, taken: 0 })
+    }
+
+    /// The same of an item that is in its shortest spelling (RFC 7049, 3.9).
+    pub fn strict(depth: u32) -> Result<ItemCopier, Error> {
+        let kept = calls::new_item_copier(depth, true)?;
+        Ok(ItemCopier { kept, taken: 0 })
+    }
+
+    /// Takes the next bytes, none behind the end of the item, and writes in front of the output as much as can be
+    /// written of all so far. An error comes with the first byte behind which no item goes on, of which nothing is
+    /// written, and names an offset in the item. Behind the end and behind an error a further call takes and writes
+    /// nothing, and answers the same.
+    pub fn feed(&mut self, bytes: &[u8], out: &mut [u8]) -> Result<Fed, Error> {
+        let (answer, report) = calls::feed_item_copier(&mut self.kept, bytes, out);
+        self.taken += report.consumed as usize;
+        Fed::of(answer, &report)
+    }
+
+    /// How many bytes were taken of all pieces.
+    pub fn taken(&self) -> usize {
+        self.taken
+    }
+
+    /// Says that no more bytes come. All is well where no byte came, or the item has ended and is written. `Short` says
+    /// how many bytes came where it is cut off, and how many more were due, `Room` that there is more to write, and the
+    /// other errors are those of `feed`.
+    pub fn end(&self) -> Result<(), Error> {
+        match calls::end_item_copier(&self.kept) {
+            (0, _) => Ok(()),
+            (1, report) => Err(Error::Short {
+                place: self.taken,
+                due: report.place as usize,
             }),
             (answer, report) => Err(Error::of(answer, &report, 0)),
         }

@@ -31,7 +31,7 @@ pub mod sys;
 
 pub use calls::{recode, skip_item, strict, strict_len, utf8, Copied, Stopped};
 pub use checker::{Checker, Feed, Progress};
-pub use copier::{Copier, Copying, Fed};
+pub use copier::{Copier, Copying, Fed, ItemCopier};
 pub use decoder::{Decoder, Segments};
 pub use encoder::Encoder;
 pub use error::Error;

@@ -46,6 +46,14 @@ pub struct cll_copier {
     pub words: [u64; 9],
 }
 
+/// A copier of one item whose bytes come in pieces. What stands in it is the library's, and zeros are none.
+#[repr(C)]
+#[derive(Clone, Copy, Debug)]
+pub struct cll_item_copier {
+    /// Its memory.
+    pub words: [u64; 304],
+}
+
 #[allow(missing_docs)]
 extern "C" {
     pub fn cll_version() -> u32;
@@ -98,4 +106,15 @@ extern "C" {
         report: *mut cll_report,
     ) -> u32;
     pub fn cll_copier_end(copier: *const cll_copier, report: *mut cll_report) -> u32;
+    pub fn cll_item_copier_init(copier: *mut cll_item_copier, depth: u32) -> u32;
+    pub fn cll_item_copier_init_strict(copier: *mut cll_item_copier, depth: u32) -> u32;
+    pub fn cll_item_copier_feed(
+        copier: *mut cll_item_copier,
+        data: *const u8,
+        len: usize,
+        out: *mut u8,
+        room: usize,
+        report: *mut cll_report,
+    ) -> u32;
+    pub fn cll_item_copier_end(copier: *const cll_item_copier, report: *mut cll_report) -> u32;
 }

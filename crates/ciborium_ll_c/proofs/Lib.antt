@@ -4,6 +4,7 @@ pub mod CutTitles
 pub mod ElementDue
 pub mod ElementShapes
 pub mod ItemDue
+pub mod ItemPieceLaws
 pub mod PieceLaws
 pub mod PullLaws
 pub mod SkipLaws

@@ -6,9 +6,9 @@ use Rattle.ciborium_ll_c.specs.declared.answer.CllAnswer.TheVariants as a
 use Rattle.ciborium_ll_c.specs.declared.answer.CllReport.{CllReport}
 use Rattle.ciborium_ll_c.specs.Answers.{ReportsCopy}
 
--- So many elements in their shortest spelling stand in front, or the first fault of a strict read stands in their
--- place, by the answer. Nothing is written. Where the bytes end too early the place is a number of bytes
--- (`ElementsLack`)
+-- what `cll_strict` does, by the answer: so many elements in their shortest spelling stand in front, or the first fault
+-- of a strict read stands in their place. Nothing is written. Where the bytes end too early the place is a number of
+-- bytes (`ElementsLack`)
 abbrev pub Checks : ℕ → List ℕ → CllAnswer → CllReport → Type 0
 Checks count bytes a.Ok report = (front : RunInFront true count bytes) × ReportsCopy report (length front.elements) 0 0
 Checks count bytes a.Short report =

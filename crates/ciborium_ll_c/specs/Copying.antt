@@ -33,8 +33,8 @@ OutputsUpToFault count bytes old new report =
     (fault : HasFault false count bytes) × (fault.answer ≡ Syntax report.place) × StandInFront fault.written old new
     × ReportsCopy report (length fault.before + fault.consumed) (length fault.written) report.place
 
--- A copy where there is room, by the answer: the first fault stops it where so many elements do not stand in front.
--- Where the bytes end too early the place is a number of bytes (`ElementsLack`)
+-- what `cll_recode` does where there is room, by the answer: the first fault stops it where so many elements do not
+-- stand in front. Where the bytes end too early the place is a number of bytes (`ElementsLack`)
 abbrev pub CopiesInto : ℕ → List ℕ → List ℕ → CllAnswer → List ℕ → CllReport → Type 0
 CopiesInto count bytes old a.Ok new report = OutputsElements count bytes old new report
 CopiesInto count bytes old a.Short new report =
@@ -62,7 +62,7 @@ pub record StopsForRoom (count : ℕ) (bytes : List ℕ) (room : ℕ) : Type 0 w
   pub lacks : room < length whole + length next
   pub begun : (part : List ℕ) × (written ≡ whole ++ part) × Begins part next
 
--- the same where the room may be too small: it is so just where what is due next does not fit
+-- what `cll_recode` does in any room: the same, but where what is due next does not fit
 abbrev pub CopiesAnyhow : ℕ → List ℕ → List ℕ → CllAnswer → List ℕ → CllReport → Type 0
 CopiesAnyhow count bytes old a.Room new report =
     (stop : StopsForRoom count bytes (length old)) × StandInFront stop.written old new

@@ -22,19 +22,21 @@ CountsTo count bytes room a.Room report =
 CountsTo count bytes room answer report =
     (report.elements < count) × (RunInFront false (suc report.elements) bytes → ⊥)
 
--- the elements that were done stand in front, up to the offset that is reported, and no more are done so
+-- what `cll_recode` counts: the elements that were done stand in front, up to the offset that is reported, and no more
+-- are done so
 pub record CountsElements (count : ℕ) (bytes : List ℕ) (room : ℕ) (answer : CllAnswer) (report : CllReport)
     : Type 0 where
   pub front : RunInFront false report.elements bytes
   pub ends : report.whole ≡ length front.elements
   pub counts : CountsTo count bytes room answer report
 
--- the same of elements in their shortest spelling, of which nothing is written
+-- `CountsTo` of elements in their shortest spelling, of which nothing is written (RFC 7049, 3.9)
 abbrev pub CountsStrictTo : ℕ → List ℕ → CllAnswer → CllReport → Type 0
 CountsStrictTo count bytes a.Ok report = (report.elements ≡ count) × (report.whole ≡ report.consumed)
 CountsStrictTo count bytes answer report =
     (report.elements < count) × (RunInFront true (suc report.elements) bytes → ⊥)
 
+-- what `cll_strict` counts: the same of elements in their shortest spelling (RFC 7049, 3.9)
 pub record CountsStrictly (count : ℕ) (bytes : List ℕ) (answer : CllAnswer) (report : CllReport) : Type 0 where
   pub front : RunInFront true report.elements bytes
   pub ends : report.whole ≡ length front.elements

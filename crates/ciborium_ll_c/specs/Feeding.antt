@@ -30,36 +30,39 @@ IsNoChecker checker = (spot : Spot) → IsKept checker spot → ⊥
 abbrev pub IsSetUp : Bool → ℕ → CllChecker → Type 0
 IsSetUp strict depth checker = (spot : Spot) × IsKept checker spot × IsFed strict depth [] spot
 
--- the answer that stands for a fault, and its place
+-- the answer that stands for a fault
 abbrev pub fault_answer : Fault → CllAnswer
 fault_answer (f.Syntax place) = a.Syntax
 fault_answer (f.Break place) = a.BreakDue
 fault_answer (f.Deep place) = a.TooDeep
 
+-- the place of a fault
 abbrev pub fault_place : Fault → ℕ
 fault_place (f.Syntax place) = place
 fault_place (f.Break place) = place
 fault_place (f.Deep place) = place
 
--- the answer that stands for what `feed` gave, and the number that comes with it
+-- the answer that stands for what `feed` of `cbor_feed` gave
 abbrev pub progress_answer : Progress → CllAnswer
 progress_answer (r.Ended len) = a.Ok
 progress_answer (r.More due) = a.Short
 progress_answer (r.Fault fault) = fault_answer fault
 progress_answer r.TooLong = a.TooLong
 
+-- the number that comes with it: the length of the item, how many bytes are due, or the place of the fault
 abbrev pub progress_number : Progress → ℕ
 progress_number (r.Ended len) = len
 progress_number (r.More due) = due
 progress_number (r.Fault fault) = fault_place fault
 progress_number r.TooLong = 0
 
--- the same of what `end` gave
+-- the answer that stands for what `end` of `cbor_feed` gave
 abbrev pub end_answer : End → CllAnswer
 end_answer e.Between = a.Ok
 end_answer (e.Short due) = a.Short
 end_answer (e.Fault fault) = fault_answer fault
 
+-- the number that comes with it
 abbrev pub end_number : End → ℕ
 end_number e.Between = 0
 end_number (e.Short due) = due
@@ -82,8 +85,9 @@ SaysOf strict depth whole a.TooDeep number = Tells strict depth whole (r.Fault (
 SaysOf strict depth whole a.TooLong number = Tells strict depth whole r.TooLong
 SaysOf strict depth whole answer number = ⊥
 
--- A piece for a checker that has come to the old spot: so many of its bytes were taken, all of them where more are due
--- and none where none was due. The answer says what it does of all bytes so far, which have led to where the checker is
+-- what `cll_checker_feed` does with a piece, for a checker that has come to the old spot: so many of its bytes were
+-- taken, all of them where more are due and none where none was due. The answer says what it does of all bytes so far,
+-- which have led to where the checker is (RFC 7049, 2.1 to 2.4)
 pub record Feeds (strict : Bool) (depth : ℕ) (fed : List ℕ) (old : Spot) (bytes : List ℕ) (answer : CllAnswer) (report : CllReport)
     (new : CllChecker) : Type 0 where
   pub taken : report.consumed ≤ length bytes
@@ -106,7 +110,7 @@ SaysOfEnd strict depth whole a.BreakDue number = TellsEnd strict depth whole (e.
 SaysOfEnd strict depth whole a.TooDeep number = TellsEnd strict depth whole (e.Fault (f.Deep number))
 SaysOfEnd strict depth whole answer number = ⊥
 
--- the end of the bytes at the spot: the answer and its number are those of the spot
+-- what `cll_checker_end` does at the spot: the answer and its number are those of the spot (RFC 7049, 2.1 to 2.4)
 pub record EndsFed (strict : Bool) (depth : ℕ) (fed : List ℕ) (spot : Spot) (answer : CllAnswer) (report : CllReport)
     : Type 0 where
   pub says : SaysOfEnd strict depth fed answer report.place

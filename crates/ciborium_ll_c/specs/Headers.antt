@@ -54,7 +54,7 @@ open_of (h.Array len) = indefinite_of len
 open_of (h.Map len) = indefinite_of len
 open_of header = 0
 
--- the parts are those of the header
+-- the parts are those of the header: its kind, its number, and 1 for its indefinite form (RFC 7049, 2.1 to 2.4)
 pub record Says (parts : CllHeader) (header : Header) : Type 0 where
   pub kind : parts.kind ≡ kind_of header
   pub value : parts.value ≡ value_of header

@@ -4,6 +4,7 @@ pub mod Copying
 pub mod Counting
 pub mod Feeding
 pub mod Headers
+pub mod ItemPieces
 pub mod Lacking
 pub mod Pieces
 pub mod Pulling

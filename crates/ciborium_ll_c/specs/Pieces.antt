@@ -27,7 +27,7 @@ IsNoCopier copier = (spot : Spot) → IsCopier copier spot → ⊥
 abbrev pub IsCopierOf : ℕ → CllCopier → Type 0
 IsCopierOf count copier = (spot : Spot) × IsCopier copier spot × IsCopiedTo count [] [] spot
 
--- the answer that stands for what `feed` gave, and its place
+-- the answer that stands for what `feed` of `cbor_copy` gave
 abbrev pub progress_answer : Progress → CllAnswer
 progress_answer r.Ended = a.Ok
 progress_answer r.More = a.Short
@@ -35,17 +35,19 @@ progress_answer r.Room = a.Room
 progress_answer (r.Syntax place) = a.Syntax
 progress_answer r.TooLong = a.TooLong
 
+-- the place that comes with it, and 0 where there is none
 abbrev pub progress_place : Progress → ℕ
 progress_place (r.Syntax place) = place
 progress_place progress = 0
 
--- the same of what `end` gave
+-- the answer that stands for what `end` of `cbor_copy` gave
 abbrev pub end_answer : End → CllAnswer
 end_answer e.Ended = a.Ok
 end_answer e.Short = a.Short
 end_answer e.Room = a.Room
 end_answer (e.Syntax place) = a.Syntax
 
+-- the place that comes with it, and 0 where there is none
 abbrev pub end_place : End → ℕ
 end_place (e.Syntax place) = place
 end_place end = 0
@@ -75,10 +77,10 @@ pub record StaysWithin (bytes out output : List ℕ) (report : CllReport) : Type
   pub written : report.written ≤ length out
   pub kept : drop report.written output ≡ drop report.written out
 
--- A piece for a copier that has come to the old spot: so many of its bytes were taken, all of them where more are due,
--- and so many were written, as many as there is room for where there are more. The answer says what it does of all
--- bytes so far and of all that was written, which have led to where the copier is. Behind an end or a fault nothing is
--- taken or written
+-- what `cll_copier_feed` does with a piece, for a copier that has come to the old spot: so many of its bytes were
+-- taken, all of them where more are due, and so many were written, as many as there is room for where there are more.
+-- The answer says what it does of all bytes so far and of all that was written, which have led to where the copier is.
+-- Behind an end or a fault nothing is taken or written (RFC 7049, 2.1 and 2.2)
 pub record FeedsCopied (count : ℕ) (fed given : List ℕ) (old : Spot) (bytes out : List ℕ) (answer : CllAnswer)
     (output : List ℕ) (report : CllReport) (new : CllCopier) : Type 0 where
   pub all : answer ≡ a.Short → report.consumed ≡ length bytes
@@ -101,8 +103,8 @@ SaysOfEnd count whole output a.Room place = TellsEnd count whole output e.Room �
 SaysOfEnd count whole output a.Syntax place = TellsEnd count whole output (e.Syntax place)
 SaysOfEnd count whole output answer place = ⊥
 
--- the end of the bytes at the spot: the answer and its place are those of the spot, and it is Ok exactly where the
--- bytes are so many elements and their shortest spelling is written
+-- what `cll_copier_end` does at the spot: the answer and its place are those of the spot, and it is Ok exactly where
+-- the bytes are so many elements and their shortest spelling is written (RFC 7049, 2.1 and 2.2)
 pub record EndsCopied (count : ℕ) (fed given : List ℕ) (spot : Spot) (answer : CllAnswer) (report : CllReport)
     : Type 0 where
   pub says : SaysOfEnd count fed given answer report.place

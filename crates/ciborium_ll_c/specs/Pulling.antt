@@ -15,8 +15,8 @@ pub record TitleInFront (bytes : List ℕ) : Type 0 where
   pub is_title : IsTitle title header
   pub is : bytes ≡ title ++ rest
 
--- the title in front, by the answer: the parts of its header, and its length as what was consumed. Where there is none,
--- the parts are as they were, and a first byte was consumed if there is one
+-- what `cll_pull` does, by the answer: the parts of the header of the title in front, and its length as what was
+-- consumed. Where there is none, the parts are as they were, and a first byte was consumed if there is one
 abbrev pub Pulls : List ℕ → CllAnswer → CllHeader → CllHeader → ℕ → Type 0
 Pulls bytes a.Ok old new consumed = (front : TitleInFront bytes) × Says new front.header
     × (consumed ≡ length front.title)

@@ -15,8 +15,8 @@ Puts bytes old a.Ok new report = (new ≡ bytes ++ drop (length bytes) old) × R
 Puts bytes old a.Room new report = (length old < length bytes) × (new ≡ old) × Reports report 0 0 0
 Puts bytes old answer new report = ⊥
 
--- the shortest title of the header that has the parts stands in front of the output, by the answer; where there is no
--- room for all of it, or no such header, the output is as it was
+-- what `cll_push` does, by the answer: the shortest title of the header that has the parts stands in front of the
+-- output; where there is no room for all of it, or no such header, the output is as it was
 abbrev pub Pushes : CllHeader → List ℕ → CllAnswer → List ℕ → CllReport → Type 0
 Pushes parts old a.Ok new report =
     (header : Header) × Says parts header × IsInRange header

@@ -10,8 +10,8 @@ use Rattle.ciborium_ll_c.specs.declared.answer.CllAnswer.TheVariants as a
 use Rattle.ciborium_ll_c.specs.declared.answer.CllReport.{CllReport}
 use Rattle.ciborium_ll_c.specs.Answers.{Reports}
 
--- The item in front, or what stops the read of it, by the answer. Nothing is written. Where the bytes end too early the
--- place is a number of bytes (`ItemLacks`)
+-- what `cll_skip` does, by the answer: the item in front, or what stops the read of it. Nothing is written. Where the
+-- bytes end too early the place is a number of bytes (`ItemLacks`)
 abbrev pub Skips : ℕ → List ℕ → CllAnswer → CllReport → Type 0
 Skips depth bytes a.Ok report = (front : ItemInFront false depth bytes) × Reports report (length front.item) 0 0
 Skips depth bytes a.Short report =

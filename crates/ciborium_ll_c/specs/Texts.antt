@@ -12,14 +12,14 @@ pub record TextInFront (bytes : List ℕ) : Type 0 where
   pub rest : List ℕ
   pub is_front : IsFront bytes text rest
 
--- the bytes are the beginning of one character, and more of it is due
+-- the bytes are the beginning of one character, and more of it is due (RFC 3629, 4)
 pub record IsCutCharacter (bytes : List ℕ) : Type 0 where
   pub more : List ℕ
   pub is_character : IsCharacter (bytes ++ more)
   pub begins : bytes ≢ []
   pub goes_on : more ≢ []
 
--- how far the bytes are text, by the answer: all of them; up to a character that is cut off; or up to where no text
+-- what `cll_utf8` does, by the answer: all bytes are text; up to a character that is cut off; or up to where no text
 -- begins. Nothing is written
 abbrev pub FindsText : List ℕ → CllAnswer → CllReport → Type 0
 FindsText bytes a.Ok report = IsCharacters bytes × Reports report (length bytes) 0 0

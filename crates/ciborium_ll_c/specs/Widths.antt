@@ -28,13 +28,13 @@ Wide header width (Some title) =
     IsParts title × IsTitle (title_bytes title) header × (length (title_bytes title) ≡ suc width)
 Wide header width None = WideTitle header width → ⊥
 
--- the same of the header that has the parts
+-- the same of the header that has the parts of C
 abbrev pub WideOf : CllHeader → ℕ → Option Title → Type 0
 WideOf parts width (Some title) = (header : Header) × Says parts header × Wide header width (Some title)
 WideOf parts width None = (header : Header) → Says parts header → WideTitle header width → ⊥
 
--- the title of that width stands in front of the output, by the answer; where there is no room for all of it, or no
--- header with the parts has such a title, the output is as it was
+-- what `cll_push_wide` does, by the answer: the title of that width stands in front of the output; where there is no
+-- room for all of it, or no header with the parts has such a title, the output is as it was
 abbrev pub PushesWide : CllHeader → ℕ → List ℕ → CllAnswer → List ℕ → CllReport → Type 0
 PushesWide parts width old a.Ok new report =
     (header : Header) × Says parts header × (front : WideTitle header width)
@@ -80,7 +80,7 @@ abbrev pub length_in : ℕ → ℕ → Option ℕ → Option Title
 length_in major width (Some len) = numbered_in major width len
 length_in major width None = open_in major width
 
--- the title of a header in its parts
+-- the title of a header in its parts (RFC 7049, 2.1 to 2.3)
 abbrev pub title_in : Header → ℕ → Option Title
 title_in (h.Positive n) width = numbered_in 0 width n
 title_in (h.Negative n) width = numbered_in 1 width n

@@ -1,7 +1,7 @@
 //! Checkers that a program in C keeps in memory of its own.
 
-ghost use Rattle.std.specs.Prelude.{◌≡◌, ◌≤◌, Bool, ℕ, List, IfSome};
-ghost use Rattle.cbor_feed.specs.Checking.{IsAt, spot_of};
+ghost use Rattle.std.specs.Prelude.{◌≡◌, ◌≤◌, Bool, ℕ, List, true};
+ghost use Rattle.cbor_feed.specs.Checking.{spot_of};
 ghost use Rattle.cbor_feed.specs.Spots.{Spot};
 ghost use Rattle.cbor_feed.specs.Steps.{IsFed};
 ghost use Rattle.ciborium_ll_c.specs.declared.answer.CllAnswer.TheVariants as a;
@@ -29,17 +29,14 @@ pub struct CllChecker {
 const _: () = prove!(size_of::<CllChecker>() == 2368);
 
 impl CllChecker {
-    /// The checker, where there is one.
+    /// Makes a checker the one that is kept, and says whether there is one.
     #[inline(always)]
-    fn restored(&self) -> Option<Checker>
-        ensures some { IfSome result (λ checker. IsKept self.now (spot_of checker)) }
-        ensures same { (spot : Spot) → IsKept self.now spot → IsAt result spot }
+    fn restore(&self, checker: &mut Checker) -> bool
+        ensures some { result ≡ true → IsKept self.now (spot_of checker.new) }
+        ensures found { (spot : Spot) → IsKept self.now spot → result ≡ true }
+        ensures same { (spot : Spot) → IsKept self.now spot → spot_of checker.new ≡ spot }
     {
-        if self.mark == MARK {
-            Checker::restore(&self.state)
-        } else {
-            None
-        }
+        self.mark == MARK && checker.load(&self.state)
     }
 }
 
@@ -57,7 +54,7 @@ fn told_progress(progress: Progress) -> (CllAnswer, usize)
 }
 
 /// The answer to a fault, and its place.
-fn told_fault(fault: Fault) -> (CllAnswer, usize)
+pub(crate) fn told_fault(fault: Fault) -> (CllAnswer, usize)
     ensures answer { result.0 ≡ fault_answer fault }
     ensures place { result.1 ≡ fault_place fault }
 {
@@ -101,10 +98,11 @@ pub(crate) fn feed(checker: &mut CllChecker, bytes: &[u8], report: &mut CllRepor
     ensures argument { IsNoChecker checker.old
         → (result ≡ a.Argument) × (checker.new ≡ checker.old) × Reports report.new 0 0 0 }
 {
-    let Some(mut restored) = checker.restored() else {
+    let mut restored = Checker::new(0);
+    if !checker.restore(&mut restored) {
         report.say(0, 0, 0);
         return CllAnswer::Argument;
-    };
+    }
     let answer = restored.feed(bytes);
     restored.save(&mut checker.state);
     let (told, number) = told_progress(answer.progress);
@@ -118,10 +116,11 @@ pub(crate) fn end(checker: &CllChecker, report: &mut CllReport) -> CllAnswer
         → EndsFed strict depth fed spot result report.new }
     ensures argument { IsNoChecker checker.now → (result ≡ a.Argument) × Reports report.new 0 0 0 }
 {
-    let Some(restored) = checker.restored() else {
+    let mut restored = Checker::new(0);
+    if !checker.restore(&mut restored) {
         report.say(0, 0, 0);
         return CllAnswer::Argument;
-    };
+    }
     let (told, number) = told_end(restored.end());
     report.say(0, 0, number);
     told

@@ -4,6 +4,8 @@
 //! C passes a slice as a pointer and then a length. Each call answers by a number, which is the code of a
 //! [`CllAnswer`], and says in a [`CllReport`] how far it came. `cll_pull`, which is called for each title, tells a number
 //! of bytes alone.
+//!
+//! The contracts speak of one [`CllAnswer`] by its number (`code`), and say what the call does by that answer.
 #![tactic(auto)]
 
 ghost use Rattle.std.specs.Prelude.{◌≡◌, ◌↔◌, ◌≤◌, ◌<◌, List, ◌++◌, drop, length, Bool, true, false, ℕ};
@@ -25,6 +27,8 @@ ghost use Rattle.ciborium_ll_c.specs.Checking.{Checks};
 ghost use Rattle.ciborium_ll_c.specs.Copying.{CopiesInto, CopiesAnyhow, HasRoom, copy_answer, copy_place};
 ghost use Rattle.ciborium_ll_c.specs.Counting.{CountsCopy, CountsElements, CountsStrictly};
 ghost use Rattle.ciborium_ll_c.specs.Feeding.{EndsFed, Feeds, IsKept, IsNoChecker, IsSetUp};
+ghost use Rattle.ciborium_ll_c.specs.ItemPieces.{EndsItem, FeedsItem, IsItemCopiedTo, IsItemCopier, IsItemSetUp};
+ghost use Rattle.ciborium_ll_c.specs.ItemPieces.{IsNoItemCopier};
 ghost use Rattle.ciborium_ll_c.specs.Lacking.{ElementsLack, ItemLacks};
 ghost use Rattle.ciborium_ll_c.specs.Pieces.{EndsCopied, FeedsCopied, IsCopier, IsCopierOf, IsNoCopier, StaysWithin};
 ghost use Rattle.ciborium_ll_c.specs.Pulling.{Pulls, TitleInFront};
@@ -40,6 +44,9 @@ mod copier;
 mod copier_tests;
 mod due;
 mod header;
+mod item_copier;
+#[cfg(test)]
+mod item_copier_tests;
 mod tally;
 #[cfg(test)]
 mod tests;
@@ -50,6 +57,7 @@ pub use self::checker::CllChecker;
 pub use self::copier::CllCopier;
 use self::due::due_behind;
 pub use self::header::CllHeader;
+pub use self::item_copier::CllItemCopier;
 use self::tally::{Tally, copy_counted};
 use self::wide::title_in;
 use cbor_skip::{SkipError, skip_item};
@@ -103,9 +111,9 @@ fn pull(bytes: &[u8], header: &mut CllHeader, consumed: &mut usize) -> CllAnswer
 /// Reads the title in front of the bytes (RFC 7049, 2.1 to 2.3), and says in `header` what it means, and in `consumed`
 /// how many bytes it read.
 ///
-/// The answers are `Ok`, and then that is the length of the title; `Short` where the bytes end before a title or inside
-/// it; and `Syntax` for a first byte with which no title begins. After the last two `header` is as it was, and
-/// `consumed` counts the first byte if there is one.
+/// The answers are `Ok`, exactly where a title stands in front, and then that is its length; `Short` where the bytes
+/// end before a title or inside it; and `Syntax` for a first byte with which no title begins. After the last two
+/// `header` is as it was, and `consumed` counts the first byte if there is one. No other answer comes.
 #[unsafe(no_mangle)]
 #[tactic(auto, using(crate::proofs::PullLaws::pulled_exactly))]
 pub extern "C" fn cll_pull(bytes: &[u8], header: &mut CllHeader, consumed: &mut usize) -> u32
@@ -154,8 +162,9 @@ fn push(header: &CllHeader, out: &mut [u8], report: &mut CllReport) -> CllAnswer
 
 /// Writes the shortest title of a header in front of `out` (RFC 7049, 3.9), whole or not at all.
 ///
-/// The answers are `Ok`; `Room` where the title is longer than `out`; and `Argument` where `header` is of no kind, or
-/// its value or form is none of its kind. After the last two `out` is as it was.
+/// The answers are `Ok`, and `written` is the length of the title; `Room` where the title is longer than `out`; and
+/// `Argument` where `header` is of no kind, or its value or form is none of its kind. After the last two `out` is as it
+/// was, and after `Ok` it is behind the title.
 #[unsafe(no_mangle)]
 pub extern "C" fn cll_push(header: &CllHeader, out: &mut [u8], report: &mut CllReport) -> u32
     ensures { (answer : CllAnswer) × (result ≡ code answer) × Pushes header.now out.old answer out.new report.new }
@@ -179,9 +188,10 @@ fn push_wide(header: &CllHeader, width: u32, out: &mut [u8], report: &mut CllRep
 /// Writes the title of a header that has `width` bytes behind its first one in front of `out` (RFC 7049, 2.1), whole or
 /// not at all. It need not be the shortest one.
 ///
-/// The answers are `Ok`; `Room` where the title is longer than `out`; and `Argument` where `header` has no title of
-/// that width: it is of no kind, its value or form is none of its kind, or its number does not stand in so many bytes.
-/// After the last two `out` is as it was.
+/// The answers are `Ok`, and `written` is the length of the title; `Room` where the title is longer than `out`; and
+/// `Argument` where `header` has no title of that width: it is of no kind, its value or form is none of its kind, or
+/// its number does not stand in so many bytes. After the last two `out` is as it was, and after `Ok` it is behind the
+/// title.
 #[unsafe(no_mangle)]
 pub extern "C" fn cll_push_wide(
     header: &CllHeader,
@@ -284,11 +294,21 @@ fn copy_or_due(bytes: &[u8], count: usize, out: &mut [u8], report: &mut CllRepor
 /// the answer.
 ///
 /// The place of a `Short` is how many bytes more are due at least, or 0 where nothing that may follow makes so many
-/// elements.
+/// elements. Where it is not 0 some bytes do, and all that do are at least so many: what a checker of an item lacks
+/// that got the bytes behind the whole elements, which is the rest of a title or of a body, or 1.
 ///
 /// The place of a `Syntax` is the offset of a title; or of a body that is no text, in a string that no open begins, the
 /// end of its title less the length of the shortest one, which may lie inside the title. A text that is damaged and cut
 /// off is answered by `Short` or by `Syntax`, as the buffer falls.
+///
+/// Where `out` has room for the spelling, or for as many bytes as are due, `Ok` comes exactly where the bytes begin
+/// with that many elements. Just they were then consumed, and their shortest spelling stands in front of `out`. Else
+/// the answer is that of the first fault, with its place, and what was written up to it stands there. In any room the
+/// answers mean the same, and the two numbers are those of what was consumed and written.
+///
+/// Whatever the answer, as many elements as `elements` says stand in front, and the last ends at `whole`. With `Ok`
+/// these are all, and `whole` is `consumed`. With `Short` and `Syntax` one more does not stand in front; with `Room`,
+/// where it does, its spelling and theirs do not fit.
 #[unsafe(no_mangle)]
 #[tactic(auto, using(crate::proofs::PullLaws::code_exactly, crate::proofs::PullLaws::code_short))]
 pub extern "C" fn cll_recode(
@@ -351,8 +371,10 @@ fn check_or_due(bytes: &[u8], count: usize, report: &mut CllReport) -> CllAnswer
 /// Whether the bytes begin with `count` elements in their shortest spelling, with no simple value from 24 to 31 and no
 /// string of indefinite length inside another (RFC 7049, 2.2.2, 2.3 and 3.9). Nothing is written.
 ///
-/// The answers are `Ok`; `Short` where the bytes end before so many elements do, with a place as of `cll_recode`; and
-/// `Syntax` as there, and for a title that is longer than it need be, for such a simple value and for such a string.
+/// The answers are `Ok`, exactly where they do, and then just these elements were consumed; `Short` where the bytes end
+/// before so many elements do, with a place as of `cll_recode`; and `Syntax` as there, and for a title that is longer
+/// than it need be, for such a simple value and for such a string. The last two are those of the first fault, and
+/// `consumed` is the number of bytes consumed up to it. The elements are counted as by `cll_recode`.
 #[unsafe(no_mangle)]
 #[tactic(auto, using(crate::proofs::PullLaws::code_exactly, crate::proofs::PullLaws::code_short))]
 pub extern "C" fn cll_strict(bytes: &[u8], count: u64, report: &mut CllReport) -> u32
@@ -413,10 +435,16 @@ fn skip_or_due(bytes: &[u8], depth: usize, report: &mut CllReport) -> CllAnswer
 /// Skips the item in front of the bytes, with tags, arrays and maps nested at most `depth` levels deep (RFC 7049, 2.1
 /// to 2.4). A tag, an array and a map take a level, an empty one too; a string takes none.
 ///
-/// The answers are `Ok`; `Short` where the bytes end before the item does, with how many bytes more are due at least as
-/// the place, or 0 where nothing that may follow makes an item; `Syntax` for a title that is none or may not stand
-/// within its string, and for a body of a text that is no UTF-8; `BreakDue` for a break in place of an item;
-/// `TooDeep` for a tag, an array or a map for which no level is left; and `Argument` for a depth above 256.
+/// The answers are `Ok`, exactly where an item to the depth stands in front, and then just it was consumed; `Short`
+/// where the bytes end before the item does, with how many bytes more are due at least as the place, or 0 where nothing
+/// that may follow makes an item; `Syntax` for a title that is none or may not stand within its string, and for a body
+/// of a text that is no UTF-8; `BreakDue` for a break in place of an item; `TooDeep` for a tag, an array or a map for
+/// which no level is left; and `Argument` for a depth above 256, with a report of zeros. Else `consumed` is the number
+/// of bytes that were consumed up to there.
+///
+/// Whatever stands behind bytes that are short, so that an item to the depth is in front of both, has at least as many
+/// bytes as the place says. Where that is not 0 something does so, and a checker that got the bytes lacks just so many:
+/// the rest of a title or of a body, or 1.
 #[unsafe(no_mangle)]
 #[tactic(auto, using(crate::proofs::PullLaws::code_exactly, crate::proofs::PullLaws::code_short))]
 pub extern "C" fn cll_skip(bytes: &[u8], depth: u32, report: &mut CllReport) -> u32
@@ -453,9 +481,10 @@ fn find_text(bytes: &[u8], report: &mut CllReport) -> CllAnswer
 
 /// Finds the longest front of the bytes that is UTF-8 (RFC 3629), of which it says that it was consumed.
 ///
-/// The answers are `Ok` where that is all of the bytes; `Short` where a character stands behind it that is cut off; and
-/// `Syntax`, with its length as the place, where behind it no text begins. So a text may come in pieces: what is behind
-/// the front stands in front of the next one.
+/// The answers are `Ok` exactly where that is all of the bytes; `Short` where a character stands behind it that is cut
+/// off; and `Syntax`, with its length as the place, where behind it no text begins. So a text may come in pieces: what
+/// is behind the front stands in front of the next one: with whatever comes, all of it is UTF-8 exactly where that with
+/// those bytes in front is. Nothing is written.
 #[unsafe(no_mangle)]
 #[tactic(auto, using(crate::proofs::PullLaws::code_exactly))]
 pub extern "C" fn cll_utf8(bytes: &[u8], report: &mut CllReport) -> u32
@@ -500,12 +529,15 @@ pub extern "C" fn cll_checker_init_strict(checker: &mut CllChecker, depth: u32) 
 
 /// Gives a checker the next bytes of its item, as many as have come. It takes all of them, or those up to the end of
 /// the item or up to the byte with which a fault comes; a later call then takes none, and answers the same. How the
-/// bytes are cut into pieces changes nothing.
+/// bytes are cut into pieces changes nothing: there stands a checker to which came what came before, and then what was
+/// consumed of the piece.
 ///
-/// The answers are `Ok` where the item has ended, with its length as the place; `Short` where more is due, with at least
-/// how many bytes as the place; `Syntax`, `BreakDue` and `TooDeep` where no item begins as the bytes so far do, with the
-/// fault's offset in the item; `TooLong` where the item goes on behind `u64::MAX` bytes; and `Argument` where no checker
-/// was set up, or what stands there is none, after which that memory is as it was.
+/// The answers are `Ok` where the item has ended, with its length as the place; `Short` where more is due, with at
+/// least how many bytes as the place: all of the piece was consumed, some bytes more make an item, and all that do are
+/// at least so many; `Syntax`, `BreakDue` and `TooDeep` where no item begins as the bytes so far do, with the fault's
+/// offset in the item; `TooLong` where the item goes on behind `u64::MAX` bytes; and `Argument` where no checker was
+/// set up, or what stands there is none, after which that memory is as it was, with a report of zeros. Which fault,
+/// which place and how many bytes is told by the state that all bytes lead to. No other answer comes.
 #[unsafe(no_mangle)]
 pub extern "C" fn cll_checker_feed(
     checker: &mut CllChecker,
@@ -546,14 +578,17 @@ pub extern "C" fn cll_copier_init(copier: &mut CllCopier, count: u64) -> u32
 
 /// Gives a copier the next bytes of its elements, as many as have come, and writes in front of `out` as much of their
 /// shortest spelling as it can (RFC 7049, 3.9). How the bytes are cut into pieces, and how long the outputs are,
-/// changes nothing of what is written in all. Behind what was written `out` is as it was.
+/// changes nothing of what is written in all. Whatever stands in the memory of the copier, no more is consumed and
+/// written than there is, and behind what was written `out` is as it was.
 ///
-/// The answers are `Ok` where so many elements came, and they are written; `Short` where more is due: all bytes were
-/// taken, and all that can be written of them is; `Room` where `out` is full and there is more to write, after which
-/// the rest of the bytes is to be given again; `Syntax` where no such elements begin as the bytes so far do, with the
-/// fault's offset in all of them; `TooLong` where the elements go on behind `u64::MAX` bytes; and `Argument` where no
-/// copier was set up, or what stands there is none, after which that memory and `out` are as they were. After `Ok` and
-/// after `Syntax` a later call takes and writes nothing, and answers the same.
+/// The answers are `Ok` where so many elements came, and what was written in all is just their shortest spelling;
+/// `Short` where more is due: all bytes were taken, and all that can be written of them is, while some bytes more make
+/// so many elements; `Room` where `out` is full and there is more to write, after which the rest of the bytes is to be
+/// given again; `Syntax` where no such elements begin as the bytes so far do, with the fault's offset in all of them,
+/// at which a copy is with some bytes behind them, and with just this written; `TooLong` where the elements go on
+/// behind `u64::MAX` bytes; and `Argument` where no copier was set up, or what stands there is none, after which that
+/// memory and `out` are as they were, with a report of zeros. After `Ok` and after `Syntax` a later call takes and
+/// writes nothing, and answers the same. No other answer comes.
 #[unsafe(no_mangle)]
 pub extern "C" fn cll_copier_feed(
     copier: &mut CllCopier,
@@ -584,4 +619,80 @@ pub extern "C" fn cll_copier_end(copier: &CllCopier, report: &mut CllReport) -> 
     ensures argument { IsNoCopier copier.now → (result ≡ code a.Argument) × Reports report.new 0 0 0 }
 {
     copier::end(copier, report).code()
+}
+
+/// Sets a copier of an item up in memory of the caller's own, to which nothing came, with tags, arrays and maps nested
+/// at most `depth` levels deep (RFC 7049, 2.1 to 2.4). A tag, an array and a map take a level, an empty one too; a
+/// string takes none. What stood in that memory does not count.
+///
+/// The answers are `Ok`; and `Argument` for a depth above 256, after which that memory is as it was.
+#[unsafe(no_mangle)]
+pub extern "C" fn cll_item_copier_init(copier: &mut CllItemCopier, depth: u32) -> u32
+    ensures set_up { depth ≤ 256 → (result ≡ code a.Ok) × IsItemSetUp false depth copier.new }
+    ensures argument { 256 < depth → (result ≡ code a.Argument) × (copier.new ≡ copier.old) }
+{
+    if depth > 256 {
+        return CllAnswer::Argument.code();
+    }
+    item_copier::init(copier, depth as usize, false);
+    CllAnswer::Ok.code()
+}
+
+/// Sets a copier of an item up as `cll_item_copier_init` does, of one that is in its shortest spelling: any other title
+/// is a `Syntax`, and so is a string of indefinite length inside another one.
+#[unsafe(no_mangle)]
+pub extern "C" fn cll_item_copier_init_strict(copier: &mut CllItemCopier, depth: u32) -> u32
+    ensures set_up { depth ≤ 256 → (result ≡ code a.Ok) × IsItemSetUp true depth copier.new }
+    ensures argument { 256 < depth → (result ≡ code a.Argument) × (copier.new ≡ copier.old) }
+{
+    if depth > 256 {
+        return CllAnswer::Argument.code();
+    }
+    item_copier::init(copier, depth as usize, true);
+    CllAnswer::Ok.code()
+}
+
+/// Gives a copier the next bytes of its item, as many as have come, and writes in front of `out` as much of their
+/// shortest spelling as it can (RFC 7049, 3.9). How the bytes are cut into pieces, and how long the outputs are,
+/// changes nothing of what is written in all. Behind what was written `out` is as it was.
+///
+/// The answers are `Ok` where the item has ended, and it is written, with its length as the place; `Short` where more
+/// is due, with at least how many bytes as the place: all bytes were taken, and all that can be written of them is;
+/// `Room` where `out` is full and there is more to write, after which the rest of the bytes is to be given again;
+/// `Syntax`, `BreakDue` and `TooDeep` where no item begins as the bytes so far do, with the fault's offset in the item;
+/// `TooLong` where the item goes on behind `u64::MAX` bytes; and `Argument` where no copier was set up, or what stands
+/// there is none, after which that memory and `out` are as they were. After `Ok` and after a fault a later call takes
+/// and writes nothing, and answers the same.
+#[unsafe(no_mangle)]
+pub extern "C" fn cll_item_copier_feed(
+    copier: &mut CllItemCopier,
+    bytes: &[u8],
+    out: &mut [u8],
+    report: &mut CllReport,
+) -> u32
+    ensures fed { (strict : Bool) (depth : ℕ) (fed given : List ℕ) (item : Spot) (elements : CopySpot)
+        → IsItemCopiedTo strict depth fed given item elements → IsItemCopier copier.old item elements
+        → (answer : CllAnswer) × (result ≡ code answer)
+        × FeedsItem strict depth fed given item elements bytes.now out.old answer out.new report.new copier.new }
+    ensures within { StaysWithin bytes.now out.old out.new report.new }
+    ensures argument { IsNoItemCopier copier.old → (result ≡ code a.Argument) × (copier.new ≡ copier.old)
+        × (out.new ≡ out.old) × Reports report.new 0 0 0 }
+{
+    item_copier::feed(copier, bytes, out, report).code()
+}
+
+/// Says what it means that no more bytes come to a copier of an item, and leaves it as it is.
+///
+/// The answers are `Ok` where no byte came, or the item has ended and all of its shortest spelling was written; `Short`
+/// where it is cut off, with at least how many bytes were due as the place; `Room` where there is more to write, which
+/// `cll_item_copier_feed` does with no bytes too; and the others as of `cll_item_copier_feed`.
+#[unsafe(no_mangle)]
+pub extern "C" fn cll_item_copier_end(copier: &CllItemCopier, report: &mut CllReport) -> u32
+    ensures ended { (strict : Bool) (depth : ℕ) (fed given : List ℕ) (item : Spot) (elements : CopySpot)
+        → IsItemCopiedTo strict depth fed given item elements → IsItemCopier copier.now item elements
+        → (answer : CllAnswer) × (result ≡ code answer)
+        × EndsItem strict depth fed given item elements answer report.new }
+    ensures argument { IsNoItemCopier copier.now → (result ≡ code a.Argument) × Reports report.new 0 0 0 }
+{
+    item_copier::end(copier, report).code()
 }
