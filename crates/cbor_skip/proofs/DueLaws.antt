@@ -1,23 +1,23 @@
 -- Where an item is due in a whole one, it comes. So a whole item in front excludes whatever stops the read of it.
 use Rattle.std.proofs.Common.{◌≡◌, ℕ, suc, ◌*◌, ◌%◌, ◌==◌, ◌<◌, ◌⊎◌, Bool, true, false, List, [], ◌∷◌, ◌++◌, Some, None}
 use Rattle.std.proofs.Common.{refl, sym, ap, subst, ◌∙◌, inl, inr, arith, append_assoc, append-nil}
-use Rattle.ciborium_ll.specs.Types.Header.{Header}
-use Rattle.ciborium_ll.specs.Types.Header.TheVariants as h
-use Rattle.ciborium_ll.specs.Title.{IsTitle, IsStrictTitle, shortest_title}
-use Rattle.ciborium_ll.specs.Strings.{Kind, Bytes, Text, kind_header}
-use Rattle.ciborium_ll.specs.Strings.IsString.{definite, indefinite}
-use Rattle.ciborium_ll.specs.Elements.{Mark, Plain, Whole, open_marks, IsElement, plain, string}
-use Rattle.ciborium_ll.specs.Faults.{Place, Due, In, IsAtTitle, Answer, FirstFault}
-use Rattle.ciborium_ll.specs.Items.{Completes, positive, negative, float, simple, byte_string, text_string}
-use Rattle.ciborium_ll.specs.Items.{open_bytes, open_text, tag, array, pairs, open_array, open_pairs, AreItems}
-use Rattle.ciborium_ll.specs.Items.{no_items, more_items, IsItem, IsTakenTitle, AreTakenStrings}
-use Rattle.ciborium_ll.proofs.TitleLaws.{one_title, IsTitle-shortest}
-use Rattle.ciborium_ll.proofs.StringLaws.{break_title, not_break}
-use Rattle.ciborium_ll.proofs.NestLaws.{open_in_range}
-use Rattle.ciborium_ll.proofs.ElementLaws.{bytes_writable}
-use Rattle.ciborium_ll.proofs.ItemLaws.{one_item}
-use Rattle.ciborium_ll.proofs.HaltLaws.{opens_of, stop_bad, halt_bad, element_stops, element_inside}
-use Rattle.ciborium_ll.proofs.FaultLaws.{Stuck, stop, halt, bad_body, Refuses, long, nested, stuck_or_refused}
+use Rattle.ciborium_ll_grammar.specs.declared.hdr.Header.{Header}
+use Rattle.ciborium_ll_grammar.specs.declared.hdr.Header.TheVariants as h
+use Rattle.ciborium_ll_grammar.specs.Title.{IsTitle, IsStrictTitle, shortest_title}
+use Rattle.ciborium_ll_grammar.specs.Strings.{Kind, Bytes, Text, kind_header}
+use Rattle.ciborium_ll_grammar.specs.Strings.IsString.{definite, indefinite}
+use Rattle.ciborium_ll_grammar.specs.Elements.{Mark, Plain, Whole, open_marks, IsElement, plain, string}
+use Rattle.ciborium_ll_grammar.specs.Faults.{Place, Due, In, IsAtTitle, Answer, FirstFault}
+use Rattle.ciborium_ll_grammar.specs.Items.{Completes, positive, negative, float, simple, byte_string, text_string}
+use Rattle.ciborium_ll_grammar.specs.Items.{open_bytes, open_text, tag, array, pairs, open_array, open_pairs, AreItems}
+use Rattle.ciborium_ll_grammar.specs.Items.{no_items, more_items, IsItem, IsTakenTitle, AreTakenStrings}
+use Rattle.ciborium_ll_grammar.proofs.TitleLaws.{one_title, IsTitle-shortest}
+use Rattle.ciborium_ll_grammar.proofs.StringLaws.{break_title, not_break}
+use Rattle.ciborium_ll_decoder.proofs.NestLaws.{open_in_range}
+use Rattle.ciborium_ll_grammar.proofs.ElementLaws.{bytes_writable}
+use Rattle.ciborium_ll_grammar.proofs.ItemLaws.{one_item}
+use Rattle.ciborium_ll_grammar.proofs.HaltLaws.{opens_of, stop_bad, halt_bad, element_stops, element_inside}
+use Rattle.ciborium_ll_grammar.proofs.FaultLaws.{Stuck, stop, halt, bad_body, Refuses, long, nested, stuck_or_refused}
 use Rattle.cbor_skip.specs.Due.{IsNest, TakesMore, may_close, ItemDue, here, within, ReachesItem, at_item, at_string}
 use Rattle.cbor_skip.specs.Due.{at_body, at_piece, IsTakenInside}
 use Rattle.cbor_skip.specs.ItemFaults.{ItemInFront, HasItemFault, HasEarlyBreak, HasDeepNest}

@@ -1,13 +1,13 @@
 -- Strings of a definite length alone, each under a strict title: what may stand behind some of them.
 use Rattle.std.proofs.Common.{◌≡◌, ℕ, List, [], ◌∷◌, ◌++◌, length, Some, None, refl, sym, subst, ◌∙◌, append_assoc}
-use Rattle.ciborium_ll.specs.Types.Header.{Header}
-use Rattle.ciborium_ll.specs.Types.Header.TheVariants as h
-use Rattle.ciborium_ll.specs.Title.{IsTitle, IsStrictTitle}
-use Rattle.ciborium_ll.specs.Strings.{Kind, Bytes, Text, kind_header}
-use Rattle.ciborium_ll.specs.Strings.IsString.{definite}
+use Rattle.ciborium_ll_grammar.specs.declared.hdr.Header.{Header}
+use Rattle.ciborium_ll_grammar.specs.declared.hdr.Header.TheVariants as h
+use Rattle.ciborium_ll_grammar.specs.Title.{IsTitle, IsStrictTitle}
+use Rattle.ciborium_ll_grammar.specs.Strings.{Kind, Bytes, Text, kind_header}
+use Rattle.ciborium_ll_grammar.specs.Strings.IsString.{definite}
 use Rattle.ciborium_ll_grammar.specs.StrictElements.{AreFlat, none, more}
-use Rattle.ciborium_ll.proofs.TitleLaws.{one_title}
-use Rattle.ciborium_ll.proofs.StringLaws.{break_title, not_break, one_string, string_not_break}
+use Rattle.ciborium_ll_grammar.proofs.TitleLaws.{one_title}
+use Rattle.ciborium_ll_grammar.proofs.StringLaws.{break_title, not_break, one_string, string_not_break}
 
 -- a title that is the same as a strict one
 pub same_title : (t w : List ℕ) (x y : Header) → t ≡ w → x ≡ y → IsStrictTitle w y → IsStrictTitle t x

@@ -1,13 +1,13 @@
 -- Items that follow one another, over any reader, where only their number is known.
 use Rattle.std.proofs.Common.{◌≡◌, ℕ, suc, ◌*◌, Bool, List, [], ◌++◌, Some, None, Result, Ok, Err}
 use Rattle.std.proofs.Common.{refl, sym, ap, subst, ◌∙◌, arith, append_assoc, append-nil, false}
-use Rattle.ciborium_ll.specs.Types.Read.{Ghosts}
-use Rattle.ciborium_ll.specs.Types.Header.{Header}
-use Rattle.ciborium_ll.specs.Types.Header.TheVariants as h
-use Rattle.ciborium_ll.specs.Types.Decoder.{Decoder}
-use Rattle.ciborium_ll.specs.Items.{AreItems, IsItem, array, more_items, no_items, pairs, tag}
-use Rattle.ciborium_ll.specs.Decoding.{IsSteady, Passes, PullsTitle}
-use Rattle.ciborium_ll.proofs.DecodingLaws.{Passes-none, Passes-then}
+use Rattle.ciborium_ll_io.specs.declared.io.Read.{Ghosts}
+use Rattle.ciborium_ll_grammar.specs.declared.hdr.Header.{Header}
+use Rattle.ciborium_ll_grammar.specs.declared.hdr.Header.TheVariants as h
+use Rattle.ciborium_ll_decoder.specs.declared.dec.Decoder.{Decoder}
+use Rattle.ciborium_ll_grammar.specs.Items.{AreItems, IsItem, array, more_items, no_items, pairs, tag}
+use Rattle.ciborium_ll_decoder.specs.Decoding.{IsSteady, Passes, PullsTitle}
+use Rattle.ciborium_ll_decoder.proofs.DecodingLaws.{Passes-none, Passes-then}
 use Rattle.cbor_skip.specs.declared.SkipError.{SkipError}
 use Rattle.cbor_skip.specs.Due.{IsNest, item_count}
 use Rattle.cbor_skip.specs.Skipping.{ReadsItem, ReadsCounted, SkipsCounted, SkipsWithin, StopsItem, StopsCounted}

@@ -2,25 +2,25 @@
 use Rattle.std.proofs.Common.{◌≡◌, ℕ, zero, suc, ◌<◌, ◌*◌, Bool, true, false, List, [], ◌∷◌, ◌++◌, length, Option}
 use Rattle.std.proofs.Common.{Some, None, Result, Ok, Err, refl, sym, ap, subst, ◌∙◌, inl, arith, append_assoc}
 use Rattle.std.proofs.Common.{append-nil, length-append}
-use Rattle.ciborium_ll.specs.Types.Read.{Ghosts}
-use Rattle.ciborium_ll.specs.Types.Header.{Header}
-use Rattle.ciborium_ll.specs.Types.Header.TheVariants as h
-use Rattle.ciborium_ll.specs.Types.Decoder.{Decoder}
-use Rattle.ciborium_ll.specs.Types.Error.{Error}
-use Rattle.ciborium_ll.specs.Title.{IsTitle, shortest_title}
-use Rattle.ciborium_ll.specs.Strings.{Kind, Bytes, Text, kind_header, IsString, AreStrings, IsWritable}
-use Rattle.ciborium_ll.specs.Strings.IsString.{definite, indefinite}
-use Rattle.ciborium_ll.specs.Elements.{AreWritable}
-use Rattle.ciborium_ll.specs.Items.{Completes, byte_string, text_string, open_bytes, open_text, tag, array, pairs}
-use Rattle.ciborium_ll.specs.Items.{open_array, open_pairs, AreItems, no_items, more_items, IsItem, IsTakenTitle}
-use Rattle.ciborium_ll.specs.Items.{AreTakenStrings}
-use Rattle.ciborium_ll.specs.Decoding.{Passes, PullsHeader, PullsTitle, IsSteady}
-use Rattle.ciborium_ll.specs.Skipping.{IsTakenBehind, SkipsWhole}
-use Rattle.ciborium_ll.proofs.Lists.{same_front}
-use Rattle.ciborium_ll.proofs.TitleLaws.{IsTitle-shortest, title_in_range}
-use Rattle.ciborium_ll.proofs.StringLaws.{fronts}
-use Rattle.ciborium_ll.proofs.NestLaws.{alone_bytes}
-use Rattle.ciborium_ll.proofs.DecodingLaws.{Passes-none, Passes-pulled, Passes-then}
+use Rattle.ciborium_ll_io.specs.declared.io.Read.{Ghosts}
+use Rattle.ciborium_ll_grammar.specs.declared.hdr.Header.{Header}
+use Rattle.ciborium_ll_grammar.specs.declared.hdr.Header.TheVariants as h
+use Rattle.ciborium_ll_decoder.specs.declared.dec.Decoder.{Decoder}
+use Rattle.ciborium_ll_decoder.specs.declared.dec.Error.{Error}
+use Rattle.ciborium_ll_grammar.specs.Title.{IsTitle, shortest_title}
+use Rattle.ciborium_ll_grammar.specs.Strings.{Kind, Bytes, Text, kind_header, IsString, AreStrings, IsWritable}
+use Rattle.ciborium_ll_grammar.specs.Strings.IsString.{definite, indefinite}
+use Rattle.ciborium_ll_grammar.specs.Elements.{AreWritable}
+use Rattle.ciborium_ll_grammar.specs.Items.{Completes, byte_string, text_string, open_bytes, open_text, tag, array, pairs}
+use Rattle.ciborium_ll_grammar.specs.Items.{open_array, open_pairs, AreItems, no_items, more_items, IsItem, IsTakenTitle}
+use Rattle.ciborium_ll_grammar.specs.Items.{AreTakenStrings}
+use Rattle.ciborium_ll_decoder.specs.Decoding.{Passes, PullsHeader, PullsTitle, IsSteady}
+use Rattle.ciborium_ll_strings.specs.Skipping.{IsTakenBehind, SkipsWhole}
+use Rattle.ciborium_ll_text.proofs.Lists.{same_front}
+use Rattle.ciborium_ll_grammar.proofs.TitleLaws.{IsTitle-shortest, title_in_range}
+use Rattle.ciborium_ll_grammar.proofs.StringLaws.{fronts}
+use Rattle.ciborium_ll_decoder.proofs.NestLaws.{alone_bytes}
+use Rattle.ciborium_ll_decoder.proofs.DecodingLaws.{Passes-none, Passes-pulled, Passes-then}
 use Rattle.cbor_skip.specs.declared.SkipError.{SkipError}
 use Rattle.cbor_skip.specs.declared.SkipError.TheVariants as s
 use Rattle.cbor_skip.specs.declared.remaining.Remaining.{Remaining}

@@ -5,31 +5,31 @@ use Rattle.std.proofs.Common.{inl, inr, arith, append_assoc, length-append}
 use Rattle.std.proofs.lemmas.List.{length-take}
 use Rattle.std.proofs.Math.Seq.{drop-append_seam}
 use Rattle.std.proofs.lemmas.Bool.{cases_lt}
-use Rattle.ciborium_ll.specs.Types.Read.{Ghosts}
-use Rattle.ciborium_ll.specs.Types.Header.{Header}
-use Rattle.ciborium_ll.specs.Types.Header.TheVariants as h
-use Rattle.ciborium_ll.specs.Types.Decoder.{Decoder}
-use Rattle.ciborium_ll.specs.Types.Error.{Error}
-use Rattle.ciborium_ll.specs.Types.Error.TheVariants as e
-use Rattle.ciborium_ll.specs.Title.{IsTitle, BeginsRefused, title_len}
-use Rattle.ciborium_ll.specs.Strings.{Kind, Text, kind_header, IsMisplaced}
-use Rattle.ciborium_ll.specs.Text.{IsCharacters, BeginsNoText}
-use Rattle.ciborium_ll.specs.Faults.{Place, Due, In, BodyDue, IsAtTitle, IsInside, FirstFault, CutTitle, NoTitle}
-use Rattle.ciborium_ll.specs.Faults.{LongTitle, OtherTitle, DamagedText, CutBody, CutDamagedText, Short, Syntax}
-use Rattle.ciborium_ll.specs.Faults.{with_front}
-use Rattle.ciborium_ll.specs.Items.{AreTakenStrings, IsTakenTitle}
-use Rattle.ciborium_ll.specs.Decoding.{view, next_read, Passes, PullsHeader, PullsTitle, IsSteady, RefusesTitle}
-use Rattle.ciborium_ll.specs.Decoding.{RefusesLonger}
-use Rattle.ciborium_ll.specs.Finishing.{EndsBody, RestFails, RestPasses, RestDamaged}
-use Rattle.ciborium_ll.specs.Skipping.{SkipsString, SkipsInside, MeetsNoTitle, MeetsBody}
-use Rattle.ciborium_ll.proofs.TitleLaws.{shortest_no_longer}
-use Rattle.ciborium_ll.proofs.TextLaws.{IsCharacters-nil}
-use Rattle.ciborium_ll.proofs.BodyLaws.{view_none}
-use Rattle.ciborium_ll.proofs.CopyingTold.{consumes_told, next_read_small, first_gone, refused_byte}
-use Rattle.ciborium_ll.proofs.Lists.{first_counted, front_of, front_behind}
-use Rattle.ciborium_ll.proofs.FrontLaws.{no_text_behind}
-use Rattle.ciborium_ll.proofs.NestLaws.{alone_bytes, open_alone}
-use Rattle.ciborium_ll.proofs.DecodingLaws.{Passes-then, Passes-pulled, Passes-none}
+use Rattle.ciborium_ll_io.specs.declared.io.Read.{Ghosts}
+use Rattle.ciborium_ll_grammar.specs.declared.hdr.Header.{Header}
+use Rattle.ciborium_ll_grammar.specs.declared.hdr.Header.TheVariants as h
+use Rattle.ciborium_ll_decoder.specs.declared.dec.Decoder.{Decoder}
+use Rattle.ciborium_ll_decoder.specs.declared.dec.Error.{Error}
+use Rattle.ciborium_ll_decoder.specs.declared.dec.Error.TheVariants as e
+use Rattle.ciborium_ll_grammar.specs.Title.{IsTitle, BeginsRefused, title_len}
+use Rattle.ciborium_ll_grammar.specs.Strings.{Kind, Text, kind_header, IsMisplaced}
+use Rattle.ciborium_ll_text.specs.Text.{IsCharacters, BeginsNoText}
+use Rattle.ciborium_ll_grammar.specs.Faults.{Place, Due, In, BodyDue, IsAtTitle, IsInside, FirstFault, CutTitle, NoTitle}
+use Rattle.ciborium_ll_grammar.specs.Faults.{LongTitle, OtherTitle, DamagedText, CutBody, CutDamagedText, Short, Syntax}
+use Rattle.ciborium_ll_grammar.specs.Faults.{with_front}
+use Rattle.ciborium_ll_grammar.specs.Items.{AreTakenStrings, IsTakenTitle}
+use Rattle.ciborium_ll_decoder.specs.Decoding.{view, next_read, Passes, PullsHeader, PullsTitle, IsSteady, RefusesTitle}
+use Rattle.ciborium_ll_decoder.specs.Decoding.{RefusesLonger}
+use Rattle.ciborium_ll_decoder.specs.Finishing.{EndsBody, RestFails, RestPasses, RestDamaged}
+use Rattle.ciborium_ll_strings.specs.Skipping.{SkipsString, SkipsInside, MeetsNoTitle, MeetsBody}
+use Rattle.ciborium_ll_grammar.proofs.TitleLaws.{shortest_no_longer}
+use Rattle.ciborium_ll_text.proofs.TextLaws.{IsCharacters-nil}
+use Rattle.ciborium_ll_decoder.proofs.BodyLaws.{view_none}
+use Rattle.ciborium_ll_decoder.proofs.CopyingTold.{consumes_told, next_read_small, first_gone, refused_byte}
+use Rattle.ciborium_ll_text.proofs.Lists.{first_counted, front_of, front_behind}
+use Rattle.ciborium_ll_text.proofs.FrontLaws.{no_text_behind}
+use Rattle.ciborium_ll_decoder.proofs.NestLaws.{alone_bytes, open_alone}
+use Rattle.ciborium_ll_decoder.proofs.DecodingLaws.{Passes-then, Passes-pulled, Passes-none}
 use Rattle.cbor_skip.specs.declared.SkipError.{SkipError}
 use Rattle.cbor_skip.specs.declared.SkipError.TheVariants as s
 use Rattle.cbor_skip.specs.Due.{ItemDue, ReachesItem, at_item, at_string, at_body, at_piece}

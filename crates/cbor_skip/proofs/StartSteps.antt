@@ -1,8 +1,8 @@
 -- What a title begins tells its header.
 use Rattle.std.proofs.Common.{◌≡◌, ℕ, Option, [], refl, Bool}
-use Rattle.ciborium_ll.specs.Types.Header.{Header}
-use Rattle.ciborium_ll.specs.Types.Header.TheVariants as h
-use Rattle.ciborium_ll.specs.Items.{Completes, positive, negative, float, simple}
+use Rattle.ciborium_ll_grammar.specs.declared.hdr.Header.{Header}
+use Rattle.ciborium_ll_grammar.specs.declared.hdr.Header.TheVariants as h
+use Rattle.ciborium_ll_grammar.specs.Items.{Completes, positive, negative, float, simple}
 use Rattle.ciborium_ll_grammar.specs.declared.hdr.start.Start.TheVariants as s
 use Rattle.ciborium_ll_grammar.specs.Starts.{start_of}
 use Rattle.cbor_skip.specs.Due.{IsNest}

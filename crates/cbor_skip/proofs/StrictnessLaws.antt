@@ -1,14 +1,14 @@
 -- What is in its shortest spelling is one of any too, and what a decoder's strictness says of the titles that it gave.
 use Rattle.std.proofs.Common.{◌≡◌, ℕ, ◌*◌, Bool, true, false, List, Option, Some, None, refl, sym, ap, ◌∙◌, inl, inr}
-use Rattle.ciborium_ll.specs.Types.Read.{Ghosts}
-use Rattle.ciborium_ll.specs.Types.Header.{Header}
-use Rattle.ciborium_ll.specs.Types.Decoder.{Decoder}
-use Rattle.ciborium_ll.specs.Title.{IsStrictTitle}
-use Rattle.ciborium_ll.specs.Strings.{Kind}
-use Rattle.ciborium_ll.specs.Items.{Completes, positive, negative, float, simple, byte_string, text_string}
-use Rattle.ciborium_ll.specs.Items.{open_bytes, open_text, tag, array, pairs, open_array, open_pairs, AreItems}
-use Rattle.ciborium_ll.specs.Items.{no_items, more_items, IsTakenTitle}
-use Rattle.ciborium_ll.specs.Decoding.{Passes, PullsTitle}
+use Rattle.ciborium_ll_io.specs.declared.io.Read.{Ghosts}
+use Rattle.ciborium_ll_grammar.specs.declared.hdr.Header.{Header}
+use Rattle.ciborium_ll_decoder.specs.declared.dec.Decoder.{Decoder}
+use Rattle.ciborium_ll_grammar.specs.Title.{IsStrictTitle}
+use Rattle.ciborium_ll_grammar.specs.Strings.{Kind}
+use Rattle.ciborium_ll_grammar.specs.Items.{Completes, positive, negative, float, simple, byte_string, text_string}
+use Rattle.ciborium_ll_grammar.specs.Items.{open_bytes, open_text, tag, array, pairs, open_array, open_pairs, AreItems}
+use Rattle.ciborium_ll_grammar.specs.Items.{no_items, more_items, IsTakenTitle}
+use Rattle.ciborium_ll_decoder.specs.Decoding.{Passes, PullsTitle}
 use Rattle.cbor_skip.specs.Due.{ItemDue, here, within, IsTakenInside, may_close}
 use Rattle.cbor_skip.specs.Skipping.{strict_unless_waiting, strictness}
 

@@ -1,13 +1,13 @@
 -- How far a read of one item comes in bytes, and what is due there.
 use Rattle.std.specs.Prelude.{◌≡◌, ℕ, suc, ◌-◌, ◌*◌, ◌<◌, ◌%◌, ◌==◌, Bool, true, false, List, [], ◌++◌, length, Option}
 use Rattle.std.specs.Prelude.{Some, None}
-use Rattle.ciborium_ll.specs.Types.Header.{Header}
-use Rattle.ciborium_ll.specs.Types.Header.TheVariants as h
-use Rattle.ciborium_ll.specs.Title.{IsTitle, shortest_title, title_len}
-use Rattle.ciborium_ll.specs.Strings.{Kind, kind_header}
-use Rattle.ciborium_ll.specs.Elements.{AreWritable}
-use Rattle.ciborium_ll.specs.Items.{AreItems, AreTakenStrings, IsTakenTitle}
-use Rattle.ciborium_ll.specs.Faults.{IsInside, Place, Due, In, BodyDue}
+use Rattle.ciborium_ll_grammar.specs.declared.hdr.Header.{Header}
+use Rattle.ciborium_ll_grammar.specs.declared.hdr.Header.TheVariants as h
+use Rattle.ciborium_ll_grammar.specs.Title.{IsTitle, shortest_title, title_len}
+use Rattle.ciborium_ll_grammar.specs.Strings.{Kind, kind_header}
+use Rattle.ciborium_ll_grammar.specs.Elements.{AreWritable}
+use Rattle.ciborium_ll_grammar.specs.Items.{AreItems, AreTakenStrings, IsTakenTitle}
+use Rattle.ciborium_ll_grammar.specs.Faults.{IsInside, Place, Due, In, BodyDue}
 
 -- A nest: a header behind which items stand, one level deeper. It is that of a tag (RFC 7049, 2.4), an array or a map
 -- (2.1, 2.2.1)

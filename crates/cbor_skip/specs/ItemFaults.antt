@@ -1,10 +1,10 @@
 -- What may stand in front of some bytes, as a read of one item sees it: a whole item, or what stops the read. Each is
 -- said of any spelling, or, where only the shortest one is taken, of that.
 use Rattle.std.specs.Prelude.{◌≡◌, ℕ, false, Bool, List, [], ◌∷◌, ◌++◌}
-use Rattle.ciborium_ll.specs.Types.Header.{Header}
-use Rattle.ciborium_ll.specs.Title.{IsTitle}
-use Rattle.ciborium_ll.specs.Items.{IsItem, IsTakenTitle}
-use Rattle.ciborium_ll.specs.Faults.{Place, Answer, FirstFault}
+use Rattle.ciborium_ll_grammar.specs.declared.hdr.Header.{Header}
+use Rattle.ciborium_ll_grammar.specs.Title.{IsTitle}
+use Rattle.ciborium_ll_grammar.specs.Items.{IsItem, IsTakenTitle}
+use Rattle.ciborium_ll_grammar.specs.Faults.{Place, Answer, FirstFault}
 use Rattle.cbor_skip.specs.Due.{IsNest, ItemDue, ReachesItem}
 
 -- an item to the depth stands in front of the bytes, in any spelling or in the shortest one (RFC 7049, 2.1 to 2.4 and

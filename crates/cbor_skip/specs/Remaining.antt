@@ -1,7 +1,7 @@
 -- What is due yet within a tag, an array or a map, as the loop over its items counts it.
 use Rattle.std.specs.Prelude.{◌≡◌, ℕ, zero, ◌+◌, ◌*◌, Bool, true, false, Some, None}
-use Rattle.ciborium_ll.specs.Types.Header.{Header}
-use Rattle.ciborium_ll.specs.Types.Header.TheVariants as h
+use Rattle.ciborium_ll_grammar.specs.declared.hdr.Header.{Header}
+use Rattle.ciborium_ll_grammar.specs.declared.hdr.Header.TheVariants as h
 use Rattle.cbor_skip.specs.declared.remaining.Remaining.{Remaining}
 use Rattle.cbor_skip.specs.declared.remaining.Remaining.TheVariants as r
 

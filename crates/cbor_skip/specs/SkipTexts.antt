@@ -1,6 +1,6 @@
 -- What the errors of a skip say to a person. Where the text of the reader's fault is open, theirs is too.
 use Rattle.std.specs.Prelude.{ℕ, List, ◌++◌, Option, Some, codes, decimal}
-use Rattle.ciborium_ll.specs.ErrorTexts.{error_text}
+use Rattle.ciborium_ll_decoder.specs.ErrorTexts.{error_text}
 use Rattle.cbor_skip.specs.declared.SkipError.{SkipError}
 use Rattle.cbor_skip.specs.declared.SkipError.TheVariants as s
 

@@ -1,14 +1,14 @@
 -- What `skip_item` and its parts do, over any reader. Bytes are spoken of where the reader tells them.
 use Rattle.std.specs.Prelude.{◌≡◌, ℕ, suc, ◌<◌, ◌⊎◌, Bool, false, List, Option, Some, None, Result, Ok, Err}
-use Rattle.ciborium_ll.specs.Types.Read.{Ghosts}
-use Rattle.ciborium_ll.specs.Types.Header.{Header}
-use Rattle.ciborium_ll.specs.Types.Header.TheVariants as h
-use Rattle.ciborium_ll.specs.Types.Decoder.{Decoder}
-use Rattle.ciborium_ll.specs.Types.Error.{Error}
-use Rattle.ciborium_ll.specs.Strings.{Kind, kind_header}
-use Rattle.ciborium_ll.specs.Items.{Completes, AreItems, IsItem}
-use Rattle.ciborium_ll.specs.Decoding.{IsSteady, MovesOn, Passes, PullsHeader, PullsTitle}
-use Rattle.ciborium_ll.specs.Skipping.{SkipsString}
+use Rattle.ciborium_ll_io.specs.declared.io.Read.{Ghosts}
+use Rattle.ciborium_ll_grammar.specs.declared.hdr.Header.{Header}
+use Rattle.ciborium_ll_grammar.specs.declared.hdr.Header.TheVariants as h
+use Rattle.ciborium_ll_decoder.specs.declared.dec.Decoder.{Decoder}
+use Rattle.ciborium_ll_decoder.specs.declared.dec.Error.{Error}
+use Rattle.ciborium_ll_grammar.specs.Strings.{Kind, kind_header}
+use Rattle.ciborium_ll_grammar.specs.Items.{Completes, AreItems, IsItem}
+use Rattle.ciborium_ll_decoder.specs.Decoding.{IsSteady, MovesOn, Passes, PullsHeader, PullsTitle}
+use Rattle.ciborium_ll_strings.specs.Skipping.{SkipsString}
 use Rattle.cbor_skip.specs.declared.Begun.{Begun}
 use Rattle.cbor_skip.specs.declared.Begun.TheVariants as b
 use Rattle.cbor_skip.specs.declared.SkipError.{SkipError}

@@ -1,10 +1,10 @@
 -- What `skip_item` does where the bytes are told, and the reader fails only where bytes are missing.
 use Rattle.std.specs.Prelude.{◌≡◌, ℕ, ◌+◌, ◌<◌, Bool, true, List, length, drop, Some, None, Result, Ok, Err}
-use Rattle.ciborium_ll.specs.Types.Read.{Ghosts}
-use Rattle.ciborium_ll.specs.Types.Decoder.{Decoder}
-use Rattle.ciborium_ll.specs.Types.Error.TheVariants as e
-use Rattle.ciborium_ll.specs.Faults.{Answer, Short, Syntax}
-use Rattle.ciborium_ll.specs.Decoding.{offset_limit, view, IsSteady}
+use Rattle.ciborium_ll_io.specs.declared.io.Read.{Ghosts}
+use Rattle.ciborium_ll_decoder.specs.declared.dec.Decoder.{Decoder}
+use Rattle.ciborium_ll_decoder.specs.declared.dec.Error.TheVariants as e
+use Rattle.ciborium_ll_grammar.specs.Faults.{Answer, Short, Syntax}
+use Rattle.ciborium_ll_decoder.specs.Decoding.{offset_limit, view, IsSteady}
 use Rattle.cbor_skip.specs.declared.SkipError.{SkipError}
 use Rattle.cbor_skip.specs.declared.SkipError.TheVariants as s
 use Rattle.cbor_skip.specs.ItemFaults.{HasDeepNest, HasEarlyBreak, HasItemFault, ItemInFront}

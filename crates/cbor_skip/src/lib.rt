@@ -1,11 +1,10 @@
 //! One item of CBOR (RFC 7049, 2.1 to 2.4) skipped, whatever it contains. No call takes memory.
 //!
-//! It stands on the contracts of `ciborium_ll`, its laws and the lemmas that it hands on, and returns over any reader,
-//! one that never ends too.
+//! It stands on the contracts of the parts of `ciborium_ll`, and returns over any reader, one that never ends too.
 #![tactic(auto)]
 
 ghost use Rattle.std.specs.Prelude.{◌≡◌, ◌<◌, ◌≤◌, ◌↔◌, ℕ, List, length, IsOk, MatchResult, Some};
-ghost use Rattle.ciborium_ll.specs.Decoding.{MovesOn, offset_of, strict_of, view};
+ghost use Rattle.ciborium_ll_decoder.specs.Decoding.{MovesOn, offset_of, strict_of, view};
 ghost use Rattle.cbor_skip.specs.Due.{IsNest};
 ghost use Rattle.cbor_skip.specs.ItemFaults.{ItemInFront};
 ghost use Rattle.cbor_skip.specs.Skipping.{BeginsNest, IsBegun, SkipsCounted, SkipsOne, SkipsWithin, StopsTitle};
@@ -17,11 +16,11 @@ mod messages;
 mod remaining;
 
 pub use self::remaining::Remaining;
-use ciborium_ll::io::Read;
-use ciborium_ll::laws::{skip_bytes, skip_text};
-use ciborium_ll::{Decoder, Error, Header};
+use ciborium_ll_decoder::dec::{Decoder, Error};
 use ciborium_ll_decoder::title::pull_title;
-use ciborium_ll_grammar::hdr::Start;
+use ciborium_ll_grammar::hdr::{Header, Start};
+use ciborium_ll_io::io::Read;
+use ciborium_ll_strings::{skip_bytes, skip_text};
 
 /// Why no item was skipped.
 #[derive(Debug, Drop)]

@@ -1,11 +1,11 @@
 //! What is due yet within a tag, an array or a map.
 
 ghost use Rattle.std.specs.Prelude.{◌≡◌, ℕ, suc, false};
-ghost use Rattle.ciborium_ll.specs.Types.Header.{Header as AnyHeader};
+ghost use Rattle.ciborium_ll_grammar.specs.declared.hdr.Header.{Header as AnyHeader};
 ghost use Rattle.cbor_skip.specs.Due.{IsNest};
 ghost use Rattle.cbor_skip.specs.Remaining.{IsRemaining, closes, is_done, is_value};
 
-use ciborium_ll::Header;
+use ciborium_ll_grammar::hdr::Header;
 
 /// What is due yet within a tag, an array or a map.
 ///

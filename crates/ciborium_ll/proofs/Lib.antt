@@ -1,7 +1,6 @@
 pub mod DrainLaws
 pub mod DrainTold
 pub mod PiecesWritten
-pub mod SkipLaws
 mod StrictRunLaws
 pub mod StringReads
 pub use Rattle.ciborium_ll_text.proofs.FrontLaws
@@ -23,3 +22,4 @@ pub use Rattle.ciborium_ll_decoder.proofs.BodyLaws
 pub use Rattle.ciborium_ll_decoder.proofs.CopyingTold
 pub use Rattle.ciborium_ll_decoder.proofs.DecodingLaws
 pub use Rattle.ciborium_ll_decoder.proofs.NestLaws
+pub use Rattle.ciborium_ll_strings.proofs.SkipLaws

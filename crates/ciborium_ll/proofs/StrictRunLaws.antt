@@ -16,66 +16,13 @@ use Rattle.ciborium_ll_grammar.proofs.TitleLaws.{shortest_no_longer}
 use Rattle.ciborium_ll_grammar.proofs.TightLaws.{tight_title, tight_run}
 use Rattle.ciborium_ll_grammar.proofs.ElementLaws.{respell_all, pieces-append, spelling-append, open_spelled}
 use Rattle.ciborium_ll_grammar.proofs.ElementLaws.{element_again, one_element, one_run}
+use Rattle.ciborium_ll_strings.proofs.FlatStrings.{strict_title, flat}
 use Rattle.ciborium_ll_decoder.proofs.NestLaws.{alone_bytes, open_alone}
 use Rattle.ciborium_ll_decoder.proofs.SpelledLaws.{meant_append, open_meant}
 use Rattle.ciborium_ll_grammar.proofs.FaultLaws.{meant_left, meant_right}
 use Rattle.ciborium_ll_grammar.proofs.SpelledLaws.{spelled_alone}
 
 -- ---- from the spelling to the titles
-
--- a string's header is no simple value
-not_small : (k : Kind) (o : Option ℕ) → IsSmallSimple (kind_header k o) → ⊥
-not_small Bytes o small = small
-not_small Text o small = small
-
-strict_title : (k : Kind) (o : Option ℕ) (t : List ℕ) → IsTitle t (kind_header k o)
-    → length t ≤ length (shortest_title (kind_header k o)) → IsStrictTitle t (kind_header k o)
-strict_title k o t p l = record { shortest = tight_title t (kind_header k o) p l; meant = not_small k o }
-
--- strings that are no longer than their pieces have no open
-pub flat : (k : Kind) (w : List ℕ) (bs : List (List ℕ)) → AreStrings k w bs → length w ≤ length (spelling (pieces k bs))
-    → AreFlat k w bs
-flat k w bs no_strings l = none
-flat k w bs (more_strings {rest = y} {others = es} (definite {title = t} {body = b} p) ss) l =
-    let x = kind_header k (Some (length b)) in
-    let rest = respell_all k y es ss in
-    let m = rest.shorter in
-    let n = shortest_no_longer t x p in
-    let sizes = length-append (shortest_title x ++ b) (spelling (pieces k es)) in
-    more p (strict_title k (Some (length b)) t p (omega (
-      arith,
-      l,
-      m,
-      sizes,
-      length-append (shortest_title x) b,
-      length-append (t ++ b) y,
-      length-append t b,
-    ))) (flat k y es ss (omega (
-      arith,
-      l,
-      n,
-      sizes,
-      length-append (shortest_title x) b,
-      length-append (t ++ b) y,
-      length-append t b,
-    )))
-flat k w bs (more_strings {rest = y} {others = es} (indefinite {title = t} {strings = z} {bodies = cs} p q) ss) l =
-    let inner = respell_all k z cs q in
-    let rest = respell_all k y es ss in
-    let m = inner.shorter in
-    let n = rest.shorter in
-    let counted = ap length (ap spelling (pieces-append k cs es) ∙ spelling-append (pieces k cs) (pieces k es)) in
-    absurd (omega (
-      arith,
-      l,
-      m,
-      n,
-      counted,
-      length-append (spelling (pieces k cs)) (spelling (pieces k es)),
-      length-append (t ++ (z ++ 0xff ∷ [])) y,
-      length-append t (z ++ 0xff ∷ []),
-      length-append z (0xff ∷ []),
-    ))
 
 strict_element : (w : List ℕ) (ms : List Mark) → IsElement w ms → w ≡ spelling ms → AllByRecursion IsMeant ms
     → IsStrictElement w ms

@@ -1,6 +1,5 @@
 pub mod Drains
 pub mod Pieces
-pub mod Skipping
 pub mod Types
 pub use Rattle.ciborium_ll_text.specs.Cuts
 pub use Rattle.ciborium_ll_text.specs.Rows
@@ -35,3 +34,4 @@ pub use Rattle.ciborium_ll_decoder.specs.Recoding
 pub use Rattle.ciborium_ll_decoder.specs.RecodingTold
 pub use Rattle.ciborium_ll_decoder.specs.Segments
 pub use Rattle.ciborium_ll_decoder.specs.Sides
+pub use Rattle.ciborium_ll_strings.specs.Skipping

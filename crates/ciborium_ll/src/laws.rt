@@ -11,19 +11,18 @@ mod drains;
 mod headers;
 mod pieces;
 mod strict;
-mod whole;
 
 pub use self::copy::copy_headers;
 pub use self::drains::{Drained, End, drain_bytes, drain_text, enough_sizes};
 pub use self::headers::{copied_float, copied_header, pull_again, same_float, same_header};
 pub use self::pieces::{Piece, copy_spelled, spelled_pieces, write_pieces};
 pub use self::strict::strict_run;
-pub use self::whole::{skip_bytes, skip_text};
 pub use ciborium_ll_grammar::laws::{
     cut_titles, fewest_segments, no_fault, one_element, one_fault, one_item, one_run, one_string,
     one_title, refused_first_bytes, run_or_fault, shortest_titles, spelled_run, title_header,
     title_length, written_values,
 };
+pub use ciborium_ll_strings::{skip_bytes, skip_text};
 pub use ciborium_ll_text::laws::{
     damage_by_state, full_cuts, joined_texts, no_rest_of_text, no_text_begins, one_front,
     rest_of_text, same_text, text_by_state, text_or_front,

@@ -150,12 +150,18 @@ impl Minor {
     pub fn is_longer(self, major: u8) -> bool
         ensures { result ≡ longer_parts major self }
     {
+        if major == 7 {
+            return match self {
+                Minor::One(n) => n < 32,
+                _ => false,
+            };
+        }
         match self {
             Minor::Small(_) | Minor::Open => false,
-            Minor::One(n) => n < if major == 7 { 32 } else { 24 },
-            Minor::Two(n) => major != 7 && n < 0x100,
-            Minor::Four(n) => major != 7 && n < 0x1_0000,
-            Minor::Eight(n) => major != 7 && n < 0x1_0000_0000,
+            Minor::One(n) => n < 24,
+            Minor::Two(n) => n < 0x100,
+            Minor::Four(n) => n < 0x1_0000,
+            Minor::Eight(n) => n < 0x1_0000_0000,
         }
     }
 

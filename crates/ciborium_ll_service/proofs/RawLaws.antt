@@ -3,22 +3,22 @@ use Rattle.std.proofs.Common.{◌≡◌, ℕ, false, ◌+◌, ◌≤◌, ◌^◌
 use Rattle.std.proofs.Common.{Ok, Err, OnOk, refl, sym, ap, ◌∙◌, inl, inr, arith}
 use Rattle.std.specs.Io.KnownBytes.{Keeps, append_known}
 use Rattle.std.proofs.lemmas.List.{append-nil}
-use Rattle.ciborium_ll.specs.Types.Read.{Ghosts as Reader}
-use Rattle.ciborium_ll.specs.Types.Write.{Ghosts as Writer}
-use Rattle.ciborium_ll.specs.Types.Decoder.{Decoder}
-use Rattle.ciborium_ll.specs.Types.Error.TheVariants as e
-use Rattle.ciborium_ll.specs.Types.FaultKept.{FaultKept}
-use Rattle.ciborium_ll.specs.Types.ReadFault.{ReadFault}
-use Rattle.ciborium_ll.specs.Types.WriteFault.{WriteFault}
-use Rattle.ciborium_ll.specs.Types.RecodeError.{RecodeError}
-use Rattle.ciborium_ll.specs.Types.RecodeError.TheVariants as r
-use Rattle.ciborium_ll.specs.Elements.{spelling}
-use Rattle.ciborium_ll.specs.Faults.{Syntax}
-use Rattle.ciborium_ll.specs.Decoding.{Passes, view}
-use Rattle.ciborium_ll.specs.Recoding.{CopiesElements}
-use Rattle.ciborium_ll.specs.Sides.{sides}
-use Rattle.ciborium_ll.specs.RecodingTold.{IsTold, RecodesAnyhow, StopsShort}
-use Rattle.ciborium_ll.proofs.BodyLaws.{view_none}
+use Rattle.ciborium_ll_io.specs.declared.io.Read.{Ghosts as Reader}
+use Rattle.ciborium_ll_io.specs.declared.io.Write.{Ghosts as Writer}
+use Rattle.ciborium_ll_decoder.specs.declared.dec.Decoder.{Decoder}
+use Rattle.ciborium_ll_decoder.specs.declared.dec.Error.TheVariants as e
+use Rattle.ciborium_ll_io.specs.declared.io.buffered.FaultKept.{FaultKept}
+use Rattle.ciborium_ll_io.specs.declared.io.streams.ReadFault.{ReadFault}
+use Rattle.ciborium_ll_io.specs.declared.io.streams.WriteFault.{WriteFault}
+use Rattle.ciborium_ll_decoder.specs.declared.recode.RecodeError.{RecodeError}
+use Rattle.ciborium_ll_decoder.specs.declared.recode.RecodeError.TheVariants as r
+use Rattle.ciborium_ll_grammar.specs.Elements.{spelling}
+use Rattle.ciborium_ll_grammar.specs.Faults.{Syntax}
+use Rattle.ciborium_ll_decoder.specs.Decoding.{Passes, view}
+use Rattle.ciborium_ll_decoder.specs.Recoding.{CopiesElements}
+use Rattle.ciborium_ll_decoder.specs.Sides.{sides}
+use Rattle.ciborium_ll_decoder.specs.RecodingTold.{IsTold, RecodesAnyhow, StopsShort}
+use Rattle.ciborium_ll_decoder.proofs.BodyLaws.{view_none}
 use Rattle.ciborium_ll_service.specs.Restoring.{Restores, RestoresCopy, RestoresFlush}
 use Rattle.ciborium_ll_service.specs.Raw.{CopiesRaw, ReadsShort, TellsFlushed, WritesShort}
 

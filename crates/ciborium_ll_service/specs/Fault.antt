@@ -4,12 +4,12 @@ use Rattle.ciborium_ll_service.specs.declared.fault.Fault.{Fault}
 use Rattle.ciborium_ll_service.specs.declared.fault.Fault.TheVariants as f
 use Rattle.ciborium_ll_service.specs.declared.service.ToolError.{ToolError}
 use Rattle.ciborium_ll_service.specs.declared.service.ToolError.TheVariants as e
-use Rattle.ciborium_ll.specs.Types.Error.TheVariants as d
-use Rattle.ciborium_ll.specs.Types.ReadFault.{ReadFault}
-use Rattle.ciborium_ll.specs.Types.WriteFault.{WriteFault}
-use Rattle.ciborium_ll.specs.Types.WriteFault.TheVariants as w
-use Rattle.ciborium_ll.specs.Types.RecodeError.{RecodeError}
-use Rattle.ciborium_ll.specs.Types.RecodeError.TheVariants as r
+use Rattle.ciborium_ll_decoder.specs.declared.dec.Error.TheVariants as d
+use Rattle.ciborium_ll_io.specs.declared.io.streams.ReadFault.{ReadFault}
+use Rattle.ciborium_ll_io.specs.declared.io.streams.WriteFault.{WriteFault}
+use Rattle.ciborium_ll_io.specs.declared.io.streams.WriteFault.TheVariants as w
+use Rattle.ciborium_ll_decoder.specs.declared.recode.RecodeError.{RecodeError}
+use Rattle.ciborium_ll_decoder.specs.declared.recode.RecodeError.TheVariants as r
 
 -- the fault of an error that ended a run
 abbrev pub fault_of : ToolError → Fault

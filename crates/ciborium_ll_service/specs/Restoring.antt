@@ -1,11 +1,11 @@
 -- The faults that the reader and the writer of a buffered copy keep, put back into the error of the copy.
 use Rattle.std.specs.Prelude.{◌≡◌, IfSome, Option, Result, Ok, Err}
-use Rattle.ciborium_ll.specs.Types.Error.TheVariants as e
-use Rattle.ciborium_ll.specs.Types.FaultKept.{FaultKept}
-use Rattle.ciborium_ll.specs.Types.ReadFault.{ReadFault}
-use Rattle.ciborium_ll.specs.Types.WriteFault.{WriteFault}
-use Rattle.ciborium_ll.specs.Types.RecodeError.{RecodeError}
-use Rattle.ciborium_ll.specs.Types.RecodeError.TheVariants as r
+use Rattle.ciborium_ll_decoder.specs.declared.dec.Error.TheVariants as e
+use Rattle.ciborium_ll_io.specs.declared.io.buffered.FaultKept.{FaultKept}
+use Rattle.ciborium_ll_io.specs.declared.io.streams.ReadFault.{ReadFault}
+use Rattle.ciborium_ll_io.specs.declared.io.streams.WriteFault.{WriteFault}
+use Rattle.ciborium_ll_decoder.specs.declared.recode.RecodeError.{RecodeError}
+use Rattle.ciborium_ll_decoder.specs.declared.recode.RecodeError.TheVariants as r
 
 -- the error of a copy, with a fault of std in the place of each that was kept aside: the one that was kept, where one
 -- was

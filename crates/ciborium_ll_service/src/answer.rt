@@ -2,8 +2,9 @@
 
 use crate::service::ToolError;
 use crate::{copy, skip, string, value};
-use ciborium_ll::io::SliceReader;
-use ciborium_ll::{Decoder, Error, Float, Header};
+use ciborium_ll_decoder::dec::{Decoder, Error};
+use ciborium_ll_grammar::hdr::{Float, Header};
+use ciborium_ll_io::io::{EndOfFile, SliceReader};
 use ciborium_ll_requests::request::Request;
 use std::alloc::Global;
 use std::fmt;
@@ -44,18 +45,20 @@ fn heads<T: Write>(bytes: &[u8], sink: &mut T) -> fmt::Result {
         let offset = decoder.offset();
         match decoder.pull() {
             Ok(header) => writeln!(sink, "{}", Head { offset, header })?,
-            Err(error) => {
-                let last = match error {
-                    Error::Syntax(place) => Last::Syntax(place),
-                    Error::Io(_) if decoder.offset() == offset => Last::End(offset),
-                    Error::Io(_) => Last::Short(decoder.offset()),
-                    Error::TooLong | Error::Waiting => Last::Room,
-                };
-                return writeln!(sink, "{last}");
-            }
+            Err(error) => return writeln!(sink, "{}", ended(error, offset, decoder.offset())),
         }
     }
     Ok(())
+}
+
+/// What ended the titles: the error of a pull that began at one offset and ended at another.
+fn ended(error: Error<EndOfFile>, began: usize, offset: usize) -> Last {
+    match error {
+        Error::Syntax(place) => Last::Syntax(place),
+        Error::Io(_) if offset == began => Last::End(offset),
+        Error::Io(_) => Last::Short(offset),
+        Error::TooLong | Error::Waiting => Last::Room,
+    }
 }
 
 /// What ended an answer, and at which offset.

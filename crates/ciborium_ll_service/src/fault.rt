@@ -5,8 +5,9 @@ ghost use Rattle.ciborium_ll_service.specs.Fault.{fault_of, fault_of_copy};
 
 use crate::memory::OutOfMemory;
 use crate::service::ToolError;
-use ciborium_ll::io::{ReadFault, WriteFault};
-use ciborium_ll::{Error, RecodeError};
+use ciborium_ll_decoder::dec::Error;
+use ciborium_ll_decoder::recode::RecodeError;
+use ciborium_ll_io::io::{ReadFault, WriteFault};
 use std::{error, fmt};
 
 /// Why the program failed, printed as one line.

@@ -2,9 +2,9 @@
 
 ghost use Rattle.std.specs.Prelude.{◌≡◌, ◌+◌, ◌<◌, [], Some, None, IsOk, OnOk, OnErr, length, vec_capacity, vec_len};
 ghost use Rattle.std.specs.Io.KnownBytes.{Appends};
-ghost use Rattle.ciborium_ll.specs.Transfer.{AppendsFront};
+ghost use Rattle.ciborium_ll_io.specs.Transfer.{AppendsFront};
 
-use ciborium_ll::io::{Failures, Write};
+use ciborium_ll_io::io::{Failures, Write};
 use std::alloc::Global;
 
 /// A growth of the memory was refused. Nothing was written.

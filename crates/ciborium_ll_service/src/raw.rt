@@ -5,11 +5,12 @@ ghost use Rattle.ciborium_ll_service.specs.Raw.{CopiesRaw, Tells, TellsFlushed, 
 ghost use Rattle.ciborium_ll_service.specs.Restoring.{Restores, RestoresCopy, RestoresFlush};
 
 use crate::copy::BUFFER_SIZE;
-use ciborium_ll::io::{
+use ciborium_ll_decoder::dec::{Decoder, Error};
+use ciborium_ll_decoder::recode::{RecodeError, recode};
+use ciborium_ll_encoder::enc::Encoder;
+use ciborium_ll_io::io::{
     BufferedReader, BufferedWriter, FaultKept, ReadFault, StdReader, StdWriter, Write, WriteFault,
 };
-use ciborium_ll::recode::recode;
-use ciborium_ll::{Decoder, Encoder, Error, RecodeError};
 use std::io;
 
 /// How many bytes a buffered copy reads ahead, and how many it keeps back, at most.

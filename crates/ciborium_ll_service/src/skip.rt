@@ -5,8 +5,8 @@ ghost use Rattle.std.specs.Prelude.{◌≤◌};
 use crate::answer::Last;
 use crate::copy::BUFFER_SIZE;
 use cbor_skip::{SkipError, skip_item};
-use ciborium_ll::io::SliceReader;
-use ciborium_ll::{Decoder, Error};
+use ciborium_ll_decoder::dec::{Decoder, Error};
+use ciborium_ll_io::io::SliceReader;
 use std::fmt;
 use std::fmt::Write;
 

@@ -1,12 +1,14 @@
 //! Strings that are read chunk by chunk.
 
 ghost use Rattle.std.specs.Prelude.{◌≡◌};
-ghost use Rattle.ciborium_ll.specs.Chunks.{segment_reference};
-ghost use Rattle.ciborium_ll.specs.Segments.{string_reference};
+ghost use Rattle.ciborium_ll_decoder.specs.Chunks.{segment_reference};
+ghost use Rattle.ciborium_ll_decoder.specs.Segments.{string_reference};
 
 use crate::answer::Last;
-use ciborium_ll::io::{Read, SliceReader};
-use ciborium_ll::{Bytes, Chunked, Decoder, Error, Header, Segment, Segments, Text};
+use ciborium_ll_decoder::dec::{Decoder, Error};
+use ciborium_ll_decoder::seg::{Bytes, Chunked, Segment, Segments, Text};
+use ciborium_ll_grammar::hdr::Header;
+use ciborium_ll_io::io::{Read, SliceReader};
 use ciborium_ll_requests::word::word_of;
 use std::alloc::Global;
 use std::fmt;

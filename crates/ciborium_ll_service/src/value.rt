@@ -1,12 +1,12 @@
 //! Values that are written as strings.
 
 ghost use Rattle.std.specs.Prelude.{IfOk};
-ghost use Rattle.ciborium_ll.specs.Strings.{Bytes as byte_strings, Text as text_strings};
+ghost use Rattle.ciborium_ll_grammar.specs.Strings.{Bytes as byte_strings, Text as text_strings};
 ghost use Rattle.ciborium_ll_service.specs.Value.{IsValueSpelling};
 
 use crate::memory::{OutOfMemory, VecWriter};
 use crate::service::ToolError;
-use ciborium_ll::Encoder;
+use ciborium_ll_encoder::enc::Encoder;
 use ciborium_ll_requests::word::word_of;
 use std::alloc::Global;
 use std::fmt::Write;

@@ -1,6 +1,6 @@
 use Rattle.std.proofs.Common.{◌≡◌, ◌-◌, suc, true, false, Ok, Err, refl, arith, rules, length}
 use Rattle.std.proofs.lemmas.Result.{err_from_is_err_and}
-use Rattle.ciborium_ll.proofs.DecodingLaws.{MovesOn-none, MovesOn-then}
+use Rattle.ciborium_ll_decoder.proofs.DecodingLaws.{MovesOn-none, MovesOn-then}
 use Rattle.cbor_skip.specs.declared.SkipError.TheVariants as s
 use Rattle.cbor_skip.specs.Remaining.{is_done, closes}
 use Rattle.cbor_skip.proofs.ItemRuns.{counted_nest, counted_within, item_decides, nest_decides, none_due}
@@ -191,7 +191,7 @@ pub skip_within-returns-in-Ok-Break-clause-skipped : goal.skip_within-returns-in
 skip_within-returns-in-Ok-Break-clause-skipped g t c =
     let may : closes c.items.remaining ≡ false = search rules in
     let some : is_done c.items.remaining ≡ false = search rules in
-    stops_within g.R.Read c.items.invariant.so_far some c.items.auto.buffer (stops_here g.R.Read (record {
+    stops_within g.R.Read {new = c.skip_title.new.decoder} c.items.invariant.so_far some c.items.auto.buffer (stops_here g.R.Read (record {
       not_closable = may;
       place = c.offset-place.ensures.value;
       pulled = rw (c.offset-place.ensures.same, c.in-Ok-Break.field-0-is) at c.in-Ok-Break.ensures.begun;
@@ -201,7 +201,7 @@ pub skip_within-returns-then-depth-eq0-clause-skipped : goal.skip_within-returns
 skip_within-returns-then-depth-eq0-clause-skipped g t c =
     let some : is_done c.items.remaining ≡ false = search rules in
     let nest = rw (c.offset-place.ensures.same, c.in-Ok-Items.field-0-is) at c.in-Ok-Items.ensures.begun in
-    stops_within g.R.Read c.items.invariant.so_far some c.items.auto.buffer (stops_here g.R.Read (record {
+    stops_within g.R.Read {new = c.skip_title.new.decoder} c.items.invariant.so_far some c.items.auto.buffer (stops_here g.R.Read (record {
       none_left = c.if-depth-eq0.true;
       place = c.offset-place.ensures.value;
       header = nest.0;
@@ -213,7 +213,7 @@ pub skip_within-returns-then-depth-eq0-2-clause-skipped : goal.skip_within-retur
 skip_within-returns-then-depth-eq0-2-clause-skipped g t c =
     let some : is_done c.items.remaining ≡ false = search rules in
     let nest = rw (c.offset-place.ensures.same, c.in-Ok-Nest.field-0-is) at c.in-Ok-Nest.ensures.begun in
-    stops_within g.R.Read c.items.invariant.so_far some c.items.auto.buffer (stops_here g.R.Read (record {
+    stops_within g.R.Read {new = c.skip_title.new.decoder} c.items.invariant.so_far some c.items.auto.buffer (stops_here g.R.Read (record {
       none_left = c.if-depth-eq0-2.true;
       place = c.offset-place.ensures.value;
       header = c.in-Ok-Nest.nest;

@@ -1,5 +1,5 @@
 use Rattle.std.proofs.Common.{◌-◌, ◌^◌, ◌≤◌, length}
-use Rattle.ciborium_ll.specs.Decoding.{MovesOn}
+use Rattle.ciborium_ll_decoder.specs.Decoding.{MovesOn}
 use Rattle.cbor_skip.proofs.ItemRuns.{Decides}
 use Rattle.cbor_skip.proofs.ItemSteps.{SoFar}
 use Rattle.cbor_skip.proofs.+nests.Given as goal

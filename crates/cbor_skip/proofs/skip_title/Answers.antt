@@ -1,9 +1,9 @@
 use Rattle.std.proofs.Common.{◌≡◌, ◌∙◌, Err, sym, inr, arith}
 use Rattle.std.proofs.lemmas.Result.{err_from_is_err_and}
-use Rattle.ciborium_ll.specs.Types.Header.TheVariants as h
-use Rattle.ciborium_ll.specs.Strings.{Bytes, Text}
-use Rattle.ciborium_ll.proofs.NestLaws.{title_some}
-use Rattle.ciborium_ll.proofs.TitleLaws.{shortest_no_longer}
+use Rattle.ciborium_ll_grammar.specs.declared.hdr.Header.TheVariants as h
+use Rattle.ciborium_ll_grammar.specs.Strings.{Bytes, Text}
+use Rattle.ciborium_ll_decoder.proofs.NestLaws.{title_some}
+use Rattle.ciborium_ll_grammar.proofs.TitleLaws.{shortest_no_longer}
 use Rattle.cbor_skip.specs.Skipping.{strictness}
 use Rattle.cbor_skip.proofs.ItemSteps.{reads_plain, reads_string}
 use Rattle.cbor_skip.proofs.StartSteps.{bytes_start, text_start, value_start}

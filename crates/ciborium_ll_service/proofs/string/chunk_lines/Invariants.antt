@@ -1,5 +1,5 @@
 use Rattle.std.proofs.Common.{◌≡◌, ◌+◌, ◌*◌, cond}
-use Rattle.ciborium_ll.specs.Chunks.{left_of}
+use Rattle.ciborium_ll_decoder.specs.Chunks.{left_of}
 use Rattle.ciborium_ll_service.proofs.string.chunk_lines.Given as goal
 
 abbrev pub invariant-chunks : goal.invariant-chunks

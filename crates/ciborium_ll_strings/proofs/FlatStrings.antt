@@ -1,0 +1,66 @@
+-- Strings that are no longer than the spelling of their bodies have no open.
+use Rattle.std.proofs.Common.{ℕ, ◌≤◌, List, [], ◌∷◌, ◌++◌, length, Option, Some, ap, ◌∙◌, arith, length-append}
+use Rattle.ciborium_ll_grammar.specs.Title.{IsTitle, IsStrictTitle, IsSmallSimple, shortest_title}
+use Rattle.ciborium_ll_grammar.specs.Strings.{Kind, Bytes, Text, kind_header, AreStrings}
+use Rattle.ciborium_ll_grammar.specs.Strings.{none as no_strings, more as more_strings}
+use Rattle.ciborium_ll_grammar.specs.Strings.IsString.{definite, indefinite}
+use Rattle.ciborium_ll_grammar.specs.Elements.{pieces, spelling}
+use Rattle.ciborium_ll_grammar.specs.StrictElements.{AreFlat, none, more}
+use Rattle.ciborium_ll_grammar.proofs.TitleLaws.{shortest_no_longer}
+use Rattle.ciborium_ll_grammar.proofs.TightLaws.{tight_title}
+use Rattle.ciborium_ll_grammar.proofs.ElementLaws.{respell_all, pieces-append, spelling-append}
+
+-- a string's header is no simple value
+not_small : (k : Kind) (o : Option ℕ) → IsSmallSimple (kind_header k o) → ⊥
+not_small Bytes o small = small
+not_small Text o small = small
+
+-- a title of a string that is no longer than its header's shortest one is strict
+pub strict_title : (k : Kind) (o : Option ℕ) (t : List ℕ) → IsTitle t (kind_header k o)
+    → length t ≤ length (shortest_title (kind_header k o)) → IsStrictTitle t (kind_header k o)
+strict_title k o t p l = record { shortest = tight_title t (kind_header k o) p l; meant = not_small k o }
+
+-- strings that are no longer than their pieces have no open
+pub flat : (k : Kind) (w : List ℕ) (bs : List (List ℕ)) → AreStrings k w bs → length w ≤ length (spelling (pieces k bs))
+    → AreFlat k w bs
+flat k w bs no_strings l = none
+flat k w bs (more_strings {rest = y} {others = es} (definite {title = t} {body = b} p) ss) l =
+    let x = kind_header k (Some (length b)) in
+    let rest = respell_all k y es ss in
+    let m = rest.shorter in
+    let n = shortest_no_longer t x p in
+    let sizes = length-append (shortest_title x ++ b) (spelling (pieces k es)) in
+    more p (strict_title k (Some (length b)) t p (omega (
+      arith,
+      l,
+      m,
+      sizes,
+      length-append (shortest_title x) b,
+      length-append (t ++ b) y,
+      length-append t b,
+    ))) (flat k y es ss (omega (
+      arith,
+      l,
+      n,
+      sizes,
+      length-append (shortest_title x) b,
+      length-append (t ++ b) y,
+      length-append t b,
+    )))
+flat k w bs (more_strings {rest = y} {others = es} (indefinite {title = t} {strings = z} {bodies = cs} p q) ss) l =
+    let inner = respell_all k z cs q in
+    let rest = respell_all k y es ss in
+    let m = inner.shorter in
+    let n = rest.shorter in
+    let counted = ap length (ap spelling (pieces-append k cs es) ∙ spelling-append (pieces k cs) (pieces k es)) in
+    absurd (omega (
+      arith,
+      l,
+      m,
+      n,
+      counted,
+      length-append (spelling (pieces k cs)) (spelling (pieces k es)),
+      length-append (t ++ (z ++ 0xff ∷ [])) y,
+      length-append t (z ++ 0xff ∷ []),
+      length-append z (0xff ∷ []),
+    ))

@@ -1,0 +1,2 @@
+pub mod FlatStrings
+pub mod SkipLaws
