@@ -11,7 +11,7 @@ use Rattle.ciborium_ll_grammar.specs.declared.hdr.Header.TheVariants as h
 use Rattle.ciborium_ll_decoder.specs.declared.dec.Decoder.{Decoder}
 use Rattle.ciborium_ll_decoder.specs.declared.dec.Error.{Error}
 use Rattle.ciborium_ll_decoder.specs.declared.dec.Error.TheVariants as e
-use Rattle.ciborium_ll_grammar.specs.Title.{IsTitle, BeginsRefused, title_len}
+use Rattle.ciborium_ll_grammar.specs.Title.{BeginsRefused, title_len}
 use Rattle.ciborium_ll_grammar.specs.Strings.{Kind, Text, kind_header, IsMisplaced}
 use Rattle.ciborium_ll_text.specs.Text.{IsCharacters, BeginsNoText}
 use Rattle.ciborium_ll_grammar.specs.Faults.{Place, Due, In, BodyDue, IsAtTitle, IsInside, FirstFault, CutTitle, NoTitle}

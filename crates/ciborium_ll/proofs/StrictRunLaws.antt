@@ -1,9 +1,9 @@
 -- Elements that are their own spelling are those whose titles are all strict, with no open inside another one.
-use Rattle.std.proofs.Common.{◌≡◌, ℕ, ◌≤◌, ◌↔◌, true, false, List, [], ◌∷◌, ◌++◌, length, Option, Some, None, refl, sym, ap, subst}
+use Rattle.std.proofs.Common.{◌≡◌, ℕ, ◌≤◌, ◌↔◌, true, false, List, [], ◌∷◌, ◌++◌, length, Some, None, refl, sym, ap, subst}
 use Rattle.std.proofs.Common.{◌∙◌, arith, append-nil, length-append}
 use Rattle.std.specs.List.{AllByRecursion}
-use Rattle.ciborium_ll_grammar.specs.Title.{IsTitle, IsStrictTitle, IsSmallSimple, shortest_title}
-use Rattle.ciborium_ll_grammar.specs.Strings.{Kind, Bytes, Text, kind_header, AreStrings}
+use Rattle.ciborium_ll_grammar.specs.Title.{shortest_title}
+use Rattle.ciborium_ll_grammar.specs.Strings.{Kind, kind_header, AreStrings}
 use Rattle.ciborium_ll_grammar.specs.Strings.{none as no_strings, more as more_strings}
 use Rattle.ciborium_ll_grammar.specs.Strings.IsString.{definite, indefinite}
 use Rattle.ciborium_ll_grammar.specs.Elements.{Mark, IsMeant, pieces, spelling, body_spelling, IsElement, IsRun, string}
@@ -13,8 +13,8 @@ use Rattle.ciborium_ll_grammar.specs.Faults.{RunInFront}
 use Rattle.ciborium_ll_grammar.specs.StrictElements.{AreFlat, none, more, IsStrictElement, plain, whole, parts}
 use Rattle.ciborium_ll_grammar.specs.StrictElements.{AreStrictElements, done, next}
 use Rattle.ciborium_ll_grammar.proofs.TitleLaws.{shortest_no_longer}
-use Rattle.ciborium_ll_grammar.proofs.TightLaws.{tight_title, tight_run}
-use Rattle.ciborium_ll_grammar.proofs.ElementLaws.{respell_all, pieces-append, spelling-append, open_spelled}
+use Rattle.ciborium_ll_grammar.proofs.TightLaws.{tight_run}
+use Rattle.ciborium_ll_grammar.proofs.ElementLaws.{spelling-append, open_spelled}
 use Rattle.ciborium_ll_grammar.proofs.ElementLaws.{element_again, one_element, one_run}
 use Rattle.ciborium_ll_strings.proofs.FlatStrings.{strict_title, flat}
 use Rattle.ciborium_ll_decoder.proofs.NestLaws.{alone_bytes, open_alone}

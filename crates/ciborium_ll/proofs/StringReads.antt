@@ -1,5 +1,5 @@
 -- A string that is read body by body, by a caller's loop over `advance`: the bodies that were read, and the bytes.
-use Rattle.std.proofs.Common.{◌≡◌, Bool, ℕ, zero, ◌⊎◌, List, [], ◌∷◌, ◌++◌, length, Option, Some, None, IsTrue, Ok}
+use Rattle.std.proofs.Common.{◌≡◌, Bool, ℕ, ◌⊎◌, List, [], ◌∷◌, ◌++◌, length, Option, Some, None, IsTrue, Ok}
 use Rattle.std.proofs.Common.{Result, refl, sym, ap, subst, ◌∙◌, inl, inr, arith, append_assoc}
 use Rattle.ciborium_ll_io.specs.declared.io.Read.{Ghosts as Reader}
 use Rattle.ciborium_ll_grammar.specs.declared.hdr.Header.TheVariants as h

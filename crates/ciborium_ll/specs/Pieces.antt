@@ -1,5 +1,5 @@
 -- Pieces: what is written by one call, a header or a value of bytes or of text (RFC 7049, 2.1).
-use Rattle.std.specs.Prelude.{◌≡◌, ℕ, List, [], ◌∷◌, ◌++◌, length, Option, Some, Result, IsOk}
+use Rattle.std.specs.Prelude.{◌≡◌, ℕ, List, [], ◌∷◌, ◌++◌, length, Option, Some, Result, Ok, Err, IsOk}
 use Rattle.ciborium_ll_io.specs.declared.io.Read.{Ghosts as Reader}
 use Rattle.ciborium_ll_io.specs.declared.io.Write.{Ghosts}
 use Rattle.ciborium_ll_decoder.specs.declared.dec.Decoder.{Decoder}
@@ -10,7 +10,7 @@ use Rattle.ciborium_ll_grammar.specs.Strings.{Kind, Bytes, Text}
 use Rattle.ciborium_ll_grammar.specs.Elements.{Mark, Plain, IsPlain, IsElement, IsRun, spelling}
 use Rattle.ciborium_ll_grammar.specs.Values.{value_limit, IsWritten, segments}
 use Rattle.ciborium_ll_decoder.specs.Decoding.{view}
-use Rattle.ciborium_ll_encoder.specs.Encoding.{WritesBytes}
+use Rattle.ciborium_ll_encoder.specs.Encoding.{WritesAll, WritesBytes, WritesFront}
 
 -- a piece is what one call writes. One that is a header begins no string: strings are written as values of bytes and of
 -- text
@@ -44,30 +44,37 @@ pub record AreSpelled (pieces : List Piece) : Type 0 where
   pub have_marks : HaveMarks pieces marks
   pub run : IsRun (length pieces) (spelling marks) marks
 
--- marks of one piece, whose spelling is an element
-pub record IsSpelled (piece : Piece) : Type 0 where
-  pub marks : List Mark
-  pub is_piece : IsPiece piece marks
-  pub element : IsElement (spelling marks) marks
-
--- marks of a value, whose spelling is an element
-pub record HasMarks (kind : Kind) (segment : Option ℕ) (value : List ℕ) : Type 0 where
-  pub marks : List Mark
-  pub is_value : IsValue kind segment value marks
-  pub element : IsElement (spelling marks) marks
-
 module _ {W F : Type 0} (sink : Ghosts W F) where
-  -- the spelling of one piece was written, or a beginning of it
-  pub record WritesPiece {T : Type 0} (piece : Piece) (old : W) (result : Result T F) (new : W) : Type 0 where
+  -- the spelling of one piece, which is one element, was written, or a beginning of it; the writer stays on its slice
+  pub record WritesMarked {T : Type 0} (are_marks : List Mark → Type 0) (old : W) (result : Result T F) (new : W) :
+      Type 0 where
+    pub marks : List Mark
+    pub are : are_marks marks
+    pub element : IsElement (spelling marks) marks
+    pub bytes : WritesBytes sink old result (spelling marks) new
+    pub target : sink.target new ≡ sink.target old
+
+  -- each of the pieces was written: an element for each
+  pub record WritesEach (pieces : List Piece) (old new : W) : Type 0 where
+    pub spelled : AreSpelled pieces
+    pub written : WritesAll sink old (spelling spelled.marks) new
+
+  -- the writer failed at one of the pieces: those in front of it were written, and of its spelling a beginning
+  pub record StopsAtPiece (pieces : List Piece) (old new : W) : Type 0 where
+    pub front : List Piece
+    pub piece : Piece
+    pub behind : List Piece
+    pub are : pieces ≡ front ++ piece ∷ behind
+    pub between : W
+    pub written : WritesEach front old between
     pub marks : List Mark
     pub is_piece : IsPiece piece marks
-    pub bytes : WritesBytes sink old result (spelling marks) new
+    pub stopped : WritesFront sink between (spelling marks) new
 
-  -- what `write_pieces` does, by its answer: the spelling of the pieces, which is an element for each, was written, or
-  -- a beginning of it
-  pub record WritesElements {T : Type 0} (pieces : List Piece) (old : W) (result : Result T F) (new : W) : Type 0 where
-    pub spelled : AreSpelled pieces
-    pub bytes : WritesBytes sink old result (spelling spelled.marks) new
+  -- what `write_pieces` does, by its answer: all pieces are written, or those in front of one
+  abbrev pub WritesElements : {T : Type 0} → List Piece → W → Result T F → W → Type 0
+  WritesElements pieces old (Ok done) new = WritesEach pieces old new
+  WritesElements pieces old (Err fault) new = StopsAtPiece pieces old new
 
   -- the same; the writer stays on its slice
   pub record WritesPieceList {T : Type 0} (pieces : List Piece) (old : W) (result : Result T F) (new : W) : Type 0 where

@@ -14,8 +14,8 @@ mod strict;
 
 pub use self::copy::copy_headers;
 pub use self::drains::{Drained, End, drain_bytes, drain_text, enough_sizes};
-pub use self::headers::{copied_float, copied_header, pull_again, same_float, same_header};
-pub use self::pieces::{Piece, copy_spelled, spelled_pieces, write_pieces};
+pub use self::headers::{pull_again, same_header};
+pub use self::pieces::{Piece, copy_spelled, write_pieces};
 pub use self::strict::strict_run;
 pub use ciborium_ll_grammar::laws::{
     cut_titles, fewest_segments, no_fault, one_element, one_fault, one_item, one_run, one_string,

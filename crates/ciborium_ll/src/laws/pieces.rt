@@ -1,16 +1,14 @@
 //! Headers and values written one by one.
 
-ghost use Rattle.std.specs.Prelude.{◌≡◌, ◌≤◌, ◌++◌, ℕ, false, List, length, Option};
+ghost use Rattle.std.specs.Prelude.{◌≡◌, ◌≤◌, ◌∷◌, ◌++◌, [], ℕ, false, List, length};
 ghost use Rattle.std.specs.List.{All};
 ghost use Rattle.ciborium_ll_grammar.specs.Strings.{Bytes, Text};
-ghost use Rattle.ciborium_ll_grammar.specs.Title.{IsInRange};
-ghost use Rattle.ciborium_ll_grammar.specs.Elements.{Mark, IsRun, spelling};
+ghost use Rattle.ciborium_ll_grammar.specs.Elements.{Mark, Plain, IsPlain, IsRun, spelling};
 ghost use Rattle.ciborium_ll_encoder.specs.Encoding.{writer_of};
 ghost use Rattle.ciborium_ll_decoder.specs.Recoding.{Recodes};
 ghost use Rattle.ciborium_ll_decoder.specs.Sides.{sides_of};
 ghost use Rattle.ciborium_ll_decoder.specs.RecodingTold.{IsReady};
-ghost use Rattle.ciborium_ll.specs.Pieces.{AreSpelled, CopiesSame, HasMarks, IsPlainPiece, IsSpelled, WritesPiece};
-ghost use Rattle.ciborium_ll.specs.Pieces.{WritesPieceList};
+ghost use Rattle.ciborium_ll.specs.Pieces.{CopiesSame, IsPiece, IsPlainPiece, IsValue, WritesMarked, WritesPieceList};
 
 use ciborium_ll_decoder::dec::Decoder;
 use ciborium_ll_decoder::recode::{RecodeError, recode};
@@ -29,52 +27,48 @@ pub enum Piece<'a> {
     Text(&'a str, Option<usize>),
 }
 
-/// A value of bytes has marks under each limit, and their spelling is one element.
-fn marked_bytes(value: &[u8])
-    ensures { (segment : Option ℕ) → HasMarks Bytes segment value.now }
-{}
-
-/// A value of text has marks under each limit, and their spelling is one element.
-fn marked_text(value: &str)
-    ensures { (segment : Option ℕ) → HasMarks Text segment value.now }
-{}
-
-/// The numbers of a header are those of its type.
-fn ranged(header: Header)
-    ensures { IsInRange header }
-{}
-
-/// Each piece has marks, and their spelling is one element.
-fn spelled_piece(piece: &Piece<'_>)
-    requires { IsPlainPiece piece.now }
-    ensures { IsSpelled piece.now }
+/// Writes a header that begins no string.
+fn write_header<W: Write>(encoder: &mut Encoder<W>, header: Header) -> Result<(), W::Error>
+    requires { IsPlain header }
+    ensures { WritesMarked W.Write (λ marks. marks ≡ Plain header ∷ []) (writer_of encoder.old) result
+        (writer_of encoder.new) }
 {
-    match piece {
-        Piece::Header(header) => ranged(*header),
-        Piece::Bytes(value, _) => marked_bytes(value),
-        Piece::Text(value, _) => marked_text(value),
-    }
+    encoder.push(header)
 }
 
-/// Pieces have marks, and their spelling is an element for each piece.
-pub fn spelled_pieces(pieces: &[Piece<'_>])
-    requires { All IsPlainPiece pieces.now }
-    ensures { AreSpelled pieces.now }
+/// Writes a value of bytes.
+fn write_bytes<W: Write>(
+    encoder: &mut Encoder<W>,
+    value: &[u8],
+    segment: Option<usize>,
+) -> Result<(), W::Error>
+    ensures { WritesMarked W.Write (IsValue Bytes segment value.now) (writer_of encoder.old) result
+        (writer_of encoder.new) }
 {
-    'spelled: for piece in pieces {
-        spelled_piece(piece);
-    }
+    encoder.bytes(value, segment)
+}
+
+/// Writes a value of text.
+fn write_text<W: Write>(
+    encoder: &mut Encoder<W>,
+    value: &str,
+    segment: Option<usize>,
+) -> Result<(), W::Error>
+    ensures { WritesMarked W.Write (IsValue Text segment value.now) (writer_of encoder.old) result
+        (writer_of encoder.new) }
+{
+    encoder.text(value, segment)
 }
 
 /// Writes one piece.
 fn write_piece<W: Write>(encoder: &mut Encoder<W>, piece: &Piece<'_>) -> Result<(), W::Error>
-    ensures piece { WritesPiece W.Write piece.now (writer_of encoder.old) result (writer_of encoder.new) }
-    ensures target { W.target (writer_of encoder.new) ≡ W.target (writer_of encoder.old) }
+    requires { IsPlainPiece piece.now }
+    ensures { WritesMarked W.Write (IsPiece piece.now) (writer_of encoder.old) result (writer_of encoder.new) }
 {
     match piece {
-        Piece::Header(header) => encoder.push(*header),
-        Piece::Bytes(value, segment) => encoder.bytes(value, *segment),
-        Piece::Text(value, segment) => encoder.text(value, *segment),
+        Piece::Header(header) => write_header(encoder, *header),
+        Piece::Bytes(value, segment) => write_bytes(encoder, value, *segment),
+        Piece::Text(value, segment) => write_text(encoder, value, *segment),
     }
 }
 
@@ -83,8 +77,8 @@ fn write_piece<W: Write>(encoder: &mut Encoder<W>, piece: &Piece<'_>) -> Result<
 /// What is written is an element for each piece, in its shortest spelling, and the bodies of a value joined are the
 /// value. So a copy of as many elements leaves it as it is, as `copy_spelled` says.
 ///
-/// The only errors are the writer's. A beginning of that spelling was then written, the writer failed once, and a room
-/// that it tells was smaller than that. The writer stays on its slice.
+/// The only errors are the writer's. The pieces in front of one were then written, and of that one's spelling a
+/// beginning; the writer failed once, and a room that it tells was too small for it. The writer stays on its slice.
 pub fn write_pieces<W: Write>(
     encoder: &mut Encoder<W>,
     pieces: &[Piece<'_>],
@@ -92,8 +86,6 @@ pub fn write_pieces<W: Write>(
     requires { All IsPlainPiece pieces.now }
     ensures { WritesPieceList W.Write pieces.now (writer_of encoder.old) result (writer_of encoder.new) }
 {
-    // By this law pieces behind a failure have a spelling too. It writes nothing.
-    spelled_pieces(pieces);
     'pieces: for piece in pieces {
         write_piece(encoder, piece)?;
     }

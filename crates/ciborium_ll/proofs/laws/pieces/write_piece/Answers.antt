@@ -1,23 +1,22 @@
 use Rattle.std.proofs.Common.{sym, subst}
 use Rattle.ciborium_ll.specs.declared.laws.pieces.Piece.{Piece}
-use Rattle.ciborium_ll.specs.Pieces.{WritesPiece}
-use Rattle.ciborium_ll.proofs.PiecesWritten.{writes_header, writes_bytes, writes_text}
+use Rattle.ciborium_ll.specs.Pieces.{IsPiece, IsPlainPiece, WritesMarked}
 use Rattle.ciborium_ll.proofs.laws.pieces.write_piece.Goals as goal
 
-pub returns-in-Header-clause-piece : goal.returns-in-Header-clause-piece
-returns-in-Header-clause-piece g c =
-    subst (λ (piece : Piece). WritesPiece g.W.Write piece c.args.encoder.now.writer c.push.result
-    c.push.new.self.writer) (sym c.in-Header.is)
-    (writes_header g.W.Write c.in-Header.header _ _ c.push.result c.push.ensures.title)
+pub write_header-requires : goal.write_header-requires
+write_header-requires g c = subst IsPlainPiece c.in-Header.is c.requires
 
-pub returns-in-Bytes-clause-piece : goal.returns-in-Bytes-clause-piece
-returns-in-Bytes-clause-piece g c =
-    subst (λ (piece : Piece). WritesPiece g.W.Write piece c.args.encoder.now.writer c.bytes.result
-    c.bytes.new.self.writer) (sym c.in-Bytes.is)
-    (writes_bytes g.W.Write c.in-Bytes.value c.in-Bytes.segment _ _ c.bytes.result c.bytes.ensures.value)
+pub returns-in-Header : goal.returns-in-Header
+returns-in-Header g c =
+    subst (λ (piece : Piece). WritesMarked g.W.Write (IsPiece piece) c.args.encoder.now.writer c.write_header.result
+    c.write_header.new.encoder.writer) (sym c.in-Header.is) c.write_header.ensures
 
-pub returns-in-Text-clause-piece : goal.returns-in-Text-clause-piece
-returns-in-Text-clause-piece g c =
-    subst (λ (piece : Piece). WritesPiece g.W.Write piece c.args.encoder.now.writer c.text.result
-    c.text.new.self.writer) (sym c.in-Text.is)
-    (writes_text g.W.Write c.in-Text.value c.in-Text.segment _ _ c.text.result c.text.ensures.written.value)
+pub returns-in-Bytes : goal.returns-in-Bytes
+returns-in-Bytes g c =
+    subst (λ (piece : Piece). WritesMarked g.W.Write (IsPiece piece) c.args.encoder.now.writer c.write_bytes.result
+    c.write_bytes.new.encoder.writer) (sym c.in-Bytes.is) c.write_bytes.ensures
+
+pub returns-in-Text : goal.returns-in-Text
+returns-in-Text g c =
+    subst (λ (piece : Piece). WritesMarked g.W.Write (IsPiece piece) c.args.encoder.now.writer c.write_text.result
+    c.write_text.new.encoder.writer) (sym c.in-Text.is) c.write_text.ensures

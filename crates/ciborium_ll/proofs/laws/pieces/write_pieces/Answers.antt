@@ -5,28 +5,28 @@ use Rattle.ciborium_ll.proofs.laws.pieces.write_pieces.Goals as goal
 
 pub pieces-init : goal.pieces-init
 pieces-init g c = record {
-  midway = midway_first g.W.Write c.args.pieces.now c.args.encoder.now.writer c.spelled_pieces.ensures;
+  midway = midway_first g.W.Write c.args.pieces.now c.args.encoder.now.writer;
   target = refl;
 }
 
 pub returns-in_err-write_piece : goal.returns-in_err-write_piece
 returns-in_err-write_piece g c =
     let all = c.args.pieces.now in
-    let wrote = c.in_err-write_piece.ensures.piece in
+    let wrote = c.in_err-write_piece.ensures in
     record {
       elements = midway_stops g.W.Write all _ _ _ _ _ _ wrote.marks c.from_residual.result c.from_residual.ensures.0
-          (drop_more all c.pieces.piece-index _ (omega arith)) c.pieces.invariant.midway wrote.is_piece wrote.bytes;
-      target = c.in_err-write_piece.ensures.target ∙ c.pieces.invariant.target;
+          (drop_more all c.pieces.piece-index _ (omega arith)) c.pieces.invariant.midway wrote.are wrote.bytes;
+      target = wrote.target ∙ c.pieces.invariant.target;
     }
 
 pub pieces-preserved : goal.pieces-preserved
 pieces-preserved g c =
     let all = c.args.pieces.now in
-    let wrote = c.in_ok-write_piece.ensures.piece in
+    let wrote = c.in_ok-write_piece.ensures in
     record {
       midway = midway_more g.W.Write all _ _ _ _ _ _ wrote.marks (drop_more all c.pieces.piece-index _ (omega arith))
-          c.pieces.invariant.midway wrote.is_piece wrote.bytes;
-      target = c.in_ok-write_piece.ensures.target ∙ c.pieces.invariant.target;
+          c.pieces.invariant.midway wrote.are wrote.element wrote.bytes;
+      target = wrote.target ∙ c.pieces.invariant.target;
     }
 
 pub returns : goal.returns
