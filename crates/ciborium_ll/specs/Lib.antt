@@ -15,11 +15,11 @@ pub use Rattle.ciborium_ll_grammar.specs.Strings
 pub use Rattle.ciborium_ll_grammar.specs.Title
 pub use Rattle.ciborium_ll_grammar.specs.TitleRows
 pub use Rattle.ciborium_ll_grammar.specs.Values
-pub use Rattle.ciborium_ll_io.specs.Buffers
-pub use Rattle.ciborium_ll_io.specs.FaultTexts
+pub use Rattle.ciborium_ll_streams.specs.Buffers
+pub use Rattle.ciborium_ll_streams.specs.FaultTexts
 pub use Rattle.ciborium_ll_io.specs.Discards
 pub use Rattle.ciborium_ll_io.specs.Slices
-pub use Rattle.ciborium_ll_io.specs.Streams
+pub use Rattle.ciborium_ll_streams.specs.Streams
 pub use Rattle.ciborium_ll_io.specs.Transfer
 pub use Rattle.ciborium_ll_encoder.specs.Encoding
 pub use Rattle.ciborium_ll_decoder.specs.Chunks

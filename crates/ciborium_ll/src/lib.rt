@@ -4,6 +4,7 @@
 //! each as its shortest title, and strings in pieces of a limited length. What each call does is its contract.
 #![tactic(auto)]
 
+pub mod io;
 pub mod laws;
 pub mod simple;
 pub mod tag;
@@ -14,4 +15,3 @@ pub use ciborium_ll_decoder::recode::RecodeError;
 pub use ciborium_ll_decoder::seg::{Body, Bytes, Chunked, Segment, Segments, Text};
 pub use ciborium_ll_encoder::enc::Encoder;
 pub use ciborium_ll_grammar::hdr::{Float, Header};
-pub use ciborium_ll_io::io;

@@ -8,20 +8,15 @@ ghost use Rattle.std.specs.declared.option.Option.{Option};
 ghost use Rattle.std.specs.Io.KnownBytes.{Appends, Consumes};
 ghost use Rattle.ciborium_ll_io.specs.Transfer.{Shrinks, AppendsFront, Target};
 
-mod buffered;
 mod discard;
 mod failures;
 mod messages;
 mod slices;
-mod streams;
 mod taken;
-mod window;
 
-pub use self::buffered::{BufferedReader, BufferedWriter, FaultKept};
 pub use self::discard::Discard;
 pub use self::failures::Failures;
-pub use self::slices::{EndOfFile, OutOfSpace, SliceReader, SliceWriter};
-pub use self::streams::{ReadFault, StdReader, StdWriter, WriteFault};
+pub use self::slices::{EndOfFile, OutOfSpace, SliceReader, SliceWriter, copy_chunk};
 
 /// A source of bytes. Each call that fails raises `failures` by one, and no other does.
 pub trait Read {

@@ -5,9 +5,9 @@ use Rattle.ciborium_ll_service.specs.declared.fault.Fault.TheVariants as f
 use Rattle.ciborium_ll_service.specs.declared.service.ToolError.{ToolError}
 use Rattle.ciborium_ll_service.specs.declared.service.ToolError.TheVariants as e
 use Rattle.ciborium_ll_decoder.specs.declared.dec.Error.TheVariants as d
-use Rattle.ciborium_ll_io.specs.declared.io.streams.ReadFault.{ReadFault}
-use Rattle.ciborium_ll_io.specs.declared.io.streams.WriteFault.{WriteFault}
-use Rattle.ciborium_ll_io.specs.declared.io.streams.WriteFault.TheVariants as w
+use Rattle.ciborium_ll_streams.specs.declared.streams.ReadFault.{ReadFault}
+use Rattle.ciborium_ll_streams.specs.declared.streams.WriteFault.{WriteFault}
+use Rattle.ciborium_ll_streams.specs.declared.streams.WriteFault.TheVariants as w
 use Rattle.ciborium_ll_decoder.specs.declared.recode.RecodeError.{RecodeError}
 use Rattle.ciborium_ll_decoder.specs.declared.recode.RecodeError.TheVariants as r
 

@@ -1,9 +1,9 @@
 -- The faults that the reader and the writer of a buffered copy keep, put back into the error of the copy.
 use Rattle.std.specs.Prelude.{◌≡◌, IfSome, Option, Result, Ok, Err}
 use Rattle.ciborium_ll_decoder.specs.declared.dec.Error.TheVariants as e
-use Rattle.ciborium_ll_io.specs.declared.io.buffered.FaultKept.{FaultKept}
-use Rattle.ciborium_ll_io.specs.declared.io.streams.ReadFault.{ReadFault}
-use Rattle.ciborium_ll_io.specs.declared.io.streams.WriteFault.{WriteFault}
+use Rattle.ciborium_ll_streams.specs.declared.buffered.FaultKept.{FaultKept}
+use Rattle.ciborium_ll_streams.specs.declared.streams.ReadFault.{ReadFault}
+use Rattle.ciborium_ll_streams.specs.declared.streams.WriteFault.{WriteFault}
 use Rattle.ciborium_ll_decoder.specs.declared.recode.RecodeError.{RecodeError}
 use Rattle.ciborium_ll_decoder.specs.declared.recode.RecodeError.TheVariants as r
 

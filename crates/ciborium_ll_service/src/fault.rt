@@ -7,7 +7,7 @@ use crate::memory::OutOfMemory;
 use crate::service::ToolError;
 use ciborium_ll_decoder::dec::Error;
 use ciborium_ll_decoder::recode::RecodeError;
-use ciborium_ll_io::io::{ReadFault, WriteFault};
+use ciborium_ll_streams::{ReadFault, WriteFault};
 use std::{error, fmt};
 
 /// Why the program failed, printed as one line.

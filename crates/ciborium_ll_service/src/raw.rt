@@ -8,8 +8,9 @@ use crate::copy::BUFFER_SIZE;
 use ciborium_ll_decoder::dec::{Decoder, Error};
 use ciborium_ll_decoder::recode::{RecodeError, recode};
 use ciborium_ll_encoder::enc::Encoder;
-use ciborium_ll_io::io::{
-    BufferedReader, BufferedWriter, FaultKept, ReadFault, StdReader, StdWriter, Write, WriteFault,
+use ciborium_ll_io::io::Write;
+use ciborium_ll_streams::{
+    BufferedReader, BufferedWriter, FaultKept, ReadFault, StdReader, StdWriter, WriteFault,
 };
 use std::io;
 

@@ -3,7 +3,8 @@
 use crate::answer;
 use crate::input::Lines;
 use crate::memory::OutOfMemory;
-use ciborium_ll_io::io::{StdWriter, Write, WriteFault};
+use ciborium_ll_io::io::Write;
+use ciborium_ll_streams::{StdWriter, WriteFault};
 use std::alloc::{AllocError, Global};
 use std::{fmt, io};
 

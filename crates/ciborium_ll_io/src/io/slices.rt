@@ -80,7 +80,7 @@ fn copy(to: &mut [u8], from: &[u8])
 /// Copies all bytes. Those of a chunk through a buffer of 64 bytes, which is what a copy is lent most often, are one
 /// move too.
 #[inline(always)]
-pub(super) fn copy_chunk(to: &mut [u8], from: &[u8])
+pub fn copy_chunk(to: &mut [u8], from: &[u8])
     requires len { length to.old ≡ length from.now }
     ensures copied { to.new ≡ from.now }
 {
@@ -178,7 +178,7 @@ impl<'a> Write for SliceWriter<'a> {
 
     /// Appends the whole of `data`, or nothing where the room is smaller. The slice is then as it was, behind what was
     /// written too.
-    #[tactic(auto, using(crate::proofs::BufferLaws::behind_grown))]
+    #[tactic(auto, using(crate::proofs::SliceLaws::behind_grown))]
     fn write_all(&mut self, data: &[u8]) -> Result<(), OutOfSpace>
         // The trait's.
         ensures bytes { OnOk result (Appends (slice_written self.old) (slice_written self.new) «data».now) }

@@ -1,7 +1,7 @@
 use Rattle.std.proofs.Common.{◌≡◌, List, ℕ, Some, subst, sym, ap, ◌∙◌}
 use Rattle.std.specs.Io.KnownBytes.{Keeps}
-use Rattle.ciborium_ll_io.specs.declared.io.streams.StdReader.{StdReader}
-use Rattle.ciborium_ll_io.specs.declared.io.streams.StdWriter.{StdWriter}
+use Rattle.ciborium_ll_streams.specs.declared.streams.StdReader.{StdReader}
+use Rattle.ciborium_ll_streams.specs.declared.streams.StdWriter.{StdWriter}
 use Rattle.ciborium_ll_service.specs.Raw.{Tells}
 use Rattle.ciborium_ll_service.proofs.RawLaws.{kept_known, told_ahead, raw_all, raw_stopped, raw_unflushed}
 use Rattle.ciborium_ll_service.proofs.raw.raw.Goals as goal

@@ -1,9 +1,0 @@
-use Rattle.std.proofs.Common.{arith}
-use Rattle.ciborium_ll_io.proofs.BufferLaws.{part_grown}
-use Rattle.ciborium_ll_io.proofs.io.window.Window.put.Goals as goal
-
-pub returns : goal.returns
-returns c =
-    let w = c.args.self.now in
-    rw c.copy_chunk.ensures.copied (part_grown w.space.now c.args.«data».now w.start w.end (omega arith)
-    (omega arith))

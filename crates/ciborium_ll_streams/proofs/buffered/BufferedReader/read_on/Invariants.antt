@@ -1,0 +1,16 @@
+use Rattle.std.proofs.Common.{length, ◌-◌, ◌≡◌, ◌≤◌, take}
+use Rattle.std.specs.Io.KnownBytes.{Consumes}
+use Rattle.ciborium_ll_streams.specs.Buffers.{buffered_ahead}
+use Rattle.ciborium_ll_streams.proofs.buffered.BufferedReader.read_on.Given as goal
+
+abbrev pub invariant-loop-filled : goal.invariant-loop-filled
+invariant-loop-filled g l = record {
+  within : l.filled ≤ length l.«data»;
+  failures : l.self.failures.count ≡ l.initial.self.failures.count;
+  fault : l.self.fault ≡ l.initial.self.fault;
+  bytes : Consumes (buffered_ahead g.T.Read.remaining l.initial.self) (buffered_ahead g.T.Read.remaining l.self)
+      (take l.filled l.«data»);
+}
+
+abbrev pub decreases-loop-filled : goal.decreases-loop-filled
+decreases-loop-filled g l = length l.initial.«data» - l.filled

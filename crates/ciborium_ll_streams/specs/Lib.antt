@@ -1,0 +1,3 @@
+pub mod Buffers
+pub mod FaultTexts
+pub mod Streams

@@ -1,0 +1,431 @@
+//! A reader and a writer over those of std that move many bytes at a time, and whose errors are small.
+//!
+//! An `io::Error` has many bytes, and each function that hands one on clears and copies them. So a fault is kept aside
+//! here, and the call answers only that there is one. What the lent slice holds is moved without a call of std.
+
+ghost use Rattle.std.specs.Prelude.{◌≡◌, ◌+◌, ◌≤◌, ◌<◌, None, Some, IsTrue, IsOk, IsErr, IsSome};
+ghost use Rattle.std.specs.Prelude.{IfSome, IfOk, OnOk, OnErr, [], length, take};
+ghost use Rattle.std.specs.Io.KnownBytes.{Appends, Consumes, IsAtEnd, Keeps};
+ghost use Rattle.std.proofs.Common.{rules};
+ghost use Rattle.ciborium_ll_io.specs.Transfer.{AppendsFront, AppendsPart, ConsumesPart, Shrinks};
+
+use crate::streams::{ReadFault, WriteFault, write_calls};
+use crate::window::Window;
+use ciborium_ll_io::io::{Failures, Read, Write};
+use std::io;
+
+/// A call failed, and the `BufferedReader` or `BufferedWriter` keeps why.
+#[derive(Debug, Drop)]
+pub struct FaultKept;
+
+/// Reads from a reader of std, and reads ahead into a slice that the caller lends.
+///
+/// It tells the bytes that this reader tells, and is never steady. A slice of some 8 KiB serves well. With an empty
+/// one each read is the reader's own.
+#[derive(Drop)]
+pub struct BufferedReader<'a, T> {
+    source: T,
+    window: Window<'a>,
+    fault: Option<ReadFault>,
+    failures: Failures,
+}
+
+impl<'a, T: io::Read> BufferedReader<'a, T> {
+    ghost use Rattle.ciborium_ll_streams.specs.Buffers.{buffered_ahead, buffered_read_ahead, buffered_read_failures};
+    ghost use Rattle.ciborium_ll_streams.specs.Buffers.{buffered_read_fault, buffered_source};
+
+    /// A reader of all that is left within. Nothing is read yet.
+    pub fn new(source: T, buffer: &'a mut [u8]) -> BufferedReader<'a, T>
+        ensures source { buffered_source result ≡ source }
+        ensures read_ahead { buffered_read_ahead result ≡ [] }
+        ensures ahead { buffered_ahead T.remaining result ≡ T.remaining source }
+        ensures fault { buffered_read_fault result ≡ None }
+        ensures failures { buffered_read_failures result ≡ 0 }
+    {
+        BufferedReader {
+            source,
+            window: Window::new(buffer),
+            fault: None,
+            failures: Failures::new(),
+        }
+    }
+
+    /// The bytes that were read ahead and not handed out.
+    pub fn buffer(&self) -> &[u8]
+        ensures { result.now ≡ buffered_read_ahead self.now }
+    {
+        self.window.held()
+    }
+
+    /// Why the last call that failed did so, where one failed. It is kept no longer.
+    pub fn take_fault(&mut self) -> Option<ReadFault>
+        ensures fault { result ≡ buffered_read_fault self.old }
+        ensures none { buffered_read_fault self.new ≡ None }
+        ensures source { buffered_source self.new ≡ buffered_source self.old }
+        ensures read_ahead { buffered_read_ahead self.new ≡ buffered_read_ahead self.old }
+        ensures ahead { buffered_ahead T.remaining self.new ≡ buffered_ahead T.remaining self.old }
+        ensures failures { buffered_read_failures self.new ≡ buffered_read_failures self.old }
+    {
+        self.fault.take()
+    }
+
+    /// The reader within as the last call left it, the bytes that were read ahead and not handed out, and why the last
+    /// call that failed did so.
+    pub fn into_parts(self) -> (T, &'a [u8], Option<ReadFault>)
+        ensures source { result.0 ≡ buffered_source self.entry }
+        ensures read_ahead { result.1.now ≡ buffered_read_ahead self.entry }
+        ensures fault { result.2 ≡ buffered_read_fault self.entry }
+    {
+        let BufferedReader {
+            source,
+            window,
+            fault,
+            failures: _,
+        } = self;
+        (source, window.into_held(), fault)
+    }
+
+    /// Fills `data` by calls of the reader within.
+    #[cold]
+    #[inline(never)]
+    fn read_on(&mut self, data: &mut [u8]) -> Result<(), FaultKept>
+        ensures bytes { OnOk result
+            (Consumes (buffered_ahead T.remaining self.old) (buffered_ahead T.remaining self.new) «data».new) }
+        ensures ok { OnOk result (buffered_read_failures self.new ≡ buffered_read_failures self.old) }
+        ensures err { OnErr result (buffered_read_failures self.new ≡ buffered_read_failures self.old + 1) }
+        ensures part { OnErr result
+            (ConsumesPart (buffered_ahead T.remaining self.old) (buffered_ahead T.remaining self.new) «data».new) }
+        ensures same { OnOk result (buffered_read_fault self.new ≡ buffered_read_fault self.old) }
+        ensures fault { OnErr result (IsSome (buffered_read_fault self.new)) }
+        ensures end { OnErr result (buffered_read_fault self.new ≡ Some ReadFault.End
+            → IsAtEnd (buffered_ahead T.remaining self.new)) }
+    {
+        let mut filled = 0;
+        while filled < data.len() {
+            match self.read_part(&mut data[filled..]) {
+                Ok(count) => filled += count,
+                Err(FaultKept) => return Err(FaultKept),
+            }
+        }
+        Ok(())
+    }
+
+    /// Fills a front of `data`, by at most one call of the reader within.
+    fn read_part(&mut self, data: &mut [u8]) -> Result<usize, FaultKept>
+        requires { 0 < length «data».old }
+        ensures bound { IfOk result (λ n. (0 < n) × (n ≤ length «data».new)) }
+        ensures bytes { IfOk result
+            (λ n. Consumes (buffered_ahead T.remaining self.old) (buffered_ahead T.remaining self.new)
+            (take n «data».new)) }
+        ensures ok { OnOk result (buffered_read_failures self.new ≡ buffered_read_failures self.old) }
+        ensures err { OnErr result (buffered_read_failures self.new ≡ buffered_read_failures self.old + 1) }
+        ensures keeps { OnErr result (Keeps (buffered_ahead T.remaining self.old)
+            (buffered_ahead T.remaining self.new)) }
+        ensures same { OnOk result (buffered_read_fault self.new ≡ buffered_read_fault self.old) }
+        ensures fault { OnErr result (IsSome (buffered_read_fault self.new)) }
+        ensures end { OnErr result (buffered_read_fault self.new ≡ Some ReadFault.End
+            → IsAtEnd (buffered_ahead T.remaining self.new)) }
+    {
+        if self.window.len() == 0 {
+            if self.window.capacity() <= data.len() {
+                return self.read_past(data);
+            }
+            match self.window.fill(&mut self.source) {
+                Ok(0) => return self.failed(ReadFault::End),
+                Ok(_) => {}
+                Err(error) => return self.failed(ReadFault::Failed(error)),
+            }
+        }
+        let count = data.len().min(self.window.len());
+        self.window.take(&mut data[..count]);
+        Ok(count)
+    }
+
+    /// Fills a front of `data` by one call of the reader within, where nothing was read ahead.
+    fn read_past(&mut self, data: &mut [u8]) -> Result<usize, FaultKept>
+        requires some { 0 < length «data».old }
+        requires none_ahead { buffered_read_ahead self.old ≡ [] }
+        ensures bound { IfOk result (λ n. (0 < n) × (n ≤ length «data».new)) }
+        ensures bytes { IfOk result
+            (λ n. Consumes (buffered_ahead T.remaining self.old) (buffered_ahead T.remaining self.new)
+            (take n «data».new)) }
+        ensures ok { OnOk result (buffered_read_failures self.new ≡ buffered_read_failures self.old) }
+        ensures err { OnErr result (buffered_read_failures self.new ≡ buffered_read_failures self.old + 1) }
+        ensures keeps { OnErr result (Keeps (buffered_ahead T.remaining self.old)
+            (buffered_ahead T.remaining self.new)) }
+        ensures same { OnOk result (buffered_read_fault self.new ≡ buffered_read_fault self.old) }
+        ensures fault { OnErr result (IsSome (buffered_read_fault self.new)) }
+        ensures end { OnErr result (buffered_read_fault self.new ≡ Some ReadFault.End
+            → IsAtEnd (buffered_ahead T.remaining self.new)) }
+    {
+        match self.source.read(data) {
+            Ok(0) => self.failed(ReadFault::End),
+            Ok(count) => Ok(count),
+            Err(error) => self.failed(ReadFault::Failed(error)),
+        }
+    }
+
+    /// Keeps a fault.
+    fn failed(&mut self, fault: ReadFault) -> Result<usize, FaultKept>
+        ensures failed { IsErr result }
+        ensures kept { buffered_read_fault self.new ≡ Some fault }
+        ensures ahead { buffered_ahead T.remaining self.new ≡ buffered_ahead T.remaining self.old }
+        ensures failures { buffered_read_failures self.new ≡ buffered_read_failures self.old + 1 }
+    {
+        self.failures.raise();
+        self.fault = Some(fault);
+        Err(FaultKept)
+    }
+}
+
+impl<'a, T: io::Read> Read for BufferedReader<'a, T> {
+    ghost use Rattle.ciborium_ll_streams.specs.Buffers.{buffered_ahead, buffered_read_ahead, buffered_read_failures};
+    ghost use Rattle.ciborium_ll_streams.specs.Buffers.{buffered_read_fault, buffered_source, buffered_steady};
+
+    type Error = FaultKept;
+
+    ghost ahead = { λ r. buffered_ahead T.remaining r };
+
+    ghost steady = { λ r. buffered_steady r };
+
+    ghost failures = { λ r. buffered_read_failures r };
+
+    ghost steady_is_told = { λ _ h. Prim.search rules };
+
+    /// Fills the whole of `data` from what was read ahead, else by as many single calls of `read` as that takes.
+    ///
+    /// After an error the fault is kept: `End` where a call moved no byte, behind which none that is told is left, and
+    /// `Failed` where a call failed. The bytes that came before it then stand at the front of `data`, and are fewer
+    /// than `data` has room for.
+    #[inline(always)]
+    fn read_exact(&mut self, data: &mut [u8]) -> Result<(), FaultKept>
+        // The trait's.
+        ensures bytes { OnOk result
+            (Consumes (buffered_ahead T.remaining self.old) (buffered_ahead T.remaining self.new) «data».new) }
+        ensures ok { OnOk result (buffered_read_failures self.new ≡ buffered_read_failures self.old) }
+        ensures err { OnErr result (buffered_read_failures self.new ≡ buffered_read_failures self.old + 1) }
+        ensures stays_steady { IsTrue (buffered_steady self.old) → IsTrue (buffered_steady self.new) }
+        ensures kept { OnErr result (IsTrue (buffered_steady self.old)
+            → buffered_ahead T.remaining self.new ≡ buffered_ahead T.remaining self.old) }
+        ensures missing { OnErr result (IsTrue (buffered_steady self.old)
+            → IfSome (buffered_ahead T.remaining self.old) (λ bytes. length bytes < length «data».old)) }
+
+        // The reader's own.
+        ensures within { length «data».old ≤ length (buffered_read_ahead self.old)
+            → IsOk result × (buffered_source self.new ≡ buffered_source self.old) }
+        ensures part { OnErr result
+            (ConsumesPart (buffered_ahead T.remaining self.old) (buffered_ahead T.remaining self.new) «data».new) }
+        ensures same { OnOk result (buffered_read_fault self.new ≡ buffered_read_fault self.old) }
+        ensures fault { OnErr result (IsSome (buffered_read_fault self.new)) }
+        ensures end { OnErr result (buffered_read_fault self.new ≡ Some ReadFault.End
+            → IsAtEnd (buffered_ahead T.remaining self.new)) }
+    {
+        if data.len() <= self.window.len() {
+            self.window.take(data);
+            return Ok(());
+        }
+        self.read_on(data)
+    }
+}
+
+/// Writes to a writer of std, and keeps bytes back in a slice that the caller lends.
+///
+/// It tells the bytes that this writer tells, and then those that it keeps back, and no room. A slice of some 8 KiB
+/// serves well. With an empty one each write is the writer's own. What is kept back is passed on where the slice has
+/// no room for more, and by `flush`; nothing is passed on when the writer is dropped.
+#[derive(Drop)]
+pub struct BufferedWriter<'a, T> {
+    sink: T,
+    window: Window<'a>,
+    fault: Option<WriteFault>,
+    failures: Failures,
+}
+
+impl<'a, T: io::Write> BufferedWriter<'a, T> {
+    ghost use Rattle.ciborium_ll_streams.specs.Buffers.{buffered_kept_back, buffered_sink, buffered_write_failures};
+    ghost use Rattle.ciborium_ll_streams.specs.Buffers.{buffered_write_fault, buffered_written};
+
+    /// A writer behind all that was written within. Nothing is kept back yet.
+    pub fn new(sink: T, buffer: &'a mut [u8]) -> BufferedWriter<'a, T>
+        ensures sink { buffered_sink result ≡ sink }
+        ensures kept_back { buffered_kept_back result ≡ [] }
+        ensures written { buffered_written T.contents result ≡ T.contents sink }
+        ensures fault { buffered_write_fault result ≡ None }
+        ensures failures { buffered_write_failures result ≡ 0 }
+    {
+        BufferedWriter {
+            sink,
+            window: Window::new(buffer),
+            fault: None,
+            failures: Failures::new(),
+        }
+    }
+
+    /// The bytes that were kept back and not passed on.
+    pub fn buffer(&self) -> &[u8]
+        ensures { result.now ≡ buffered_kept_back self.now }
+    {
+        self.window.held()
+    }
+
+    /// Why the last call that failed did so, where one failed. It is kept no longer.
+    pub fn take_fault(&mut self) -> Option<WriteFault>
+        ensures fault { result ≡ buffered_write_fault self.old }
+        ensures none { buffered_write_fault self.new ≡ None }
+        ensures sink { buffered_sink self.new ≡ buffered_sink self.old }
+        ensures kept_back { buffered_kept_back self.new ≡ buffered_kept_back self.old }
+        ensures written { buffered_written T.contents self.new ≡ buffered_written T.contents self.old }
+        ensures failures { buffered_write_failures self.new ≡ buffered_write_failures self.old }
+    {
+        self.fault.take()
+    }
+
+    /// The writer within as the last call left it, the bytes that were kept back and not passed on, and why the last
+    /// call that failed did so.
+    pub fn into_parts(self) -> (T, &'a [u8], Option<WriteFault>)
+        ensures sink { result.0 ≡ buffered_sink self.entry }
+        ensures kept_back { result.1.now ≡ buffered_kept_back self.entry }
+        ensures fault { result.2 ≡ buffered_write_fault self.entry }
+    {
+        let BufferedWriter {
+            sink,
+            window,
+            fault,
+            failures: _,
+        } = self;
+        (sink, window.into_held(), fault)
+    }
+
+    /// Writes `data`, for which the window has no room.
+    #[cold]
+    #[inline(never)]
+    fn write_on(&mut self, data: &[u8]) -> Result<(), FaultKept>
+        requires { 0 < length «data».now }
+        ensures bytes { OnOk result
+            (Appends (buffered_written T.contents self.old) (buffered_written T.contents self.new) «data».now) }
+        ensures part { OnErr result
+            (AppendsPart (buffered_written T.contents self.old) (buffered_written T.contents self.new) «data».now) }
+        ensures ok { OnOk result (buffered_write_failures self.new ≡ buffered_write_failures self.old) }
+        ensures err { OnErr result (buffered_write_failures self.new ≡ buffered_write_failures self.old + 1) }
+        ensures same { OnOk result (buffered_write_fault self.new ≡ buffered_write_fault self.old) }
+        ensures fault { OnErr result (IsSome (buffered_write_fault self.new)) }
+    {
+        self.send()?;
+        if data.len() <= self.window.room() {
+            self.window.put(data);
+            return Ok(());
+        }
+        match write_calls(&mut self.sink, data) {
+            (_, Ok(())) => Ok(()),
+            (_, Err(fault)) => self.failed(fault),
+        }
+    }
+
+    /// Writes what was kept back. What a failure leaves unwritten stays.
+    fn send(&mut self) -> Result<(), FaultKept>
+        ensures bytes { Keeps (buffered_written T.contents self.old) (buffered_written T.contents self.new) }
+        ensures empty { OnOk result (buffered_kept_back self.new ≡ []) }
+        ensures ok { OnOk result (buffered_write_failures self.new ≡ buffered_write_failures self.old) }
+        ensures err { OnErr result (buffered_write_failures self.new ≡ buffered_write_failures self.old + 1) }
+        ensures same { OnOk result (buffered_write_fault self.new ≡ buffered_write_fault self.old) }
+        ensures fault { OnErr result (IsSome (buffered_write_fault self.new)) }
+    {
+        let (count, outcome) = write_calls(&mut self.sink, self.window.held());
+        self.window.skip(count);
+        match outcome {
+            Ok(()) => {
+                self.window.restart();
+                Ok(())
+            }
+            Err(fault) => self.failed(fault),
+        }
+    }
+
+    /// Keeps a fault.
+    fn failed(&mut self, fault: WriteFault) -> Result<(), FaultKept>
+        ensures failed { IsErr result }
+        ensures kept { buffered_write_fault self.new ≡ Some fault }
+        ensures written { buffered_written T.contents self.new ≡ buffered_written T.contents self.old }
+        ensures kept_back { buffered_kept_back self.new ≡ buffered_kept_back self.old }
+        ensures failures { buffered_write_failures self.new ≡ buffered_write_failures self.old + 1 }
+    {
+        self.failures.raise();
+        self.fault = Some(fault);
+        Err(FaultKept)
+    }
+}
+
+impl<'a, T: io::Write> Write for BufferedWriter<'a, T> {
+    ghost use Rattle.ciborium_ll_streams.specs.Buffers.{buffered_kept_back, buffered_room, buffered_sink};
+    ghost use Rattle.ciborium_ll_streams.specs.Buffers.{buffered_write_failures, buffered_write_fault, buffered_written};
+
+    type Error = FaultKept;
+
+    ghost written = { λ w. buffered_written T.contents w };
+
+    ghost room = { λ w. buffered_room w };
+
+    ghost failures = { λ w. buffered_write_failures w };
+
+    ghost flushed = { λ old new. Keeps (buffered_written T.contents old) (buffered_written T.contents new)
+        × (buffered_kept_back new ≡ []) };
+
+    ghost target = { λ _. None };
+
+    /// Keeps the whole of `data` back, or writes what was kept back first and then `data`.
+    ///
+    /// After an error the fault is kept: `Zero` where a call moved no byte, and `Failed` where a call failed. A
+    /// beginning of `data` was then written or kept back, and not the whole of it. What was kept back before is lost
+    /// by no failure.
+    #[inline(always)]
+    fn write_all(&mut self, data: &[u8]) -> Result<(), FaultKept>
+        // The trait's.
+        ensures bytes { OnOk result
+            (Appends (buffered_written T.contents self.old) (buffered_written T.contents self.new) «data».now) }
+        ensures fills { OnOk result (Shrinks (buffered_room self.old) (buffered_room self.new) (length «data».now)) }
+        ensures front { OnErr result (AppendsFront (buffered_written T.contents self.old)
+            (buffered_written T.contents self.new) (buffered_room self.old) (buffered_room self.new) «data».now) }
+        ensures full { OnErr result (IfSome (buffered_room self.old) (λ n. n < length «data».now)) }
+        ensures ok { OnOk result (buffered_write_failures self.new ≡ buffered_write_failures self.old) }
+        ensures err { OnErr result (buffered_write_failures self.new ≡ buffered_write_failures self.old + 1) }
+
+        // The writer's own.
+        ensures empty { length «data».now ≡ 0 → IsOk result × (buffered_sink self.new ≡ buffered_sink self.old) }
+        ensures part { OnErr result
+            (AppendsPart (buffered_written T.contents self.old) (buffered_written T.contents self.new) «data».now) }
+        ensures same { OnOk result (buffered_write_fault self.new ≡ buffered_write_fault self.old) }
+        ensures fault { OnErr result (IsSome (buffered_write_fault self.new)) }
+    {
+        if data.len() <= self.window.room() {
+            self.window.put(data);
+            return Ok(());
+        }
+        self.write_on(data)
+    }
+
+    /// Writes what was kept back, and flushes the writer within.
+    ///
+    /// After an error the fault is kept. What could not be written is kept back still.
+    fn flush(&mut self) -> Result<(), FaultKept>
+        // The trait's.
+        ensures bytes { IsSome (buffered_room self.old)
+            → buffered_written T.contents self.new ≡ buffered_written T.contents self.old }
+        ensures room { IsSome (buffered_room self.old) → buffered_room self.new ≡ buffered_room self.old }
+        ensures flushed { OnOk result (Keeps (buffered_written T.contents self.old)
+            (buffered_written T.contents self.new) × (buffered_kept_back self.new ≡ [])) }
+        ensures ok { OnOk result (buffered_write_failures self.new ≡ buffered_write_failures self.old) }
+        ensures err { OnErr result (buffered_write_failures self.new ≡ buffered_write_failures self.old + 1) }
+
+        // The writer's own.
+        ensures keeps { Keeps (buffered_written T.contents self.old) (buffered_written T.contents self.new) }
+        ensures sent { OnOk result (buffered_kept_back self.new ≡ []) }
+        ensures same { OnOk result (buffered_write_fault self.new ≡ buffered_write_fault self.old) }
+        ensures fault { OnErr result (IsSome (buffered_write_fault self.new)) }
+    {
+        self.send()?;
+        match self.sink.flush() {
+            Ok(()) => Ok(()),
+            Err(error) => self.failed(WriteFault::Failed(error)),
+        }
+    }
+}

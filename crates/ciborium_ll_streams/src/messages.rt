@@ -1,0 +1,49 @@
+//! What the errors of readers and writers over those of std say to a person.
+
+use crate::{FaultKept, ReadFault, WriteFault};
+use std::error::Error;
+use std::fmt;
+
+impl fmt::Display for FaultKept {
+    ghost use Rattle.std.specs.Prelude.{Some, codes};
+
+    ghost output = { λ _. Some (codes "a call failed, and its fault is kept") };
+
+    fn fmt<W: fmt::Write>(&self, f: &mut fmt::Formatter<W>) -> fmt::Result {
+        f.write_str("a call failed, and its fault is kept")
+    }
+}
+
+impl Error for FaultKept {}
+
+impl fmt::Display for ReadFault {
+    ghost use Rattle.ciborium_ll_streams.specs.FaultTexts.{read_fault_text};
+
+    ghost output = { read_fault_text };
+
+    /// Of a reader that failed it is what its own error says.
+    fn fmt<W: fmt::Write>(&self, f: &mut fmt::Formatter<W>) -> fmt::Result {
+        match self {
+            ReadFault::End => f.write_str("the reader has ended"),
+            ReadFault::Failed(error) => write!(f, "{error}"),
+        }
+    }
+}
+
+impl Error for ReadFault {}
+
+impl fmt::Display for WriteFault {
+    ghost use Rattle.ciborium_ll_streams.specs.FaultTexts.{write_fault_text};
+
+    ghost output = { write_fault_text };
+
+    /// Of a writer that failed it is what its own error says.
+    fn fmt<W: fmt::Write>(&self, f: &mut fmt::Formatter<W>) -> fmt::Result {
+        match self {
+            WriteFault::Zero => f.write_str("the writer takes no more bytes"),
+            WriteFault::Failed(error) => write!(f, "{error}"),
+        }
+    }
+}
+
+impl Error for WriteFault {}

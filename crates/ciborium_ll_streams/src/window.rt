@@ -1,0 +1,128 @@
+//! Bytes that wait in a part of a slice.
+
+ghost use Rattle.std.specs.Prelude.{◌≡◌, ◌-◌, ◌≤◌, ◌<◌, ◌++◌, [], IfOk, OnErr, length, take};
+ghost use Rattle.std.specs.Io.KnownBytes.{Consumes, IsAtEnd, Keeps};
+
+use ciborium_ll_io::io::copy_chunk;
+use std::io;
+
+/// Holds bytes that were read ahead, or that are not yet written, in a slice that the caller lends.
+#[derive(Drop)]
+pub(super) struct Window<'a> {
+    space: &'a mut [u8],
+    start: usize,
+    end: usize,
+    ghost ordered: { start ≤ end },
+    ghost within: { end ≤ length space.now },
+}
+
+impl<'a> Window<'a> {
+    ghost use Rattle.ciborium_ll_streams.specs.Buffers.{held};
+
+    /// A window that holds nothing, and has the whole slice as its space.
+    pub(super) fn new(space: &'a mut [u8]) -> Window<'a>
+        ensures { held result ≡ [] }
+    {
+        Window {
+            space,
+            start: 0,
+            end: 0,
+        }
+    }
+
+    /// The bytes that are held.
+    #[inline(always)]
+    pub(super) fn held(&self) -> &[u8]
+        ensures { result.now ≡ held self.now }
+    {
+        &self.space[self.start..self.end]
+    }
+
+    /// The bytes that are held, of a window that is used no more.
+    pub(super) fn into_held(self) -> &'a [u8]
+        ensures { result.now ≡ held self.entry }
+    {
+        let space = self.space;
+        &space[self.start..self.end]
+    }
+
+    /// How many bytes are held.
+    #[inline(always)]
+    pub(super) fn len(&self) -> usize
+        ensures { result ≡ length (held self.now) }
+    {
+        self.end - self.start
+    }
+
+    /// How many bytes the space has.
+    pub(super) fn capacity(&self) -> usize
+        ensures { result ≡ length self.now.space.now }
+    {
+        self.space.len()
+    }
+
+    /// How many bytes fit behind those that are held.
+    #[inline(always)]
+    pub(super) fn room(&self) -> usize
+        ensures { result ≡ length self.now.space.now - self.now.end }
+    {
+        self.space.len() - self.end
+    }
+
+    /// Moves bytes from the front to `data`.
+    #[inline(always)]
+    pub(super) fn take(&mut self, data: &mut [u8])
+        requires { length «data».old ≤ length (held self.old) }
+        ensures { held self.old ≡ «data».new ++ held self.new }
+    {
+        copy_chunk(data, &self.held()[..data.len()]);
+        self.skip(data.len());
+    }
+
+    /// Gives up bytes at the front.
+    #[inline(always)]
+    pub(super) fn skip(&mut self, count: usize)
+        requires { count ≤ length (held self.old) }
+        ensures { held self.old ≡ take count (held self.old) ++ held self.new }
+    {
+        self.start += count;
+    }
+
+    /// Puts bytes behind those that are held.
+    #[inline(always)]
+    pub(super) fn put(&mut self, data: &[u8])
+        requires { length «data».now ≤ length self.old.space.now - self.old.end }
+        ensures { held self.new ≡ held self.old ++ «data».now }
+    {
+        let end = self.end + data.len();
+        copy_chunk(&mut self.space[self.end..end], data);
+        self.end = end;
+    }
+
+    /// Moves the front to the slice's, where nothing is held.
+    pub(super) fn restart(&mut self)
+        requires { held self.old ≡ [] }
+        ensures held { held self.new ≡ [] }
+        ensures room { self.new.end ≡ 0 }
+        ensures space { length self.new.space.now ≡ length self.old.space.now }
+    {
+        self.start = 0;
+        self.end = 0;
+    }
+
+    /// Reads once, where nothing is held. It tells how many bytes there are now, none only at the end.
+    pub(super) fn fill<R: io::Read>(&mut self, from: &mut R) -> io::Result<usize>
+        requires held { held self.old ≡ [] }
+        requires space { 0 < length self.old.space.now }
+        ensures count { IfOk result (λ n. n ≡ length (held self.new)) }
+        ensures bytes { IfOk result (λ _. Consumes (R.remaining from.old) (R.remaining from.new) (held self.new)) }
+        ensures end { IfOk result (λ n. n ≡ 0 → IsAtEnd (R.remaining from.new)) }
+        ensures err { OnErr result (held self.new ≡ []) }
+        ensures keeps { OnErr result (Keeps (R.remaining from.old) (R.remaining from.new)) }
+    {
+        self.restart();
+        let count = from.read(self.space)?;
+        self.end = count;
+        Ok(count)
+    }
+}
