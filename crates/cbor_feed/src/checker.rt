@@ -898,7 +898,7 @@ impl Checker {
         }
         self.strict = strict;
         self.phase = phase;
-        self.front = Front::restore(&snapshot.title, usize::from(snapshot.title_len));
+        self.front.load(&snapshot.title, usize::from(snapshot.title_len));
         self.within = within;
         self.depth = snapshot.depth as usize;
         self.levels.load(nests, &snapshot.kinds, &snapshot.counts);
