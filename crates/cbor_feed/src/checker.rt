@@ -824,6 +824,7 @@ impl Checker {
     /// `Ended` has the item's length. `Fault` says that no item begins as the bytes so far do; it comes with the first
     /// byte of which that is so. `TooLong` says that `usize::MAX` bytes came, and the item goes on; none of the others
     /// is taken.
+    #[inline(always)]
     pub fn feed(&mut self, bytes: &[u8]) -> Feed
         ensures taken { result.taken ≤ length bytes.now }
         ensures all { IsMore result.progress → result.taken ≡ length bytes.now }
