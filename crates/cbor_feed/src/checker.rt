@@ -728,7 +728,7 @@ impl Checker {
         !matches!(self.phase, Phase::Ended | Phase::Faulted(_))
     }
 
-    /// Some bytes more: a title or a byte of one, or of a body what is there. Says how many.
+    /// Some bytes more: titles of items, a title or a byte of one, or of a body what is there. Says how many.
     fn run(&mut self, bytes: &[u8]) -> usize
         requires some { 0 < length bytes.now }
         requires room { self.old.offset + length bytes.now ≤ usize.MAX }
@@ -752,8 +752,9 @@ impl Checker {
         }
     }
 
-    /// The bytes up to the end of the item or up to the fault, or all of them. Says how many.
-    #[inline(always)]
+    /// The bytes up to the end of the item or up to the fault, or all of them. Says how many. It stays one function, in
+    /// which all of a title's path is inlined, however many calls feed a checker.
+    #[inline(never)]
     fn run_all(&mut self, bytes: &[u8]) -> usize
         requires { self.old.offset + length bytes.now ≤ usize.MAX }
         ensures within { result ≤ length bytes.now }
