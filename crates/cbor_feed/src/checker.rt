@@ -617,7 +617,7 @@ impl Checker {
         at
     }
 
-    /// A title of which a part came, or one within an open string. It is kept apart from the path of an item's title.
+    /// A title within an open string, as [`Checker::title_run`]. It is kept apart from the path of an item's title.
     #[inline(never)]
     fn title_within(&mut self, bytes: &[u8]) -> usize
         requires phase { self.old.phase ≡ p.Title }
@@ -738,9 +738,10 @@ impl Checker {
         ensures leads { Leads (spot_of self.old) (take result bytes.now) (spot_of self.new) }
     {
         match self.phase {
+            Phase::Title if self.front.len() > 0 => self.title_byte(bytes),
             Phase::Title => match self.within {
-                Within::Nothing if self.front.len() == 0 => self.item_run(bytes),
-                _ => self.title_within(bytes),
+                Within::Nothing => self.item_run(bytes),
+                Within::Bytes(_) | Within::Text(_) => self.title_within(bytes),
             },
             Phase::Bytes(left) => self.bytes_run(left, bytes),
             Phase::Text(left, State::Between) => self.text_run(left, bytes),
@@ -900,7 +901,8 @@ impl Checker {
         }
         self.strict = strict;
         self.phase = phase;
-        self.front.load(&snapshot.title, usize::from(snapshot.title_len));
+        self.front
+            .load(&snapshot.title, usize::from(snapshot.title_len));
         self.within = within;
         self.depth = snapshot.depth as usize;
         self.levels.load(nests, &snapshot.kinds, &snapshot.counts);
