@@ -2,6 +2,8 @@
 use Rattle.std.proofs.Common.{◌≡◌, ℕ, zero, suc, ◌+◌, ◌-◌, true, List, [], ◌∷◌, Option, Some, None, refl, ap}
 use Rattle.std.proofs.Common.{◌∙◌, arith, add-one}
 use Rattle.cbor_feed.specs.declared.level.Level.{Level}
+use Rattle.cbor_feed.specs.declared.phase.Phase.{Phase}
+use Rattle.cbor_feed.specs.declared.phase.Within.{Within}
 use Rattle.cbor_feed.specs.Levels.{closes, next}
 use Rattle.cbor_feed.specs.Stack.{innermost, others}
 use Rattle.cbor_feed.specs.Spots.{Spot, settled, item_done, item_due, nested, broken}
@@ -17,6 +19,18 @@ settled_alike : (fs : List Level) (d : ℕ) (s : Spot) (a : ℕ) (b : List Level
     → settled d fs (record s { depth = a; levels = b }) ≡ settled d fs s
 settled_alike [] d s a b = refl
 settled_alike (f ∷ fs) d s a b = settled_by (next f) f fs d s a b refl (settled_alike fs (suc d) s a b)
+
+-- what was due and the open strings do not count
+due_by : (o : Option Level) (f : Level) (fs : List Level) (d : ℕ) (s : Spot) (a : Phase) (b : Within) → next f ≡ o
+    → settled (suc d) fs (record s { phase = a; within = b }) ≡ settled (suc d) fs s
+    → settled d (f ∷ fs) (record s { phase = a; within = b }) ≡ settled d (f ∷ fs) s
+due_by None f fs d s a b e same = rw (e, settled) same
+due_by (Some g) f fs d s a b e same = rw (e, settled) refl
+
+pub settled_anyhow : (fs : List Level) (d : ℕ) (s : Spot) (a : Phase) (b : Within)
+    → settled d fs (record s { phase = a; within = b }) ≡ settled d fs s
+settled_anyhow [] d s a b = refl
+settled_anyhow (f ∷ fs) d s a b = due_by (next f) f fs d s a b refl (settled_anyhow fs (suc d) s a b)
 
 -- ---- an item more of the innermost level
 

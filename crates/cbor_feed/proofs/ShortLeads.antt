@@ -19,7 +19,7 @@ use Rattle.cbor_feed.specs.declared.phase.Phase.TheVariants as p
 use Rattle.cbor_feed.specs.declared.phase.Within.{Within}
 use Rattle.cbor_feed.specs.declared.phase.Within.TheVariants as w
 use Rattle.cbor_feed.specs.Blocked.{is_value}
-use Rattle.cbor_feed.specs.Spots.{Spot, at_phase, body_placed, bytes_due, entered, item_done, item_entered}
+use Rattle.cbor_feed.specs.Spots.{Spot, at_phase, body_placed, bytes_due, entered, item_done, item_entered, string_done}
 use Rattle.cbor_feed.specs.Spots.{text_due}
 use Rattle.cbor_feed.specs.Steps.{Leads, StepIn, stay, go, counted_by, may_end, text_left, with_byte}
 use Rattle.cbor_feed.proofs.BlockedLaws.{step_whole, value_entered, value_free}
@@ -80,15 +80,14 @@ both_lead xs len spot m new first rest =
     subst (λ (z : List ℕ). Leads spot z new) (sym (take-add 1 len xs))
     (leads_more spot m new (take 1 xs) (take len (drop 1 xs)) first rest)
 
--- all of a byte string
-pub short_bytes : (xs : List ℕ) (len : ℕ) (spot new : Spot) → Below xs → spot.phase ≡ p.Title
+bytes_taken : (xs : List ℕ) (len : ℕ) (spot new : Spot) → Below xs → spot.phase ≡ p.Title
     → length spot.front ≡ 0 → spot.within ≡ w.Nothing → 0 < length xs → len ≤ length xs - 1
     → IsTitle (take 1 xs) (h.Bytes (Some len)) → IsTakenTitle spot.strict (take 1 xs) (h.Bytes (Some len))
     → new ≡ bytes_due (len - len) (counted_by len (behind spot)) → Leads spot (take (1 + len) xs) new
-short_bytes xs zero spot new below at clear due some le is taken e =
+bytes_taken xs zero spot new below at clear due some le is taken e =
     short_leads xs spot new (h.Bytes (Some zero)) below at clear due some is taken
     (e ∙ ap (λ (z : Spot). bytes_due 0 z) (counted_none (behind spot) (length_zero spot.front clear)))
-short_bytes xs (suc k) spot new below at clear due some le is taken e =
+bytes_taken xs (suc k) spot new below at clear due some le is taken e =
     let phase : Phase = p.Bytes (suc k) in
     let m : Spot = at_phase phase (behind spot) in
     both_lead xs (suc k) spot m new
@@ -107,19 +106,18 @@ placed xs len spot some is =
     let same : spot.offset ≡ (spot.offset + 1) - title_len (h.Text (Some len)) = omega (arith, least, most, one) in
     ap (λ (z : ℕ). record spot { place = z; offset = spot.offset + 1 }) same
 
--- all of a text
-pub short_text : (xs : List ℕ) (len : ℕ) (spot new : Spot) → Below xs → spot.phase ≡ p.Title
+text_taken : (xs : List ℕ) (len : ℕ) (spot new : Spot) → Below xs → spot.phase ≡ p.Title
     → length spot.front ≡ 0 → spot.within ≡ w.Nothing → 0 < length xs → len ≤ length xs - 1
     → IsTitle (take 1 xs) (h.Text (Some len)) → IsTakenTitle spot.strict (take 1 xs) (h.Text (Some len))
     → s.Between ≡ after s.Between (take len (drop 1 xs))
     → new ≡ text_left (may_end s.Between (len - len)) (len - len) s.Between (counted_by len (behind spot))
     → Leads spot (take (1 + len) xs) new
-short_text xs zero spot new below at clear due some le is taken ends e =
+text_taken xs zero spot new below at clear due some le is taken ends e =
     short_leads xs spot new (h.Text (Some zero)) below at clear due some is taken
     (e ∙ (ap (λ (z : Bool). text_left z 0 s.Between (counted_by 0 (behind spot))) (between_ends 0)
     ∙ (ap (λ (z : Spot). text_due 0 z) (counted_none (behind spot) (length_zero spot.front clear))
     ∙ ap (λ (z : Spot). text_due 0 z) (placed xs zero spot some is))))
-short_text xs (suc k) spot new below at clear due some le is taken ends e =
+text_taken xs (suc k) spot new below at clear due some le is taken ends e =
     let phase : Phase = p.Text (suc k) s.Between in
     let u : Spot = body_placed (suc k) (behind spot) in
     let m : Spot = at_phase phase u in
@@ -131,6 +129,33 @@ short_text xs (suc k) spot new below at clear due some le is taken ends e =
     (e ∙ (ap (λ (z : Spot). text_left (may_end s.Between left) left s.Between (counted_by (suc k) z))
     (placed xs (suc k) spot some is)
     ∙ sym (left_alike (may_end s.Between left) left s.Between (counted_by (suc k) u) phase))))
+
+-- behind it nothing of the body is left, and it is an item
+none_left : (len : ℕ) → len - len ≡ 0
+none_left len = omega arith
+
+-- all of a byte string
+pub short_bytes : (xs : List ℕ) (len : ℕ) (spot new : Spot) → Below xs → spot.phase ≡ p.Title
+    → length spot.front ≡ 0 → spot.within ≡ w.Nothing → 0 < length xs → len ≤ length xs - 1
+    → IsTitle (take 1 xs) (h.Bytes (Some len)) → IsTakenTitle spot.strict (take 1 xs) (h.Bytes (Some len))
+    → new ≡ item_done (counted_by len (behind spot)) → Leads spot (take (1 + len) xs) new
+short_bytes xs len spot new below at clear due some le is taken e =
+    let u : Spot = counted_by len (behind spot) in
+    bytes_taken xs len spot new below at clear due some le is taken
+    (e ∙ (ap (λ (z : Within). string_done z u) (sym due) ∙ ap (λ (z : ℕ). bytes_due z u) (sym (none_left len))))
+
+-- all of a text
+pub short_text : (xs : List ℕ) (len : ℕ) (spot new : Spot) → Below xs → spot.phase ≡ p.Title
+    → length spot.front ≡ 0 → spot.within ≡ w.Nothing → 0 < length xs → len ≤ length xs - 1
+    → IsTitle (take 1 xs) (h.Text (Some len)) → IsTakenTitle spot.strict (take 1 xs) (h.Text (Some len))
+    → s.Between ≡ after s.Between (take len (drop 1 xs)) → new ≡ item_done (counted_by len (behind spot))
+    → Leads spot (take (1 + len) xs) new
+short_text xs len spot new below at clear due some le is taken ends e =
+    let u : Spot = counted_by len (behind spot) in
+    text_taken xs len spot new below at clear due some le is taken ends
+    (e ∙ (ap (λ (z : Within). string_done z u) (sym due)
+    ∙ (ap (λ (z : Bool). text_left z 0 s.Between u) (sym (between_ends 0))
+    ∙ ap (λ (z : ℕ). text_left (may_end s.Between z) z s.Between u) (sym (none_left len)))))
 
 -- ---- a longer title of a number, a float or a simple value
 

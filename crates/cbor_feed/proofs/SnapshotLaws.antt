@@ -7,6 +7,7 @@ use Rattle.std.proofs.Math.Nat.{eq-or-lt_of_le}
 use Rattle.std.proofs.lemmas.Option.{same_Some}
 use Rattle.cbor_feed.specs.declared.level.Level.{Level}
 use Rattle.cbor_feed.specs.Snapshots.{level_in, levels_in, within_others}
+use Rattle.cbor_feed.specs.Stack.{others}
 
 -- ---- nests
 
@@ -31,6 +32,24 @@ levels_push n m kinds counts kind count level levels ltk ltc e is below =
     let c : get_or (set counts n count) n 0 ≡ count = get_or-set_same counts n count 0 ltc in
     let f = levels_below n kinds counts n kind count (omega arith) in
     ap (λ (z : ℕ). levels_in z (set kinds n kind) (set counts n count)) (e ∙ add-one n) ∙ cc (k, c, f, is, below)
+
+others_in : (here : Option Level) (below : Option (List Level)) (levels : List Level)
+    → within_others here below ≡ Some levels → below ≡ Some (others levels)
+others_in (Some level) (Some rest) levels is = ap (λ (z : List Level). Some (others z)) (same_Some _ _ is)
+others_in (Some level) None levels is = absurd cc
+others_in None below levels is = absurd cc
+
+-- another one in the place of the last
+pub levels_put : (m n : ℕ) (kinds counts : List ℕ) (kind count : ℕ) (level : Level) (levels : List Level)
+    → m ≡ n + 1 → n < length kinds → n < length counts → level_in kind count ≡ Some level
+    → levels_in m kinds counts ≡ Some levels
+    → levels_in m (set kinds n kind) (set counts n count) ≡ Some (level ∷ others levels)
+levels_put m n kinds counts kind count level levels e ltk ltc is all =
+    let here : Option Level = level_in (get_or kinds n 0) (get_or counts n 0) in
+    let whole : within_others here (levels_in n kinds counts) ≡ Some levels =
+    ap (λ (z : ℕ). levels_in z kinds counts) (sym (e ∙ add-one n)) ∙ all in
+    levels_push n m kinds counts kind count level (others levels) ltk ltc e is
+    (others_in here (levels_in n kinds counts) levels whole)
 
 -- the next one
 pub levels_next : (n m : ℕ) (kinds counts : List ℕ) (level : Level) (levels : List Level) → m ≡ n + 1

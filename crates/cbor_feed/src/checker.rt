@@ -109,20 +109,34 @@ impl Checker {
         }
     }
 
-    /// A whole item has come.
+    /// A whole item has come where one was due. Says whether another one is.
+    #[inline(always)]
+    fn item_over(&mut self) -> bool
+        requires phase { self.old.phase ≡ p.Title }
+        requires due { self.old.within ≡ w.Nothing }
+        ensures done { spot_of self.new ≡ item_done (spot_of self.old) }
+        ensures title { result ≡ true → self.new.phase ≡ p.Title }
+        ensures item { result ≡ true → self.new.within ≡ w.Nothing }
+        ensures front { self.new.front ≡ self.old.front }
+    {
+        'levels: while !self.levels.is_empty() {
+            if self.levels.advance() {
+                return true;
+            }
+            self.depth += 1; // The level is given back.
+        }
+        self.phase = Phase::Ended;
+        false
+    }
+
+    /// A whole item has come, with a title, a body or a break.
     #[inline(always)]
     fn item_done(&mut self)
         ensures { spot_of self.new ≡ item_done (spot_of self.old) }
     {
         self.within = Within::Nothing;
-        'levels: while !self.levels.is_empty() {
-            if self.levels.advance() {
-                self.phase = Phase::Title;
-                return;
-            }
-            self.depth += 1; // The level is given back.
-        }
-        self.phase = Phase::Ended;
+        self.phase = Phase::Title;
+        self.item_over();
     }
 
     /// A whole string of a definite length has come: an item, or a piece of an open string.
@@ -160,38 +174,52 @@ impl Checker {
         }
     }
 
-    /// The title of a tag, an array or a map has come.
+    /// The title of a tag, an array or a map has come where an item is due. Says whether one is due now.
     #[inline(always)]
-    fn nested(&mut self, inner: Level)
-        ensures { spot_of self.new ≡ nested self.old.depth inner (spot_of self.old) }
+    fn nested(&mut self, inner: Level) -> bool
+        requires phase { self.old.phase ≡ p.Title }
+        requires fresh { length self.old.front ≡ 0 }
+        requires due { self.old.within ≡ w.Nothing }
+        ensures nested { spot_of self.new ≡ nested self.old.depth inner (spot_of self.old) }
+        ensures title { result ≡ true → self.new.phase ≡ p.Title }
+        ensures item { result ≡ true → self.new.within ≡ w.Nothing }
+        ensures clear { result ≡ true → length self.new.front ≡ 0 }
     {
         if self.depth == 0 {
             self.phase = Phase::Faulted(Fault::Deep(self.place));
-            return;
+            return false;
         }
         match inner.next() {
             Some(left) => {
                 self.depth -= 1;
                 self.levels.push(left);
-                self.within = Within::Nothing;
-                self.phase = Phase::Title;
+                true
             }
-            None => self.item_done(),
+            None => self.item_over(),
         }
     }
 
-    /// A break has come where an item is due.
+    /// A break has come where an item is due. Says whether one is due now.
     #[inline(always)]
-    fn broken(&mut self)
-        ensures { spot_of self.new ≡ broken self.old.levels (spot_of self.old) }
+    fn broken(&mut self) -> bool
+        requires phase { self.old.phase ≡ p.Title }
+        requires fresh { length self.old.front ≡ 0 }
+        requires due { self.old.within ≡ w.Nothing }
+        ensures broken { spot_of self.new ≡ broken self.old.levels (spot_of self.old) }
+        ensures title { result ≡ true → self.new.phase ≡ p.Title }
+        ensures item { result ≡ true → self.new.within ≡ w.Nothing }
+        ensures clear { result ≡ true → length self.new.front ≡ 0 }
     {
         match self.levels.innermost() {
             Some(level) if level.closes() => {
                 self.levels.pop();
                 self.depth += 1;
-                self.item_done();
+                self.item_over()
             }
-            _ => self.phase = Phase::Faulted(Fault::Break(self.place)),
+            _ => {
+                self.phase = Phase::Faulted(Fault::Break(self.place));
+                false
+            }
         }
     }
 
@@ -216,26 +244,43 @@ impl Checker {
         }
     }
 
-    /// The title of this header has come where an item is due.
+    /// The title of this header has come where an item is due. Says whether one is due now with nothing of its title,
+    /// where it can tell that at once.
     #[inline(always)]
-    fn enter_item(&mut self, header: Header)
-        requires { 1 ≤ self.old.offset }
-        ensures { spot_of self.new ≡ item_entered header (spot_of self.old) }
+    fn enter_item(&mut self, header: Header) -> bool
+        requires phase { self.old.phase ≡ p.Title }
+        requires fresh { length self.old.front ≡ 0 }
+        requires due { self.old.within ≡ w.Nothing }
+        requires counted { 1 ≤ self.old.offset }
+        ensures entered { spot_of self.new ≡ item_entered header (spot_of self.old) }
+        ensures title { result ≡ true → self.new.phase ≡ p.Title }
+        ensures item { result ≡ true → self.new.within ≡ w.Nothing }
+        ensures clear { result ≡ true → length self.new.front ≡ 0 }
     {
         match header {
-            Header::Bytes(Some(len)) => self.bytes_due(len),
-            Header::Bytes(None) => self.string_open(Within::Bytes(0)),
+            Header::Bytes(Some(len)) => {
+                self.bytes_due(len);
+                false
+            }
+            Header::Bytes(None) => {
+                self.string_open(Within::Bytes(0));
+                false
+            }
             Header::Text(Some(len)) => {
                 self.place = self.offset.saturating_sub(header.title_len());
                 self.text_due(len);
+                false
             }
-            Header::Text(None) => self.string_open(Within::Text(0)),
+            Header::Text(None) => {
+                self.string_open(Within::Text(0));
+                false
+            }
             Header::Tag(_) | Header::Array(_) | Header::Map(_) => {
-                self.nested(Level::behind(header));
+                self.nested(Level::behind(header))
             }
             Header::Break => self.broken(),
             Header::Positive(_) | Header::Negative(_) | Header::Float(_) | Header::Simple(_) => {
-                self.item_done();
+                self.item_over()
             }
         }
     }
@@ -300,11 +345,15 @@ impl Checker {
     /// The title of this header has come.
     #[inline(always)]
     fn enter(&mut self, header: Header)
-        requires { open_count self.old.within + 1 ≤ self.old.offset }
+        requires phase { self.old.phase ≡ p.Title }
+        requires fresh { length self.old.front ≡ 0 }
+        requires counted { open_count self.old.within + 1 ≤ self.old.offset }
         ensures { spot_of self.new ≡ entered self.old.within header (spot_of self.old) }
     {
         match self.within {
-            Within::Nothing => self.enter_item(header),
+            Within::Nothing => {
+                self.enter_item(header);
+            }
             Within::Bytes(more) => self.enter_bytes(header, more),
             Within::Text(more) => self.enter_text(header, more),
         }
@@ -325,7 +374,8 @@ impl Checker {
     /// A byte of a title.
     #[tactic(auto, using(crate::proofs::BlockedLaws::affix_most))]
     fn title_step(&mut self, byte: u8)
-        requires { self.old.offset < usize.MAX }
+        requires phase { self.old.phase ≡ p.Title }
+        requires room { self.old.offset < usize.MAX }
         ensures { TitleStep (with_byte byte (spot_of self.old)) (spot_of self.new) }
     {
         self.place = self.title_place();
@@ -411,10 +461,26 @@ impl Checker {
         self.title_byte(bytes)
     }
 
-    /// All of a title of one byte, which means this header, where an item is due. Of a string of bytes or of ASCII the
-    /// body is taken with it where all of it is there. Says how many bytes.
+    /// All of the body of a short string that is an item, behind its title. Says whether another item is due.
     #[inline(always)]
-    fn short_taken(&mut self, bytes: &[u8], header: Header) -> usize
+    fn body_taken(&mut self, len: usize) -> bool
+        requires phase { self.old.phase ≡ p.Title }
+        requires fresh { length self.old.front ≡ 0 }
+        requires due { self.old.within ≡ w.Nothing }
+        requires room { self.old.offset + len ≤ usize.MAX }
+        ensures taken { spot_of self.new ≡ item_done (counted_by len (spot_of self.old)) }
+        ensures title { result ≡ true → self.new.phase ≡ p.Title }
+        ensures item { result ≡ true → self.new.within ≡ w.Nothing }
+        ensures clear { result ≡ true → length self.new.front ≡ 0 }
+    {
+        self.offset += len;
+        self.item_over()
+    }
+
+    /// All of a title of one byte, which means this header, where an item is due. Of a string of bytes or of ASCII the
+    /// body is taken with it where all of it is there. Says how many bytes, and whether another item is due.
+    #[inline(always)]
+    fn short_taken(&mut self, bytes: &[u8], header: Header) -> (usize, bool)
         requires phase { self.old.phase ≡ p.Title }
         requires fresh { length self.old.front ≡ 0 }
         requires due { self.old.within ≡ w.Nothing }
@@ -422,52 +488,61 @@ impl Checker {
         requires room { self.old.offset + length bytes.now ≤ usize.MAX }
         requires title { IsTitle (take 1 bytes.now) header }
         requires taken { IsTakenTitle self.old.strict (take 1 bytes.now) header }
-        ensures some { 0 < result }
-        ensures within { result ≤ length bytes.now }
-        ensures leads { Leads (spot_of self.old) (take result bytes.now) (spot_of self.new) }
+        ensures some { 0 < result.0 }
+        ensures within { result.0 ≤ length bytes.now }
+        ensures leads { Leads (spot_of self.old) (take result.0 bytes.now) (spot_of self.new) }
+        ensures title { result.1 ≡ true → self.new.phase ≡ p.Title }
+        ensures item { result.1 ≡ true → self.new.within ≡ w.Nothing }
+        ensures clear { result.1 ≡ true → length self.new.front ≡ 0 }
     {
         self.place = self.offset;
         self.offset += 1;
         let rest = &bytes[1..];
         match header {
             Header::Bytes(Some(len)) if len <= rest.len() => {
-                self.bytes_taken(len, len);
-                1 + len
+                let goes = self.body_taken(len);
+                (1 + len, goes)
             }
             Header::Text(Some(len)) if len <= rest.len() && rest[..len].is_ascii() => {
-                self.text_taken(len, len, State::Between);
-                1 + len
+                let goes = self.body_taken(len); // Of ASCII.
+                (1 + len, goes)
             }
             _ => {
-                self.enter_item(header);
-                1
+                let goes = self.enter_item(header);
+                (1, goes)
             }
         }
     }
 
     /// The same where the title's first byte holds its number.
     #[inline(always)]
-    fn short_run(&mut self, bytes: &[u8]) -> usize
+    fn short_run(&mut self, bytes: &[u8]) -> (usize, bool)
         requires phase { self.old.phase ≡ p.Title }
         requires fresh { length self.old.front ≡ 0 }
         requires due { self.old.within ≡ w.Nothing }
         requires some { 0 < length bytes.now }
         requires room { self.old.offset + length bytes.now ≤ usize.MAX }
         requires short { affix_len (slice_index bytes.now 0 % 32) ≡ 0 }
-        ensures some { 0 < result }
-        ensures within { result ≤ length bytes.now }
-        ensures leads { Leads (spot_of self.old) (take result bytes.now) (spot_of self.new) }
+        ensures some { 0 < result.0 }
+        ensures within { result.0 ≤ length bytes.now }
+        ensures leads { Leads (spot_of self.old) (take result.0 bytes.now) (spot_of self.new) }
+        ensures title { result.1 ≡ true → self.new.phase ≡ p.Title }
+        ensures item { result.1 ≡ true → self.new.within ≡ w.Nothing }
+        ensures clear { result.1 ≡ true → length self.new.front ≡ 0 }
     {
         match header_of(&bytes[..1], self.strict) {
             Some(header) => self.short_taken(bytes, header),
-            None => self.title_byte(bytes),
+            None => {
+                let len = self.title_byte(bytes);
+                (len, false)
+            }
         }
     }
 
     /// All of a longer title of a number, a float or a simple value, where an item is due and any spelling is taken.
-    /// Its first byte tells that, so that the others are not read.
+    /// Its first byte tells that, so that the others are not read. Says whether another item is due.
     #[inline(always)]
-    fn value_taken(&mut self, bytes: &[u8], len: usize, kind: TitleKind)
+    fn value_taken(&mut self, bytes: &[u8], len: usize, kind: TitleKind) -> bool
         requires phase { self.old.phase ≡ p.Title }
         requires fresh { length self.old.front ≡ 0 }
         requires due { self.old.within ≡ w.Nothing }
@@ -478,18 +553,52 @@ impl Checker {
         requires more { 1 < len }
         requires long { len ≡ 1 + affix_len (slice_index bytes.now 0 % 32) }
         requires kind { IsTitleKind kind (slice_index bytes.now 0 / 32) (slice_index bytes.now 0 % 32) }
-        ensures { Leads (spot_of self.old) (take len bytes.now) (spot_of self.new) }
+        ensures leads { Leads (spot_of self.old) (take len bytes.now) (spot_of self.new) }
+        ensures title { result ≡ true → self.new.phase ≡ p.Title }
+        ensures item { result ≡ true → self.new.within ≡ w.Nothing }
+        ensures clear { result ≡ true → length self.new.front ≡ 0 }
     {
         self.place = self.offset;
         self.offset += len;
-        self.item_done();
+        self.item_over()
     }
 
     /// A title where an item is due, of which most are told by their first byte, and of a short string the body with it.
-    /// Else it is as [`Checker::title_run`]. Says how many bytes.
+    /// Else it is as [`Checker::title_run`]. Says how many bytes, and whether it can tell that another item is due, and
+    /// nothing of its title came.
+    #[inline(always)]
+    fn item_step(&mut self, bytes: &[u8]) -> (usize, bool)
+        requires phase { self.old.phase ≡ p.Title }
+        requires fresh { length self.old.front ≡ 0 }
+        requires due { self.old.within ≡ w.Nothing }
+        requires some { 0 < length bytes.now }
+        requires room { self.old.offset + length bytes.now ≤ usize.MAX }
+        ensures some { 0 < result.0 }
+        ensures within { result.0 ≤ length bytes.now }
+        ensures leads { Leads (spot_of self.old) (take result.0 bytes.now) (spot_of self.new) }
+        ensures title { result.1 ≡ true → self.new.phase ≡ p.Title }
+        ensures item { result.1 ≡ true → self.new.within ≡ w.Nothing }
+        ensures clear { result.1 ≡ true → length self.new.front ≡ 0 }
+    {
+        let row = row_of(bytes[0]);
+        if let Affix::Within = row.affix {
+            return self.short_run(bytes);
+        }
+        let len = 1 + affix_len(row.affix);
+        if !self.strict && is_value(row.kind) && 1 < len && len <= bytes.len() {
+            let goes = self.value_taken(bytes, len, row.kind);
+            return (len, goes);
+        }
+        let len = self.title_run(bytes);
+        (len, false)
+    }
+
+    /// Titles where an item is due, one behind the other, as long as it can tell that another item is. Says how many
+    /// bytes.
     #[inline(always)]
     fn item_run(&mut self, bytes: &[u8]) -> usize
         requires phase { self.old.phase ≡ p.Title }
+        requires fresh { length self.old.front ≡ 0 }
         requires due { self.old.within ≡ w.Nothing }
         requires some { 0 < length bytes.now }
         requires room { self.old.offset + length bytes.now ≤ usize.MAX }
@@ -497,21 +606,18 @@ impl Checker {
         ensures within { result ≤ length bytes.now }
         ensures leads { Leads (spot_of self.old) (take result bytes.now) (spot_of self.new) }
     {
-        if self.front.len() == 0 {
-            let row = row_of(bytes[0]);
-            if let Affix::Within = row.affix {
-                return self.short_run(bytes);
-            }
-            let len = 1 + affix_len(row.affix);
-            if !self.strict && is_value(row.kind) && 1 < len && len <= bytes.len() {
-                self.value_taken(bytes, len, row.kind);
-                return len;
+        let mut at = 0;
+        'items: while at < bytes.len() {
+            let (len, goes) = self.item_step(&bytes[at..]);
+            at += len;
+            if !goes {
+                return at;
             }
         }
-        self.title_run(bytes)
+        at
     }
 
-    /// The same within an open string. It is kept apart from the path of an item's title.
+    /// A title within an open string, as [`Checker::title_run`]. It is kept apart from the path of an item's title.
     #[inline(never)]
     fn title_within(&mut self, bytes: &[u8]) -> usize
         requires phase { self.old.phase ≡ p.Title }
@@ -622,7 +728,7 @@ impl Checker {
         !matches!(self.phase, Phase::Ended | Phase::Faulted(_))
     }
 
-    /// Some bytes more: a title or a byte of one, or of a body what is there. Says how many.
+    /// Some bytes more: titles of items, a title or a byte of one, or of a body what is there. Says how many.
     fn run(&mut self, bytes: &[u8]) -> usize
         requires some { 0 < length bytes.now }
         requires room { self.old.offset + length bytes.now ≤ usize.MAX }
@@ -632,6 +738,7 @@ impl Checker {
         ensures leads { Leads (spot_of self.old) (take result bytes.now) (spot_of self.new) }
     {
         match self.phase {
+            Phase::Title if self.front.len() > 0 => self.title_byte(bytes),
             Phase::Title => match self.within {
                 Within::Nothing => self.item_run(bytes),
                 Within::Bytes(_) | Within::Text(_) => self.title_within(bytes),
@@ -646,8 +753,9 @@ impl Checker {
         }
     }
 
-    /// The bytes up to the end of the item or up to the fault, or all of them. Says how many.
-    #[inline(always)]
+    /// The bytes up to the end of the item or up to the fault, or all of them. Says how many. It stays one function, in
+    /// which all of a title's path is inlined, however many calls feed a checker.
+    #[inline(never)]
     fn run_all(&mut self, bytes: &[u8]) -> usize
         requires { self.old.offset + length bytes.now ≤ usize.MAX }
         ensures within { result ≤ length bytes.now }
@@ -718,6 +826,7 @@ impl Checker {
     /// `Ended` has the item's length. `Fault` says that no item begins as the bytes so far do; it comes with the first
     /// byte of which that is so. `TooLong` says that `usize::MAX` bytes came, and the item goes on; none of the others
     /// is taken.
+    #[inline(always)]
     pub fn feed(&mut self, bytes: &[u8]) -> Feed
         ensures taken { result.taken ≤ length bytes.now }
         ensures all { IsMore result.progress → result.taken ≡ length bytes.now }
@@ -792,7 +901,8 @@ impl Checker {
         }
         self.strict = strict;
         self.phase = phase;
-        self.front = Front::restore(&snapshot.title, usize::from(snapshot.title_len));
+        self.front
+            .load(&snapshot.title, usize::from(snapshot.title_len));
         self.within = within;
         self.depth = snapshot.depth as usize;
         self.levels.load(nests, &snapshot.kinds, &snapshot.counts);

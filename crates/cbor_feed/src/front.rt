@@ -80,12 +80,13 @@ impl Front {
         self.len
     }
 
-    /// The first so many of these bytes.
+    /// Becomes the first so many of these bytes. They are written where they stay.
     #[inline(always)]
-    pub(crate) fn restore(bytes: &[u8; LONGEST], len: usize) -> Front
+    pub(crate) fn load(&mut self, bytes: &[u8; LONGEST], len: usize)
         requires { len ≤ 9 }
-        ensures { result ≡ take len bytes.now }
+        ensures { self.new ≡ take len bytes.now }
     {
-        Front { bytes: *bytes, len }
+        self.bytes = *bytes;
+        self.len = len;
     }
 }

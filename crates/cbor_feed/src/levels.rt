@@ -13,6 +13,9 @@ pub(crate) const MOST_LEVELS: usize = 256;
 /// The number of the kind of [`Level::Items`].
 const ITEMS: u8 = 0;
 
+/// That of [`Level::Value`], behind which those of indefinite length come.
+const VALUE: u8 = 2;
+
 /// What the nests around an item contain behind it. Seen as a list, the innermost is the first.
 ///
 /// They are kept by their numbers, as a snapshot has them, so that those of a snapshot are taken as they are.
@@ -97,10 +100,28 @@ impl Levels {
         ensures less { result ≡ false → length self.new + 1 ≡ length self.old }
     {
         let at = self.len - 1;
+        if self.kinds[at] > VALUE {
+            return self.advance_open();
+        }
         if self.kinds[at] == ITEMS && self.counts[at] > 0 {
             self.counts[at] -= 1;
             return true;
         }
+        self.advance_any()
+    }
+
+    /// The same of a level of indefinite length. It is kept apart from the path of those that are counted.
+    #[inline(never)]
+    fn advance_open(&mut self) -> bool
+        requires some { 0 < length self.old }
+        requires room { length self.old ≤ 256 }
+        ensures due { result ≡ true → (depth : ℕ) (spot : Spot)
+            → settled depth self.old spot ≡ item_due depth self.new spot }
+        ensures done { result ≡ false → (depth : ℕ) (spot : Spot)
+            → settled depth self.old spot ≡ settled (suc depth) self.new spot }
+        ensures same { result ≡ true → length self.new ≡ length self.old }
+        ensures less { result ≡ false → length self.new + 1 ≡ length self.old }
+    {
         self.advance_any()
     }
 
@@ -119,14 +140,28 @@ impl Levels {
         let Some(level) = self.innermost() else {
             unreachable!();
         };
-        self.pop();
         match level.next() {
             Some(left) => {
-                self.push(left);
+                self.replace(left);
                 true
             }
-            None => false,
+            None => {
+                self.pop();
+                false
+            }
         }
+    }
+
+    /// Puts a level in the place of the innermost one.
+    #[inline(always)]
+    fn replace(&mut self, level: Level)
+        requires { 0 < length self.old }
+        ensures { self.new ≡ level ∷ others self.old }
+    {
+        let (kind, count) = level.numbers();
+        let at = self.len - 1;
+        self.kinds[at] = kind;
+        self.counts[at] = count as u64;
     }
 
     /// Puts a level within the others.
@@ -151,13 +186,16 @@ impl Levels {
         ensures saved { levels_in result kinds.new counts.new ≡ Some self.now }
         ensures len { result ≡ length self.now }
     {
+        if self.len == 0 {
+            return 0;
+        }
         kinds[..self.len].copy_from_slice(&self.kinds[..self.len]);
         counts[..self.len].copy_from_slice(&self.counts[..self.len]);
         self.len
     }
 
     /// Becomes so many levels, of which these are the numbers. They are written where they stay: levels that are made
-    /// elsewhere are copied once more.
+    /// elsewhere are copied once more. All numbers are copied, so that none need be written before.
     #[inline(always)]
     pub(crate) fn load(
         &mut self,

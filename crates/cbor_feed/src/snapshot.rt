@@ -83,7 +83,10 @@ impl Snapshot {
 fn has_left(phase: Phase) -> bool
     ensures { result ≡ has_left phase }
 {
-    !matches!(phase, Phase::Bytes(0) | Phase::Text(0, _))
+    match phase {
+        Phase::Bytes(left) | Phase::Text(left, _) => left > 0,
+        _ => true,
+    }
 }
 
 /// Whether there are no more open strings than bytes came.

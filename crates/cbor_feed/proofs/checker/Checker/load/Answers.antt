@@ -7,5 +7,5 @@ invariant_of-self-clause-room c =
     let snapshot = c.args.snapshot.now in
     let so : c.is_state.result ≡ true = search rules in
     let state = c.is_state.ensures.yes so in
-    let long = length_levels c.from-nests.result snapshot.kinds snapshot.counts c.load.new.self c.load.ensures in
+    let long = length_levels c.from-nests.result snapshot.kinds snapshot.counts c.load-2.new.self c.load-2.ensures in
     omega (arith, long, c.from-nests.ensures, state.room)

@@ -3,12 +3,12 @@ use Rattle.cbor_feed.specs.Checking.{spot_of}
 use Rattle.cbor_feed.proofs.SettledLaws.{nested_ends, nested_goes}
 use Rattle.cbor_feed.proofs.checker.Checker.nested.Goals as goal
 
-pub returns-in-Some : goal.returns-in-Some
-returns-in-Some c =
+pub returns-in-Some-clause-nested : goal.returns-in-Some-clause-nested
+returns-in-Some-clause-nested c =
     nested_goes (spot_of c.args.self.now) _ c.args.inner c.in-Some.left c.if-self-eq0.false (search rules)
     (search rules)
 
-pub returns-in-None : goal.returns-in-None
-returns-in-None c =
-    nested_ends (spot_of c.args.self.now) (spot_of c.item_done.new.self) c.args.inner c.if-self-eq0.false
+pub returns-in-None-clause-nested : goal.returns-in-None-clause-nested
+returns-in-None-clause-nested c =
+    nested_ends (spot_of c.args.self.now) (spot_of c.item_over.new.self) c.args.inner c.if-self-eq0.false
     (search rules) (search rules)

@@ -3,8 +3,8 @@ use Rattle.cbor_feed.specs.Checking.{spot_of}
 use Rattle.cbor_feed.proofs.ShortLeads.{value_leads}
 use Rattle.cbor_feed.proofs.checker.Checker.value_taken.Goals as goal
 
-pub returns : goal.returns
-returns c =
-    value_leads c.args.bytes.now c.args.len (spot_of c.args.self.now) (spot_of c.item_done.new.self) c.args.kind
+pub returns-clause-leads : goal.returns-clause-leads
+returns-clause-leads c =
+    value_leads c.args.bytes.now c.args.len (spot_of c.args.self.now) (spot_of c.item_over.new.self) c.args.kind
     (λ i less. search rules) c.requires.phase c.requires.fresh c.requires.due c.requires.any c.requires.value
-    c.requires.more c.requires.within c.requires.long c.requires.kind c.item_done.ensures
+    c.requires.more c.requires.within c.requires.long c.requires.kind c.item_over.ensures.done

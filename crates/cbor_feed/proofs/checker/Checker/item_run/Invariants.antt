@@ -1,0 +1,19 @@
+use Rattle.std.proofs.Common.{◌≡◌, ◌≤◌, ◌-◌, take, length}
+use Rattle.cbor_feed.specs.declared.phase.Phase.TheVariants as p
+use Rattle.cbor_feed.specs.declared.phase.Within.TheVariants as w
+use Rattle.cbor_feed.specs.Checking.{spot_of}
+use Rattle.cbor_feed.specs.Steps.{Leads}
+use Rattle.cbor_feed.proofs.checker.Checker.item_run.Given as goal
+
+abbrev pub invariant-items : goal.invariant-items
+invariant-items l =
+    record {
+      within : l.at ≤ length l.bytes;
+      leads : Leads (spot_of l.fn.self) (take l.at l.bytes) (spot_of l.self);
+      phase : l.self.phase ≡ p.Title;
+      due : l.self.within ≡ w.Nothing;
+      fresh : length l.self.front ≡ 0;
+    }
+
+abbrev pub decreases-items : goal.decreases-items
+decreases-items l = length l.bytes - l.at
