@@ -1,7 +1,7 @@
 // Rows for the tests, each in hexadecimal digits.
 
-// The examples of RFC 8949, appendix A.
-pub static EXAMPLES: [&str; 83] = [
+// The examples of RFC 8949, appendix A, and behind them those of its section 3 that are not among them.
+pub static EXAMPLES: [&str; 90] = [
     "00",
     "01",
     "0a",
@@ -83,6 +83,13 @@ pub static EXAMPLES: [&str; 83] = [
     "bf61610161629f0203ffff",
     "826161bf61626163ff",
     "bf6346756ef563416d7421ff",
+    "1901f4",
+    "3901f3",
+    "450102030405",
+    "8a00000000000000000000",
+    "5f44aabbccdd43eeff99ff",
+    "c48221196ab3",
+    "c5822003",
     "d9d9f700",
     "d9d9f7d9d9f700",
 ];
