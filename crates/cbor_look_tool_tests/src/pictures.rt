@@ -3,8 +3,9 @@ use cbor_look_service::arguments::Options;
 use std::test::Fail;
 
 // Digits, and the dump of their bytes: the examples of RFC 8949, section 3, as its pictures have them, but that a break
-// stands at the level of what it ends, and those of its appendix A by their notation there, floats by their bits.
-static PICTURES: [(&str, &str); 29] = [
+// stands at the level of what it ends, and those of its appendix A by their notation there, floats by their bits. Left
+// out are two whose texts are longer than a line.
+static PICTURES: [(&str, &str); 27] = [
     (
         "0a 1901f4 3901f3 45 0102030405 8a 00000000000000000000",
         "0a                                  # 10
@@ -201,14 +202,6 @@ fb ff f0 00 00 00 00 00 00          # double fff0000000000000
 ",
     ),
     (
-        "c074323031332d30332d32315432303a30343a30305a",
-        "c0                                  # tag 0
-   74                               #   text 20
-      32 30 31 33 2d 30 33 2d 32 31 54 32 30 3a 30 34 #     \"2013-03-21T20:04\"
-      3a 30 30 5a                   #     \":00Z\"
-",
-    ),
-    (
         "c11a514b67b0 c1fb41d452d9e8200000",
         "c1                                  # tag 1
    1a 51 4b 67 b0                   #   1363896240
@@ -224,14 +217,6 @@ c1                                  # tag 1
 d8 18                               # tag 24
    45                               #   bytes 5
       64 49 45 54 46
-",
-    ),
-    (
-        "d82076687474703a2f2f7777772e6578616d706c652e636f6d",
-        "d8 20                               # tag 32
-   76                               #   text 22
-      68 74 74 70 3a 2f 2f 77 77 77 2e 65 78 61 6d 70 #     \"http://www.examp\"
-      6c 65 2e 63 6f 6d             #     \"le.com\"
 ",
     ),
     (

@@ -222,7 +222,7 @@ pub static MALFORMED: [(&str, &str); 110] = [
 ];
 
 // Options, digits, and what is found.
-pub static SPELLED: [(&str, &str, &str); 39] = [
+pub static SPELLED: [(&str, &str, &str); 44] = [
     // Sequences of items (RFC 8742).
     ("check", "", "ok 0 0"),
     ("check", "00", "ok 1 1"),
@@ -264,7 +264,12 @@ pub static SPELLED: [(&str, &str, &str); 39] = [
     ("check", "8 2 0\t1\r\n0 2", "ok 1 3"),
     ("check", "# 00", "ok 0 0"),
     ("check", "0#\n0", "ok 1 1"),
+    ("check", "00 # 01", "ok 1 1"),
+    ("check", "00 / 01 / / 02 /", "ok 1 1"),
     ("check", "0", "invalid data"),
+    ("check", "0 # 0", "invalid data"),
+    ("check", "00 / 01", "invalid data"),
+    ("check", "00 /", "invalid data"),
     ("check", "00 g", "invalid data"),
     ("check", "00,", "invalid data"),
 ];
