@@ -3,6 +3,13 @@
  * memory must not grow with it. Then the same item is skipped as a whole: for that its pages stand in a row, where all
  * but the first ones and the last ones are the same.
  *
+ * Two copiers get an item of a sixteenth of these bytes, with room for 1 to 65,536, which ends at a guard page too.
+ * What they write is that of the blocks that the item is made of, by cll_recode.
+ *
+ * usage: flood [all]
+ *
+ * `all` gives the copiers the whole item, which takes a minute and more.
+ *
  * It prints how many pieces there were. It says what went wrong, and then ends with the status 1.
  */
 #define _DEFAULT_SOURCE
@@ -12,12 +19,16 @@
 
 enum { BLOCK = 1 << 20, BLOCKS = 1 << 10, LONGEST = 1 << 16, GROWTH = 1024 };
 
-/* The item is an open, the blocks, and a last one that ends with a break. */
-static const uint64_t whole = 1 + (uint64_t)BLOCKS * BLOCK;
+/* The item is an open, so many blocks, the last of which ends with a break, and has so many bytes. */
+static uint64_t parts = BLOCKS, whole = 1 + (uint64_t)BLOCKS * BLOCK;
 
 static uint8_t blocks[2][BLOCK];
-static struct guarded input;
+static uint8_t copies[2][BLOCK];
+static size_t copied[2];
+static struct guarded input, output;
 static cll_checker checker;
+static cll_copier copier;
+static cll_item_copier item_copier;
 static cll_report report;
 
 /* A string that fills so many bytes. A text has characters of each length. */
@@ -62,7 +73,7 @@ static const uint8_t *piece(uint64_t from, size_t len)
         if (from + i == 0)
             at[0] = 0x9f;
         else
-            memcpy(at + i, blocks[inside / BLOCK == BLOCKS - 1] + start, count);
+            memcpy(at + i, blocks[inside / BLOCK == parts - 1] + start, count);
         i += count;
     }
     return at;
@@ -138,10 +149,90 @@ static const uint8_t *in_a_row(void)
     return row.start + page - 1;
 }
 
-int main(void)
+/* Makes the shortest spelling of the elements in the blocks, and tells how many the item has, or 0. A break is one. */
+static uint64_t copies_blocks(void)
+{
+    uint64_t elements = 1;
+    for (size_t i = 0; i < 2; i++) {
+        if (cll_recode(blocks[i], BLOCK, UINT64_MAX, copies[i], BLOCK, &report) != CLL_SHORT || report.whole != BLOCK)
+            return 0;
+        copied[i] = (size_t)report.written;
+        elements += report.elements * (i == 0 ? parts - 1 : 1);
+    }
+    return elements;
+}
+
+/* How many bytes the copy of the item has. */
+static uint64_t copy_len(void) { return 1 + (parts - 1) * copied[0] + copied[1]; }
+
+/* Whether the bytes are those of the copy from this offset on. */
+static int is_copy(const uint8_t *data, size_t len, uint64_t from)
+{
+    const uint64_t last = copy_len() - copied[1];
+    const uint8_t opened = 0x9f;
+    if (len > copy_len() - from)
+        return 0;
+    for (size_t i = 0; i < len;) {
+        const uint64_t at = from + i;
+        const size_t inside = at == 0 ? 0 : (size_t)(at < last ? (at - 1) % copied[0] : at - last);
+        const size_t room = at == 0 ? 1 : copied[at >= last] - inside;
+        const size_t count = len - i < room ? len - i : room;
+        if (memcmp(data + i, at == 0 ? &opened : copies[at >= last] + inside, count) != 0)
+            return 0;
+        i += count;
+    }
+    return 1;
+}
+
+/* A piece for a copier of so many elements, or for one of an item. */
+static uint32_t fed_copier(int is_item, const uint8_t *data, size_t len, uint8_t *out, size_t room)
+{
+    return is_item ? cll_item_copier_feed(&item_copier, data, len, out, room, &report)
+                   : cll_copier_feed(&copier, data, len, out, room, &report);
+}
+
+/* Copies all of the item, to its end. */
+static int copies_all(int is_item)
+{
+    uint64_t there = 0, written = 0;
+    uint32_t answer = CLL_SHORT;
+    while (answer == CLL_SHORT || answer == CLL_ROOM) {
+        const size_t room = length();
+        size_t len = length();
+        if (len > whole - there)
+            len = (size_t)(whole - there);
+        uint8_t *out = output.end - room;
+        answer = fed_copier(is_item, piece(there, len), len, out, room);
+        if (report.consumed > len || report.written > room || !is_copy(out, (size_t)report.written, written)
+            || (answer == CLL_SHORT && (report.consumed != len || there + len == whole))
+            || (answer == CLL_ROOM && report.written != room))
+            break;
+        there += report.consumed;
+        written += report.written;
+    }
+    if (answer == CLL_OK && there == whole && written == copy_len())
+        return 1;
+    fprintf(stderr, "flood: a copier answered %lu, behind %llu bytes, %llu were written\n", (unsigned long)answer,
+        (unsigned long long)there, (unsigned long long)written);
+    return 0;
+}
+
+/* Copies an item of so many blocks by both. */
+static int copies_items(uint64_t count)
+{
+    parts = count;
+    whole = 1 + parts * BLOCK;
+    const uint64_t elements = copies_blocks();
+    return elements != 0 && cll_copier_init(&copier, elements) == CLL_OK && copies_all(0)
+        && cll_item_copier_init(&item_copier, TALLEST + 1) == CLL_OK && copies_all(1);
+}
+
+int main(int argc, char **argv)
 {
     input = guard(LONGEST);
+    output = guard(LONGEST);
     memset(input.start, 0, LONGEST);
+    memset(output.start, 0, LONGEST);
     fill_block(blocks[0], BLOCK);
     fill_block(blocks[1], BLOCK - 1);
     blocks[1][BLOCK - 1] = 0xff;
@@ -156,6 +247,8 @@ int main(void)
         return 1;
     }
     if (!says(cll_skip(in_a_row(), (size_t)whole, TALLEST + 1, &report), CLL_OK, whole, 0))
+        return 1;
+    if (!copies_items(argc == 2 && strcmp(argv[1], "all") == 0 ? BLOCKS : BLOCKS / 16))
         return 1;
     printf("%lu pieces\n", pieces);
     return 0;

@@ -46,6 +46,7 @@ static void copier_feed(void) { answer = cll_copier_feed(&copier, data, len, out
 static void copier_end(void) { answer = cll_copier_end(&copier, &report); }
 
 static void item_copier_init(void) { answer = cll_item_copier_init(&item_copier, DEEPEST); }
+static void item_copier_init_strict(void) { answer = cll_item_copier_init_strict(&item_copier, DEEPEST); }
 static void item_copier_feed(void)
 {
     answer = cll_item_copier_feed(&item_copier, data, len, out, sizeof out, &report);
@@ -118,7 +119,8 @@ int main(void)
         {"cll_checker_init_strict", checker_init_strict}, {"cll_checker_feed/strict", checker_feed},
         {"cll_copier_init", copier_init}, {"cll_copier_feed", copier_feed}, {"cll_copier_end", copier_end},
         {"cll_item_copier_init", item_copier_init}, {"cll_item_copier_feed", item_copier_feed},
-        {"cll_item_copier_end", item_copier_end},
+        {"cll_item_copier_end", item_copier_end}, {"cll_item_copier_init_strict", item_copier_init_strict},
+        {"cll_item_copier_feed/strict", item_copier_feed},
     };
     static const unsigned depths[] = {1, 16, 64, 128, DEEPEST};
     const size_t plain = used(nothing);

@@ -8,7 +8,7 @@ use std::io;
 ///
 /// Between digits spaces, tabs and line ends may stand, and comments: from `#` to the end of the line, and from `/` to
 /// the next `/`. A read fails with an error of the kind `InvalidData` at any other byte, and where the text ends
-/// between two digits of a byte.
+/// between two digits of a byte, or within a comment that has to end with `/`.
 #[derive(Drop)]
 pub struct Digits<R> {
     source: R,
@@ -136,10 +136,12 @@ impl<R: io::Read> Digits<R> {
     fn at_end(&self) -> io::Result<usize>
         ensures { IfOk result (λ count. count ≡ 0) }
     {
-        if self.state.half().is_some() {
-            return Err(io::Error::from(io::ErrorKind::InvalidData));
+        match self.state {
+            State::Between | State::Line(None) => Ok(0),
+            State::Half(_) | State::Line(Some(_)) | State::Slashes(_) => {
+                Err(io::Error::from(io::ErrorKind::InvalidData))
+            }
         }
-        Ok(0)
     }
 }
 

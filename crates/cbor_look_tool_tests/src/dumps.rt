@@ -143,7 +143,7 @@ f0                                  # simple 16
 ];
 
 // Whether the dump is this.
-fn is_dumped(alloc: Global, digits: &str, options: Options, want: &str) -> bool {
+pub fn is_dumped(alloc: Global, digits: &str, options: Options, want: &str) -> bool {
     dumped(alloc, digits, options).text.as_slice() == want.as_bytes()
 }
 

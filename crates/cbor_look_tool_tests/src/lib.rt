@@ -8,4 +8,6 @@ mod diags;
 #[cfg(test)]
 mod dumps;
 #[cfg(test)]
+mod pictures;
+#[cfg(test)]
 mod rows;

@@ -1,7 +1,7 @@
 // Rows for the tests, each in hexadecimal digits.
 
-// The examples of RFC 8949, appendix A.
-pub static EXAMPLES: [&str; 83] = [
+// The examples of RFC 8949, appendix A, and behind them those of its section 3 that are not among them.
+pub static EXAMPLES: [&str; 90] = [
     "00",
     "01",
     "0a",
@@ -83,6 +83,13 @@ pub static EXAMPLES: [&str; 83] = [
     "bf61610161629f0203ffff",
     "826161bf61626163ff",
     "bf6346756ef563416d7421ff",
+    "1901f4",
+    "3901f3",
+    "450102030405",
+    "8a00000000000000000000",
+    "5f44aabbccdd43eeff99ff",
+    "c48221196ab3",
+    "c5822003",
     "d9d9f700",
     "d9d9f7d9d9f700",
 ];
@@ -215,7 +222,7 @@ pub static MALFORMED: [(&str, &str); 110] = [
 ];
 
 // Options, digits, and what is found.
-pub static SPELLED: [(&str, &str, &str); 39] = [
+pub static SPELLED: [(&str, &str, &str); 44] = [
     // Sequences of items (RFC 8742).
     ("check", "", "ok 0 0"),
     ("check", "00", "ok 1 1"),
@@ -257,7 +264,12 @@ pub static SPELLED: [(&str, &str, &str); 39] = [
     ("check", "8 2 0\t1\r\n0 2", "ok 1 3"),
     ("check", "# 00", "ok 0 0"),
     ("check", "0#\n0", "ok 1 1"),
+    ("check", "00 # 01", "ok 1 1"),
+    ("check", "00 / 01 / / 02 /", "ok 1 1"),
     ("check", "0", "invalid data"),
+    ("check", "0 # 0", "invalid data"),
+    ("check", "00 / 01", "invalid data"),
+    ("check", "00 /", "invalid data"),
     ("check", "00 g", "invalid data"),
     ("check", "00,", "invalid data"),
 ];
