@@ -93,7 +93,7 @@ fn messages(rt: HostRuntime) {
 
 #[test]
 fn what_is_refused(rt: HostRuntime) {
-    let rows: [(&[u8], Outcome); 18] = [
+    let rows: [(&[u8], Outcome); 19] = [
         // another tag, none, and an array of three and of any number
         (b"\xd1\x84\x40\xa0\xf6\x41s", Outcome::Unexpected(0)),
         (b"\x84\x40\xa0\xf6\x41s", Outcome::Unexpected(0)),
@@ -112,9 +112,13 @@ fn what_is_refused(rt: HostRuntime) {
         // bytes that end within a body, and in front of a title
         (b"\xd2\x84\x40\xa0\xf6\x42s", Outcome::Short),
         (b"", Outcome::Short),
-        // a map with a key alone, that holds no title, that is nested too deep, and that ends too early
+        // a map with a key alone, that holds no title or a longer one, that is nested too deep, and that ends too early
         (b"\xd2\x84\x40\xbf\x01\xff\xf6\x41s", Outcome::MapBreak(5)),
         (b"\xd2\x84\x40\xa1\x1c\x01", Outcome::MapSyntax(4)),
+        (
+            b"\xd2\x84\x40\xa1\x18\x01\x02\xf6\x41s",
+            Outcome::MapSyntax(4),
+        ),
         (
             b"\xd2\x84\x40\xa1\x81\x81\x81\x81\x81\x81\x81\x81\x81\x81\x81\x81\x81\x81\x81\x81\x01\x02",
             Outcome::MapDeep(19),
