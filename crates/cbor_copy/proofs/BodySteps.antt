@@ -57,7 +57,7 @@ by_next lowest highest b n k to x view may f =
       | inr damaged ↦ absurd (not_damaged x n may damaged)
     ]
 
-one_more_due : (state : State) (b n : ℕ) → may_end (after_byte state b) n ≡ true → may_end state (suc n) ≡ true
+pub one_more_due : (state : State) (b n : ℕ) → may_end (after_byte state b) n ≡ true → may_end state (suc n) ≡ true
 one_more_due s.Between b n may = le-leb 0 (suc n) (omega arith)
 one_more_due s.OneDue b n may = le-leb 1 (suc n) (omega arith)
 one_more_due s.TwoDue b n may =

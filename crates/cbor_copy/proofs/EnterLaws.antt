@@ -208,7 +208,7 @@ module _ (phase : Phase) (place offset : ℕ) (put : List ℕ) where
 
 -- ---- what was put out stays so
 
-due_put : (left : ℕ) (spot : Spot) → (elements_due left spot).put ≡ spot.put
+pub due_put : (left : ℕ) (spot : Spot) → (elements_due left spot).put ≡ spot.put
 due_put zero spot = refl
 due_put (suc left) spot = refl
 

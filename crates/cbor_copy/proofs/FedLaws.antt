@@ -2,8 +2,9 @@
 use Rattle.std.proofs.Common.{◌≡◌, ℕ, zero, suc, ◌+◌, ◌-◌, ◌<◌, ◌≤◌, List, [], ◌∷◌, ◌++◌, length, take, get_or, refl}
 use Rattle.std.proofs.Common.{sym, ap}
 use Rattle.std.proofs.Common.{subst, ◌∙◌, arith, append_assoc, append-nil, drop, drop-drop, length-append}
-use Rattle.std.proofs.Common.{length-take-le, false}
-use Rattle.std.proofs.lemmas.List.{take_more}
+use Rattle.std.proofs.Common.{length-take-le, length-drop, false}
+use Rattle.std.proofs.lemmas.List.{take_more, take_rest}
+use Rattle.std.proofs.Math.Seq.{take-add}
 use Rattle.ciborium_ll_text.proofs.Lists.{length_zero}
 use Rattle.cbor_copy.specs.declared.phase.Phase.{Phase}
 use Rattle.cbor_copy.specs.declared.phase.Phase.TheVariants as p
@@ -48,6 +49,27 @@ fed_on count fed given front pending front' pending' spot new bytes at within by
     subst (λ (z : List ℕ). IsFed count (fed ++ take (at + 1) bytes) (putting [] new) z) out
     (fed_more count fed (given ++ front) spot new bytes at within byte here step)
 
+-- the first byte of some
+pub first_on : (count : ℕ) (fed given front pending front' pending' : List ℕ) (spot new : Spot) (bytes : List ℕ)
+    → 0 < length bytes → get_or bytes 0 0 < 256
+    → IsFed count fed (putting [] spot) ((given ++ front) ++ pending) → pending ≡ [] → spot.put ≡ []
+    → Step spot (get_or bytes 0 0) new → front' ++ pending' ≡ front ++ new.put
+    → IsFed count (fed ++ take 1 bytes) (putting [] new) ((given ++ front') ++ pending')
+first_on count fed given front pending front' pending' spot new bytes some byte is none empty step whole =
+    fed_on count fed given front pending front' pending' spot new bytes 0 some byte
+    (subst (λ (z : List ℕ). IsFed count z (putting [] spot) ((given ++ front) ++ pending)) (sym (append-nil fed)) is)
+    none empty step whole
+
+-- bytes behind those so far of a list
+pub fed_behind : (count : ℕ) (fed output xs : List ℕ) (at n : ℕ) (spot : Spot)
+    → IsFed count ((fed ++ take at xs) ++ take n (take (length xs - at) (drop at xs))) spot output
+    → IsFed count (fed ++ take (at + n) xs) spot output
+fed_behind count fed output xs at n spot is =
+    subst (λ (z : List ℕ). IsFed count z spot output)
+    (append_assoc fed (take at xs) (take n (take (length xs - at) (drop at xs)))
+    ∙ ap (λ (z : List ℕ). fed ++ z) (ap (λ (z : List ℕ). take at xs ++ take n z) (take_rest xs at)
+    ∙ sym (take-add at n xs))) is
+
 -- what is the same from one place on is the same from each later one
 pub drop_later : (at next : ℕ) (xs ys : List ℕ) → at ≤ next → drop at xs ≡ drop at ys → drop next xs ≡ drop next ys
 drop_later at next xs ys later same =
@@ -89,3 +111,7 @@ is_answer r.TooLong [] (p.Text left state) e = absurd cc
 is_answer r.TooLong [] p.Ended e = absurd cc
 is_answer r.TooLong [] (p.Faulted place) e = absurd cc
 is_answer progress pending phase e = e
+
+-- how many bytes are left of a list
+pub rest_long : (xs : List ℕ) (at : ℕ) → length (take (length xs - at) (drop at xs)) ≡ length xs - at
+rest_long xs at = ap length (take_rest xs at) ∙ length-drop at xs

@@ -28,7 +28,7 @@ done_kept : (i : Within) (spot : Spot) → Kept (string_done i spot) spot
 done_kept w.Nothing spot = due_kept (spot.left - 1) spot
 done_kept (w.Open kind more) spot = (refl, refl)
 
-body_kept : (kind : StringKind) (len : ℕ) (spot : Spot) → Kept (body_due kind len spot) spot
+pub body_kept : (kind : StringKind) (len : ℕ) (spot : Spot) → Kept (body_due kind len spot) spot
 body_kept kind zero spot = done_kept spot.within spot
 body_kept kind (suc len) spot = (refl, refl)
 

@@ -1,10 +1,12 @@
 pub mod BlockedLaws
+pub mod BodyRuns
 pub mod BodySteps
 pub mod EndLaws
 pub mod EnterLaws
 pub mod ExactLaws
 pub mod FedLaws
 pub mod FrontLaws
+pub mod GrowLaws
 pub mod HeldLaws
 pub mod KeptLaws
 pub mod LiveLaws

@@ -28,3 +28,11 @@ behind_given at count out ys bytes within put fits =
 -- where nothing is pending, all was given
 pub some_left : (given : ℕ) (few : List ℕ) → drop given few ≡ [] → given ≤ length few → given ≡ length few
 some_left given few none within = let l = ap length none in omega (arith, l, length-drop given few, within)
+
+-- the same where they are put as they are
+pub behind_put : (at : ℕ) (out ys bytes : List ℕ) → at + length bytes ≤ length out → ys ≡ bytes
+    → drop (at + length bytes) (put_mid at (at + length bytes - at) out ys) ≡ drop (at + length bytes) out
+behind_put at out ys bytes within put =
+    let long = ap length put in
+    drop-put_mid at (at + length bytes - at) out ys (at + length bytes) (omega arith) (omega (arith, within))
+    (omega (arith, long))

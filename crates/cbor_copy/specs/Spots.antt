@@ -6,6 +6,7 @@ use Rattle.ciborium_ll_grammar.specs.declared.hdr.Header.{Header}
 use Rattle.ciborium_ll_grammar.specs.declared.hdr.Header.TheVariants as h
 use Rattle.ciborium_ll_grammar.specs.Title.{shortest_title, title_len}
 use Rattle.ciborium_ll_text.specs.declared.state.State.TheVariants as s
+use Rattle.ciborium_ll_text.specs.Text.{IsCharacters}
 use Rattle.cbor_copy.specs.declared.phase.Phase.{Phase}
 use Rattle.cbor_copy.specs.declared.phase.Phase.TheVariants as p
 use Rattle.cbor_copy.specs.declared.phase.StringKind.{StringKind}
@@ -50,6 +51,11 @@ string_done (w.Open kind more) spot = at_phase p.Title spot
 abbrev pub body_phase : StringKind → ℕ → Phase
 body_phase k.Bytes len = p.Bytes len
 body_phase k.Text len = p.Text len s.Between
+
+-- bytes of a body that are put out as they are: any of a byte string, and of a text whole characters (RFC 7049, 2.2.2)
+abbrev pub IsWhole : StringKind → List ℕ → Type 0
+IsWhole k.Bytes bytes = Unit {0}
+IsWhole k.Text bytes = IsCharacters bytes
 
 -- so many bytes of a body are due, and where none are the string is done (RFC 7049, 2.1)
 abbrev pub body_due : StringKind → ℕ → Spot → Spot

@@ -84,6 +84,10 @@ text_left true left state spot = at_phase (p.Text left state) spot
 abbrev pub byte_put : ℕ → Spot → Spot
 byte_put byte spot = record spot { offset = spot.offset + 1; put = byte ∷ [] }
 
+-- so many bytes of a body came
+abbrev pub counted_by : ℕ → Spot → Spot
+counted_by len spot = record spot { offset = spot.offset + len }
+
 -- where one byte more leads, and what it puts out
 abbrev pub StepIn : Phase → Spot → ℕ → Spot → Type 0
 StepIn p.Title spot byte new = TitleStep (with_byte byte spot) new

@@ -1,8 +1,9 @@
 //! The copier: one byte more, and what it puts out.
 
-ghost use Rattle.std.specs.Prelude.{◌≡◌, ◌+◌, ◌<◌, ◌≤◌, [], length, slice_index, true};
+ghost use Rattle.std.specs.Prelude.{◌≡◌, ◌+◌, ◌<◌, ◌≤◌, [], length, slice_index, take, true};
 ghost use Rattle.cbor_copy.specs.Fronts.{has_left, most_front, open_count};
 ghost use Rattle.cbor_copy.specs.Blocked.{is_blocked};
+ghost use Rattle.cbor_copy.specs.Spots.{IsWhole};
 ghost use Rattle.cbor_copy.specs.Steps.{may_end};
 
 use crate::few::Few;
@@ -13,7 +14,7 @@ use crate::snapshot::{Snapshot, is_state};
 use crate::title::{affix_len, header_of};
 use ciborium_ll_grammar::hdr::Header;
 use ciborium_ll_grammar::hdr::table::{TitleKind, row_of};
-use ciborium_ll_text::state::State;
+use ciborium_ll_text::state::{State, text_front};
 
 /// Whether a title of this kind may not stand there, where not all of its bytes came.
 fn is_blocked(within: Within, kind: TitleKind) -> bool
@@ -40,6 +41,17 @@ fn may_end(state: State, left: usize) -> bool
     }
 }
 
+/// How many bytes in front of a part of a body are put out as they are: all, and of a text whole characters.
+fn whole_len(kind: StringKind, bytes: &[u8]) -> usize
+    ensures within { result ≤ length bytes.now }
+    ensures whole { IsWhole kind (take result bytes.now) }
+{
+    match kind {
+        StringKind::Bytes => bytes.len(),
+        StringKind::Text => text_front(bytes, 0, State::Between).0.len(),
+    }
+}
+
 /// Copies elements of CBOR whose bytes come in pieces, each in its shortest spelling.
 ///
 /// An element is a header that begins no string, or a whole string (RFC 7049, 2.1 and 2.2). A copier takes no memory,
@@ -60,15 +72,16 @@ pub struct Copier {
 }
 
 impl Copier {
-    ghost use Rattle.std.specs.Prelude.{ℕ, ◌-◌, ◌++◌, ◌∷◌, ◌↔◌, List, take, drop, false, IfSome};
+    ghost use Rattle.std.specs.Prelude.{ℕ, ◌-◌, ◌++◌, ◌∷◌, ◌↔◌, ◌⊎◌, List, drop, false, IfSome};
     ghost use Rattle.ciborium_ll_text.specs.States.{after_byte};
     ghost use Rattle.cbor_copy.specs.Copying.{IsAt, IsCopied, spot_of};
     ghost use Rattle.cbor_copy.specs.Snapshots.{Holds};
-    ghost use Rattle.cbor_copy.specs.Spots.{Spot, body_due, element_done, element_entered, elements_due, entered};
+    ghost use Rattle.cbor_copy.specs.Spots.{Spot, body_due, body_phase, element_done, element_entered, elements_due, entered};
     ghost use Rattle.cbor_copy.specs.Spots.{string_closed, string_done, string_entered, string_open, within_entered};
     ghost use Rattle.cbor_copy.specs.Spots.{piece_entered, refused};
     ghost use Rattle.cbor_copy.specs.Fronts.{most_cut};
-    ghost use Rattle.cbor_copy.specs.Steps.{Step, TitleStep, byte_put, text_left, title_place, with_byte, with_char};
+    ghost use Rattle.cbor_copy.specs.Steps.{Step, TitleStep, byte_put, counted_by, text_left};
+    ghost use Rattle.cbor_copy.specs.Steps.{title_place, with_byte, with_char};
     ghost use Rattle.cbor_copy.specs.Telling.{IsAnswer, IsMore, IsRoom, Tells, is_due, progress_of};
     ghost use Rattle.cbor_copy.specs.Telling.{AreSpelled, TellsEnd, end_of};
     ghost use Rattle.cbor_copy.specs.declared.phase.Phase.TheVariants as p;
@@ -316,6 +329,44 @@ impl Copier {
         }
     }
 
+    /// These bytes of the body of a string are written as they are behind the first `at` of `out`: of a text whole
+    /// characters. So many bytes of it were left. Says where they end.
+    fn bytes_put(
+        &mut self,
+        kind: StringKind,
+        left: usize,
+        bytes: &[u8],
+        out: &mut [u8],
+        at: usize,
+    ) -> usize
+        requires clear { self.old.front ≡ [] }
+        requires counted { self.old.offset + length bytes.now ≤ usize.MAX }
+        requires room { at + length bytes.now ≤ length out.old }
+        ensures put { let len = length bytes.now in spot_of self.new
+            ≡ body_due kind (left - len) (counted_by len (spot_of self.old)) }
+        ensures end { result ≡ at + length bytes.now }
+        ensures given { take result out.new ≡ take at out.old ++ bytes.now }
+        ensures rest { drop result out.new ≡ drop result out.old }
+    {
+        let end = at + bytes.len();
+        out[at..end].copy_from_slice(bytes);
+        self.offset += bytes.len();
+        self.body_due(kind, left.saturating_sub(bytes.len()));
+        end
+    }
+
+    /// The body that is under way, of a text between two characters, and how many bytes of it are left.
+    fn body(&self) -> Option<(StringKind, usize)>
+        ensures due { IfSome result (λ body. self.now.phase ≡ body_phase body.0 body.1) }
+        ensures clear { IfSome result (λ body. self.now.front ≡ []) }
+    {
+        match self.phase {
+            Phase::Bytes(left) => Some((StringKind::Bytes, left)),
+            Phase::Text(left, State::Between) => Some((StringKind::Text, left)),
+            Phase::Title | Phase::Text(_, _) | Phase::Ended | Phase::Faulted(_) => None,
+        }
+    }
+
     /// One byte more, where some is due and all that was put out is given.
     fn step(&mut self, byte: u8)
         requires room { self.old.offset < usize.MAX }
@@ -329,6 +380,37 @@ impl Copier {
             Phase::Text(left, state) => self.text_step(left, state, byte),
             Phase::Ended | Phase::Faulted(_) => {}
         }
+    }
+
+    /// Some bytes more: one, or of a body as many as are written as they are. What they put out is written behind the
+    /// first `at` of `out`. Says how many there were, and where that ends.
+    fn advance(&mut self, bytes: &[u8], out: &mut [u8], at: usize) -> (usize, usize)
+        requires some { 0 < length bytes.now }
+        requires counted { self.old.offset < usize.MAX }
+        requires due { is_due self.old.phase ≡ true }
+        requires given { self.old.pending ≡ [] }
+        requires room { at ≤ length out.old }
+        ensures some { (0 < result.0) × (result.0 ≤ length bytes.now) }
+        ensures within { (at ≤ result.1) × (result.1 ≤ length out.old) }
+        ensures rest { drop result.1 out.new ≡ drop result.1 out.old }
+        ensures all { (self.new.pending ≡ []) ⊎ (result.1 ≡ length out.old) }
+        ensures copied { (count : ℕ) (fed given : List ℕ) → IsCopied count fed (given ++ take at out.old) self.old
+            → IsCopied count (fed ++ take result.0 bytes.now) (given ++ take result.1 out.new) self.new }
+        ensures grown { result.1 + length self.new.pending + length self.new.front
+            ≤ at + length self.old.front + result.0 }
+    {
+        if let Some((kind, left)) = self.body() {
+            let most = left
+                .min(bytes.len())
+                .min(out.len() - at)
+                .min(usize::MAX - self.offset);
+            let len = whole_len(kind, &bytes[..most]);
+            if len > 0 {
+                return (len, self.bytes_put(kind, left, &bytes[..len], out, at));
+            }
+        }
+        self.step(bytes[0]);
+        (1, self.pending.give(out, at))
     }
 
     /// How far the copy has come.
@@ -387,7 +469,8 @@ impl Copier {
     /// `More` says that all of the piece was taken, and all that can be written of the bytes so far is: where no more
     /// come, a copy of so many elements is short, with just this written, and some bytes more make so many elements.
     /// `Room` says that `out` is full, and there is more to write, and with that one of the other answers is so: the
-    /// rest of the piece is to be given again. `Ended` says that so many elements came, and just their shortest
+    /// rest of the piece is to be given again. It never comes where nothing was pending and `out` has eight bytes more
+    /// than the piece. `Ended` says that so many elements came, and just their shortest
     /// spelling is written, as `recode` writes it; what follows in the piece is not taken. `Syntax` says that no such
     /// elements begin as the bytes so far do; it comes with the first byte of which that is so, and what is written is
     /// what a copy writes that is at a fault of this place, with some bytes behind those so far. A later call takes and
@@ -408,11 +491,13 @@ impl Copier {
         ensures answers { IsAnswer result.progress self.new.pending self.new.phase }
         ensures all { IsMore result.progress → result.taken ≡ length bytes.now }
         ensures full { IsRoom result.progress → result.written ≡ length out.old }
+        ensures fits { self.old.pending ≡ [] → length bytes.now + 8 ≤ length out.old → IsRoom result.progress → ⊥ }
         ensures stays { is_due self.old.phase ≡ false → self.old.pending ≡ []
             → (result.taken ≡ 0) × (result.written ≡ 0) × (spot_of self.new ≡ spot_of self.old) }
     {
         let mut written = self.pending.give(out, 0);
-        for (at, byte) in bytes.iter().enumerate() {
+        let mut at = 0;
+        'pieces: while at < bytes.len() {
             match self.progress() {
                 Progress::More => {}
                 progress => {
@@ -430,8 +515,9 @@ impl Copier {
                     progress: Progress::TooLong,
                 };
             }
-            self.step(*byte);
-            written = self.pending.give(out, written);
+            let (len, end) = self.advance(&bytes[at..], out, written);
+            at += len;
+            written = end;
         }
         Copied {
             taken: bytes.len(),

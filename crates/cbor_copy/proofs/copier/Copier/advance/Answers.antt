@@ -1,0 +1,33 @@
+use Rattle.std.proofs.Common.{◌≤◌, length, take, subst, rules, arith}
+use Rattle.std.proofs.lemmas.List.{length-take-le, take-take}
+use Rattle.cbor_copy.specs.Copying.{spot_of}
+use Rattle.cbor_copy.specs.Spots.{IsWhole}
+use Rattle.cbor_copy.proofs.BodyRuns.{body_given}
+use Rattle.cbor_copy.proofs.FedLaws.{first_on}
+use Rattle.cbor_copy.proofs.GrowLaws.{given_grows}
+use Rattle.cbor_copy.proofs.copier.Copier.advance.Goals as goal
+
+pub returns-then-len-gt0-clause-copied : goal.returns-then-len-gt0-clause-copied
+returns-then-len-gt0-clause-copied c = λ count fed given is.
+    let bytes = c.args.bytes.now in
+    let most = c.min-most.result in
+    let fits : most ≤ length bytes = search rules in
+    let long = length-take-le most bytes fits in
+    let within : c.whole_len-len.result ≤ most = omega (arith, long, c.whole_len-len.ensures.within) in
+    let whole = subst (IsWhole c.in-Some.kind) (take-take c.whole_len-len.result most bytes within)
+    c.whole_len-len.ensures.whole in
+    body_given c.in-Some.kind count c.in-Some.left c.whole_len-len.result bytes (spot_of c.args.self.now)
+    (spot_of c.bytes_put.new.self) fed given (take c.args.at c.args.out.now) _ (λ i less. search rules) (search rules)
+    (search rules) c.requires.given c.if-len-gt0.true (search rules) (search rules) whole (search rules) (search rules)
+    is
+
+pub returns-clause-copied : goal.returns-clause-copied
+returns-clause-copied c = λ count fed given is.
+    first_on count fed given (take c.args.at c.args.out.now) c.args.self.now.pending _ _ (spot_of c.args.self.now)
+    (spot_of c.step.new.self) c.args.bytes.now c.requires.some (search rules) is c.requires.given c.requires.given
+    c.step.ensures c.give.ensures.given
+
+pub returns-clause-grown : goal.returns-clause-grown
+returns-clause-grown c =
+    given_grows (spot_of c.args.self.now) (spot_of c.step.new.self) _ c.args.at c.give.result c.args.out.now
+    c.give.new.out c.give.new.self c.step.ensures c.requires.room (search rules) c.give.ensures.given
