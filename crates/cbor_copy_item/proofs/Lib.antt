@@ -4,5 +4,6 @@ pub mod OutLaws
 pub mod PieceLaws
 pub mod RunLaws
 pub mod StateLaws
+pub mod StepLaws
 pub mod TakenLaws
 pub mod TellLaws

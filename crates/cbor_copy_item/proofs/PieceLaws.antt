@@ -1,11 +1,11 @@
--- A byte of a piece, and the room behind what was written.
-use Rattle.std.proofs.Common.{◌≡◌, ℕ, ◌+◌, ◌-◌, ◌<◌, ◌≤◌, Bool, List, [], ◌∷◌, ◌++◌, length, take, drop, get_or}
+-- Bytes of a piece, and the room behind what was written.
+use Rattle.std.proofs.Common.{◌≡◌, ℕ, ◌+◌, ◌-◌, ◌≤◌, Bool, List, [], ◌++◌, length, take, drop}
 use Rattle.std.proofs.Common.{sym, ap, subst, ◌∙◌, arith, append_assoc, append-nil}
 use Rattle.std.specs.List.{between}
-use Rattle.std.proofs.lemmas.List.{take_all, take_more, drop_at, drop_all, drop-drop, length-drop, length-take-le}
+use Rattle.std.proofs.lemmas.List.{take_all, drop_at, drop_all, drop-drop, length-drop, length-take-le, take-take}
+use Rattle.std.proofs.lemmas.List.Edits.{length-between}
 use Rattle.std.proofs.lemmas.List.{take-append-le}
-use Rattle.std.proofs.lemmas.List.Edits.{between_none, between_more}
-use Rattle.std.proofs.Math.Seq.{take-append-add}
+use Rattle.std.proofs.Math.Seq.{take-add, take-append-add}
 use borrow.Rule.Slice.PartMut.{put_mid}
 use Rattle.cbor_copy.specs.Spots.{Spot as Elements}
 use Rattle.cbor_feed.specs.Spots.{Spot}
@@ -40,15 +40,16 @@ module _ (a n k : ℕ) (xs ys : List ℕ) (fits : a ≤ length xs) (rest : k ≡
 
 -- ---- the piece
 
-pub fed_front : (fed bytes : List ℕ) (at : ℕ) → at < length bytes
-    → (fed ++ take at bytes) ++ between at (at + 1) bytes ≡ fed ++ take (at + 1) bytes
-fed_front fed bytes at within =
-    let byte : between at (at + 1) bytes ≡ get_or bytes at 0 ∷ [] =
-    between_more bytes at at 0 (omega arith) within
-    ∙ ap (λ (z : List ℕ). z ++ get_or bytes at 0 ∷ []) (between_none bytes at) in
-    append_assoc fed (take at bytes) (between at (at + 1) bytes)
-    ∙ ap (λ (z : List ℕ). fed ++ (take at bytes ++ z)) byte
-    ∙ ap (λ (z : List ℕ). fed ++ z) (sym (take_more bytes at 0 within))
+pub fed_front : (fed bytes : List ℕ) (at len taken : ℕ) → taken ≤ length (between at (at + len) bytes)
+    → at + len ≤ length bytes
+    → (fed ++ take at bytes) ++ take taken (between at (at + len) bytes) ≡ fed ++ take (at + taken) bytes
+fed_front fed bytes at len taken few within =
+    let same : at + len - at ≡ len = omega arith in
+    let long = length-between bytes at (at + len) within in
+    append_assoc fed (take at bytes) (take taken (between at (at + len) bytes))
+    ∙ (ap (λ (z : List ℕ). fed ++ (take at bytes ++ z))
+    (take-take taken (at + len - at) (drop at bytes) (omega (arith, few, long)))
+    ∙ ap (λ (z : List ℕ). fed ++ z) (sym (take-add at taken bytes)))
 
 pub both_fronts : (s : Bool) (d : ℕ) (item : Spot) (elements : Elements) (fed fed' given given' rest : List ℕ)
     → fed ≡ fed' → given ≡ given' → AreFed s d fed item elements (given ++ rest)

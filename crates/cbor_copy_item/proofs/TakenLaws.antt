@@ -1,10 +1,11 @@
--- What a byte does to a checker, and to a copier of elements beside it.
-use Rattle.std.proofs.Common.{◌≡◌, ℕ, ◌+◌, ◌≤◌, ◌^◌, Bool, true, List, [], ◌∷◌, ◌++◌, length, take}
-use Rattle.std.proofs.Common.{refl, sym, ap, subst, ◌∙◌, arith, inl, inr, append_assoc, append-nil, length-append}
+-- What a piece does to a checker, and to a copier of elements beside it.
+use Rattle.std.proofs.Common.{◌≡◌, ℕ, ◌+◌, ◌<◌, ◌≤◌, ◌^◌, ◌⊎◌, Bool, true, false, List, [], ◌∷◌, ◌++◌, length, take, drop}
+use Rattle.std.proofs.Common.{refl, sym, ap, subst, ◌∙◌, arith, inl, inr, append_assoc, append-nil, length-append, get_or}
+use Rattle.std.proofs.Common.{take-append-drop}
 use Rattle.std.proofs.lemmas.Bool.{cases_lt}
-use Rattle.std.proofs.lemmas.List.{take_all}
+use Rattle.std.proofs.lemmas.List.{take_all, take_more, length-take-le}
 use Rattle.ciborium_ll_grammar.specs.Title.{AreBytes}
-use Rattle.ciborium_ll_grammar.specs.Items.{IsItem}
+use Rattle.ciborium_ll_grammar.specs.Faults.{RunInFront}
 use Rattle.ciborium_ll_grammar.proofs.AffixLaws.{AreBytes-append}
 use Rattle.ciborium_ll_text.proofs.Lists.{length_zero}
 use Rattle.cbor_copy.specs.declared.copier.Copier.{Copier}
@@ -26,10 +27,9 @@ use Rattle.cbor_feed.specs.declared.progress.Progress.TheVariants as r
 use Rattle.cbor_feed.specs.Spots.{Spot}
 use Rattle.cbor_feed.specs.Steps.{IsFed, fresh, more, start}
 use Rattle.cbor_feed.specs.Telling.{is_due, progress_in, IsAnswer, IsMore, Tells, FaultIn, HasFault}
-use Rattle.cbor_feed.proofs.ExactLaws.{fault_exact}
 use Rattle.cbor_feed.proofs.OneSpot.{one_spot}
 use Rattle.cbor_copy_item.specs.Copying.{most, AreTaken, AreFed, rest_of}
-use Rattle.cbor_copy_item.proofs.RunLaws.{run_long, item_goes_on}
+use Rattle.cbor_copy_item.proofs.RunLaws.{run_long}
 
 -- ---- what is fed is bytes
 
@@ -38,11 +38,15 @@ fed_bytes s d fed spot fresh = tt
 fed_bytes s d fed spot (more {bytes = a} {spot = old} b byte is step) =
     AreBytes-append a (b ∷ []) (fed_bytes s d a old is) (byte, tt)
 
-front_bytes : (a b : List ℕ) → AreBytes (a ++ b) → AreBytes a
+pub front_bytes : (a b : List ℕ) → AreBytes (a ++ b) → AreBytes a
 front_bytes [] b are = tt
 front_bytes (x ∷ a) b are = (are.0, front_bytes a b are.1)
 
--- ---- a checker takes a byte
+pub back_bytes : (a b : List ℕ) → AreBytes (a ++ b) → AreBytes b
+back_bytes [] b are = are
+back_bytes (x ∷ a) b are = back_bytes a b are.1
+
+-- ---- a checker takes bytes
 
 due_ended : (phase : Phase) (spot : Spot) (len : ℕ) → is_due phase ≡ true → progress_in phase spot ≡ r.Ended len → ⊥
 due_ended p.Title spot len due e = cc
@@ -74,28 +78,19 @@ too_many (r.Fault fault) s d fed spot on answer never says =
     absurd (due_fault spot.phase spot on (fault_answers spot.phase spot fault answer))
 too_many r.TooLong s d fed spot on answer never says = says
 
-module _ (s : Bool) (d : ℕ) (fed byte : List ℕ) (taken : ℕ) (new : Spot) (single : length byte ≡ 1)
-    (is : IsFed s d (fed ++ take taken byte) new) where
-  pub byte_checked : taken ≡ 1 → length fed + taken ≤ most → IsFed s d (fed ++ byte) new × (length fed + 1 ≤ most)
-  byte_checked all fits = (
-    subst (λ (z : List ℕ). IsFed s d (fed ++ z) new) (take_all taken byte (omega (arith, all, single))) is,
-    omega (arith, all, fits),
-  )
-
-  pub byte_left : (old : Spot) (progress : Progress) → (taken ≡ 1 → ⊥) → taken ≤ length byte
-      → is_due old.phase ≡ true → IsFed s d fed old → Tells s d (fed ++ take taken byte) progress
-      → IsAnswer progress new → (IsMore progress → taken ≡ length byte)
-      → IsFed s d fed new × (2 ^ 64 ≤ length fed + 1)
-  byte_left old progress never within due was says answer all =
-      let none : taken ≡ 0 = omega (arith, never, within, single) in
-      let same : fed ++ take taken byte ≡ fed = ap (λ (n : ℕ). fed ++ take n byte) none ∙ append-nil fed in
-      let now = subst (λ (z : List ℕ). IsFed s d z new) same is in
-      let one : new ≡ old = one_spot s d fed new old now was in (
-        now,
-        too_many progress s d fed new (ap (λ (z : Spot). is_due z.phase) one ∙ due) answer
-            (λ on. never (all on ∙ single))
-            (subst (λ (z : List ℕ). Tells s d z progress) same says),
-      )
+pub none_taken : (s : Bool) (d : ℕ) (fed bytes : List ℕ) (taken : ℕ) (old new : Spot) (progress : Progress)
+    → 0 < length bytes → taken ≡ 0 → is_due old.phase ≡ true → IsFed s d fed old → IsFed s d (fed ++ take taken bytes) new
+    → Tells s d (fed ++ take taken bytes) progress → IsAnswer progress new → (IsMore progress → taken ≡ length bytes)
+    → IsFed s d fed new × (2 ^ 64 ≤ length fed + 1)
+none_taken s d fed bytes taken old new progress some none due was is says answer all =
+    let same : fed ++ take taken bytes ≡ fed = ap (λ (n : ℕ). fed ++ take n bytes) none ∙ append-nil fed in
+    let now = subst (λ (z : List ℕ). IsFed s d z new) same is in
+    let one : new ≡ old = one_spot s d fed new old now was in (
+      now,
+      too_many progress s d fed new (ap (λ (z : Spot). is_due z.phase) one ∙ due) answer
+          (λ on. let e = all on in omega (arith, none, some, e))
+          (subst (λ (z : List ℕ). Tells s d z progress) same says),
+    )
 
 -- ---- a copier of elements takes it too
 
@@ -107,67 +102,94 @@ room_pending [] (cp.Text left state) none e = cc
 room_pending [] cp.Ended none e = cc
 room_pending [] (cp.Faulted place) none e = cc
 
--- what an answer is where it takes none
-module _ (fed given out : List ℕ) (old new : Copier) (goes : NoneGoOn most fed → ⊥) (fits : length fed + 1 ≤ most)
-    (was : IsCopied most fed given old) (none : rest_of old ≡ []) (is : IsCopied most fed (given ++ out) new) where
-  none_pending : rest_of new ≡ []
-  none_pending =
-      let same = (one_copy.one_spot most fed (given ++ rest_of old) ((given ++ out) ++ rest_of new)
-      (putting [] (copy.spot_of old)) (putting [] (copy.spot_of new)) was is).1 in
-      let long = ap length same in
-      let clear = ap length none in
-      length_zero (rest_of new)
-      (omega (
-        arith,
-        long,
-        clear,
-        length-append given (rest_of old),
-        length-append (given ++ out) (rest_of new),
-        length-append given out,
-      ))
+-- where it takes none of them, none is pending
+no_room : (fed given out : List ℕ) (old new : Copier) → IsCopied most fed given old → rest_of old ≡ []
+    → IsCopied most fed (given ++ out) new → cr.Room ≡ told.progress_of (rest_of new) (copy.spot_of new).phase → ⊥
+no_room fed given out old new was none is answer =
+    let same = (one_copy.one_spot most fed (given ++ rest_of old) ((given ++ out) ++ rest_of new)
+    (putting [] (copy.spot_of old)) (putting [] (copy.spot_of new)) was is).1 in
+    let long = ap length same in
+    let clear = ap length none in
+    room_pending (rest_of new) (copy.spot_of new).phase
+    (length_zero (rest_of new)
+    (omega (
+      arith,
+      long,
+      clear,
+      length-append given (rest_of old),
+      length-append (given ++ out) (rest_of new),
+      length-append given out,
+    ))) answer
 
-  takes_some : (progress : Copied) → told.Tells most fed (given ++ out) progress
-      → told.IsAnswer progress (rest_of new) (copy.spot_of new).phase → (told.IsMore progress → ⊥) → ⊥
-  takes_some cr.More says answer never = never tt
-  takes_some cr.Room says answer never = room_pending (rest_of new) (copy.spot_of new).phase none_pending answer
-  takes_some cr.Ended says answer never =
-      let least = run_long most fed says.marks says.run in omega (arith, least, fits)
-  takes_some (cr.Syntax place) says answer never = goes says.0
-  takes_some cr.TooLong says answer never = let far = says.2 in omega (arith, far, fits)
+-- where some go on and there is room, more are taken
+takes_more : (now output : List ℕ) (progress : Copied) → (NoneGoOn most now → ⊥) → length now + 1 ≤ most
+    → told.Tells most now output progress → (told.IsRoom progress → ⊥) → (told.IsMore progress → ⊥) → ⊥
+takes_more now output cr.More goes fits says room never = never tt
+takes_more now output cr.Room goes fits says room never = room tt
+takes_more now output cr.Ended goes fits says room never =
+    let least = run_long most now says.marks says.run in omega (arith, least, fits)
+takes_more now output (cr.Syntax place) goes fits says room never = goes says.0
+takes_more now output cr.TooLong goes fits says room never = let far = says.2 in omega (arith, far, fits)
 
-pub byte_copied : (s : Bool) (d : ℕ) (fed given byte out : List ℕ) (taken : ℕ) (progress : Copied) (old new : Copier)
-    (item : Spot)
-    → length byte ≡ 1 → taken ≤ length byte → IsFed s d (fed ++ byte) item → (HasFault item → ⊥)
-    → length fed + 1 ≤ most → IsCopied most fed given old → rest_of old ≡ []
-    → IsCopied most (fed ++ take taken byte) (given ++ out) new
-    → told.Tells most (fed ++ take taken byte) (given ++ out) progress
-    → told.IsAnswer progress (rest_of new) (copy.spot_of new).phase
-    → (told.IsMore progress → taken ≡ length byte)
-    → IsCopied most (fed ++ byte) (given ++ out) new
-byte_copied s d fed given byte out taken progress old new item single within checked sound fits was none is says
-    answer all =
-    elim (cases_lt taken (length byte)) [
-      | inl short ↦ (
-          let zero : taken ≡ 0 = omega (arith, short, single) in
-          let same : fed ++ take taken byte ≡ fed = ap (λ (n : ℕ). fed ++ take n byte) zero ∙ append-nil fed in
-          let are = front_bytes fed byte (fed_bytes s d (fed ++ byte) item checked) in
-          let goes : NoneGoOn most fed → ⊥ =
-          λ never. sound ((fault_exact s d (fed ++ byte) item checked).1 (λ behind i.
-          item_goes_on most s d fed (byte ++ behind) are (subst (IsItem s d) (append_assoc fed byte behind) i) never)) in
-          absurd (takes_some fed given out old new goes fits was none
-          (subst (λ (z : List ℕ). IsCopied most z (given ++ out) new) same is) progress
-          (subst (λ (z : List ℕ). told.Tells most z (given ++ out) progress) same says) answer
-          (λ on. let e = all on in omega (arith, e, short)))
-          )
-      | inr whole ↦ subst (λ (z : List ℕ). IsCopied most (fed ++ z) (given ++ out) new) (take_all taken byte whole) is
-    ]
+is_room : (progress : Copied) (bytes : List ℕ) (phase : CopyPhase) → told.IsRoom progress
+    → told.IsAnswer progress bytes phase → cr.Room ≡ told.progress_of bytes phase
+is_room cr.Room bytes phase room answer = answer
+is_room cr.More bytes phase room answer = absurd room
+is_room cr.Ended bytes phase room answer = absurd room
+is_room (cr.Syntax place) bytes phase room answer = absurd room
+is_room cr.TooLong bytes phase room answer = absurd room
+
+-- what follows in the piece
+behind_all : (fed bytes rest : List ℕ) (taken : ℕ)
+    → (fed ++ bytes) ++ rest ≡ (fed ++ take taken bytes) ++ (drop taken bytes ++ rest)
+behind_all fed bytes rest taken =
+    ap (λ (z : List ℕ). (fed ++ z) ++ rest) (sym (take-append-drop taken bytes))
+    ∙ (ap (λ (z : List ℕ). z ++ rest) (sym (append_assoc fed (take taken bytes) (drop taken bytes)))
+    ∙ append_assoc (fed ++ take taken bytes) (drop taken bytes) rest)
+
+-- a copier takes a piece whole, where so some elements begin: one byte, or where there is room for it
+module _ (fed given bytes out : List ℕ) (taken room : ℕ) (progress : Copied) (old new : Copier)
+    (within : taken ≤ length bytes) (are : AreBytes bytes) (goes : NoneGoOn most (fed ++ bytes) → ⊥)
+    (counted : length fed + length bytes ≤ most) (fits : (length bytes ≤ 1) ⊎ (length bytes + 8 ≤ room))
+    (was : IsCopied most fed given old) (none : rest_of old ≡ [])
+    (is : IsCopied most (fed ++ take taken bytes) (given ++ out) new)
+    (says : told.Tells most (fed ++ take taken bytes) (given ++ out) progress)
+    (answer : told.IsAnswer progress (rest_of new) (copy.spot_of new).phase)
+    (all : told.IsMore progress → taken ≡ length bytes)
+    (has_room : length bytes + 8 ≤ room → told.IsRoom progress → ⊥) where
+  some_go : NoneGoOn most (fed ++ take taken bytes) → ⊥
+  some_go never =
+      let rest = back_bytes (take taken bytes) (drop taken bytes)
+      (subst AreBytes (sym (take-append-drop taken bytes)) are) in
+      goes (λ behind are_behind front.
+      never (drop taken bytes ++ behind) (AreBytes-append (drop taken bytes) behind rest are_behind)
+      (subst (RunInFront false most) (behind_all fed bytes behind taken) front))
+
+  lacks_none : taken < length bytes → told.IsRoom progress → ⊥
+  lacks_none short on =
+      elim fits [
+        | inl one ↦ (
+            let zero : taken ≡ 0 = omega (arith, short, one) in
+            let same : fed ++ take taken bytes ≡ fed = ap (λ (n : ℕ). fed ++ take n bytes) zero ∙ append-nil fed in
+            no_room fed given out old new was none (subst (λ (z : List ℕ). IsCopied most z (given ++ out) new) same is)
+            (is_room progress (rest_of new) (copy.spot_of new).phase on answer)
+            )
+        | inr wide ↦ has_room wide on
+      ]
+
+  pub piece_copied : IsCopied most (fed ++ bytes) (given ++ out) new
+  piece_copied =
+      elim (cases_lt taken (length bytes)) [
+        | inl short ↦ (
+            let long = length-take-le taken bytes within in
+            absurd (takes_more (fed ++ take taken bytes) (given ++ out) progress some_go
+            (omega (arith, short, counted, long, length-append fed (take taken bytes))) says (lacks_none short)
+            (λ on. let e = all on in omega (arith, e, short)))
+            )
+        | inr whole ↦ subst (λ (z : List ℕ). IsCopied most (fed ++ z) (given ++ out) new) (take_all taken bytes whole) is
+      ]
 
 -- ---- both
-
-one_byte : (byte : List ℕ) → length byte ≡ 1 → (b : ℕ) × (byte ≡ b ∷ [])
-one_byte [] single = absurd (omega (arith, single))
-one_byte (b ∷ []) single = (b, refl)
-one_byte (b ∷ c ∷ bytes) single = absurd (omega (arith, single))
 
 pub due_all : (phase : Phase) (fed bytes : List ℕ) → is_due phase ≡ true → AreTaken phase fed bytes → fed ≡ bytes
 due_all p.Title fed bytes due taken = taken
@@ -191,35 +213,39 @@ sound_all (p.Text left state) fed sound = refl
 sound_all p.Ended fed sound = refl
 sound_all (p.Faulted fault) fed sound = absurd (sound tt)
 
-module _ (s : Bool) (d : ℕ) (fed byte : List ℕ) (old new : Spot) (due : is_due old.phase ≡ true)
-    (checked : IsFed s d (fed ++ byte) new) where
-  -- a byte at fault isn't copied
-  pub fault_fed : (elements : Elements) (output : List ℕ) → length byte ≡ 1 → HasFault new
-      → AreFed s d fed old elements output → AreFed s d (fed ++ byte) new elements output
-  fault_fed elements output single has was =
-      let o = one_byte byte single in
-      let all = due_all old.phase fed was.bytes due was.taken in
-      record {
-        checked = checked;
-        bytes = was.bytes;
-        taken = but_one new.phase (fed ++ byte) was.bytes has
-            (o.0, ap (λ (z : List ℕ). fed ++ z) o.1 ∙ ap (λ (z : List ℕ). z ++ o.0 ∷ []) all);
-        copied = was.copied;
-      }
+-- a piece of so many bytes, less its last one
+pub less_last : (fed bytes : List ℕ) (taken kept : ℕ) → kept + 1 ≡ taken → taken ≤ length bytes
+    → fed ++ take taken bytes ≡ (fed ++ take kept bytes) ++ get_or bytes kept 0 ∷ []
+less_last fed bytes taken kept one within =
+    ap (λ (n : ℕ). fed ++ take n bytes) (sym one)
+    ∙ (ap (λ (z : List ℕ). fed ++ z) (take_more bytes kept 0 (omega (arith, one, within)))
+    ∙ sym (append_assoc fed (take kept bytes) (get_or bytes kept 0 ∷ [])))
+
+module _ (s : Bool) (d : ℕ) (fed bytes : List ℕ) (taken kept : ℕ) (old new : Spot) (due : is_due old.phase ≡ true)
+    (checked : IsFed s d (fed ++ take taken bytes) new) (given out : List ℕ) (copier copier' : Copier)
+    (copied : IsCopied most (fed ++ take kept bytes) (given ++ out) copier')
+    (was : AreFed s d fed old (putting [] (copy.spot_of copier)) (given ++ rest_of copier)) where
+  -- the byte at fault isn't copied
+  pub fault_fed : HasFault new → kept + 1 ≡ taken → taken ≤ length bytes
+      → AreFed s d (fed ++ take taken bytes) new (putting [] (copy.spot_of copier')) ((given ++ out) ++ rest_of copier')
+  fault_fed has one within = record {
+    checked = checked;
+    bytes = fed ++ take kept bytes;
+    taken = but_one new.phase (fed ++ take taken bytes) (fed ++ take kept bytes) has
+        (get_or bytes kept 0, less_last fed bytes taken kept one within);
+    copied = copied;
+  }
 
   -- each other one is
-  pub sound_fed : (given out : List ℕ) (copier copier' : Copier) → (HasFault new → ⊥)
-      → (IsCopied most fed given copier → IsCopied most (fed ++ byte) (given ++ out) copier')
-      → AreFed s d fed old (putting [] (copy.spot_of copier)) (given ++ rest_of copier)
-      → AreFed s d (fed ++ byte) new (putting [] (copy.spot_of copier')) ((given ++ out) ++ rest_of copier')
-  sound_fed given out copier copier' sound goes was =
-      let all = due_all old.phase fed was.bytes due was.taken in
-      record {
-        checked = checked;
-        bytes = fed ++ byte;
-        taken = sound_all new.phase (fed ++ byte) sound;
-        copied = goes (subst (λ (z : List ℕ). IsCopied most z given copier) (sym all) was.copied);
-      }
+  pub sound_fed : (HasFault new → ⊥) → kept ≡ taken
+      → AreFed s d (fed ++ take taken bytes) new (putting [] (copy.spot_of copier')) ((given ++ out) ++ rest_of copier')
+  sound_fed sound all = record {
+    checked = checked;
+    bytes = fed ++ take kept bytes;
+    taken = subst (λ (n : ℕ). AreTaken new.phase (fed ++ take taken bytes) (fed ++ take n bytes)) (sym all)
+        (sound_all new.phase (fed ++ take taken bytes) sound);
+    copied = copied;
+  }
 
 -- nothing came
 pub fresh_fed : (s : Bool) (d : ℕ) (new : Spot) (elements : Elements) (output : List ℕ) → IsFed s d [] new

@@ -49,14 +49,14 @@ same_front (x ∷ xs) (y ∷ ys) b c e =
     let rest = same_front xs ys b c tails in
     cc
 
-sound_goes : (s : Bool) (d : ℕ) (fed : List ℕ) (spot : Spot) → IsFed s d fed spot → (HasFault spot → ⊥)
+pub sound_goes : (s : Bool) (d : ℕ) (fed : List ℕ) (spot : Spot) → IsFed s d fed spot → (HasFault spot → ⊥)
     → NoneGoOn most fed → ⊥
 sound_goes s d fed spot is sound never =
     sound ((fault_exact s d fed spot is).1 (λ behind i.
     item_goes_on most s d fed behind (fed_bytes s d fed spot is) i never))
 
 -- before the last byte there was no fault
-before_goes : (s : Bool) (d : ℕ) (fed : List ℕ) (spot : Spot) → IsFed s d fed spot → (before : List ℕ) (last : ℕ)
+pub before_goes : (s : Bool) (d : ℕ) (fed : List ℕ) (spot : Spot) → IsFed s d fed spot → (before : List ℕ) (last : ℕ)
     → fed ≡ before ++ last ∷ [] → NoneGoOn most before → ⊥
 before_goes s d fed spot fresh before last e never =
     let l = ap length e in omega (arith, l, length-append before (last ∷ []))

@@ -1,41 +1,46 @@
--- What one byte more does.
-use Rattle.std.specs.Prelude.{◌≡◌, ℕ, ◌+◌, ◌≤◌, ◌^◌, ◌⊎◌, Bool, List, [], ◌++◌, length, take, drop, Option, Some, None}
+-- What some bytes more do.
+use Rattle.std.specs.Prelude.{◌≡◌, ℕ, ◌+◌, ◌<◌, ◌≤◌, ◌^◌, ◌⊎◌, Bool, List, [], ◌++◌, length, take, drop, Option, Some, None}
 use Rattle.cbor_copy_item.specs.declared.copier.ItemCopier.{ItemCopier}
 use Rattle.cbor_copy_item.specs.Copying.{IsItemCopied, pending}
 
--- A byte was taken, and so many were written in front of the room: all that it puts out, or the room is full
-pub record Written (old : ItemCopier) (byte room : List ℕ) (written : ℕ) (out : List ℕ) (new : ItemCopier) : Type 0 where
+-- So many bytes were taken, and so many were written in front of the room: all that they put out, or the room is full
+pub record Written (old : ItemCopier) (bytes room : List ℕ) (taken written : ℕ) (out : List ℕ) (new : ItemCopier)
+    : Type 0 where
+  pub some : 0 < taken
+  pub all : taken ≤ length bytes
   pub within : written ≤ length room
   pub kept : drop written out ≡ drop written room
   pub full : (pending new ≡ []) ⊎ (written ≡ length room)
   pub copied : (strict : Bool) (depth : ℕ) (fed given : List ℕ) → IsItemCopied strict depth fed given old
-      → IsItemCopied strict depth (fed ++ byte) (given ++ take written out) new
+      → IsItemCopied strict depth (fed ++ take taken bytes) (given ++ take written out) new
 
--- none was, since no more bytes can be counted
+-- none were, since no more bytes can be counted
 pub record Stops (old : ItemCopier) (room out : List ℕ) (new : ItemCopier) : Type 0 where
   pub none : pending new ≡ pending old
   pub same : out ≡ room
   pub copied : (strict : Bool) (depth : ℕ) (fed given : List ℕ) → IsItemCopied strict depth fed given old
       → IsItemCopied strict depth fed given new × (2 ^ 64 ≤ length fed + 1)
 
--- both, by how many bytes were written
-abbrev pub Takes : ItemCopier → List ℕ → List ℕ → Option ℕ → List ℕ → ItemCopier → Type 0
-Takes old byte room (Some written) out new = Written old byte room written out new
-Takes old byte room None out new = Stops old room out new
+-- both, by how many bytes were taken and written
+abbrev pub Takes : ItemCopier → List ℕ → List ℕ → Option (ℕ × ℕ) → List ℕ → ItemCopier → Type 0
+Takes old bytes room (Some both) out new = Written old bytes room both.0 both.1 out new
+Takes old bytes room None out new = Stops old room out new
 
--- A byte of a piece was taken. Before it so many bytes were written, and behind it more: all that it puts out, or the
--- room is full
-pub record WrittenTo (old : ItemCopier) (bytes : List ℕ) (at : ℕ) (room : List ℕ) (before end : ℕ) (out : List ℕ) (new : ItemCopier)
-    : Type 0 where
+-- Bytes of a piece were taken up to the next place. Before them so many bytes were written, and behind them more: all
+-- that they put out, or the room is full
+pub record WrittenTo (old : ItemCopier) (bytes : List ℕ) (at : ℕ) (room : List ℕ) (before next end : ℕ) (out : List ℕ)
+    (new : ItemCopier) : Type 0 where
+  pub some : at < next
+  pub all : next ≤ length bytes
   pub more : before ≤ end
   pub within : end ≤ length room
   pub kept : drop end out ≡ drop end room
   pub full : (pending new ≡ []) ⊎ (end ≡ length room)
   pub copied : (strict : Bool) (depth : ℕ) (fed given : List ℕ)
       → IsItemCopied strict depth (fed ++ take at bytes) (given ++ take before room) old
-      → IsItemCopied strict depth (fed ++ take (at + 1) bytes) (given ++ take end out) new
+      → IsItemCopied strict depth (fed ++ take next bytes) (given ++ take end out) new
 
--- the byte of a piece, by where what is written behind it ends
-abbrev pub TakesAt : ItemCopier → List ℕ → ℕ → List ℕ → ℕ → Option ℕ → List ℕ → ItemCopier → Type 0
-TakesAt old bytes at room before (Some end) out new = WrittenTo old bytes at room before end out new
+-- bytes of a piece from a place on, by where they and what is written end
+abbrev pub TakesAt : ItemCopier → List ℕ → ℕ → List ℕ → ℕ → Option (ℕ × ℕ) → List ℕ → ItemCopier → Type 0
+TakesAt old bytes at room before (Some ends) out new = WrittenTo old bytes at room before ends.0 ends.1 out new
 TakesAt old bytes at room before None out new = Stops old room out new

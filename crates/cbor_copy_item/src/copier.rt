@@ -1,8 +1,10 @@
-//! The copier of an item: a byte goes to a checker, and where that has no fault to a copier of elements.
+//! The copier of an item: bytes go to a checker, and those that have no fault to a copier of elements.
 
 ghost use Rattle.std.specs.Prelude.{◌≡◌, ◌≢◌, ◌+◌, ◌<◌, ◌≤◌, ◌^◌, ◌⊎◌, ◌++◌, Bool, ℕ, List, [], length, take, drop};
 ghost use Rattle.std.specs.Prelude.{true, false};
+ghost use Rattle.ciborium_ll_grammar.specs.Title.{AreBytes};
 ghost use Rattle.cbor_copy.specs.Copying.{IsCopied};
+ghost use Rattle.cbor_copy.specs.Telling.{NoneGoOn};
 ghost use Rattle.cbor_feed.specs.Checking.{spot_of};
 ghost use Rattle.cbor_feed.specs.Spots.{Spot};
 ghost use Rattle.cbor_feed.specs.Steps.{IsFed};
@@ -30,33 +32,52 @@ fn has_fault(checker: &Checker) -> bool
     matches!(checker.progress(), Checked::Fault(_))
 }
 
-/// Whether a checker takes the byte. It does, but where no more bytes can be counted.
-fn check(checker: &mut Checker, byte: &[u8]) -> bool
-    requires one { length byte.now ≡ 1 }
+/// How many bytes of a piece a checker takes: up to the end of the item or the byte at fault. None, where no more bytes
+/// can be counted.
+fn check(checker: &mut Checker, bytes: &[u8]) -> usize
+    requires some { 0 < length bytes.now }
     requires due { is_due (spot_of checker.old).phase ≡ true }
+    ensures within { result ≤ length bytes.now }
     ensures taken { (strict : Bool) (depth : ℕ) (fed : List ℕ) → IsFed strict depth fed (spot_of checker.old)
-        → result ≡ true
-        → IsFed strict depth (fed ++ byte.now) (spot_of checker.new) × (length fed + 1 ≤ most) }
-    ensures not { (strict : Bool) (depth : ℕ) (fed : List ℕ) → IsFed strict depth fed (spot_of checker.old)
-        → result ≡ false
-        → IsFed strict depth fed (spot_of checker.new) × (2 ^ 64 ≤ length fed + 1) }
+        → IsFed strict depth (fed ++ take result bytes.now) (spot_of checker.new) × (length fed + result ≤ most) }
+    ensures none { (strict : Bool) (depth : ℕ) (fed : List ℕ) → IsFed strict depth fed (spot_of checker.old)
+        → result ≡ 0 → IsFed strict depth fed (spot_of checker.new) × (2 ^ 64 ≤ length fed + 1) }
 {
-    checker.feed(byte).taken == 1
+    checker.feed(bytes).taken
 }
 
-/// Copies a byte that a checker took, and says how many bytes were written. Of what was put out before all is given.
-fn copy(copier: &mut Copier, byte: &[u8], out: &mut [u8]) -> usize
-    requires one { length byte.now ≡ 1 }
+/// How many of the bytes that a checker took are copied: all of them, but the one at fault.
+fn copied_len(checker: &Checker, taken: usize) -> usize
+    requires { 0 < taken }
+    ensures { (HasFault (spot_of checker.now) × (result + 1 ≡ taken))
+        ⊎ ((HasFault (spot_of checker.now) → ⊥) × (result ≡ taken)) }
+{
+    if has_fault(checker) { taken - 1 } else { taken }
+}
+
+/// How many bytes of a piece go at once, of which so many are left: as many as there surely is room for, and one at
+/// least. What is held back of a title or of a character takes eight bytes at most.
+fn step_len(left: usize, room: usize) -> usize
+    requires { 0 < left }
+    ensures some { (0 < result) × (result ≤ left) }
+    ensures fits { (result ≤ 1) ⊎ (result + 8 ≤ room) }
+{
+    left.min(room.saturating_sub(8)).max(1)
+}
+
+/// Copies bytes with which some elements begin, and says how many bytes were written. Of what was put out before all is
+/// given.
+fn copy(copier: &mut Copier, bytes: &[u8], out: &mut [u8]) -> usize
     requires given { rest_of copier.old ≡ [] }
+    requires fits { (length bytes.now ≤ 1) ⊎ (length bytes.now + 8 ≤ length out.old) }
     ensures written { result ≤ length out.old }
     ensures kept { drop result out.new ≡ drop result out.old }
     ensures full { (rest_of copier.new ≡ []) ⊎ (result ≡ length out.old) }
-    ensures copied { (strict : Bool) (depth : ℕ) (fed given : List ℕ) (spot : Spot)
-        → IsFed strict depth (fed ++ byte.now) spot → (HasFault spot → ⊥) → length fed + 1 ≤ most
-        → IsCopied most fed given copier.old
-        → IsCopied most (fed ++ byte.now) (given ++ take result out.new) copier.new }
+    ensures copied { (fed given : List ℕ) → (NoneGoOn most (fed ++ bytes.now) → ⊥) → AreBytes bytes.now
+        → length fed + length bytes.now ≤ most → IsCopied most fed given copier.old
+        → IsCopied most (fed ++ bytes.now) (given ++ take result out.new) copier.new }
 {
-    copier.feed(byte, out).written
+    copier.feed(bytes, out).written
 }
 
 /// Copies one item of CBOR (RFC 7049, 2.1 to 2.4) whose bytes come in pieces, in its shortest spelling.
@@ -170,33 +191,41 @@ impl ItemCopier {
         self.copier.feed(&[], out).written
     }
 
-    /// Takes one byte more, and says how many bytes were written; or nothing, where no more bytes can be counted.
-    fn step(&mut self, byte: &[u8], out: &mut [u8]) -> Option<usize>
-        requires one { length byte.now ≡ 1 }
+    /// Takes bytes up to the end of the item or to a fault, and says how many, and how many were written; or nothing,
+    /// where no more bytes can be counted.
+    fn step(&mut self, bytes: &[u8], out: &mut [u8]) -> Option<(usize, usize)>
+        requires some { 0 < length bytes.now }
+        requires fits { (length bytes.now ≤ 1) ⊎ (length bytes.now + 8 ≤ length out.old) }
         requires given { pending self.old ≡ [] }
         requires due { is_due (item_spot self.old).phase ≡ true }
-        ensures { Takes self.old byte.now out.old result out.new self.new }
+        ensures { Takes self.old bytes.now out.old result out.new self.new }
     {
-        if !check(&mut self.checker, byte) {
+        let taken = check(&mut self.checker, bytes);
+        if taken == 0 {
             return None;
         }
-        if has_fault(&self.checker) {
-            return Some(0);
-        }
-        Some(copy(&mut self.copier, byte, out))
+        let copied = copied_len(&self.checker, taken);
+        Some((taken, copy(&mut self.copier, &bytes[..copied], out)))
     }
 
-    /// Takes the byte of a piece that stands there, and says how many bytes are written behind it, where so many were
-    /// before; or nothing, where no more bytes can be counted.
-    fn step_at(&mut self, bytes: &[u8], at: usize, out: &mut [u8], written: usize) -> Option<usize>
+    /// Takes bytes of a piece from one place on, and writes behind as many as were written. Says where both end; or
+    /// nothing, where no more bytes can be counted.
+    fn step_at(
+        &mut self,
+        bytes: &[u8],
+        at: usize,
+        out: &mut [u8],
+        written: usize,
+    ) -> Option<(usize, usize)>
         requires some { at < length bytes.now }
         requires room { written ≤ length out.old }
         requires given { pending self.old ≡ [] }
         requires due { is_due (item_spot self.old).phase ≡ true }
         ensures { TakesAt self.old bytes.now at out.old written result out.new self.new }
     {
-        let more = self.step(&bytes[at..at + 1], &mut out[written..])?;
-        Some(written + more)
+        let len = step_len(bytes.len() - at, out.len() - written);
+        let (taken, more) = self.step(&bytes[at..at + len], &mut out[written..])?;
+        Some((at + taken, written + more))
     }
 
     /// Takes a piece of the item's bytes, of any length, and writes their shortest spelling in front of `out`. How the
@@ -231,7 +260,8 @@ impl ItemCopier {
             → (result.taken ≡ 0) × (result.written ≡ 0) × (self.new ≡ self.old) }
     {
         let mut written = self.give(out);
-        'bytes: for at in 0..bytes.len() {
+        let mut at = 0;
+        'pieces: while at < bytes.len() {
             match self.answer() {
                 Progress::More(_) => {}
                 progress => {
@@ -243,7 +273,10 @@ impl ItemCopier {
                 }
             }
             match self.step_at(bytes, at, out, written) {
-                Some(end) => written = end,
+                Some((next, end)) => {
+                    at = next;
+                    written = end;
+                }
                 None => {
                     return Copied {
                         taken: at,

@@ -9,15 +9,16 @@ use Rattle.cbor_copy_item.proofs.AnswerLaws.{not_more}
 use Rattle.cbor_copy_item.proofs.TellLaws.{tells_answer, tells_long}
 use Rattle.cbor_copy_item.proofs.copier.ItemCopier.feed.Goals as goal
 
-pub bytes-preserved : goal.bytes-preserved
-bytes-preserved c =
+pub pieces-preserved : goal.pieces-preserved
+pieces-preserved c =
     let wrote = c.in-Some.ensures in
-    let before = c.bytes.self in
-    let so_far = c.bytes.invariant in
+    let before = c.pieces.self in
+    let so_far = c.pieces.invariant in
     record {
+      within = wrote.all;
       written = search rules;
       long = search rules;
-      kept = wrote.kept ∙ drop_later c.bytes.written c.in-Some.end c.bytes.out c.args.out.now wrote.more so_far.kept;
+      kept = wrote.kept ∙ drop_later c.pieces.written c.in-Some.end c.pieces.out c.args.out.now wrote.more so_far.kept;
       copied = λ strict depth fed given was.
           wrote.copied strict depth fed given (so_far.copied strict depth fed given was);
       full = search rules;
@@ -31,29 +32,29 @@ bytes-preserved c =
 
 pub returns-in_default-clause-tells : goal.returns-in_default-clause-tells
 returns-in_default-clause-tells c = λ strict depth fed given was.
-    let copier = c.bytes.self in
-    tells_answer (pending copier) strict depth (fed ++ take c.bytes.at c.args.bytes.now)
-    (given ++ take c.bytes.written c.bytes.out) (item_spot copier) (elements_spot copier) c.answer.result
-    c.answer.ensures (c.bytes.invariant.copied strict depth fed given was) copier.checker.left copier.checker.begun
+    let copier = c.pieces.self in
+    tells_answer (pending copier) strict depth (fed ++ take c.pieces.at c.args.bytes.now)
+    (given ++ take c.pieces.written c.pieces.out) (item_spot copier) (elements_spot copier) c.answer.result
+    c.answer.ensures (c.pieces.invariant.copied strict depth fed given was) copier.checker.left copier.checker.begun
 
 pub returns-in-None-clause-tells : goal.returns-in-None-clause-tells
 returns-in-None-clause-tells c = λ strict depth fed given was.
-    let copier = c.bytes.self in
+    let copier = c.pieces.self in
     let stops = c.in-None.ensures in
-    let so_far = c.bytes.invariant.copied strict depth fed given was in
-    let now = fed ++ take c.bytes.at c.args.bytes.now in
-    subst (λ (z : List ℕ). Tells strict depth now (given ++ take c.bytes.written z) r.TooLong) (sym stops.same)
-    (tells_long (pending copier) strict depth now (given ++ take c.bytes.written c.bytes.out) (item_spot copier)
+    let so_far = c.pieces.invariant.copied strict depth fed given was in
+    let now = fed ++ take c.pieces.at c.args.bytes.now in
+    subst (λ (z : List ℕ). Tells strict depth now (given ++ take c.pieces.written z) r.TooLong) (sym stops.same)
+    (tells_long (pending copier) strict depth now (given ++ take c.pieces.written c.pieces.out) (item_spot copier)
     (elements_spot copier) c.in-More.field-0
     (sym c.in-More.is ∙ c.answer.ensures) so_far (stops.copied strict depth now _ so_far).1)
 
 pub returns-clause-tells : goal.returns-clause-tells
 returns-clause-tells c = λ strict depth fed given was.
-    let copier = c.bytes.self in
+    let copier = c.pieces.self in
     let bytes = c.args.bytes.now in
-    let all : c.bytes.at ≡ length bytes = search rules in
-    subst (λ (n : ℕ). Tells strict depth (fed ++ take n bytes) (given ++ take c.bytes.written c.bytes.out)
+    let all : c.pieces.at ≡ length bytes = search rules in
+    subst (λ (n : ℕ). Tells strict depth (fed ++ take n bytes) (given ++ take c.pieces.written c.pieces.out)
     c.answer-2.result) all
-    (tells_answer (pending copier) strict depth (fed ++ take c.bytes.at bytes)
-    (given ++ take c.bytes.written c.bytes.out) (item_spot copier) (elements_spot copier) c.answer-2.result
-    c.answer-2.ensures (c.bytes.invariant.copied strict depth fed given was) copier.checker.left copier.checker.begun)
+    (tells_answer (pending copier) strict depth (fed ++ take c.pieces.at bytes)
+    (given ++ take c.pieces.written c.pieces.out) (item_spot copier) (elements_spot copier) c.answer-2.result
+    c.answer-2.ensures (c.pieces.invariant.copied strict depth fed given was) copier.checker.left copier.checker.begun)

@@ -1,11 +1,12 @@
-use Rattle.std.proofs.Common.{◌≡◌, ◌≤◌, ◌⊎◌, ℕ, Bool, List, [], take, drop, length, ◌++◌, false}
+use Rattle.std.proofs.Common.{◌≡◌, ◌≤◌, ◌-◌, ◌⊎◌, ℕ, Bool, List, [], take, drop, length, ◌++◌, false}
 use Rattle.cbor_feed.specs.Telling.{is_due}
 use Rattle.cbor_copy_item.specs.Copying.{IsItemCopied, item_spot, pending}
 use Rattle.cbor_copy_item.proofs.copier.ItemCopier.feed.Given as goal
 
-abbrev pub invariant-bytes : goal.invariant-bytes
-invariant-bytes l =
+abbrev pub invariant-pieces : goal.invariant-pieces
+invariant-pieces l =
     record {
+      within : l.at ≤ length l.bytes;
       written : l.written ≤ length l.out;
       long : length l.out ≡ length l.fn.out;
       kept : drop l.written l.out ≡ drop l.written l.fn.out;
@@ -15,3 +16,6 @@ invariant-bytes l =
       stays : is_due (item_spot l.fn.self).phase ≡ false → pending l.fn.self ≡ []
           → (l.at ≡ 0) × (l.written ≡ 0) × (l.self ≡ l.fn.self);
     }
+
+abbrev pub decreases-pieces : goal.decreases-pieces
+decreases-pieces l = length l.bytes - l.at

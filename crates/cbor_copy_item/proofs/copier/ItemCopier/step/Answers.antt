@@ -1,47 +1,42 @@
-use Rattle.std.proofs.Common.{◌++◌, List, ℕ, take, refl, sym, subst, inl, append-nil, rules, arith}
+use Rattle.std.proofs.Common.{take, refl, rules}
 use Rattle.cbor_feed.specs.Checking.{spot_of}
-use Rattle.cbor_copy_item.specs.Copying.{AreFed, item_spot, elements_spot, pending}
-use Rattle.cbor_copy_item.proofs.TakenLaws.{fault_fed, sound_fed, same_fed}
+use Rattle.cbor_copy_item.specs.Copying.{item_spot}
+use Rattle.cbor_copy_item.proofs.TakenLaws.{same_fed}
+use Rattle.cbor_copy_item.proofs.StepLaws.{step_goes, step_bytes, step_counted, step_fed}
 use Rattle.cbor_copy_item.proofs.copier.ItemCopier.step.Goals as goal
 
-pub returns-then-not-check : goal.returns-then-not-check
-returns-then-not-check c = record {
+pub returns-then-taken-eq0 : goal.returns-then-taken-eq0
+returns-then-taken-eq0 c = record {
   none = refl;
   same = refl;
   copied = λ strict depth fed given was.
-      let left = c.check.ensures.not strict depth fed was.checked (search rules) in (
-        same_fed strict depth fed _ (item_spot c.args.self.now) (spot_of c.check.new.checker) _ left.0 was,
+      let left = c.check-taken.ensures.none strict depth fed was.checked (search rules) in (
+        same_fed strict depth fed _ (item_spot c.args.self.now) (spot_of c.check-taken.new.checker) _ left.0 was,
         left.1,
       );
 }
 
-pub returns-then-has_fault : goal.returns-then-has_fault
-returns-then-has_fault c = record {
-  within = omega arith;
-  kept = refl;
-  full = inl c.requires.given;
-  copied = λ strict depth fed given was.
-      let old = c.args.self.now in
-      let byte = c.args.byte.now in
-      let new = spot_of c.check.new.checker in
-      let taken = c.check.ensures.taken strict depth fed was.checked (search rules) in
-      subst (λ (z : List ℕ). AreFed strict depth (fed ++ byte) new (elements_spot old) (z ++ pending old))
-      (sym (append-nil given))
-      (fault_fed strict depth fed byte (item_spot old) new c.requires.due taken.0 (elements_spot old)
-      (given ++ pending old) c.requires.one (c.has_fault.ensures.yes (search rules)) was);
-}
-
 pub returns : goal.returns
 returns c = record {
+  some = search rules;
+  all = c.check-taken.ensures.within;
   within = c.copy.ensures.written;
   kept = c.copy.ensures.kept;
   full = c.copy.ensures.full;
   copied = λ strict depth fed given was.
       let old = c.args.self.now in
-      let new = spot_of c.check.new.checker in
-      let taken = c.check.ensures.taken strict depth fed was.checked (search rules) in
-      let sound = c.has_fault.ensures.no (search rules) in
-      sound_fed strict depth fed c.args.byte.now (item_spot old) new c.requires.due taken.0 given
-      (take c.copy.result c.copy.new.out) old.copier c.copy.new.copier sound
-      (c.copy.ensures.copied strict depth fed given new taken.0 sound taken.1) was;
+      let bytes = c.args.bytes.now in
+      let taken = c.check-taken.result in
+      let kept = c.copied_len-copied.result in
+      let new = spot_of c.check-taken.new.checker in
+      let within = c.check-taken.ensures.within in
+      let checked = c.check-taken.ensures.taken strict depth fed was.checked in
+      let are = c.copied_len-copied.ensures in
+      step_fed strict depth fed bytes taken kept (item_spot old) new c.requires.due within checked.0 are given
+      (take c.copy.result c.copy.new.out) old.copier c.copy.new.copier
+      (c.copy.ensures.copied fed given
+      (step_goes strict depth fed bytes taken kept (item_spot old) new c.requires.due within checked.0 are)
+      (step_bytes strict depth fed bytes taken kept (item_spot old) new c.requires.due within checked.0 are)
+      (step_counted strict depth fed bytes taken kept (item_spot old) new c.requires.due within checked.0 are checked.1))
+      was;
 }

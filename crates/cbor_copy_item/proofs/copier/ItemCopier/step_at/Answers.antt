@@ -1,15 +1,19 @@
-use Rattle.std.proofs.Common.{◌≡◌, ◌-◌, ◌++◌, length, take, drop, refl, inl, inr, rules, arith}
+use Rattle.std.proofs.Common.{◌≡◌, ◌≤◌, ◌+◌, ◌-◌, ◌++◌, length, take, drop, refl, inl, inr, rules, arith}
 use Rattle.std.proofs.lemmas.List.{take_all, length-drop}
+use Rattle.std.proofs.lemmas.List.Edits.{length-between}
 use Rattle.cbor_copy_item.specs.Copying.{item_spot, elements_spot, pending}
 use Rattle.cbor_copy_item.proofs.PieceLaws.{out_kept, given_front, fed_front, both_fronts}
 use Rattle.cbor_copy_item.proofs.copier.ItemCopier.step_at.Goals as goal
 
 pub returns : goal.returns
 returns c =
-    let wrote = c.in_ok-more.ensures in
+    let wrote = c.in_ok-taken.ensures in
+    let bytes = c.args.bytes.now in
     let at = c.args.at in
+    let len = c.step_len-len.result in
     let before = c.args.written in
-    let more = c.in_ok-more.more in
+    let taken = c.in_ok-taken.taken in
+    let more = c.in_ok-taken.more in
     let out = c.args.out.now in
     let new = c.step.new.self in
     let k = length out - before in
@@ -18,7 +22,13 @@ returns c =
     let room_len : length (take k (drop before out)) ≡ k = search rules in
     let long : length c.step.new.out ≡ k = search rules in
     let few = wrote.within in
+    let fits = c.step_len-len.ensures.some.1 in
+    let within : at + len ≤ length bytes = omega (arith, fits, c.requires.some) in
+    let piece = length-between bytes at (at + len) within in
+    let all = wrote.all in
     record {
+      some = omega (arith, wrote.some);
+      all = omega (arith, all, piece, within);
       more = omega arith;
       within = omega (arith, few, room_len, c.requires.room);
       kept = out_kept before more k out c.step.new.out c.requires.room refl long (take k (drop before out)) room
@@ -29,7 +39,7 @@ returns c =
       ];
       copied = λ strict depth fed given was.
           both_fronts strict depth (item_spot new) (elements_spot new) _ _ _ _ (pending new)
-          (fed_front fed c.args.bytes.now at c.requires.some)
+          (fed_front fed bytes at len taken all within)
           (given_front before more k out c.step.new.out c.requires.room refl long (omega (arith, few, room_len)) given)
-          (wrote.copied strict depth (fed ++ take at c.args.bytes.now) (given ++ take before out) was);
+          (wrote.copied strict depth (fed ++ take at bytes) (given ++ take before out) was);
     }
