@@ -1,11 +1,12 @@
 /*
  * Works of this repository's bench, done by the static library for C.
  *
- * usage: calls pull|recode|skip|feed|whole SIZE COUNT ROUNDS
+ * usage: calls pull|recode|skip|feed|whole|copy|each SIZE COUNT ROUNDS
  *
  * It reads standard input whole, pulls the titles in it so many times, or brings the items in it to their shortest
  * spelling, or skips them one by one, or feeds them to a checker in pieces of SIZE bytes, and prints the sum that the
- * same work over libcbor prints. `whole` skips them one by one too, and prints the sum that `feed` does.
+ * same work over libcbor prints. `whole` skips them one by one too, and prints the sum that `feed` does. `copy` and
+ * `each` feed them in pieces to a copier of elements and to one of items, and print the sum that `recode` does.
  */
 #include <ciborium_ll.h>
 #include <inttypes.h>
@@ -70,6 +71,45 @@ static uint64_t fed(const uint8_t *bytes, size_t size, size_t piece) {
     return ended;
 }
 
+/* How many bytes a copier writes of what comes in pieces of so many. */
+static uint64_t copied_in_pieces(const uint8_t *bytes, size_t size, size_t piece, uint8_t *out) {
+    size_t offset = 0, written = 0;
+    cll_copier copier;
+    cll_report report;
+    cll_copier_init(&copier, size);
+    while (offset < size) {
+        size_t end = offset - offset % piece + piece;
+        uint32_t answer = cll_copier_feed(&copier, bytes + offset, (end < size ? end : size) - offset,
+                                          out + written, size - written, &report);
+        offset += report.consumed;
+        written += report.written;
+        if (answer != CLL_SHORT)
+            return 0;
+    }
+    return written;
+}
+
+/* The same of a copier for each item. */
+static uint64_t each_copied(const uint8_t *bytes, size_t size, size_t piece, uint8_t *out) {
+    size_t offset = 0, written = 0;
+    cll_item_copier copier;
+    cll_report report;
+    cll_item_copier_init(&copier, 256);
+    while (offset < size) {
+        size_t end = offset - offset % piece + piece;
+        uint32_t answer = cll_item_copier_feed(&copier, bytes + offset, (end < size ? end : size) - offset,
+                                               out + written, size - written, &report);
+        offset += report.consumed;
+        written += report.written;
+        if (answer == CLL_SHORT)
+            continue;
+        if (answer != CLL_OK)
+            return 0;
+        cll_item_copier_init(&copier, 256);
+    }
+    return written;
+}
+
 /* How many bytes the items have, which are skipped where they are. */
 static uint64_t skipped(const uint8_t *bytes, size_t size) {
     size_t offset = 0;
@@ -90,6 +130,10 @@ static uint64_t worked(char work, const uint8_t *bytes, size_t size, size_t piec
         return fed(bytes, size, piece);
     case 'w':
         return skipped(bytes, size);
+    case 'c':
+        return copied_in_pieces(bytes, size, piece, out);
+    case 'e':
+        return each_copied(bytes, size, piece, out);
     default:
         return items(bytes, size);
     }
@@ -97,12 +141,12 @@ static uint64_t worked(char work, const uint8_t *bytes, size_t size, size_t piec
 
 int main(int count, char **words) {
     const char *work = count == 5 ? words[1] : "";
-    static const char *const names[] = {"pull", "recode", "skip", "feed", "whole"};
+    static const char *const names[] = {"pull", "recode", "skip", "feed", "whole", "copy", "each"};
     size_t piece = count == 5 ? (size_t)strtoul(words[2], NULL, 10) : 0, name = 0;
     while (name < sizeof names / sizeof *names && strcmp(work, names[name]) != 0)
         name++;
     if (name == sizeof names / sizeof *names || piece == 0) {
-        fputs("usage: calls pull|recode|skip|feed|whole SIZE COUNT ROUNDS\n", stderr);
+        fputs("usage: calls pull|recode|skip|feed|whole|copy|each SIZE COUNT ROUNDS\n", stderr);
         return 2;
     }
     size_t size;

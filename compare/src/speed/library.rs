@@ -36,6 +36,8 @@ enum Beside {
     LibcborFromC,
     /// The same items in one piece, skipped from C, as ours are fed from C.
     Whole,
+    /// The same bytes in one piece, copied from C, as ours are fed from C.
+    WholeCopy,
     /// The least that a pull has to do: one branch for each title.
     Branches,
     /// The least that a copy has to do.
@@ -67,6 +69,16 @@ const fn pieces(
     beside: Beside,
 ) -> Row {
     Row { name, work: "feed", size, stream, times: 2, beside }
+}
+
+/// A row of bytes that come in pieces of 1,460 and are copied.
+const fn copies(
+    name: &'static str,
+    work: &'static str,
+    times: usize,
+    stream: fn(usize) -> Stream,
+) -> Row {
+    Row { name, work, size: 1460, stream, times, beside: Beside::WholeCopy }
 }
 
 /// A row of large bodies, which take less time.
@@ -137,6 +149,12 @@ const ROWS: &[Row] = &[
     pieces("pieces of 1,460 bytes fed", 1460, streams::mixed_items, Beside::Whole),
     pieces("pieces of 65,536 bytes fed", 65536, streams::mixed_items, Beside::Whole),
     pieces("pieces of 1,460 bytes fed", 1460, streams::nested_items, Beside::Whole),
+    copies("pieces of 1,460 bytes copied", "copy", 2, streams::mixed_items),
+    copies("pieces of 1,460 bytes copied", "copy", 128, streams::byte_string),
+    copies("pieces of 1,460 bytes copied", "copy", 128, streams::ascii_text),
+    copies("pieces of 1,460 bytes copied", "copy", 8, streams::multibyte_text),
+    copies("pieces of 1,460 bytes copied by items", "each", 2, streams::mixed_items),
+    copies("pieces of 1,460 bytes copied by items", "each", 128, streams::byte_string),
     titles("headers pulled", "pull", streams::titles).beside(Beside::Branches),
     quick("`recode` by 4,096 bytes", "recode", streams::byte_string).beside(Beside::Memory),
     bodies("`recode` by 4,096 bytes", "recode", 4096, streams::multibyte_text)
@@ -170,13 +188,14 @@ fn measure_row(asked: &Asked, row: &Row) -> io::Result<()> {
         Beside::Crate => ("the Rust crate", &asked.original, row.work),
         Beside::Libcbor | Beside::LibcborFromC => ("libcbor", &asked.libcbor, row.work),
         Beside::Whole => ("`cll_skip` of the whole", &asked.calls, "whole"),
+        Beside::WholeCopy => ("`cll_recode` of the whole", &asked.calls, "recode"),
         Beside::Branches => ("one branch a title", &asked.original, "walk"),
         Beside::Memory => ("a copy of memory", &asked.original, "copy"),
         Beside::Flat => ("a bare loop of `pull`", &asked.bench, "flat"),
         Beside::Plain(work) => ("a decoder not strict", &asked.bench, work),
     };
     let ours = match row.beside {
-        Beside::LibcborFromC | Beside::Whole => &asked.calls,
+        Beside::LibcborFromC | Beside::Whole | Beside::WholeCopy => &asked.calls,
         _ => &asked.bench,
     };
     let runs = |rounds: usize| {
