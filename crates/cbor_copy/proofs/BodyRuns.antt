@@ -21,7 +21,7 @@ use Rattle.cbor_copy.proofs.BodySteps.{one_more_due}
 abbrev pub Below : List ℕ → Type 0
 Below xs = (i : ℕ) → i < length xs → get_or xs i 0 < 256
 
-below_rest : (x : ℕ) (xs : List ℕ) → Below (x ∷ xs) → Below xs
+pub below_rest : (x : ℕ) (xs : List ℕ) → Below (x ∷ xs) → Below xs
 below_rest x xs below = λ i less. below (suc i) (omega (arith, less))
 
 pub below_take : (n : ℕ) (xs : List ℕ) → n ≤ length xs → Below xs → Below (take n xs)

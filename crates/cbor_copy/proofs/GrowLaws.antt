@@ -50,7 +50,7 @@ within_put kind (suc more) h.Break spot title q e = by_none _ title e
 within_put k.Bytes more header spot title q e = by_none _ title e
 within_put k.Text more header spot title q e = by_none _ title e
 
-entered_put : (i : Within) (header : Header) (spot : Spot) (title : List ℕ) → IsTitle title header → spot.put ≡ []
+pub entered_put : (i : Within) (header : Header) (spot : Spot) (title : List ℕ) → IsTitle title header → spot.put ≡ []
     → length (entered i header spot).put ≤ length title
 entered_put w.Nothing header spot title q e = by_shortest _ title header q (element_put header spot)
 entered_put (w.Open kind more) header spot title q e = within_put kind more header spot title q e

@@ -16,3 +16,4 @@ pub mod Reached
 pub mod SpelledLaws
 pub mod StepLaws
 pub mod TellLaws
+pub mod TitleRuns

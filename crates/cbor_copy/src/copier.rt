@@ -86,6 +86,8 @@ impl Copier {
     ghost use Rattle.cbor_copy.specs.Telling.{AreSpelled, TellsEnd, end_of};
     ghost use Rattle.cbor_copy.specs.declared.phase.Phase.TheVariants as p;
     ghost use Rattle.cbor_copy.specs.declared.phase.StringKind.TheVariants as k;
+    ghost use Rattle.cbor_copy.specs.declared.phase.Within.TheVariants as w;
+    ghost use Rattle.ciborium_ll_grammar.specs.Title.{IsTitle};
     ghost use Rattle.cbor_copy.specs.declared.progress.End.TheVariants as e;
 
     /// A copier of so many elements, to which nothing came.
@@ -367,6 +369,42 @@ impl Copier {
         }
     }
 
+    /// The whole title in front of some bytes, where an element is due of whose title nothing came: how many bytes it
+    /// has, and its header.
+    fn title(&self, bytes: &[u8]) -> Option<(usize, Header)>
+        requires some { 0 < length bytes.now }
+        ensures due { IfSome result (λ title. (self.now.phase ≡ p.Title) × (self.now.within ≡ w.Nothing)
+            × (self.now.front ≡ [])) }
+        ensures fits { IfSome result (λ title. (0 < title.0) × (title.0 ≤ length bytes.now)
+            × (self.now.offset + title.0 ≤ usize.MAX)) }
+        ensures titled { IfSome result (λ title. IsTitle (take title.0 bytes.now) title.1) }
+    {
+        let (Phase::Title, Within::Nothing, 0) = (self.phase, self.within, self.front.len()) else {
+            return None;
+        };
+        let len = 1 + affix_len(row_of(bytes[0]).affix);
+        if len > bytes.len() || len > usize::MAX - self.offset {
+            return None;
+        }
+        let header = header_of(&bytes[..len])?;
+        Some((len, header))
+    }
+
+    /// The title of this header has come where an element is due, so many bytes at once.
+    fn title_put(&mut self, len: usize, header: Header)
+        requires counted { self.old.offset + len ≤ usize.MAX }
+        requires some { 0 < len }
+        requires clear { self.old.front ≡ [] }
+        requires nothing { self.old.within ≡ w.Nothing }
+        ensures { let spot = spot_of self.old in
+            let counted = record spot { place = spot.offset; offset = spot.offset + len } in
+            spot_of self.new ≡ entered counted.within header counted }
+    {
+        self.place = self.offset;
+        self.offset += len;
+        self.enter(header);
+    }
+
     /// One byte more, where some is due and all that was put out is given.
     fn step(&mut self, byte: u8)
         requires room { self.old.offset < usize.MAX }
@@ -382,8 +420,8 @@ impl Copier {
         }
     }
 
-    /// Some bytes more: one, or of a body as many as are written as they are. What they put out is written behind the
-    /// first `at` of `out`. Says how many there were, and where that ends.
+    /// Some bytes more: of a body as many as are written as they are, or a whole title where an element is due, else
+    /// one. What they put out is written behind the first `at` of `out`. Says how many there were, and where that ends.
     fn advance(&mut self, bytes: &[u8], out: &mut [u8], at: usize) -> (usize, usize)
         requires some { 0 < length bytes.now }
         requires counted { self.old.offset < usize.MAX }
@@ -408,6 +446,10 @@ impl Copier {
             if len > 0 {
                 return (len, self.bytes_put(kind, left, &bytes[..len], out, at));
             }
+        }
+        if let Some((len, header)) = self.title(bytes) {
+            self.title_put(len, header);
+            return (len, self.pending.give(out, at));
         }
         self.step(bytes[0]);
         (1, self.pending.give(out, at))

@@ -1,10 +1,11 @@
-use Rattle.std.proofs.Common.{◌≤◌, length, take, subst, rules, arith}
+use Rattle.std.proofs.Common.{refl, ◌+◌, ◌≤◌, length, take, subst, rules, arith}
 use Rattle.std.proofs.lemmas.List.{length-take-le, take-take}
 use Rattle.cbor_copy.specs.Copying.{spot_of}
 use Rattle.cbor_copy.specs.Spots.{IsWhole}
 use Rattle.cbor_copy.proofs.BodyRuns.{body_given}
 use Rattle.cbor_copy.proofs.FedLaws.{first_on}
 use Rattle.cbor_copy.proofs.GrowLaws.{given_grows}
+use Rattle.cbor_copy.proofs.TitleRuns.{title_given, title_grows}
 use Rattle.cbor_copy.proofs.copier.Copier.advance.Goals as goal
 
 pub returns-then-len-gt0-clause-copied : goal.returns-then-len-gt0-clause-copied
@@ -21,13 +22,30 @@ returns-then-len-gt0-clause-copied c = λ count fed given is.
     (search rules) c.requires.given c.if-len-gt0.true (search rules) (search rules) whole (search rules) (search rules)
     is
 
+pub returns-in-Some-title-clause-copied : goal.returns-in-Some-title-clause-copied
+returns-in-Some-title-clause-copied c = λ count fed given is.
+    title_given count c.in-Some-title.len c.args.bytes.now c.in-Some-title.header (spot_of c.args.self.now) _
+    (spot_of c.title_put.new.self) fed given (take c.args.at c.args.out.now) _ _ (λ i less. search rules) (search rules)
+    (search rules) (search rules) (search rules) (search rules) (search rules) c.requires.given refl
+    c.title_put.ensures is c.give.ensures.given
+
+pub returns-in-Some-title-clause-grown : goal.returns-in-Some-title-clause-grown
+returns-in-Some-title-clause-grown c =
+    let spot = spot_of c.args.self.now in
+    let counted = record spot { place = spot.offset; offset = spot.offset + c.in-Some-title.len } in
+    let grown = title_grows c.in-Some-title.len c.args.bytes.now c.in-Some-title.header counted
+    (spot_of c.title_put.new.self) c.args.at c.give.result c.args.out.now c.give.new.out c.give.new.self (search rules)
+    (search rules) c.requires.given (search rules) c.title_put.ensures c.requires.room (search rules)
+    c.give.ensures.given in
+    omega (arith, grown)
+
 pub returns-clause-copied : goal.returns-clause-copied
 returns-clause-copied c = λ count fed given is.
     first_on count fed given (take c.args.at c.args.out.now) c.args.self.now.pending _ _ (spot_of c.args.self.now)
     (spot_of c.step.new.self) c.args.bytes.now c.requires.some (search rules) is c.requires.given c.requires.given
-    c.step.ensures c.give.ensures.given
+    c.step.ensures c.give-2.ensures.given
 
 pub returns-clause-grown : goal.returns-clause-grown
 returns-clause-grown c =
-    given_grows (spot_of c.args.self.now) (spot_of c.step.new.self) _ c.args.at c.give.result c.args.out.now
-    c.give.new.out c.give.new.self c.step.ensures c.requires.room (search rules) c.give.ensures.given
+    given_grows (spot_of c.args.self.now) (spot_of c.step.new.self) _ c.args.at c.give-2.result c.args.out.now
+    c.give-2.new.out c.give-2.new.self c.step.ensures c.requires.room (search rules) c.give-2.ensures.given
