@@ -29,6 +29,7 @@ fn is_blocked(within: Within, kind: TitleKind) -> bool
 }
 
 /// Whether so many bytes may end a text that has come to this state.
+#[inline(always)]
 fn may_end(state: State, left: usize) -> bool
     ensures { result ≡ may_end state left }
 {
@@ -42,6 +43,7 @@ fn may_end(state: State, left: usize) -> bool
 }
 
 /// How many bytes in front of a part of a body are put out as they are: all, and of a text whole characters.
+#[inline(always)]
 fn whole_len(kind: StringKind, bytes: &[u8]) -> usize
     ensures within { result ≤ length bytes.now }
     ensures whole { IsWhole kind (take result bytes.now) }
@@ -108,6 +110,7 @@ impl Copier {
     }
 
     /// So many elements are left.
+    #[inline(always)]
     fn elements_due(&mut self, left: usize)
         requires { self.old.front ≡ [] }
         ensures { spot_of self.new ≡ elements_due left (spot_of self.old) }
@@ -122,6 +125,7 @@ impl Copier {
     }
 
     /// A whole element has come.
+    #[inline(always)]
     fn element_done(&mut self)
         requires { self.old.front ≡ [] }
         ensures { spot_of self.new ≡ element_done (spot_of self.old) }
@@ -130,6 +134,7 @@ impl Copier {
     }
 
     /// A whole string of a definite length has come: an element, or a piece of an open string.
+    #[inline(always)]
     fn string_done(&mut self)
         requires { self.old.front ≡ [] }
         ensures { spot_of self.new ≡ string_done self.old.within (spot_of self.old) }
@@ -141,6 +146,7 @@ impl Copier {
     }
 
     /// The title of a string of this kind and length has come, or so many bytes of a byte string are left.
+    #[inline(always)]
     fn body_due(&mut self, kind: StringKind, len: usize)
         requires { self.old.front ≡ [] }
         ensures { spot_of self.new ≡ body_due kind len (spot_of self.old) }
@@ -166,6 +172,7 @@ impl Copier {
     }
 
     /// The title of a string that is an element has come.
+    #[inline(always)]
     fn enter_string(&mut self, kind: StringKind, header: Header, len: Option<usize>)
         requires clear { self.old.front ≡ [] }
         requires some { 1 ≤ self.old.offset }
@@ -181,6 +188,7 @@ impl Copier {
     }
 
     /// The title of this header has come where an element is due.
+    #[inline(always)]
     fn enter_element(&mut self, header: Header)
         requires clear { self.old.front ≡ [] }
         requires some { 1 ≤ self.old.offset }
@@ -246,6 +254,7 @@ impl Copier {
     }
 
     /// The title of this header has come.
+    #[inline(always)]
     fn enter(&mut self, header: Header)
         requires clear { self.old.front ≡ [] }
         requires open { open_count self.old.within < self.old.offset }
@@ -333,6 +342,7 @@ impl Copier {
 
     /// These bytes of the body of a string are written as they are behind the first `at` of `out`: of a text whole
     /// characters. So many bytes of it were left. Says where they end.
+    #[inline(always)]
     fn bytes_put(
         &mut self,
         kind: StringKind,
@@ -358,6 +368,7 @@ impl Copier {
     }
 
     /// The body that is under way, of a text between two characters, and how many bytes of it are left.
+    #[inline(always)]
     fn body(&self) -> Option<(StringKind, usize)>
         ensures due { IfSome result (λ body. self.now.phase ≡ body_phase body.0 body.1) }
         ensures clear { IfSome result (λ body. self.now.front ≡ []) }
@@ -371,6 +382,7 @@ impl Copier {
 
     /// The whole title in front of some bytes, where an element is due of whose title nothing came: how many bytes it
     /// has, and its header.
+    #[inline(always)]
     fn title(&self, bytes: &[u8]) -> Option<(usize, Header)>
         requires some { 0 < length bytes.now }
         ensures due { IfSome result (λ title. (self.now.phase ≡ p.Title) × (self.now.within ≡ w.Nothing)
@@ -391,6 +403,7 @@ impl Copier {
     }
 
     /// The title of this header has come where an element is due, so many bytes at once.
+    #[inline(always)]
     fn title_put(&mut self, len: usize, header: Header)
         requires counted { self.old.offset + len ≤ usize.MAX }
         requires some { 0 < len }
@@ -422,6 +435,7 @@ impl Copier {
 
     /// Some bytes more: of a body as many as are written as they are, or a whole title where an element is due, else
     /// one. What they put out is written behind the first `at` of `out`. Says how many there were, and where that ends.
+    #[inline(always)]
     fn advance(&mut self, bytes: &[u8], out: &mut [u8], at: usize) -> (usize, usize)
         requires some { 0 < length bytes.now }
         requires counted { self.old.offset < usize.MAX }
@@ -456,6 +470,7 @@ impl Copier {
     }
 
     /// How far the copy has come.
+    #[inline(always)]
     fn progress(&self) -> Progress
         ensures { result ≡ progress_of self.now.pending self.now.phase }
     {

@@ -29,6 +29,7 @@ impl Model for Few {
 
 impl Few {
     /// No bytes.
+    #[inline(always)]
     pub(crate) fn new() -> Few
         ensures { result ≡ [] }
     {
@@ -48,6 +49,7 @@ impl Few {
     }
 
     /// How many bytes there are.
+    #[inline(always)]
     pub(crate) fn len(&self) -> usize
         ensures { result ≡ length self.now }
     {
@@ -55,6 +57,7 @@ impl Few {
     }
 
     /// Gives the bytes up.
+    #[inline(always)]
     pub(crate) fn clear(&mut self)
         ensures { self.new ≡ [] }
     {
@@ -75,6 +78,7 @@ impl Few {
     }
 
     /// Takes one byte more.
+    #[inline(always)]
     pub(crate) fn push(&mut self, byte: u8)
         requires { length self.old < 9 }
         ensures { self.new ≡ self.old ++ byte ∷ [] }
@@ -84,6 +88,7 @@ impl Few {
     }
 
     /// Takes more bytes.
+    #[inline(always)]
     fn put(&mut self, bytes: &[u8])
         requires { length self.old + length bytes.now ≤ 9 }
         ensures { self.new ≡ self.old ++ bytes.now }
@@ -94,6 +99,7 @@ impl Few {
     }
 
     /// Takes the bytes behind a first byte.
+    #[inline(always)]
     fn put_affix(&mut self, minor: Minor)
         requires minor { IsMinor minor }
         requires room { length self.old ≤ 1 }
@@ -109,6 +115,7 @@ impl Few {
     }
 
     /// The shortest title of a header.
+    #[inline(always)]
     pub(crate) fn title(header: Header) -> Few
         ensures title { result ≡ shortest_title header }
         ensures range { IsInRange header }
@@ -150,6 +157,7 @@ impl Few {
     }
 
     /// The bytes.
+    #[inline(always)]
     pub(crate) fn bytes(&self) -> &[u8]
         ensures { result.now ≡ self.now }
     {

@@ -48,6 +48,7 @@ impl Pending {
     }
 
     /// Whether there are none.
+    #[inline(always)]
     pub(crate) fn is_empty(&self) -> bool
         ensures yes { result ≡ true → self.now ≡ [] }
         ensures no { result ≡ false → self.now ≢ [] }
@@ -56,6 +57,7 @@ impl Pending {
     }
 
     /// Puts bytes in place of these.
+    #[inline(always)]
     pub(crate) fn set(&mut self, few: Few)
         ensures { self.new ≡ few }
     {
@@ -64,6 +66,7 @@ impl Pending {
     }
 
     /// The bytes.
+    #[inline(always)]
     fn bytes(&self) -> &[u8]
         ensures { result.now ≡ self.now }
     {
@@ -71,6 +74,7 @@ impl Pending {
     }
 
     /// Takes so many of them off.
+    #[inline(always)]
     fn skip(&mut self, count: usize)
         requires { count ≤ length self.old }
         ensures { self.new ≡ drop count self.old }
@@ -80,6 +84,7 @@ impl Pending {
     }
 
     /// Gives as many bytes as there is room for behind the first `at` of `out`, and says where they end.
+    #[inline(always)]
     pub(crate) fn give(&mut self, out: &mut [u8], at: usize) -> usize
         requires { at ≤ length out.old }
         ensures within { (at ≤ result) × (result ≤ length out.old) }

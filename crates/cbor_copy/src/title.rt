@@ -10,6 +10,7 @@ use ciborium_ll_grammar::hdr::table::{Affix, row_of};
 use ciborium_ll_grammar::hdr::{Header, Minor, Title};
 
 /// How many bytes stand behind the first one.
+#[inline(always)]
 pub(crate) fn affix_len(affix: Affix) -> usize
     ensures { (minor : ℕ) → IsAffix affix minor → result ≡ affix_len minor }
 {
@@ -23,6 +24,7 @@ pub(crate) fn affix_len(affix: Affix) -> usize
 }
 
 /// The minor of a first byte, with the number that it holds or that the bytes behind it are. A reserved one is none.
+#[inline(always)]
 fn minor_of(affix: Affix, first: u8, bytes: &[u8]) -> Option<Minor>
     requires affix { IsAffix affix (first % 32) }
     requires long { length bytes.now ≡ affix_len (first % 32) }
@@ -43,6 +45,7 @@ fn minor_of(affix: Affix, first: u8, bytes: &[u8]) -> Option<Minor>
 }
 
 /// The number of two bytes.
+#[inline(always)]
 fn two_bytes(bytes: &[u8]) -> u16
     requires { length bytes.now ≡ 2 }
     ensures { to_be_bytes w16 result ≡ bytes.now }
@@ -51,6 +54,7 @@ fn two_bytes(bytes: &[u8]) -> u16
 }
 
 /// The number of four bytes.
+#[inline(always)]
 fn four_bytes(bytes: &[u8]) -> u32
     requires { length bytes.now ≡ 4 }
     ensures { to_be_bytes w32 result ≡ bytes.now }
@@ -59,6 +63,7 @@ fn four_bytes(bytes: &[u8]) -> u32
 }
 
 /// The number of eight bytes.
+#[inline(always)]
 fn eight_bytes(bytes: &[u8]) -> u64
     requires { length bytes.now ≡ 8 }
     ensures { to_be_bytes w64 result ≡ bytes.now }
@@ -70,6 +75,7 @@ fn eight_bytes(bytes: &[u8]) -> u64
 
 /// The header of a title, or nothing where no title begins with its first byte. All bytes that this one announces are
 /// there.
+#[inline(always)]
 pub(crate) fn header_of(bytes: &[u8]) -> Option<Header>
     requires { length bytes.now ≡ 1 + affix_len (slice_index bytes.now 0 % 32) }
     ensures some { IfSome result (IsTitle bytes.now) }
