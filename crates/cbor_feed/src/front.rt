@@ -52,6 +52,17 @@ impl Front {
         self.len = 0;
     }
 
+    /// The same bytes once more.
+    #[inline(always)]
+    pub(crate) fn copy(&self) -> Front
+        ensures { result ≡ self.now }
+    {
+        Front {
+            bytes: self.bytes,
+            len: self.len,
+        }
+    }
+
     /// Takes one byte more.
     #[inline(always)]
     pub(crate) fn push(&mut self, byte: u8)
