@@ -88,7 +88,8 @@ impl Snapshot {
     #[inline(always)]
     pub fn feed(&mut self, bytes: &[u8]) -> Option<Feed>
         ensures found { (spot : Spot) → Holds self.old spot → IsSome result }
-        ensures fed { IfSome result (λ feed. (old new : Spot) × Holds self.old old × Holds self.new new
+        ensures some { IfSome result (λ feed. (spot : Spot) × Holds self.old spot) }
+        ensures fed { (old : Spot) → Holds self.old old → IfSome result (λ feed. (new : Spot) × Holds self.new new
             × TakesPiece old bytes.now feed new) }
         ensures none { IfNone result (self.new ≡ self.old) }
     {

@@ -34,7 +34,7 @@ returns-in_default-clause-tells c = λ strict depth fed given was.
     let copier = c.bytes.self in
     tells_answer (pending copier) strict depth (fed ++ take c.bytes.at c.args.bytes.now)
     (given ++ take c.bytes.written c.bytes.out) (item_spot copier) (elements_spot copier) c.answer.result
-    c.answer.ensures (c.bytes.invariant.copied strict depth fed given was) copier.checker.left copier.checker.begun
+    c.answer.ensures (c.bytes.invariant.copied strict depth fed given was) copier.checker.position.left copier.checker.position.begun
 
 pub returns-in-None-clause-tells : goal.returns-in-None-clause-tells
 returns-in-None-clause-tells c = λ strict depth fed given was.
@@ -56,4 +56,4 @@ returns-clause-tells c = λ strict depth fed given was.
     c.answer-2.result) all
     (tells_answer (pending copier) strict depth (fed ++ take c.bytes.at bytes)
     (given ++ take c.bytes.written c.bytes.out) (item_spot copier) (elements_spot copier) c.answer-2.result
-    c.answer-2.ensures (c.bytes.invariant.copied strict depth fed given was) copier.checker.left copier.checker.begun)
+    c.answer-2.ensures (c.bytes.invariant.copied strict depth fed given was) copier.checker.position.left copier.checker.position.begun)
