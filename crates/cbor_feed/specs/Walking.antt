@@ -1,5 +1,5 @@
 -- A checker during a call, with the numbers of its nests in memory of someone else's, as the spot that it has come to.
-use Rattle.std.specs.Prelude.{◌≡◌, ℕ, List}
+use Rattle.std.specs.Prelude.{◌≡◌, List}
 use Rattle.cbor_feed.specs.declared.level.Level.{Level}
 use Rattle.cbor_feed.specs.declared.levels.Levels.{Levels}
 use Rattle.cbor_feed.specs.declared.walk.Walk.{Walk}
