@@ -118,7 +118,7 @@ impl Checker {
         ensures counted { (strict : Bool) (depth : ℕ) (fed : List ℕ) → IsFed strict depth fed (spot_of self.old)
             → length fed + result.taken ≤ usize.MAX }
         ensures answers { IsAnswer result.progress (spot_of self.new) }
-        ensures stays { is_due self.old.position.phase ≡ false → (result.taken ≡ 0) × (spot_of self.new ≡ spot_of self.old) }
+        ensures stays { is_due (spot_of self.old).phase ≡ false → (result.taken ≡ 0) × (spot_of self.new ≡ spot_of self.old) }
     {
         self.position.feed(&mut self.kinds, &mut self.counts, bytes)
     }

@@ -10,27 +10,13 @@ ghost use Rattle.cbor_feed.specs.Blocked.{blocked, is_value};
 use crate::front::Front;
 use crate::level::Level;
 use crate::levels::Levels;
-use crate::phase::{Fault, Phase, Within};
+use crate::phase::{Fault, Phase, Within, may_end};
 use crate::progress::{Feed, Progress};
 use crate::tell::answer;
 use crate::title::{affix_len, begins_none, blocked, header_of, is_value};
 use ciborium_ll_grammar::hdr::Header;
 use ciborium_ll_grammar::hdr::table::{Affix, TitleKind, row_of};
 use ciborium_ll_text::state::{State, text_front};
-
-/// Whether so many bytes may end a text that has come to this state.
-#[inline(always)]
-fn may_end(state: State, left: usize) -> bool
-    ensures { result ≡ may_end state left }
-{
-    match state {
-        State::Between => true,
-        State::OneDue => left >= 1,
-        State::TwoDue | State::BehindE0 | State::BehindEd => left >= 2,
-        State::ThreeDue | State::BehindF0 | State::BehindF4 => left >= 3,
-        State::Damaged => false,
-    }
-}
 
 /// A checker during a call: where it stands, and the numbers of its nests in memory of someone else's, which no call
 /// copies.
