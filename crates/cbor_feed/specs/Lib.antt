@@ -3,8 +3,11 @@ pub mod Checking
 pub mod Levels
 pub mod Longer
 pub mod Opens
+pub mod Piece
+pub mod Places
 pub mod Snapshots
 pub mod Spots
 pub mod Stack
 pub mod Steps
 pub mod Telling
+pub mod Walking

@@ -7,10 +7,13 @@ use std::marker::Model;
 /// The longest title: a first byte and eight behind it.
 pub(crate) const LONGEST: usize = 9;
 
+/// How many bytes it has room for. A copy of so many is two moves.
+const ROOM: usize = 16;
+
 /// The bytes of a title so far.
 #[derive(Drop)]
 pub(crate) struct Front {
-    bytes: [u8; LONGEST],
+    bytes: [u8; ROOM],
     len: usize,
 }
 
@@ -31,7 +34,7 @@ impl Front {
         ensures { result ≡ [] }
     {
         Front {
-            bytes: [0; LONGEST],
+            bytes: [0; ROOM],
             len: 0,
         }
     }
@@ -50,6 +53,17 @@ impl Front {
         ensures { self.new ≡ [] }
     {
         self.len = 0;
+    }
+
+    /// The same bytes once more.
+    #[inline(always)]
+    pub(crate) fn copy(&self) -> Front
+        ensures { result ≡ self.now }
+    {
+        Front {
+            bytes: self.bytes,
+            len: self.len,
+        }
     }
 
     /// Takes one byte more.
@@ -76,7 +90,7 @@ impl Front {
         ensures saved { take result bytes.new ≡ self.now }
         ensures len { result ≡ length self.now }
     {
-        *bytes = self.bytes;
+        bytes.copy_from_slice(&self.bytes[..LONGEST]);
         self.len
     }
 
@@ -86,7 +100,7 @@ impl Front {
         requires { len ≤ 9 }
         ensures { self.new ≡ take len bytes.now }
     {
-        self.bytes = *bytes;
+        self.bytes[..LONGEST].copy_from_slice(bytes);
         self.len = len;
     }
 }

@@ -1,11 +1,10 @@
-//! The tags, arrays and maps around an item.
+//! The tags, arrays and maps around an item, by their numbers, as a snapshot has them.
 
 ghost use Rattle.std.specs.Prelude.{◌≡◌, ◌<◌, ◌≤◌, [], ◌∷◌, None, Some, IsSome, false, length, true};
 ghost use Rattle.cbor_feed.specs.Snapshots.{levels_in};
 ghost use Rattle.cbor_feed.specs.Stack.{innermost, others};
 
 use crate::level::Level;
-use std::marker::Model;
 
 /// How many levels there may be.
 pub(crate) const MOST_LEVELS: usize = 256;
@@ -16,50 +15,29 @@ const ITEMS: u8 = 0;
 /// That of [`Level::Value`], behind which those of indefinite length come.
 const VALUE: u8 = 2;
 
-/// What the nests around an item contain behind it. Seen as a list, the innermost is the first.
-///
-/// They are kept by their numbers, as a snapshot has them, so that those of a snapshot are taken as they are.
+/// What the nests around an item contain behind it, the innermost last. Their numbers stand in memory of someone else's,
+/// where a call changes them: none of them is copied.
 #[derive(Drop)]
-pub(crate) struct Levels {
-    kinds: [u8; MOST_LEVELS],
-    counts: [u64; MOST_LEVELS],
-    len: usize,
+pub(crate) struct Levels<'a> {
+    pub(crate) kinds: &'a mut [u8; MOST_LEVELS],
+    pub(crate) counts: &'a mut [u64; MOST_LEVELS],
+    pub(crate) len: usize,
+    ghost most: { len ≤ 256 },
+    ghost kinds_long: { length kinds.now ≡ 256 },
+    ghost counts_long: { length counts.now ≡ 256 },
+    ghost known: { IsSome (levels_in len kinds.now counts.now) },
 }
 
-impl Model for Levels {
-    ghost use Rattle.std.specs.Prelude.{◌≤◌, List, IsSome};
-    ghost use Rattle.cbor_feed.specs.declared.level.Level.{Level};
-
-    ghost Value = { List Level };
-
-    ghost use Rattle.cbor_feed.specs.Snapshots.{levels_in};
-    ghost use Rattle.cbor_feed.specs.Stack.{levels_of};
-
-    ghost view = { λ a. levels_of (levels_in a.len a.kinds a.counts) };
-
-    ghost invariant = { λ a. (a.len ≤ 256) × IsSome (levels_in a.len a.kinds a.counts) };
-}
-
-impl Levels {
-    ghost use Rattle.std.specs.Prelude.{ℕ, ◌+◌, suc};
+impl Levels<'_> {
+    ghost use Rattle.std.specs.Prelude.{ℕ, ◌+◌, ◌-◌, suc};
     ghost use Rattle.cbor_feed.specs.Spots.{Spot, item_due, settled};
-
-    /// No levels.
-    #[inline(always)]
-    pub(crate) fn new() -> Levels
-        ensures { result ≡ [] }
-    {
-        Levels {
-            kinds: [0; MOST_LEVELS],
-            counts: [0; MOST_LEVELS],
-            len: 0,
-        }
-    }
+    ghost use Rattle.cbor_feed.specs.Walking.{AreLent, levels_at};
 
     /// The innermost level, where there is one.
     #[inline(always)]
-    pub(crate) fn innermost(&self) -> Option<Level>
-        ensures { result ≡ innermost self.now }
+    pub(crate) fn innermost(&mut self) -> Option<Level>
+        ensures found { result ≡ innermost (levels_at self.old) }
+        ensures same { self.new ≡ self.old }
     {
         if self.len == 0 {
             return None;
@@ -70,7 +48,9 @@ impl Levels {
     /// Takes the innermost level off.
     #[inline(always)]
     pub(crate) fn pop(&mut self)
-        ensures { self.new ≡ others self.old }
+        ensures taken { levels_at self.new ≡ others (levels_at self.old) }
+        ensures len { self.new.len ≡ self.old.len - 1 }
+        ensures lent { AreLent self.old self.new }
     {
         if self.len > 0 {
             self.len -= 1;
@@ -80,8 +60,8 @@ impl Levels {
     /// Whether there are none.
     #[inline(always)]
     pub(crate) fn is_empty(&self) -> bool
-        ensures yes { result ≡ true → self.now ≡ [] }
-        ensures no { result ≡ false → 0 < length self.now }
+        ensures yes { result ≡ true → levels_at self.now ≡ [] }
+        ensures no { result ≡ false → 0 < self.now.len }
     {
         self.len == 0
     }
@@ -90,14 +70,14 @@ impl Levels {
     /// is.
     #[inline(always)]
     pub(crate) fn advance(&mut self) -> bool
-        requires some { 0 < length self.old }
-        requires room { length self.old ≤ 256 }
+        requires { 0 < self.old.len }
         ensures due { result ≡ true → (depth : ℕ) (spot : Spot)
-            → settled depth self.old spot ≡ item_due depth self.new spot }
+            → settled depth (levels_at self.old) spot ≡ item_due depth (levels_at self.new) spot }
         ensures done { result ≡ false → (depth : ℕ) (spot : Spot)
-            → settled depth self.old spot ≡ settled (suc depth) self.new spot }
-        ensures same { result ≡ true → length self.new ≡ length self.old }
-        ensures less { result ≡ false → length self.new + 1 ≡ length self.old }
+            → settled depth (levels_at self.old) spot ≡ settled (suc depth) (levels_at self.new) spot }
+        ensures same { result ≡ true → self.new.len ≡ self.old.len }
+        ensures less { result ≡ false → self.new.len + 1 ≡ self.old.len }
+        ensures lent { AreLent self.old self.new }
     {
         let at = self.len - 1;
         if self.kinds[at] > VALUE {
@@ -113,14 +93,14 @@ impl Levels {
     /// The same of a level of indefinite length. It is kept apart from the path of those that are counted.
     #[inline(never)]
     fn advance_open(&mut self) -> bool
-        requires some { 0 < length self.old }
-        requires room { length self.old ≤ 256 }
+        requires { 0 < self.old.len }
         ensures due { result ≡ true → (depth : ℕ) (spot : Spot)
-            → settled depth self.old spot ≡ item_due depth self.new spot }
+            → settled depth (levels_at self.old) spot ≡ item_due depth (levels_at self.new) spot }
         ensures done { result ≡ false → (depth : ℕ) (spot : Spot)
-            → settled depth self.old spot ≡ settled (suc depth) self.new spot }
-        ensures same { result ≡ true → length self.new ≡ length self.old }
-        ensures less { result ≡ false → length self.new + 1 ≡ length self.old }
+            → settled depth (levels_at self.old) spot ≡ settled (suc depth) (levels_at self.new) spot }
+        ensures same { result ≡ true → self.new.len ≡ self.old.len }
+        ensures less { result ≡ false → self.new.len + 1 ≡ self.old.len }
+        ensures lent { AreLent self.old self.new }
     {
         self.advance_any()
     }
@@ -128,14 +108,14 @@ impl Levels {
     /// The same, whichever kind of level it is.
     #[inline(always)]
     fn advance_any(&mut self) -> bool
-        requires some { 0 < length self.old }
-        requires room { length self.old ≤ 256 }
+        requires { 0 < self.old.len }
         ensures due { result ≡ true → (depth : ℕ) (spot : Spot)
-            → settled depth self.old spot ≡ item_due depth self.new spot }
+            → settled depth (levels_at self.old) spot ≡ item_due depth (levels_at self.new) spot }
         ensures done { result ≡ false → (depth : ℕ) (spot : Spot)
-            → settled depth self.old spot ≡ settled (suc depth) self.new spot }
-        ensures same { result ≡ true → length self.new ≡ length self.old }
-        ensures less { result ≡ false → length self.new + 1 ≡ length self.old }
+            → settled depth (levels_at self.old) spot ≡ settled (suc depth) (levels_at self.new) spot }
+        ensures same { result ≡ true → self.new.len ≡ self.old.len }
+        ensures less { result ≡ false → self.new.len + 1 ≡ self.old.len }
+        ensures lent { AreLent self.old self.new }
     {
         let Some(level) = self.innermost() else {
             unreachable!();
@@ -155,8 +135,10 @@ impl Levels {
     /// Puts a level in the place of the innermost one.
     #[inline(always)]
     fn replace(&mut self, level: Level)
-        requires { 0 < length self.old }
-        ensures { self.new ≡ level ∷ others self.old }
+        requires { 0 < self.old.len }
+        ensures put { levels_at self.new ≡ level ∷ others (levels_at self.old) }
+        ensures len { self.new.len ≡ self.old.len }
+        ensures lent { AreLent self.old self.new }
     {
         let (kind, count) = level.numbers();
         let at = self.len - 1;
@@ -167,50 +149,35 @@ impl Levels {
     /// Puts a level within the others.
     #[inline(always)]
     pub(crate) fn push(&mut self, level: Level)
-        requires { length self.old < 256 }
-        ensures { self.new ≡ level ∷ self.old }
+        requires { self.old.len < 256 }
+        ensures pushed { levels_at self.new ≡ level ∷ levels_at self.old }
+        ensures len { self.new.len ≡ self.old.len + 1 }
+        ensures lent { AreLent self.old self.new }
     {
         let (kind, count) = level.numbers();
         self.kinds[self.len] = kind;
         self.counts[self.len] = count as u64;
         self.len += 1;
     }
+}
 
-    /// Writes the numbers of each level in front of both, and says how many levels there are.
-    #[inline(always)]
-    pub(crate) fn save(
-        &self,
-        kinds: &mut [u8; MOST_LEVELS],
-        counts: &mut [u64; MOST_LEVELS],
-    ) -> usize
-        ensures saved { levels_in result kinds.new counts.new ≡ Some self.now }
-        ensures len { result ≡ length self.now }
-    {
-        if self.len == 0 {
-            return 0;
-        }
-        kinds[..self.len].copy_from_slice(&self.kinds[..self.len]);
-        counts[..self.len].copy_from_slice(&self.counts[..self.len]);
-        self.len
+/// Writes so many numbers of levels in front of both others.
+#[inline(always)]
+pub(crate) fn copy_levels(
+    len: usize,
+    kinds: &[u8; MOST_LEVELS],
+    counts: &[u64; MOST_LEVELS],
+    kinds_to: &mut [u8; MOST_LEVELS],
+    counts_to: &mut [u64; MOST_LEVELS],
+)
+    requires { len ≤ 256 }
+    ensures { levels_in len kinds_to.new counts_to.new ≡ levels_in len kinds.now counts.now }
+{
+    if len == 0 {
+        return;
     }
-
-    /// Becomes so many levels, of which these are the numbers. They are written where they stay: levels that are made
-    /// elsewhere are copied once more. All numbers are copied, so that none need be written before.
-    #[inline(always)]
-    pub(crate) fn load(
-        &mut self,
-        len: usize,
-        kinds: &[u8; MOST_LEVELS],
-        counts: &[u64; MOST_LEVELS],
-    )
-        requires most { len ≤ 256 }
-        requires some { IsSome (levels_in len kinds.now counts.now) }
-        ensures { levels_in len kinds.now counts.now ≡ Some self.new }
-    {
-        self.kinds = *kinds;
-        self.counts = *counts;
-        self.len = len;
-    }
+    kinds_to[..len].copy_from_slice(&kinds[..len]);
+    counts_to[..len].copy_from_slice(&counts[..len]);
 }
 
 /// Whether so many numbers are those of levels.

@@ -11,9 +11,12 @@ pub mod laws;
 mod level;
 mod levels;
 mod phase;
+mod position;
 mod progress;
 mod snapshot;
+mod tell;
 mod title;
+mod walk;
 
 pub use self::checker::Checker;
 pub use self::phase::Fault;

@@ -1,6 +1,7 @@
 //! A checker's state as plain numbers.
 
-ghost use Rattle.std.specs.Prelude.{◌≡◌, ◌<◌, ◌≤◌, ◌%◌, length, slice_index, true, false};
+ghost use Rattle.std.specs.Prelude.{◌≡◌, ◌<◌, ◌≤◌, ◌%◌, length, slice_index, true, false, IfNone, IfSome, IsSome};
+ghost use Rattle.cbor_feed.specs.Piece.{TakesPiece};
 ghost use Rattle.ciborium_ll_grammar.specs.Title.{affix_len};
 ghost use Rattle.cbor_feed.specs.Opens.{open_count};
 ghost use Rattle.cbor_feed.specs.Spots.{Spot};
@@ -10,6 +11,8 @@ ghost use Rattle.cbor_feed.specs.Telling.{has_left};
 use crate::front::LONGEST;
 use crate::levels::MOST_LEVELS;
 use crate::phase::{Phase, Within};
+use crate::position::Position;
+use crate::progress::Feed;
 use crate::title::affix_len;
 use ciborium_ll_grammar::hdr::table::row_of;
 
@@ -76,6 +79,27 @@ impl Snapshot {
             text: 0,
             strings: 0,
         }
+    }
+
+    /// Gives the checker that these numbers are of the next piece of its item. They become those of the checker behind
+    /// that, just as [`Checker::restore`](crate::Checker::restore), [`Checker::feed`](crate::Checker::feed) and
+    /// [`Checker::save`](crate::Checker::save) make them, but the numbers of nests are changed where they stand, and not
+    /// copied. Where they are those of no checker, there is no answer, and they stay as they were.
+    #[inline(always)]
+    pub fn feed(&mut self, bytes: &[u8]) -> Option<Feed>
+        ensures found { (spot : Spot) → Holds self.old spot → IsSome result }
+        ensures some { IfSome result (λ feed. (spot : Spot) × Holds self.old spot) }
+        ensures fed { (old : Spot) → Holds self.old old → IfSome result (λ feed. (new : Spot) × Holds self.new new
+            × TakesPiece old bytes.now feed new) }
+        ensures none { IfNone result (self.new ≡ self.old) }
+    {
+        let mut position = Position::of(false, 0);
+        if !position.load(self) {
+            return None;
+        }
+        let feed = position.feed(&mut self.kinds, &mut self.counts, bytes);
+        position.save(self);
+        Some(feed)
     }
 }
 

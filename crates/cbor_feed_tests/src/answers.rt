@@ -46,6 +46,16 @@ pub fn kept_between(bytes: &[u8]) -> Option<Progress> {
     Some(Checker::restore(&memory)?.progress())
 }
 
+// Feeds each byte by itself to the plain numbers of a checker, where they stand.
+pub fn fed_in_place(bytes: &[u8]) -> Option<Progress> {
+    let mut memory = Snapshot::new();
+    Checker::new(DEPTH).save(&mut memory);
+    for byte in bytes {
+        let _ = memory.feed(&[*byte])?;
+    }
+    Some(Checker::restore(&memory)?.progress())
+}
+
 // Whether a skip of the bytes says the same. A skip of bytes that end within a title or a body answers that they do,
 // also where no item begins so.
 pub fn agrees(progress: Progress, bytes: &[u8]) -> bool {
@@ -68,6 +78,7 @@ pub fn all_ways(rt: &impl Abort, bytes: &[u8]) {
     assert!(rt; agrees(whole, bytes), "at {bytes:?}");
     assert!(rt; one_by_one(bytes) == whole, "at {bytes:?}");
     assert!(rt; kept_between(bytes) == Some(whole), "at {bytes:?}");
+    assert!(rt; fed_in_place(bytes) == Some(whole), "at {bytes:?}");
     for cut in 0..bytes.len() {
         assert!(rt; in_two(bytes, cut) == whole, "at {bytes:?}, cut at {cut}");
     }

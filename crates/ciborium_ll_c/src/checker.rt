@@ -98,15 +98,16 @@ pub(crate) fn feed(checker: &mut CllChecker, bytes: &[u8], report: &mut CllRepor
     ensures argument { IsNoChecker checker.old
         → (result ≡ a.Argument) × (checker.new ≡ checker.old) × Reports report.new 0 0 0 }
 {
-    let mut restored = Checker::new(0);
-    if !checker.restore(&mut restored) {
+    if checker.mark != MARK {
         report.say(0, 0, 0);
         return CllAnswer::Argument;
     }
-    let answer = restored.feed(bytes);
-    restored.save(&mut checker.state);
-    let (told, number) = told_progress(answer.progress);
-    report.say(answer.taken, 0, number);
+    let Some(feed) = checker.state.feed(bytes) else {
+        report.say(0, 0, 0);
+        return CllAnswer::Argument;
+    };
+    let (told, number) = told_progress(feed.progress);
+    report.say(feed.taken, 0, number);
     told
 }
 

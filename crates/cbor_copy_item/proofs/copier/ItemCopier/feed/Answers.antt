@@ -35,7 +35,7 @@ returns-in_default-clause-tells c = λ strict depth fed given was.
     let copier = c.pieces.self in
     tells_answer (pending copier) strict depth (fed ++ take c.pieces.at c.args.bytes.now)
     (given ++ take c.pieces.written c.pieces.out) (item_spot copier) (elements_spot copier) c.answer.result
-    c.answer.ensures (c.pieces.invariant.copied strict depth fed given was) copier.checker.left copier.checker.begun
+    c.answer.ensures (c.pieces.invariant.copied strict depth fed given was) copier.checker.position.left copier.checker.position.begun
 
 pub returns-in-None-clause-tells : goal.returns-in-None-clause-tells
 returns-in-None-clause-tells c = λ strict depth fed given was.
@@ -57,4 +57,4 @@ returns-clause-tells c = λ strict depth fed given was.
     c.answer-2.result) all
     (tells_answer (pending copier) strict depth (fed ++ take c.pieces.at bytes)
     (given ++ take c.pieces.written c.pieces.out) (item_spot copier) (elements_spot copier) c.answer-2.result
-    c.answer-2.ensures (c.pieces.invariant.copied strict depth fed given was) copier.checker.left copier.checker.begun)
+    c.answer-2.ensures (c.pieces.invariant.copied strict depth fed given was) copier.checker.position.left copier.checker.position.begun)

@@ -5,4 +5,4 @@ use Rattle.cbor_feed.proofs.checker.Checker.progress.Goals as goal
 pub returns-clause-tells : goal.returns-clause-tells
 returns-clause-tells c = λ strict depth fed is.
     let checker = c.args.self.now in
-    told strict depth fed (spot_of checker) c.answer.result c.answer.ensures is checker.left checker.begun
+    told strict depth fed (spot_of checker) c.answer.result c.answer.ensures is checker.position.left checker.position.begun

@@ -1,34 +1,30 @@
-use Rattle.std.proofs.Common.{◌∷◌, ◌+◌, ◌∙◌, ap, refl, length, arith}
+use Rattle.std.proofs.Common.{◌∙◌, ◌+◌, rules, refl, ap}
 use Rattle.cbor_feed.specs.Stack.{levels_of}
 use Rattle.cbor_feed.proofs.SnapshotLaws.{levels_push}
-use Rattle.cbor_feed.proofs.StackLaws.{is_some, length_of, some_levels}
+use Rattle.cbor_feed.proofs.StackLaws.{is_some, some_levels}
+use Rattle.std.proofs.lemmas.List.{length-set}
 use Rattle.cbor_feed.proofs.levels.Levels.push.Goals as goal
 
-pub bounds-self-inside-self-inside : goal.bounds-self-inside-self-inside
-bounds-self-inside-self-inside c =
-    let inside = c.self.inside in
-    let counted = length_of inside.len inside.kinds inside.counts c.self.invariant.1 in
-    omega (arith, counted, ap length c.self.view_is, c.requires)
+pub invariant_of-self-clause-known : goal.invariant_of-self-clause-known
+invariant_of-self-clause-known c =
+    let l = c.args.self.now in
+    is_some _ _ (levels_push l.len (l.len + 1) l.kinds.now l.counts.now c.numbers-kind.result.0
+    c.numbers-kind.result.1 c.args.level _ (search rules) (search rules) refl c.numbers-kind.ensures
+    (some_levels _ l.known))
 
-pub bounds-self-inside-self-inside-2 : goal.bounds-self-inside-self-inside-2
-bounds-self-inside-self-inside-2 c = bounds-self-inside-self-inside c
+pub returns-clause-pushed : goal.returns-clause-pushed
+returns-clause-pushed c =
+    let l = c.args.self.now in
+    ap levels_of (levels_push l.len (l.len + 1) l.kinds.now l.counts.now c.numbers-kind.result.0
+    c.numbers-kind.result.1 c.args.level _ (search rules) (search rules) refl c.numbers-kind.ensures
+    (some_levels _ l.known))
 
-pub invariant_of-self : goal.invariant_of-self
-invariant_of-self c =
-    let inside = c.self.inside in
-    let counted = length_of inside.len inside.kinds inside.counts c.self.invariant.1 in
-    let room = ap length c.self.view_is in
-    let pushed = levels_push inside.len (inside.len + 1) inside.kinds inside.counts c.numbers-kind.result.0
-    c.numbers-kind.result.1 c.args.level _ (omega (arith, counted, room, c.requires))
-    (omega (arith, counted, room, c.requires)) refl c.numbers-kind.ensures (some_levels _ c.self.invariant.1) in
-    (omega (arith, counted, room, c.requires), is_some _ _ pushed)
+pub invariant_of-self-clause-kinds_long : goal.invariant_of-self-clause-kinds_long
+invariant_of-self-clause-kinds_long c =
+    let l = c.args.self.now in
+    length-set l.kinds.now _ _ ∙ l.kinds_long
 
-pub returns : goal.returns
-returns c =
-    let inside = c.self.inside in
-    let counted = length_of inside.len inside.kinds inside.counts c.self.invariant.1 in
-    let room = ap length c.self.view_is in
-    let pushed = levels_push inside.len (inside.len + 1) inside.kinds inside.counts c.numbers-kind.result.0
-    c.numbers-kind.result.1 c.args.level _ (omega (arith, counted, room, c.requires))
-    (omega (arith, counted, room, c.requires)) refl c.numbers-kind.ensures (some_levels _ c.self.invariant.1) in
-    ap levels_of pushed ∙ ap (λ z. c.args.level ∷ z) c.self.view_is
+pub invariant_of-self-clause-counts_long : goal.invariant_of-self-clause-counts_long
+invariant_of-self-clause-counts_long c =
+    let l = c.args.self.now in
+    length-set l.counts.now _ _ ∙ l.counts_long

@@ -1,28 +1,30 @@
-use Rattle.std.proofs.Common.{◌∷◌, ◌-◌, ◌∙◌, List, ap, length, arith}
-use Rattle.cbor_feed.specs.declared.level.Level.{Level}
-use Rattle.cbor_feed.specs.Stack.{levels_of, others}
+use Rattle.std.proofs.Common.{◌∙◌, ◌-◌, ap, arith, rules}
+use Rattle.cbor_feed.specs.Stack.{levels_of}
 use Rattle.cbor_feed.proofs.SnapshotLaws.{levels_put}
-use Rattle.cbor_feed.proofs.StackLaws.{is_some, length_of, some_levels}
+use Rattle.cbor_feed.proofs.StackLaws.{is_some, some_levels}
+use Rattle.std.proofs.lemmas.List.{length-set}
 use Rattle.cbor_feed.proofs.levels.Levels.replace.Goals as goal
 
-pub invariant_of-self : goal.invariant_of-self
-invariant_of-self c =
-    let inside = c.self.inside in
-    let long = length_of inside.len inside.kinds inside.counts c.self.invariant.1 in
-    let all = ap length c.self.view_is in
-    let put = levels_put inside.len (inside.len - 1) inside.kinds inside.counts c.numbers-kind.result.0
-    c.numbers-kind.result.1 c.args.level _ (omega (arith, long, all, c.requires))
-    (omega (arith, long, all, c.requires, c.self.invariant.0)) (omega (arith, long, all, c.requires, c.self.invariant.0))
-    c.numbers-kind.ensures (some_levels _ c.self.invariant.1) in
-    (c.self.invariant.0, is_some _ _ put)
+pub invariant_of-self-clause-known : goal.invariant_of-self-clause-known
+invariant_of-self-clause-known c =
+    let l = c.args.self.now in
+    is_some _ _ (levels_put l.len (l.len - 1) l.kinds.now l.counts.now c.numbers-kind.result.0
+    c.numbers-kind.result.1 c.args.level _ (omega (arith, c.requires)) (search rules) (search rules)
+    c.numbers-kind.ensures (some_levels _ l.known))
 
-pub returns : goal.returns
-returns c =
-    let inside = c.self.inside in
-    let long = length_of inside.len inside.kinds inside.counts c.self.invariant.1 in
-    let all = ap length c.self.view_is in
-    let put = levels_put inside.len (inside.len - 1) inside.kinds inside.counts c.numbers-kind.result.0
-    c.numbers-kind.result.1 c.args.level _ (omega (arith, long, all, c.requires))
-    (omega (arith, long, all, c.requires, c.self.invariant.0)) (omega (arith, long, all, c.requires, c.self.invariant.0))
-    c.numbers-kind.ensures (some_levels _ c.self.invariant.1) in
-    ap levels_of put ∙ ap (λ (z : List Level). c.args.level ∷ others z) c.self.view_is
+pub returns-clause-put : goal.returns-clause-put
+returns-clause-put c =
+    let l = c.args.self.now in
+    ap levels_of (levels_put l.len (l.len - 1) l.kinds.now l.counts.now c.numbers-kind.result.0
+    c.numbers-kind.result.1 c.args.level _ (omega (arith, c.requires)) (search rules) (search rules)
+    c.numbers-kind.ensures (some_levels _ l.known))
+
+pub invariant_of-self-clause-kinds_long : goal.invariant_of-self-clause-kinds_long
+invariant_of-self-clause-kinds_long c =
+    let l = c.args.self.now in
+    length-set l.kinds.now _ _ ∙ l.kinds_long
+
+pub invariant_of-self-clause-counts_long : goal.invariant_of-self-clause-counts_long
+invariant_of-self-clause-counts_long c =
+    let l = c.args.self.now in
+    length-set l.counts.now _ _ ∙ l.counts_long

@@ -1,9 +1,0 @@
-use Rattle.std.proofs.Common.{rules}
-use Rattle.cbor_feed.specs.Checking.{spot_of}
-use Rattle.cbor_feed.proofs.SettledLaws.{broken_done}
-use Rattle.cbor_feed.proofs.checker.Checker.broken.Goals as goal
-
-pub returns-in-Some-clause-broken : goal.returns-in-Some-clause-broken
-returns-in-Some-clause-broken c =
-    broken_done (spot_of c.args.self.now) (spot_of c.item_over.new.self) c.in-Some.level (search rules) (search rules)
-    (search rules)

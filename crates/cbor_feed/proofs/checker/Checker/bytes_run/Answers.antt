@@ -1,9 +1,0 @@
-use Rattle.std.proofs.Common.{rules}
-use Rattle.cbor_feed.specs.Checking.{spot_of}
-use Rattle.cbor_feed.proofs.LeadLaws.{bytes_lead}
-use Rattle.cbor_feed.proofs.checker.Checker.bytes_run.Goals as goal
-
-pub returns-clause-leads : goal.returns-clause-leads
-returns-clause-leads c =
-    bytes_lead c.args.bytes.now c.min-len.result c.args.left (spot_of c.args.self.now) (spot_of c.bytes_taken.new.self)
-    (λ i less. search rules) c.requires.phase (search rules) (search rules) (search rules) c.bytes_taken.ensures

@@ -1,0 +1,172 @@
+//! Where a checker stands, but for the numbers of its nests.
+
+ghost use Rattle.std.specs.Prelude.{◌≡◌, ◌+◌, ◌≤◌, ◌%◌, length, slice_index, true, false, IsSome};
+ghost use Rattle.ciborium_ll_grammar.specs.Title.{affix_len};
+ghost use Rattle.cbor_feed.specs.Opens.{open_count};
+ghost use Rattle.cbor_feed.specs.Snapshots.{levels_in};
+ghost use Rattle.cbor_feed.specs.Telling.{has_left};
+
+use crate::front::Front;
+use crate::levels::{Levels, MOST_LEVELS, are_levels};
+use crate::phase::{Phase, Within};
+use crate::progress::Feed;
+use crate::snapshot::{Snapshot, is_state, strict_of};
+use crate::walk::Walk;
+
+/// Where a checker stands, but for the numbers of its nests: how many there are, and all else.
+#[derive(Drop)]
+pub(crate) struct Position {
+    pub(crate) strict: bool,
+    pub(crate) phase: Phase,
+    pub(crate) front: Front,
+    pub(crate) within: Within,
+    pub(crate) depth: usize,
+    pub(crate) nests: usize,
+    pub(crate) place: usize,
+    pub(crate) offset: usize,
+    ghost room: { nests + depth ≤ 256 },
+    ghost counted: { open_count within ≤ offset },
+    ghost left: { has_left phase ≡ true },
+    ghost begun: { length front ≤ affix_len (slice_index front 0 % 32) },
+}
+
+impl Position {
+    ghost use Rattle.std.specs.Prelude.{◌++◌, Bool, ℕ, List, take};
+    ghost use Rattle.cbor_feed.specs.Places.{spot_in};
+    ghost use Rattle.cbor_feed.specs.Snapshots.{Holds};
+    ghost use Rattle.cbor_feed.specs.Spots.{Spot};
+    ghost use Rattle.cbor_feed.specs.Steps.{IsFed, start};
+    ghost use Rattle.cbor_feed.specs.Telling.{IsAnswer, IsMore, Tells, is_due};
+
+    /// That of a checker to which nothing came.
+    #[inline(always)]
+    pub(crate) fn of(strict: bool, depth: usize) -> Position
+        requires { depth ≤ 256 }
+        ensures spot { (kinds counts : List ℕ) → spot_in result kinds counts ≡ start strict depth }
+        ensures none { result.nests ≡ 0 }
+    {
+        Position {
+            strict,
+            phase: Phase::Title,
+            front: Front::new(),
+            within: Within::Nothing,
+            depth,
+            nests: 0,
+            place: 0,
+            offset: 0,
+        }
+    }
+
+    /// Writes what has come so far into `snapshot`, but for the numbers of nests.
+    #[inline(always)]
+    pub(crate) fn save(&self, snapshot: &mut Snapshot)
+        ensures kinds { snapshot.new.kinds ≡ snapshot.old.kinds }
+        ensures counts { snapshot.new.counts ≡ snapshot.old.counts }
+        ensures holds { IsSome (levels_in self.now.nests snapshot.old.kinds snapshot.old.counts)
+            → Holds snapshot.new (spot_in self.now snapshot.old.kinds snapshot.old.counts) }
+    {
+        let (phase, number, text) = self.phase.numbers();
+        let (strings, more) = self.within.numbers();
+        snapshot.phase = phase;
+        snapshot.number = number as u64;
+        snapshot.text = text;
+        snapshot.strings = strings;
+        snapshot.more = more as u64;
+        snapshot.title_len = self.front.save(&mut snapshot.title) as u8;
+        snapshot.strict = u8::from(self.strict);
+        snapshot.nests = self.nests as u16;
+        snapshot.depth = self.depth as u64;
+        snapshot.place = self.place as u64;
+        snapshot.offset = self.offset as u64;
+    }
+
+    /// Becomes the position of the checker whose numbers these are, and says whether there is one. Where the numbers are
+    /// those of no checker it stays as it was.
+    #[inline(always)]
+    pub(crate) fn load(&mut self, snapshot: &Snapshot) -> bool
+        ensures some { result ≡ true
+            → Holds snapshot.now (spot_in self.new snapshot.now.kinds snapshot.now.counts) }
+        ensures known { result ≡ true → IsSome (levels_in self.new.nests snapshot.now.kinds snapshot.now.counts) }
+        ensures found { (spot : Spot) → Holds snapshot.now spot → result ≡ true }
+        ensures same { (spot : Spot) → Holds snapshot.now spot
+            → spot_in self.new snapshot.now.kinds snapshot.now.counts ≡ spot }
+        ensures none { result ≡ false → self.new ≡ self.old }
+    {
+        let Some(phase) = Phase::of(snapshot.phase, snapshot.number as usize, snapshot.text) else {
+            return false;
+        };
+        let Some(within) = Within::of(snapshot.strings, snapshot.more as usize) else {
+            return false;
+        };
+        let Some(strict) = strict_of(snapshot.strict) else {
+            return false;
+        };
+        if !is_state(snapshot, phase, within) {
+            return false;
+        }
+        let nests = usize::from(snapshot.nests);
+        if !are_levels(nests, &snapshot.kinds, &snapshot.counts) {
+            return false;
+        }
+        self.strict = strict;
+        self.phase = phase;
+        self.front
+            .load(&snapshot.title, usize::from(snapshot.title_len));
+        self.within = within;
+        self.depth = snapshot.depth as usize;
+        self.nests = nests;
+        self.place = snapshot.place as usize;
+        self.offset = snapshot.offset as usize;
+        true
+    }
+
+    /// Feeds a piece to the checker at this position, as [`Checker::feed`](crate::Checker::feed) says it, whose nests have
+    /// these numbers. They are changed where they stand.
+    #[inline(always)]
+    pub(crate) fn feed(
+        &mut self,
+        kinds: &mut [u8; MOST_LEVELS],
+        counts: &mut [u64; MOST_LEVELS],
+        bytes: &[u8],
+    ) -> Feed
+        requires { IsSome (levels_in self.old.nests kinds.old counts.old) }
+        ensures known { IsSome (levels_in self.new.nests kinds.new counts.new) }
+        ensures taken { result.taken ≤ length bytes.now }
+        ensures all { IsMore result.progress → result.taken ≡ length bytes.now }
+        ensures fed { (strict : Bool) (depth : ℕ) (fed : List ℕ) → IsFed strict depth fed (spot_in self.old kinds.old counts.old)
+            → IsFed strict depth (fed ++ take result.taken bytes.now) (spot_in self.new kinds.new counts.new) }
+        ensures tells { (strict : Bool) (depth : ℕ) (fed : List ℕ) → IsFed strict depth fed (spot_in self.old kinds.old counts.old)
+            → Tells strict depth (fed ++ take result.taken bytes.now) result.progress }
+        ensures counted { (strict : Bool) (depth : ℕ) (fed : List ℕ) → IsFed strict depth fed (spot_in self.old kinds.old counts.old)
+            → length fed + result.taken ≤ usize.MAX }
+        ensures answers { IsAnswer result.progress (spot_in self.new kinds.new counts.new) }
+        ensures stays { is_due self.old.phase ≡ false → (result.taken ≡ 0) × (spot_in self.new kinds.new counts.new ≡ spot_in self.old kinds.old counts.old) }
+    {
+        let mut walk = Walk {
+            strict: self.strict,
+            phase: self.phase,
+            front: self.front.copy(),
+            within: self.within,
+            depth: self.depth,
+            levels: Levels {
+                kinds,
+                counts,
+                len: self.nests,
+            },
+            place: self.place,
+            offset: self.offset,
+        };
+        let feed = walk.feed(bytes);
+        *self = Position {
+            strict: walk.strict,
+            phase: walk.phase,
+            front: walk.front.copy(),
+            within: walk.within,
+            depth: walk.depth,
+            nests: walk.levels.len,
+            place: walk.place,
+            offset: walk.offset,
+        };
+        feed
+    }
+}

@@ -1,0 +1,788 @@
+//! The walk over the bytes of a piece: one byte more, and where it leads.
+
+ghost use Rattle.std.specs.Prelude.{◌≡◌, ◌+◌, ◌<◌, ◌≤◌, ◌%◌, length, slice_index, true, false};
+ghost use Rattle.cbor_feed.specs.Telling.{has_left};
+ghost use Rattle.cbor_feed.specs.Steps.{may_end};
+ghost use Rattle.ciborium_ll_grammar.specs.Title.{affix_len};
+ghost use Rattle.cbor_feed.specs.Opens.{open_count};
+ghost use Rattle.cbor_feed.specs.Blocked.{blocked, is_value};
+
+use crate::front::Front;
+use crate::level::Level;
+use crate::levels::Levels;
+use crate::phase::{Fault, Phase, Within, may_end};
+use crate::progress::{Feed, Progress};
+use crate::tell::answer;
+use crate::title::{affix_len, begins_none, blocked, header_of, is_value};
+use ciborium_ll_grammar::hdr::Header;
+use ciborium_ll_grammar::hdr::table::{Affix, TitleKind, row_of};
+use ciborium_ll_text::state::{State, text_front};
+
+/// A checker during a call: where it stands, and the numbers of its nests in memory of someone else's, which no call
+/// copies.
+#[derive(Drop)]
+pub(crate) struct Walk<'a> {
+    pub(crate) strict: bool,
+    pub(crate) phase: Phase,
+    pub(crate) front: Front,
+    pub(crate) within: Within,
+    pub(crate) depth: usize,
+    pub(crate) levels: Levels<'a>,
+    pub(crate) place: usize,
+    pub(crate) offset: usize,
+    ghost room: { levels.len + depth ≤ 256 },
+    ghost counted: { open_count within ≤ offset },
+    ghost left: { has_left phase ≡ true },
+    ghost begun: { length front ≤ affix_len (slice_index front 0 % 32) },
+}
+
+impl Walk<'_> {
+    ghost use Rattle.std.specs.Prelude.{◌<◌};
+    ghost use Rattle.cbor_feed.specs.Walking.{AreLent, levels_at, spot_at};
+    ghost use Rattle.std.specs.Prelude.{Bool, ℕ, ◌-◌, ◌/◌, ◌++◌, List, [], IfSome, take, true, false};
+    ghost use Rattle.ciborium_ll_grammar.specs.Title.{IsTitle};
+    ghost use Rattle.ciborium_ll_grammar.specs.Items.{IsTakenTitle};
+    ghost use Rattle.ciborium_ll_grammar.specs.TitleRows.{IsTitleKind};
+    ghost use Rattle.ciborium_ll_text.specs.States.{after_byte};
+    ghost use Rattle.cbor_feed.specs.Steps.{IsFed, Leads, TitleStep, counted, counted_by, start, text_left};
+    ghost use Rattle.cbor_feed.specs.Steps.{title_place, with_byte};
+    ghost use Rattle.cbor_feed.specs.Telling.{IsAnswer, IsMore, Tells, TellsEnd, end_of, is_due, progress_of, title_due};
+    ghost use Rattle.cbor_feed.specs.Spots.{Spot, at_phase, body_placed, broken, bytes_due, bytes_entered, entered};
+    ghost use Rattle.cbor_feed.specs.Spots.{item_done, item_entered, nested, string_closed, string_done, string_open};
+    ghost use Rattle.cbor_feed.specs.Spots.{open_entered, refused, text_due, text_entered};
+    ghost use Rattle.cbor_feed.specs.declared.phase.Within.TheVariants as w;
+    ghost use Rattle.cbor_feed.specs.declared.phase.Phase.TheVariants as p;
+    ghost use Rattle.ciborium_ll_text.specs.declared.state.State.TheVariants as s;
+
+    /// A whole item has come where one was due. Says whether another one is.
+    #[inline(always)]
+    fn item_over(&mut self) -> bool
+        requires phase { self.old.phase ≡ p.Title }
+        requires due { self.old.within ≡ w.Nothing }
+        ensures done { spot_at self.new ≡ item_done (spot_at self.old) }
+        ensures title { result ≡ true → self.new.phase ≡ p.Title }
+        ensures item { result ≡ true → self.new.within ≡ w.Nothing }
+        ensures front { self.new.front ≡ self.old.front }
+        ensures lent { AreLent self.old.levels self.new.levels }
+    {
+        'levels: while !self.levels.is_empty() {
+            if self.levels.advance() {
+                return true;
+            }
+            self.depth += 1; // The level is given back.
+        }
+        self.phase = Phase::Ended;
+        false
+    }
+
+    /// A whole item has come, with a title, a body or a break.
+    #[inline(always)]
+    fn item_done(&mut self)
+        ensures spot { spot_at self.new ≡ item_done (spot_at self.old) }
+        ensures lent { AreLent self.old.levels self.new.levels }
+    {
+        self.within = Within::Nothing;
+        self.phase = Phase::Title;
+        self.item_over();
+    }
+
+    /// A whole string of a definite length has come: an item, or a piece of an open string.
+    #[inline(always)]
+    fn string_done(&mut self)
+        ensures spot { spot_at self.new ≡ string_done self.old.within (spot_at self.old) }
+        ensures lent { AreLent self.old.levels self.new.levels }
+    {
+        match self.within {
+            Within::Nothing => self.item_done(),
+            Within::Bytes(_) | Within::Text(_) => self.phase = Phase::Title,
+        }
+    }
+
+    /// The title of a byte string of this length has come, or so many bytes of its body are left.
+    #[inline(always)]
+    fn bytes_due(&mut self, len: usize)
+        ensures spot { spot_at self.new ≡ bytes_due len (spot_at self.old) }
+        ensures lent { AreLent self.old.levels self.new.levels }
+    {
+        if len == 0 {
+            self.string_done();
+        } else {
+            self.phase = Phase::Bytes(len);
+        }
+    }
+
+    /// The title of a text of this length has come.
+    #[inline(always)]
+    fn text_due(&mut self, len: usize)
+        ensures spot { spot_at self.new ≡ text_due len (spot_at self.old) }
+        ensures lent { AreLent self.old.levels self.new.levels }
+    {
+        if len == 0 {
+            self.string_done();
+        } else {
+            self.phase = Phase::Text(len, State::Between);
+        }
+    }
+
+    /// The title of a tag, an array or a map has come where an item is due. Says whether one is due now.
+    #[inline(always)]
+    fn nested(&mut self, inner: Level) -> bool
+        requires phase { self.old.phase ≡ p.Title }
+        requires fresh { length self.old.front ≡ 0 }
+        requires due { self.old.within ≡ w.Nothing }
+        ensures nested { spot_at self.new ≡ nested self.old.depth inner (spot_at self.old) }
+        ensures title { result ≡ true → self.new.phase ≡ p.Title }
+        ensures item { result ≡ true → self.new.within ≡ w.Nothing }
+        ensures clear { result ≡ true → length self.new.front ≡ 0 }
+        ensures lent { AreLent self.old.levels self.new.levels }
+    {
+        if self.depth == 0 {
+            self.phase = Phase::Faulted(Fault::Deep(self.place));
+            return false;
+        }
+        match inner.next() {
+            Some(left) => {
+                self.depth -= 1;
+                self.levels.push(left);
+                true
+            }
+            None => self.item_over(),
+        }
+    }
+
+    /// A break has come where an item is due. Says whether one is due now.
+    #[inline(always)]
+    fn broken(&mut self) -> bool
+        requires phase { self.old.phase ≡ p.Title }
+        requires fresh { length self.old.front ≡ 0 }
+        requires due { self.old.within ≡ w.Nothing }
+        ensures broken { spot_at self.new ≡ broken (levels_at self.old.levels) (spot_at self.old) }
+        ensures title { result ≡ true → self.new.phase ≡ p.Title }
+        ensures item { result ≡ true → self.new.within ≡ w.Nothing }
+        ensures clear { result ≡ true → length self.new.front ≡ 0 }
+        ensures lent { AreLent self.old.levels self.new.levels }
+    {
+        match self.levels.innermost() {
+            Some(level) if level.closes() => {
+                self.levels.pop();
+                self.depth += 1;
+                self.item_over()
+            }
+            _ => {
+                self.phase = Phase::Faulted(Fault::Break(self.place));
+                false
+            }
+        }
+    }
+
+    /// Strings are open, and a piece of them or a break is due.
+    fn string_open(&mut self, within: Within)
+        requires { open_count within ≤ self.old.offset }
+        ensures spot { spot_at self.new ≡ string_open within (spot_at self.old) }
+        ensures lent { AreLent self.old.levels self.new.levels }
+    {
+        self.within = within;
+        self.phase = Phase::Title;
+    }
+
+    /// An open has come within one of its kind.
+    fn enter_open(&mut self, within: Within)
+        requires { open_count within ≤ self.old.offset }
+        ensures spot { spot_at self.new ≡ open_entered self.old.strict within (spot_at self.old) }
+        ensures lent { AreLent self.old.levels self.new.levels }
+    {
+        if self.strict {
+            self.refuse();
+        } else {
+            self.string_open(within);
+        }
+    }
+
+    /// The title of this header has come where an item is due. Says whether one is due now with nothing of its title,
+    /// where it can tell that at once.
+    #[inline(always)]
+    fn enter_item(&mut self, header: Header) -> bool
+        requires phase { self.old.phase ≡ p.Title }
+        requires fresh { length self.old.front ≡ 0 }
+        requires due { self.old.within ≡ w.Nothing }
+        requires counted { 1 ≤ self.old.offset }
+        ensures entered { spot_at self.new ≡ item_entered header (spot_at self.old) }
+        ensures title { result ≡ true → self.new.phase ≡ p.Title }
+        ensures item { result ≡ true → self.new.within ≡ w.Nothing }
+        ensures clear { result ≡ true → length self.new.front ≡ 0 }
+        ensures lent { AreLent self.old.levels self.new.levels }
+    {
+        match header {
+            Header::Bytes(Some(len)) => {
+                self.bytes_due(len);
+                false
+            }
+            Header::Bytes(None) => {
+                self.string_open(Within::Bytes(0));
+                false
+            }
+            Header::Text(Some(len)) => {
+                self.place = self.offset.saturating_sub(header.title_len());
+                self.text_due(len);
+                false
+            }
+            Header::Text(None) => {
+                self.string_open(Within::Text(0));
+                false
+            }
+            Header::Tag(_) | Header::Array(_) | Header::Map(_) => {
+                self.nested(Level::behind(header))
+            }
+            Header::Break => self.broken(),
+            Header::Positive(_) | Header::Negative(_) | Header::Float(_) | Header::Simple(_) => {
+                self.item_over()
+            }
+        }
+    }
+
+    /// A break has come within a byte string, of which so many more are open around it.
+    fn bytes_closed(&mut self, more: usize)
+        requires { more ≤ self.old.offset }
+        ensures spot { spot_at self.new ≡ string_closed w.Bytes more (spot_at self.old) }
+        ensures lent { AreLent self.old.levels self.new.levels }
+    {
+        if more == 0 {
+            self.item_done();
+        } else {
+            self.string_open(Within::Bytes(more - 1));
+        }
+    }
+
+    /// A break has come within a text, of which so many more are open around it.
+    fn text_closed(&mut self, more: usize)
+        requires { more ≤ self.old.offset }
+        ensures spot { spot_at self.new ≡ string_closed w.Text more (spot_at self.old) }
+        ensures lent { AreLent self.old.levels self.new.levels }
+    {
+        if more == 0 {
+            self.item_done();
+        } else {
+            self.string_open(Within::Text(more - 1));
+        }
+    }
+
+    /// What has come may not stand there.
+    fn refuse(&mut self)
+        ensures spot { spot_at self.new ≡ refused (spot_at self.old) }
+        ensures lent { AreLent self.old.levels self.new.levels }
+    {
+        self.phase = Phase::Faulted(Fault::Syntax(self.place));
+    }
+
+    /// The title of this header has come within a byte string, of which so many more are open around it.
+    fn enter_bytes(&mut self, header: Header, more: usize)
+        requires { more + 2 ≤ self.old.offset }
+        ensures spot { spot_at self.new ≡ bytes_entered header more (spot_at self.old) }
+        ensures lent { AreLent self.old.levels self.new.levels }
+    {
+        match header {
+            Header::Bytes(Some(len)) => self.bytes_due(len),
+            Header::Bytes(None) => self.enter_open(Within::Bytes(more + 1)),
+            Header::Break => self.bytes_closed(more),
+            _ => self.refuse(),
+        }
+    }
+
+    /// The title of this header has come within a text, of which so many more are open around it.
+    fn enter_text(&mut self, header: Header, more: usize)
+        requires { more + 2 ≤ self.old.offset }
+        ensures spot { spot_at self.new ≡ text_entered header more (spot_at self.old) }
+        ensures lent { AreLent self.old.levels self.new.levels }
+    {
+        match header {
+            Header::Text(Some(len)) => self.text_due(len),
+            Header::Text(None) => self.enter_open(Within::Text(more + 1)),
+            Header::Break => self.text_closed(more),
+            _ => self.refuse(),
+        }
+    }
+
+    /// The title of this header has come.
+    #[inline(always)]
+    fn enter(&mut self, header: Header)
+        requires phase { self.old.phase ≡ p.Title }
+        requires fresh { length self.old.front ≡ 0 }
+        requires counted { open_count self.old.within + 1 ≤ self.old.offset }
+        ensures spot { spot_at self.new ≡ entered self.old.within header (spot_at self.old) }
+        ensures lent { AreLent self.old.levels self.new.levels }
+    {
+        match self.within {
+            Within::Nothing => {
+                self.enter_item(header);
+            }
+            Within::Bytes(more) => self.enter_bytes(header, more),
+            Within::Text(more) => self.enter_text(header, more),
+        }
+    }
+
+    /// Where the title began of which the next byte is one.
+    #[inline(always)]
+    fn title_place(&self) -> usize
+        ensures { result ≡ title_place self.now.front (spot_at self.now) }
+    {
+        if self.front.len() == 0 {
+            self.offset
+        } else {
+            self.place
+        }
+    }
+
+    /// A byte of a title.
+    #[tactic(auto, using(crate::proofs::BlockedLaws::affix_most))]
+    fn title_step(&mut self, byte: u8)
+        requires phase { self.old.phase ≡ p.Title }
+        requires room { self.old.offset < usize.MAX }
+        ensures spot { TitleStep (with_byte byte (spot_at self.old)) (spot_at self.new) }
+        ensures lent { AreLent self.old.levels self.new.levels }
+    {
+        self.place = self.title_place();
+        self.front.push(byte);
+        self.offset += 1;
+        let bytes = self.front.bytes();
+        let row = row_of(bytes[0]);
+        if bytes.len() <= affix_len(row.affix) {
+            if begins_none(bytes, self.strict) {
+                self.front.clear();
+                self.refuse();
+            } else if let Some(fault) = blocked(self.within, self.depth, self.place, row.kind) {
+                self.phase = Phase::Faulted(fault);
+            }
+            return;
+        }
+        let header = header_of(bytes, self.strict);
+        self.front.clear();
+        match header {
+            Some(header) => self.enter(header),
+            None => self.refuse(),
+        }
+    }
+
+    /// The first of these bytes, which is one of a title. Says that it is one byte.
+    #[inline(never)]
+    fn title_byte(&mut self, bytes: &[u8]) -> usize
+        requires phase { self.old.phase ≡ p.Title }
+        requires some { 0 < length bytes.now }
+        requires room { self.old.offset < usize.MAX }
+        ensures one { result ≡ 1 }
+        ensures leads { Leads (spot_at self.old) (take result bytes.now) (spot_at self.new) }
+        ensures lent { AreLent self.old.levels self.new.levels }
+    {
+        self.title_step(bytes[0]);
+        1
+    }
+
+    /// All of a title of this kind and of so many bytes, where it may stand there and is taken. Else it takes nothing,
+    /// and says so.
+    #[inline(always)]
+    fn title_taken(&mut self, bytes: &[u8], len: usize, kind: TitleKind) -> bool
+        requires phase { self.old.phase ≡ p.Title }
+        requires fresh { length self.old.front ≡ 0 }
+        requires within { len ≤ length bytes.now }
+        requires room { self.old.offset + length bytes.now ≤ usize.MAX }
+        requires long { len ≡ 1 + affix_len (slice_index bytes.now 0 % 32) }
+        requires kind { IsTitleKind kind (slice_index bytes.now 0 / 32) (slice_index bytes.now 0 % 32) }
+        ensures yes { result ≡ true → Leads (spot_at self.old) (take len bytes.now) (spot_at self.new) }
+        ensures no { result ≡ false → self.new ≡ self.old }
+        ensures lent { AreLent self.old.levels self.new.levels }
+    {
+        if len > 1 && blocked(self.within, self.depth, self.offset, kind).is_some() {
+            return false;
+        }
+        match header_of(&bytes[..len], self.strict) {
+            Some(header) => {
+                self.place = self.offset;
+                self.offset += len;
+                self.enter(header);
+                true
+            }
+            None => false,
+        }
+    }
+
+    /// A title: all of it where nothing of it came and the rest is there, and else a byte. Says how many bytes.
+    #[inline(always)]
+    fn title_run(&mut self, bytes: &[u8]) -> usize
+        requires phase { self.old.phase ≡ p.Title }
+        requires some { 0 < length bytes.now }
+        requires room { self.old.offset + length bytes.now ≤ usize.MAX }
+        ensures some { 0 < result }
+        ensures within { result ≤ length bytes.now }
+        ensures leads { Leads (spot_at self.old) (take result bytes.now) (spot_at self.new) }
+        ensures lent { AreLent self.old.levels self.new.levels }
+    {
+        let row = row_of(bytes[0]);
+        let len = 1 + affix_len(row.affix);
+        if self.front.len() > 0 || bytes.len() < len {
+            return self.title_byte(bytes);
+        }
+        if self.title_taken(bytes, len, row.kind) {
+            return len;
+        }
+        self.title_byte(bytes)
+    }
+
+    /// All of the body of a short string that is an item, behind its title. Says whether another item is due.
+    #[inline(always)]
+    fn body_taken(&mut self, len: usize) -> bool
+        requires phase { self.old.phase ≡ p.Title }
+        requires fresh { length self.old.front ≡ 0 }
+        requires due { self.old.within ≡ w.Nothing }
+        requires room { self.old.offset + len ≤ usize.MAX }
+        ensures taken { spot_at self.new ≡ item_done (counted_by len (spot_at self.old)) }
+        ensures title { result ≡ true → self.new.phase ≡ p.Title }
+        ensures item { result ≡ true → self.new.within ≡ w.Nothing }
+        ensures clear { result ≡ true → length self.new.front ≡ 0 }
+        ensures lent { AreLent self.old.levels self.new.levels }
+    {
+        self.offset += len;
+        self.item_over()
+    }
+
+    /// All of a title of one byte, which means this header, where an item is due. Of a string of bytes or of ASCII the
+    /// body is taken with it where all of it is there. Says how many bytes, and whether another item is due.
+    #[inline(always)]
+    fn short_taken(&mut self, bytes: &[u8], header: Header) -> (usize, bool)
+        requires phase { self.old.phase ≡ p.Title }
+        requires fresh { length self.old.front ≡ 0 }
+        requires due { self.old.within ≡ w.Nothing }
+        requires some { 0 < length bytes.now }
+        requires room { self.old.offset + length bytes.now ≤ usize.MAX }
+        requires title { IsTitle (take 1 bytes.now) header }
+        requires taken { IsTakenTitle self.old.strict (take 1 bytes.now) header }
+        ensures some { 0 < result.0 }
+        ensures within { result.0 ≤ length bytes.now }
+        ensures leads { Leads (spot_at self.old) (take result.0 bytes.now) (spot_at self.new) }
+        ensures title { result.1 ≡ true → self.new.phase ≡ p.Title }
+        ensures item { result.1 ≡ true → self.new.within ≡ w.Nothing }
+        ensures clear { result.1 ≡ true → length self.new.front ≡ 0 }
+        ensures lent { AreLent self.old.levels self.new.levels }
+    {
+        self.place = self.offset;
+        self.offset += 1;
+        let rest = &bytes[1..];
+        match header {
+            Header::Bytes(Some(len)) if len <= rest.len() => {
+                let goes = self.body_taken(len);
+                (1 + len, goes)
+            }
+            Header::Text(Some(len)) if len <= rest.len() && rest[..len].is_ascii() => {
+                let goes = self.body_taken(len); // Of ASCII.
+                (1 + len, goes)
+            }
+            _ => {
+                let goes = self.enter_item(header);
+                (1, goes)
+            }
+        }
+    }
+
+    /// The same where the title's first byte holds its number.
+    #[inline(always)]
+    fn short_run(&mut self, bytes: &[u8]) -> (usize, bool)
+        requires phase { self.old.phase ≡ p.Title }
+        requires fresh { length self.old.front ≡ 0 }
+        requires due { self.old.within ≡ w.Nothing }
+        requires some { 0 < length bytes.now }
+        requires room { self.old.offset + length bytes.now ≤ usize.MAX }
+        requires short { affix_len (slice_index bytes.now 0 % 32) ≡ 0 }
+        ensures some { 0 < result.0 }
+        ensures within { result.0 ≤ length bytes.now }
+        ensures leads { Leads (spot_at self.old) (take result.0 bytes.now) (spot_at self.new) }
+        ensures title { result.1 ≡ true → self.new.phase ≡ p.Title }
+        ensures item { result.1 ≡ true → self.new.within ≡ w.Nothing }
+        ensures clear { result.1 ≡ true → length self.new.front ≡ 0 }
+        ensures lent { AreLent self.old.levels self.new.levels }
+    {
+        match header_of(&bytes[..1], self.strict) {
+            Some(header) => self.short_taken(bytes, header),
+            None => {
+                let len = self.title_byte(bytes);
+                (len, false)
+            }
+        }
+    }
+
+    /// All of a longer title of a number, a float or a simple value, where an item is due and any spelling is taken.
+    /// Its first byte tells that, so that the others are not read. Says whether another item is due.
+    #[inline(always)]
+    fn value_taken(&mut self, bytes: &[u8], len: usize, kind: TitleKind) -> bool
+        requires phase { self.old.phase ≡ p.Title }
+        requires fresh { length self.old.front ≡ 0 }
+        requires due { self.old.within ≡ w.Nothing }
+        requires any { self.old.strict ≡ false }
+        requires value { is_value kind ≡ true }
+        requires within { len ≤ length bytes.now }
+        requires room { self.old.offset + length bytes.now ≤ usize.MAX }
+        requires more { 1 < len }
+        requires long { len ≡ 1 + affix_len (slice_index bytes.now 0 % 32) }
+        requires kind { IsTitleKind kind (slice_index bytes.now 0 / 32) (slice_index bytes.now 0 % 32) }
+        ensures leads { Leads (spot_at self.old) (take len bytes.now) (spot_at self.new) }
+        ensures title { result ≡ true → self.new.phase ≡ p.Title }
+        ensures item { result ≡ true → self.new.within ≡ w.Nothing }
+        ensures clear { result ≡ true → length self.new.front ≡ 0 }
+        ensures lent { AreLent self.old.levels self.new.levels }
+    {
+        self.place = self.offset;
+        self.offset += len;
+        self.item_over()
+    }
+
+    /// A title where an item is due, of which most are told by their first byte, and of a short string the body with it.
+    /// Else it is as [`Checker::title_run`]. Says how many bytes, and whether it can tell that another item is due, and
+    /// nothing of its title came.
+    #[inline(always)]
+    fn item_step(&mut self, bytes: &[u8]) -> (usize, bool)
+        requires phase { self.old.phase ≡ p.Title }
+        requires fresh { length self.old.front ≡ 0 }
+        requires due { self.old.within ≡ w.Nothing }
+        requires some { 0 < length bytes.now }
+        requires room { self.old.offset + length bytes.now ≤ usize.MAX }
+        ensures some { 0 < result.0 }
+        ensures within { result.0 ≤ length bytes.now }
+        ensures leads { Leads (spot_at self.old) (take result.0 bytes.now) (spot_at self.new) }
+        ensures title { result.1 ≡ true → self.new.phase ≡ p.Title }
+        ensures item { result.1 ≡ true → self.new.within ≡ w.Nothing }
+        ensures clear { result.1 ≡ true → length self.new.front ≡ 0 }
+        ensures lent { AreLent self.old.levels self.new.levels }
+    {
+        let row = row_of(bytes[0]);
+        if let Affix::Within = row.affix {
+            return self.short_run(bytes);
+        }
+        let len = 1 + affix_len(row.affix);
+        if !self.strict && is_value(row.kind) && 1 < len && len <= bytes.len() {
+            let goes = self.value_taken(bytes, len, row.kind);
+            return (len, goes);
+        }
+        let len = self.title_run(bytes);
+        (len, false)
+    }
+
+    /// Titles where an item is due, one behind the other, as long as it can tell that another item is. Says how many
+    /// bytes.
+    #[inline(always)]
+    fn item_run(&mut self, bytes: &[u8]) -> usize
+        requires phase { self.old.phase ≡ p.Title }
+        requires fresh { length self.old.front ≡ 0 }
+        requires due { self.old.within ≡ w.Nothing }
+        requires some { 0 < length bytes.now }
+        requires room { self.old.offset + length bytes.now ≤ usize.MAX }
+        ensures some { 0 < result }
+        ensures within { result ≤ length bytes.now }
+        ensures leads { Leads (spot_at self.old) (take result bytes.now) (spot_at self.new) }
+        ensures lent { AreLent self.old.levels self.new.levels }
+    {
+        let mut at = 0;
+        'items: while at < bytes.len() {
+            let (len, goes) = self.item_step(&bytes[at..]);
+            at += len;
+            if !goes {
+                return at;
+            }
+        }
+        at
+    }
+
+    /// A title within an open string, as [`Checker::title_run`]. It is kept apart from the path of an item's title.
+    #[inline(never)]
+    fn title_within(&mut self, bytes: &[u8]) -> usize
+        requires phase { self.old.phase ≡ p.Title }
+        requires some { 0 < length bytes.now }
+        requires room { self.old.offset + length bytes.now ≤ usize.MAX }
+        ensures some { 0 < result }
+        ensures within { result ≤ length bytes.now }
+        ensures leads { Leads (spot_at self.old) (take result bytes.now) (spot_at self.new) }
+        ensures lent { AreLent self.old.levels self.new.levels }
+    {
+        self.title_run(bytes)
+    }
+
+    /// So many bytes of the body of a byte string, of which at least as many were left.
+    #[inline(always)]
+    fn bytes_taken(&mut self, left: usize, len: usize)
+        requires room { self.old.offset + len ≤ usize.MAX }
+        requires within { len ≤ left }
+        ensures spot { spot_at self.new ≡ bytes_due (left - len) (counted_by len (spot_at self.old)) }
+        ensures lent { AreLent self.old.levels self.new.levels }
+    {
+        self.front.clear();
+        self.offset += len;
+        self.bytes_due(left - len);
+    }
+
+    /// Bytes of the body of a byte string, of which so many were left: all that are there. Says how many.
+    #[inline(always)]
+    fn bytes_run(&mut self, left: usize, bytes: &[u8]) -> usize
+        requires phase { self.old.phase ≡ p.Bytes left }
+        requires some { 0 < length bytes.now }
+        requires room { self.old.offset + length bytes.now ≤ usize.MAX }
+        ensures some { 0 < result }
+        ensures within { result ≤ length bytes.now }
+        ensures leads { Leads (spot_at self.old) (take result bytes.now) (spot_at self.new) }
+        ensures lent { AreLent self.old.levels self.new.levels }
+    {
+        let len = left.min(bytes.len());
+        self.bytes_taken(left, len);
+        len
+    }
+
+    /// So many bytes of a text are left behind some that have led to this state.
+    #[inline(always)]
+    fn text_left(&mut self, left: usize, state: State)
+        ensures spot { spot_at self.new ≡ text_left (may_end state left) left state (spot_at self.old) }
+        ensures lent { AreLent self.old.levels self.new.levels }
+    {
+        if !may_end(state, left) {
+            self.refuse();
+        } else if left == 0 {
+            self.string_done();
+        } else {
+            self.phase = Phase::Text(left, state);
+        }
+    }
+
+    /// So many bytes of the body of a text have led to this state, of which at least as many were left.
+    #[inline(always)]
+    fn text_taken(&mut self, left: usize, len: usize, state: State)
+        requires room { self.old.offset + len ≤ usize.MAX }
+        requires within { len ≤ left }
+        ensures spot { spot_at self.new
+            ≡ text_left (may_end state (left - len)) (left - len) state (counted_by len (spot_at self.old)) }
+        ensures lent { AreLent self.old.levels self.new.levels }
+    {
+        self.front.clear();
+        self.offset += len;
+        self.text_left(left - len, state);
+    }
+
+    /// A byte of the body of a text, of which so many were left.
+    fn text_step(&mut self, left: usize, state: State, byte: u8)
+        requires room { self.old.offset < usize.MAX }
+        requires some { 0 < left }
+        ensures spot { let next = after_byte state byte in spot_at self.new
+            ≡ text_left (may_end next (left - 1)) (left - 1) next (counted (spot_at self.old)) }
+        ensures lent { AreLent self.old.levels self.new.levels }
+    {
+        self.text_taken(left, 1, state.step(byte));
+    }
+
+    /// Bytes of the body of a text between two characters, of which so many were left: all that are there. Where no
+    /// text goes on so they are the whole characters in front, and where none is there one byte. Says how many.
+    #[inline(always)]
+    fn text_run(&mut self, left: usize, bytes: &[u8]) -> usize
+        requires phase { self.old.phase ≡ p.Text left s.Between }
+        requires some { 0 < length bytes.now }
+        requires room { self.old.offset + length bytes.now ≤ usize.MAX }
+        ensures some { 0 < result }
+        ensures within { result ≤ length bytes.now }
+        ensures leads { Leads (spot_at self.old) (take result bytes.now) (spot_at self.new) }
+        ensures lent { AreLent self.old.levels self.new.levels }
+    {
+        let len = left.min(bytes.len());
+        let (front, behind) = text_front(&bytes[..len], 0, State::Between);
+        if may_end(behind, left - len) {
+            self.text_taken(left, len, behind);
+            return len;
+        }
+        let whole = front.len();
+        if whole > 0 {
+            self.text_taken(left, whole, State::Between);
+            return whole;
+        }
+        self.text_step(left, State::Between, bytes[0]);
+        1
+    }
+
+    /// Whether more bytes may come.
+    #[inline(always)]
+    fn is_due(&self) -> bool
+        ensures { result ≡ is_due self.now.phase }
+    {
+        !matches!(self.phase, Phase::Ended | Phase::Faulted(_))
+    }
+
+    /// Some bytes more: titles of items, a title or a byte of one, or of a body what is there. Says how many.
+    fn run(&mut self, bytes: &[u8]) -> usize
+        requires some { 0 < length bytes.now }
+        requires room { self.old.offset + length bytes.now ≤ usize.MAX }
+        requires due { is_due self.old.phase ≡ true }
+        ensures some { 0 < result }
+        ensures within { result ≤ length bytes.now }
+        ensures leads { Leads (spot_at self.old) (take result bytes.now) (spot_at self.new) }
+        ensures lent { AreLent self.old.levels self.new.levels }
+    {
+        match self.phase {
+            Phase::Title if self.front.len() > 0 => self.title_byte(bytes),
+            Phase::Title => match self.within {
+                Within::Nothing => self.item_run(bytes),
+                Within::Bytes(_) | Within::Text(_) => self.title_within(bytes),
+            },
+            Phase::Bytes(left) => self.bytes_run(left, bytes),
+            Phase::Text(left, State::Between) => self.text_run(left, bytes),
+            Phase::Text(left, state) => {
+                self.text_step(left, state, bytes[0]);
+                1
+            }
+            Phase::Ended | Phase::Faulted(_) => unreachable!(),
+        }
+    }
+
+    /// The bytes up to the end of the item or up to the fault, or all of them. Says how many. It stays one function, in
+    /// which all of a title's path is inlined, however many calls feed a checker.
+    #[inline(never)]
+    fn run_all(&mut self, bytes: &[u8]) -> usize
+        requires { self.old.offset + length bytes.now ≤ usize.MAX }
+        ensures within { result ≤ length bytes.now }
+        ensures all { is_due self.new.phase ≡ true → result ≡ length bytes.now }
+        ensures leads { Leads (spot_at self.old) (take result bytes.now) (spot_at self.new) }
+        ensures lent { AreLent self.old.levels self.new.levels }
+    {
+        let mut at = 0;
+        'runs: while at < bytes.len() && self.is_due() {
+            at += self.run(&bytes[at..]);
+        }
+        at
+    }
+
+    /// How far the item has come, by what is due.
+    #[inline(always)]
+    fn answer(&self) -> Progress
+        ensures { result ≡ progress_of (spot_at self.now) }
+    {
+        answer(self.phase, &self.front, self.offset)
+    }
+
+    /// Takes a piece of the item's bytes, as [`Checker::feed`](crate::Checker::feed) says it.
+    #[inline(always)]
+    pub(crate) fn feed(&mut self, bytes: &[u8]) -> Feed
+        ensures taken { result.taken ≤ length bytes.now }
+        ensures all { IsMore result.progress → result.taken ≡ length bytes.now }
+        ensures fed { (strict : Bool) (depth : ℕ) (fed : List ℕ) → IsFed strict depth fed (spot_at self.old)
+            → IsFed strict depth (fed ++ take result.taken bytes.now) (spot_at self.new) }
+        ensures tells { (strict : Bool) (depth : ℕ) (fed : List ℕ) → IsFed strict depth fed (spot_at self.old)
+            → Tells strict depth (fed ++ take result.taken bytes.now) result.progress }
+        ensures counted { (strict : Bool) (depth : ℕ) (fed : List ℕ) → IsFed strict depth fed (spot_at self.old)
+            → length fed + result.taken ≤ usize.MAX }
+        ensures answers { IsAnswer result.progress (spot_at self.new) }
+        ensures stays { is_due self.old.phase ≡ false → (result.taken ≡ 0) × (spot_at self.new ≡ spot_at self.old) }
+        ensures lent { AreLent self.old.levels self.new.levels }
+    {
+        let counted = bytes.len().min(usize::MAX - self.offset);
+        let taken = self.run_all(&bytes[..counted]);
+        if taken < bytes.len() && self.is_due() {
+            return Feed {
+                taken,
+                progress: Progress::TooLong,
+            };
+        }
+        Feed {
+            taken,
+            progress: self.answer(),
+        }
+    }
+}
