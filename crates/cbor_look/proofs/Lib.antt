@@ -3,7 +3,8 @@ pub mod SequenceLaws
 pub mod SingleLaws
 pub mod TakingLaws
 pub mod PullLaws
-pub mod PartLaws
+pub mod LeftLaws
+mod PartLaws
 pub mod DumpLaws
 pub mod WalkLaws
 pub mod TitleLaws

@@ -1,6 +1,6 @@
 -- What `dump` and its parts do with the lines: their bytes, joined, are those that were consumed, and each stands at
 -- its level.
-use Rattle.std.specs.Prelude.{◌≡◌, ℕ, List, [], ◌∷◌, ◌++◌, Option, Some, None, Result, Ok, Err}
+use Rattle.std.specs.Prelude.{◌≡◌, ℕ, ◌+◌, ◌<◌, ◌≤◌, List, [], ◌∷◌, ◌++◌, length, Option, Some, None, Result, Ok, Err}
 use Rattle.ciborium_ll.specs.Types.Read.{Ghosts}
 use Rattle.ciborium_ll.specs.Types.Decoder.{Decoder}
 use Rattle.ciborium_ll.specs.Types.Error.{Error}
@@ -9,7 +9,8 @@ use Rattle.cbor_skip.specs.declared.SkipError.TheVariants as s
 use Rattle.cbor_look.specs.declared.dump.DumpError.{DumpError}
 use Rattle.cbor_look.specs.declared.dump.DumpError.TheVariants as d
 use Rattle.cbor_look.specs.declared.rows.Meaning.TheVariants as m
-use Rattle.cbor_look.specs.Takings.{Takes}
+use Rattle.ciborium_ll.specs.Decoding.{offset_limit, view}
+use Rattle.cbor_look.specs.Takings.{IsIdle, Takes, most_bytes}
 use Rattle.cbor_look.specs.Levels.{Line, bytes_of, AllStand}
 
 -- each line was taken, though a fault stands behind them
@@ -74,3 +75,14 @@ module _ {R E : Type 0} (source : Ghosts R E) where
       (old new : Decoder R) : Type 0 where
     pub lines : Lines depth start drawn then_drawn before (row ++ bytes)
     pub takes : Takes source old bytes new
+
+  -- What was left behind a dump is shown at the level: in a line, where there is some, are just bytes that were consumed,
+  -- and no more than a line has. Where the reader is steady, no header waits, and so few bytes are told as one line has
+  -- and the offset fits, they are all of these
+  pub record ShowsLeft (level : ℕ) (drawn then_drawn : Option (List Line)) (old new : Decoder R) : Type 0 where
+    pub bytes : List ℕ
+    pub draws : Draws drawn then_drawn (fault_lines level old.offset bytes)
+    pub few : length bytes ≤ most_bytes
+    pub takes : Takes source old bytes new
+    pub all : (due : List ℕ) → IsIdle source old → view source old ≡ Some due → length due ≤ most_bytes
+        → old.offset + length due < offset_limit → bytes ≡ due

@@ -1,5 +1,5 @@
 -- The bytes of a row: just those that were consumed for it.
-use Rattle.std.specs.Prelude.{◌≡◌, ℕ, ◌+◌, ◌-◌, min, Bool, IsTrue, List, [], ◌∷◌, ◌++◌, length, take, Option, None}
+use Rattle.std.specs.Prelude.{◌≡◌, ℕ, ◌+◌, ◌-◌, ◌<◌, ◌≤◌, min, Bool, IsTrue, List, [], ◌∷◌, ◌++◌, length, take, Option, None}
 use Rattle.std.specs.Prelude.{Some, Result, Ok, Err, OnOk, ◌⊎◌}
 use Rattle.std.specs.Io.KnownBytes.{Consumes}
 use Rattle.ciborium_ll.specs.Types.Read.{Ghosts}
@@ -7,7 +7,7 @@ use Rattle.ciborium_ll.specs.Types.Decoder.{Decoder}
 use Rattle.ciborium_ll.specs.Types.Error.{Error}
 use Rattle.ciborium_ll.specs.Types.Header.{Header}
 use Rattle.ciborium_ll.specs.Title.{IsTitle, IsStrictTitle, IsRefused}
-use Rattle.ciborium_ll.specs.Decoding.{view, IsSteady, PullsHeader, PullsTitle, ReadsBytes}
+use Rattle.ciborium_ll.specs.Decoding.{offset_limit, view, IsSteady, PullsHeader, PullsTitle, ReadsBytes}
 use Rattle.cbor_look.specs.declared.taken.Taken.{Taken}
 
 -- the bytes that were read for a row
@@ -61,3 +61,8 @@ module _ {R E : Type 0} (source : Ghosts R E) where
     pub bytes : List ℕ
     pub appended : after ≡ before ++ bytes
     pub takes : Takes old bytes new
+
+  -- of the bytes that are told none are left that would fit the row and the offset
+  abbrev pub IsLast : List ℕ → Decoder R → Type 0
+  IsLast taken decoder = (left : List ℕ) → view source decoder ≡ Some left → length taken + length left ≤ most_bytes
+      → decoder.offset + length left < offset_limit → left ≡ []

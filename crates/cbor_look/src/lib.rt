@@ -5,6 +5,7 @@
 
 pub mod dump;
 mod fronts;
+pub mod left;
 pub mod rows;
 pub mod sequence;
 pub mod single;

@@ -1,6 +1,6 @@
 //! Bytes that were read for one row.
 
-ghost use Rattle.std.specs.Prelude.{◌≡◌, ◌+◌, ◌-◌, ◌%◌, ◌<◌, ◌≤◌, [], length, min, IfErr, IfOk, IsTrue, None};
+ghost use Rattle.std.specs.Prelude.{◌≡◌, ◌+◌, ◌-◌, ◌%◌, ◌<◌, ◌≤◌, [], length, min, suc, false, IfErr, IfOk, IsTrue, None};
 ghost use Rattle.ciborium_ll.specs.Title.{affix_len};
 ghost use Rattle.ciborium_ll.specs.Decoding.{offset_of, waiting_of, Passes};
 
@@ -23,7 +23,7 @@ impl Taken {
     ghost use Rattle.ciborium_ll.specs.Items.{IsTakenTitle};
     ghost use Rattle.ciborium_ll.specs.Title.{IsTitle};
     ghost use Rattle.ciborium_ll_text.specs.Text.{IsCharacters};
-    ghost use Rattle.cbor_look.specs.Takings.{IsAlike, Keeps, PullsRow, ReadsOn, taken_bytes};
+    ghost use Rattle.cbor_look.specs.Takings.{IsAlike, IsIdle, IsLast, Keeps, PullsRow, ReadsOn, taken_bytes};
     ghost use Rattle.cbor_look.specs.Parts.{ReadsText};
 
     /// None.
@@ -68,6 +68,21 @@ impl Taken {
         decoder.read_exact(&mut self.bytes[self.len..end])?;
         self.len = end;
         Ok(())
+    }
+
+    /// Reads one more, where there is room for it. It tells whether one came.
+    pub(crate) fn read_one<R: Read>(&mut self, decoder: &mut Decoder<R>) -> bool
+    where
+        R::Error: Drop,
+        ensures keeps { Keeps R.Read (taken_bytes self.old) (taken_bytes self.new) decoder.old decoder.new }
+        ensures one { IsTrue result → length (taken_bytes self.new) ≡ suc (length (taken_bytes self.old)) }
+        ensures last { result ≡ false → IsIdle R.Read decoder.old
+            → IsLast R.Read (taken_bytes self.new) decoder.new }
+    {
+        if self.len == MOST_BYTES {
+            return false;
+        }
+        self.read(decoder, 1).is_ok()
     }
 
     /// Reads a title, of which a strict read takes the shortest alone. The error `Syntax` has this offset.

@@ -6,14 +6,16 @@ ghost use Rattle.cbor_look_service.specs.Showing.{EndsShow, ShowsItems};
 
 use crate::arguments::Options;
 use crate::check::{ROOM, decoder_of, end_verdict, failed_or, fault_of};
+use crate::shared::{Prompt, Shared};
 use crate::verdict::Verdict;
 use cbor_diag::{DiagError, Layout, diagnose};
 use cbor_skip::SkipError;
 use ciborium_ll::io::{BufferedReader, BufferedWriter, Read, ReadFault, Write, WriteFault};
 use ciborium_ll::{Decoder, Error};
+use std::cell::RefCell;
 use std::io;
 
-/// Writes to a writer, and knows whether the last line is open.
+/// Writes to a writer, and knows whether the last line is open. A flush is left to who reads on, and to the end.
 #[derive(Drop)]
 struct Page<W> {
     writer: W,
@@ -40,22 +42,24 @@ impl<W: io::Write> io::Write for Page<W> {
     }
 
     fn flush(&mut self) -> io::Result<()> {
-        self.writer.flush()
+        Ok(())
     }
 }
 
 /// Writes what a reader gives in diagnostic notation, up to its end, each item in a line or lines of its own. Of one
-/// that is at fault the text up to there is written.
+/// that is at fault the text up to there is written. Each item that is whole is flushed before more is asked of the
+/// reader.
 pub fn diag_input<R: io::Read + Drop, W: io::Write + Drop>(
     reader: R,
     writer: W,
     options: Options,
 ) -> Result<(), Verdict> {
+    let output = RefCell::new(writer);
     let mut page = Page {
-        writer,
+        writer: Shared::new(&output),
         is_open: false,
     };
-    let outcome = paged(reader, &mut page, options);
+    let outcome = paged(Prompt::new(reader, &output), &mut page, options);
     if let Err(Verdict::Output(_)) = &outcome {
         return outcome;
     }
@@ -131,10 +135,16 @@ fn items<R: Read, W: Write>(
         if let Err(error) = diagnose(decoder, writer, depth, layout) {
             return ended(error, place, decoder.offset());
         }
-        if let Err(fault) = writer.write_all(b"\n") {
+        if let Err(fault) = line_ended(writer) {
             return Err(DiagError::Write(fault));
         }
     }
+}
+
+/// Ends the line of an item, and keeps nothing of it back.
+fn line_ended<W: Write>(writer: &mut W) -> Result<(), W::Error> {
+    writer.write_all(b"\n")?;
+    writer.flush()
 }
 
 /// What the error of a show says, of an item that begins at this place. The show ended at the offset `stop`.

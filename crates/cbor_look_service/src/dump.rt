@@ -9,15 +9,21 @@ ghost use Rattle.cbor_look.specs.Takings.{IsAlike, most_bytes};
 ghost use Rattle.cbor_look_service.specs.Checking.{FindsEnd, dump_said};
 
 use crate::arguments::Options;
-use crate::check::{ROOM, decoder_of, end_verdict, failed_or, fault_of};
+use crate::check::{decoder_of, end_verdict, failed_or, fault_of};
+use crate::patient::Patient;
+use crate::shared::{Prompt, Shared};
 use crate::verdict::Verdict;
 use cbor_look::dump::{DumpError, dump};
+use cbor_look::left::dump_left;
 use cbor_look::rows::{Meaning, Row, Rows};
-use ciborium_ll::Decoder;
-use ciborium_ll::io::{BufferedReader, Read, ReadFault};
+use cbor_skip::SkipError;
+use ciborium_ll::io::{Read, ReadFault};
+use ciborium_ll::{Decoder, Error};
 use std::alloc::{AllocError, Global};
+use std::cell::RefCell;
 use std::fmt::Write;
 use std::io;
+use std::io::Write as _;
 
 /// Prints rows, each as a line.
 #[derive(Drop)]
@@ -26,6 +32,8 @@ struct Printer<W> {
     writer: W,
     offsets: bool,
     colors: bool,
+    /// The level of a part of what the last row has.
+    below: usize,
 }
 
 /// The escape sequence in front of what a title or a part of a text means.
@@ -85,10 +93,19 @@ impl<W: io::Write> Rows for Printer<W> {
 
     /// The error is that of the writer, or says that there is no memory for the line.
     fn row(&mut self, row: Row<'_>) -> io::Result<()> {
+        self.below = level_below(&row);
         match self.set_line(row) {
             Ok(()) => self.put(matches!(row.meaning, Meaning::Fault)),
             Err(_) => Err(io::Error::from(io::ErrorKind::OutOfMemory)),
         }
+    }
+}
+
+/// The level of a part of what a row has: of the body behind its title, or else of the same title or body.
+fn level_below(row: &Row<'_>) -> usize {
+    match row.meaning {
+        Meaning::Header(_) => row.level.saturating_add(1),
+        Meaning::Bytes | Meaning::Text | Meaning::Fault => row.level,
     }
 }
 
@@ -104,8 +121,8 @@ fn first_hash(line: &[u8]) -> usize
     line.len()
 }
 
-/// Dumps what a reader gives, up to its end. Behind a fault a line says what it is. Colors change no byte of the lines:
-/// they are escape sequences between them.
+/// Dumps what a reader gives, up to its end. Behind a fault a line says what it is. Each line that is whole is flushed
+/// before more is asked of the reader. Colors change no byte of the lines: they are escape sequences between them.
 pub fn dump_input<R: io::Read + Drop, W: io::Write + Drop>(
     alloc: Global,
     reader: R,
@@ -113,13 +130,15 @@ pub fn dump_input<R: io::Read + Drop, W: io::Write + Drop>(
     options: Options,
     colors: bool,
 ) -> Result<(), Verdict> {
+    let output = RefCell::new(writer);
     let mut printer = Printer {
         line: String::new(alloc),
-        writer,
+        writer: Shared::new(&output),
         offsets: options.offsets,
         colors,
+        below: 0,
     };
-    let outcome = dumped(reader, &mut printer, options);
+    let outcome = dumped(Prompt::new(reader, &output), &mut printer, options);
     let ended = match &outcome {
         Ok(()) | Err(Verdict::Output(_)) => Ok(()),
         Err(verdict) => printer.end(verdict),
@@ -136,13 +155,32 @@ fn dumped<R: io::Read + Drop, W: io::Write>(
     printer: &mut Printer<W>,
     options: Options,
 ) -> Result<(), Verdict> {
-    let mut ahead = [0; ROOM];
-    let reader = BufferedReader::new(reader, &mut ahead);
-    let mut decoder = decoder_of(reader, options.strict);
+    let mut decoder = decoder_of(Patient::new(reader), options.strict);
     let outcome = printed(&mut decoder, options.depth, options.strict, printer);
     let offset = decoder.offset();
-    let (_, _, fault) = decoder.into_inner().into_parts();
+    let outcome = left_printed(&mut decoder, outcome, printer);
+    let fault = decoder.into_inner().take_fault();
     dump_verdict(outcome, fault, offset)
+}
+
+/// Prints what is left of a title or of a body behind the rows, where the reader failed within it. What the dump
+/// answered stays, unless that row was not printed.
+fn left_printed<R: Read, W: io::Write>(
+    decoder: &mut Decoder<R>,
+    outcome: Result<R::Error, DumpError<R::Error, io::Error>>,
+    printer: &mut Printer<W>,
+) -> Result<R::Error, DumpError<R::Error, io::Error>>
+where
+    R::Error: Drop,
+    ensures stays { AreTaken result → result ≡ outcome }
+{
+    let level = printer.below;
+    if let Err(DumpError::Item(SkipError::Read(Error::Io(_)))) = &outcome {
+        if let Err(error) = dump_left(decoder, level, printer) {
+            return Err(DumpError::Rows(error));
+        }
+    }
+    outcome
 }
 
 /// Prints the rows of what a decoder reads, which is as strict as is asked for.

@@ -9,5 +9,7 @@ pub mod check;
 pub mod diag;
 pub mod digits;
 pub mod dump;
+mod patient;
 pub mod progress;
+mod shared;
 pub mod verdict;

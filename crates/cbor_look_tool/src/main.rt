@@ -167,15 +167,16 @@ fn written_view<R: io::Read + Drop>(
     view: View,
     options: Options,
 ) -> Result<(), Verdict> {
+    let writer = match BufWriter::new(rt.alloc(), io::writer(rt)) {
+        Ok(writer) => writer,
+        Err(error) => return Err(Verdict::Output(error)),
+    };
     match view {
-        View::Notation => diag_input(reader, io::writer(rt), options),
-        View::Titles => match BufWriter::new(rt.alloc(), io::writer(rt)) {
-            Ok(writer) => {
-                let colors = has_colors(rt, options.colors);
-                dump_input(rt.alloc(), reader, writer, options, colors)
-            }
-            Err(error) => Err(Verdict::Output(error)),
-        },
+        View::Notation => diag_input(reader, writer, options),
+        View::Titles => {
+            let colors = has_colors(rt, options.colors);
+            dump_input(rt.alloc(), reader, writer, options, colors)
+        }
     }
 }
 

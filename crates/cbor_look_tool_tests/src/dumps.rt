@@ -37,13 +37,13 @@ fn bytes_of(alloc: Global, text: &[u8]) -> Result<Vec<u8>, Fail> {
     Ok(bytes)
 }
 
-// Whether the digits of the dump are those bytes, up to where it ended.
+// Whether the digits of the dump are those bytes, all of them where they end too early, and else up to the fault.
 fn is_shown(alloc: Global, digits: &str, options: Options) -> Result<bool, Fail> {
     let all = bytes_of(alloc, digits.as_bytes())?;
     let dump = dumped(alloc, digits, options);
     let shown = bytes_of(alloc, dump.text.as_slice())?;
     Ok(match dump.outcome {
-        Ok(()) => shown.as_slice() == all.as_slice(),
+        Ok(()) | Err(Verdict::Short(_)) => shown.as_slice() == all.as_slice(),
         Err(_) => all.as_slice().starts_with(shown.as_slice()),
     })
 }
@@ -96,7 +96,7 @@ fn digits_of_malformed_items(rt: HostRuntime) -> Result<(), Fail> {
 }
 
 // Digits, and the dump of their bytes.
-static DUMPS: [(&str, &str); 4] = [
+static DUMPS: [(&str, &str); 10] = [
     (
         "82 1903e8 6161",
         "82                                  # array 2
@@ -140,6 +140,53 @@ f0                                  # simple 16
 # syntax 19
 ",
     ),
+    // Bytes that end within an affix of two bytes and of eight, within bodies, and within a character behind 12 others.
+    (
+        "81 19 03",
+        "81                                  # array 1
+   19
+   03
+# short 2
+",
+    ),
+    (
+        "1b 01020304050607",
+        "1b
+01 02 03 04 05 06 07
+# short 1
+",
+    ),
+    (
+        "c1 5f 42 01",
+        "c1                                  # tag 1
+   5f                               #   bytes *
+      42                            #     bytes 2
+         01
+# short 3
+",
+    ),
+    (
+        "5820 000102030405060708090a0b0c0d0e0f 101112131415161718191a1b1c1d1e",
+        "58 20                               # bytes 32
+   00 01 02 03 04 05 06 07 08 09 0a 0b 0c 0d 0e 0f
+   10 11 12 13 14 15 16 17 18 19 1a 1b 1c 1d 1e
+# short 18
+",
+    ),
+    (
+        "62 c3",
+        "62                                  # text 2
+   c3
+# short 1
+",
+    ),
+    (
+        "6e 616161616161616161616161c3",
+        "6e                                  # text 14
+   61 61 61 61 61 61 61 61 61 61 61 61 c3
+# short 14
+",
+    ),
 ];
 
 // Whether the dump is this.
@@ -160,6 +207,11 @@ fn texts_of_dumps(rt: HostRuntime) -> Result<(), Fail> {
      1     f6                               #   null
 ";
     assert!(rt; is_dumped(rt.alloc(), "81f6", offsets, want));
+    let want = "     0  43                                  # bytes 3
+     1     01 02
+# short 1
+";
+    assert!(rt; is_dumped(rt.alloc(), "430102", offsets, want));
     Ok(())
 }
 

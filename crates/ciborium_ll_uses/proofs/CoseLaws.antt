@@ -1,51 +1,34 @@
 -- What was taken, call by call.
-use Rattle.std.proofs.Common.{◌≡◌, ℕ, ◌+◌, ◌<◌, List, [], ◌∷◌, ◌++◌, length, Option, Some, None, Result, Ok, Err, IfOk}
-use Rattle.std.proofs.Common.{false}
-use Rattle.std.proofs.Common.{refl, sym, ap, subst, ◌∙◌, arith, length-append, true, inl, inr, ◌⊎◌}
-use Rattle.std.specs.Io.KnownBytes.{Consumes, prepend_known}
+use Rattle.std.proofs.Common.{◌≡◌, ℕ, ◌+◌, List, [], ◌∷◌, ◌++◌, length, Option, Some, None, Result, Ok, Err, IfOk}
+use Rattle.std.proofs.Common.{Bool, ◌-◌}
+use Rattle.std.proofs.Common.{refl, sym, ap, subst, ◌∙◌, arith, length-append, true, inl, inr}
+use Rattle.std.specs.Io.KnownBytes.{Consumes}
 use Rattle.std.proofs.KnownBytes.{Consumes-trans}
 use Rattle.ciborium_ll.specs.Types.Read.{Ghosts}
 use Rattle.ciborium_ll.specs.Types.Header.{Header}
 use Rattle.ciborium_ll.specs.Types.Header.TheVariants as h
 use Rattle.ciborium_ll.specs.Types.Decoder.{Decoder}
-use Rattle.ciborium_ll.specs.Title.{shortest_title, IsTitle}
-use Rattle.ciborium_ll.specs.Items.{IsItem, AreItems, more_items}
-use Rattle.ciborium_ll.specs.Decoding.{view, IsSteady, Passes, PullsTitle, TakesBack, Begins, behind_waiting}
-use Rattle.ciborium_ll.proofs.DecodingLaws.{IfSome-at, Passes-none}
-use Rattle.ciborium_ll.proofs.NestLaws.{title_some}
-use Rattle.cbor_skip.specs.Skipping.{ReadsItem, strictness}
-use Rattle.cbor_skip.proofs.StrictnessLaws.{items_looser}
+use Rattle.ciborium_ll.specs.Title.{shortest_title}
+use Rattle.ciborium_ll.specs.Items.{Completes, IsItem}
+use Rattle.ciborium_ll.specs.Decoding.{view, IsSteady, Passes, PullsTitle, Begins}
+use Rattle.ciborium_ll.proofs.DecodingLaws.{Passes-none}
+use Rattle.cbor_skip.specs.Skipping.{ReadsWithin, strictness}
+use Rattle.cbor_skip.proofs.ItemSteps.{item_of}
+use Rattle.cbor_skip.proofs.StrictnessLaws.{strict_settled}
 use Rattle.ciborium_ll_uses.specs.declared.cose.Span.{Span}
 use Rattle.ciborium_ll_uses.specs.declared.cose.TheConstants.{MAP_DEPTH}
 use Rattle.ciborium_ll_uses.specs.declared.cose.CoseError.{CoseError}
-use Rattle.ciborium_ll_uses.specs.declared.cose.CoseError.TheVariants as c
 use Rattle.ciborium_ll_uses.specs.Cose.{IsByteString, IsMap, IsPayload, BeginsSign1, Due}
 use Rattle.ciborium_ll_uses.specs.Cose.{TagDue, ArrayDue, ProtectedDue}
 use Rattle.ciborium_ll_uses.specs.Cose.{UnprotectedDue, PayloadDue, SignatureDue, IsAllowed, Reaches, to_tag, to_array}
 use Rattle.ciborium_ll_uses.specs.Cose.{to_protected, to_unprotected, to_payload, to_signature, Took, TookBody}
 use Rattle.ciborium_ll_uses.specs.Cose.{TookString, TookPayload, TookMap, StopsAt, StopsSign1}
 
-item_some : (depth : ℕ) (item : List ℕ) → IsItem false depth item → 0 < length item
-item_some depth item (more_items {title = title} {rest = rest} {others = others} {header = header} is_title
-    taken rests more) =
-    omega (arith, length-append title (rest ++ others), title_some title header is_title)
-
 -- where the bytes are known, what was taken is in front of them
 pub taken_front : (all : List ℕ) (new : Option (List ℕ)) (bytes : List ℕ) → Consumes (Some all) new bytes
     → Begins bytes all
 taken_front all None bytes taken = absurd taken
 taken_front all (Some rest) bytes taken = (rest, taken)
-
--- a title that was taken and pushed back
-pushed_back : (old pulled pushed new : Option (List ℕ)) (title item : List ℕ) → Consumes old pulled title
-    → pushed ≡ prepend_known title pulled → Consumes pushed new item → Consumes old new item
-pushed_back None pulled pushed new title item first back second = tt
-pushed_back (Some xs) None pushed new title item first back second = absurd first
-pushed_back (Some xs) (Some ys) None new title item first back second = absurd cc
-pushed_back (Some xs) (Some ys) (Some zs) new title item first back second =
-    let same : zs ≡ xs = (let e : Some zs ≡ Some (title ++ ys) = back in let f : zs ≡ title ++ ys = cc in f ∙ sym
-    first) in
-    subst (λ (w : List ℕ). Consumes (Some w) new item) same second
 
 module _ {R E : Type 0} (source : Ghosts R E) where
   pub took_pull : (old new : Decoder R) (header : Header) → old.strict ≡ true → old.waiting ≡ None
@@ -77,46 +60,37 @@ module _ {R E : Type 0} (source : Ghosts R E) where
     mode = second.mode ∙ first.mode;
   }
 
-  settled : (depth : ℕ) (pushed new : Decoder R) (item : List ℕ) → IsItem false depth item
-      → Passes source pushed item new
+  -- behind what was read none waits where none did
+  settled : (titled new : Decoder R) (rest : List ℕ) → titled.waiting ≡ None → Passes source titled rest new
       → new.waiting ≡ None
-  settled depth pushed new item is_item passed = elim passed.waiting [
-    | inl none ↦ absurd (let e : item ≡ [] = none.0 in omega (arith, item_some depth item is_item, ap length e))
+  settled titled new rest none passed = elim passed.waiting [
+    | inl same ↦ ap (λ (d : Decoder R). d.waiting) same.1 ∙ none
     | inr waits ↦ waits
   ]
 
-  map_begins : (depth : ℕ) (pushed new : Decoder R) (item : List ℕ) (header : Header) → IsItem false depth item
-      → Passes source pushed item new → pushed.waiting ≡ Some header → Begins (shortest_title header) item
-  map_begins depth pushed new item header is_item passed waits =
-      elim (IfSome-at pushed.waiting header _ waits passed.waited) [
-        | inl still ↦ absurd (
-            let e : new.offset ≡ pushed.offset = ap (λ d. d.offset) still in
-            omega (arith, e, passed.offset, item_some depth item is_item))
-        | inr begins ↦ begins
-      ]
-
-  pub took_map : (old pulled pushed new : Decoder R) (len : Option ℕ) (span : Span) → old.strict ≡ true
-      → old.waiting ≡ None → PullsTitle source old (h.Map len) pulled → TakesBack source pulled (h.Map len) pushed
-      → ReadsItem source MAP_DEPTH pushed new → span.start ≡ old.offset → span.end ≡ new.offset
-      → TookMap source old span new
-  took_map old pulled pushed new len span strict none pulls back reads start end =
-      let took = took_pull old pulled (h.Map len) strict none pulls in
-      let is_item = items_looser false (strictness pushed) (λ on. absurd cc) MAP_DEPTH 1 reads.item reads.is_item in
-      let begins = map_begins MAP_DEPTH pushed new reads.item (h.Map len) is_item reads.passed back.waits in
-      let whole : Took source old reads.item new = record {
-        consumed = pushed_back _ _ _ _ (shortest_title (h.Map len)) reads.item took.consumed back.due
-            reads.passed.consumed;
-        offset = omega (arith, took.offset, back.offset, reads.passed.offset);
-        none_waits = settled MAP_DEPTH pushed new reads.item is_item reads.passed;
-        mode = reads.passed.mode ∙ back.mode ∙ took.mode;
-      } in
+  -- the title of a map, and then its items
+  pub took_map : (old titled new : Decoder R) (len : Option ℕ) (span : Span) → old.strict ≡ true
+      → old.waiting ≡ None → PullsTitle source old (h.Map len) titled → ReadsWithin source (h.Map len) (MAP_DEPTH - 1)
+      titled new → span.start ≡ old.offset → span.end ≡ new.offset → TookMap source old span new
+  took_map old titled new len span strict none pulls within start end =
+      let header = h.Map len in
+      let title = took_pull old titled header strict none pulls in
+      let rest = took_passed titled new within.rest within.passed
+      (settled titled new within.rest pulls.none_waits within.passed) in
+      let whole = took_then old titled new (shortest_title header) within.rest title rest in
+      let mode : strictness titled ≡ true =
+      strict_settled titled.waiting titled.strict pulls.none_waits ∙ (pulls.mode ∙ strict) in
+      let completes = subst (λ (s : Bool). Completes s MAP_DEPTH header within.rest) mode within.completes in
+      let spelled = pulls.strict strict none in
+      let is_item = item_of true MAP_DEPTH pulls.title within.rest header pulls.is_title spelled completes in
+      let same : pulls.title ≡ shortest_title header = spelled.shortest in
       record {
-        bytes = reads.item;
+        bytes = shortest_title header ++ within.rest;
         is_map = record {
-          is_item = is_item;
+          is_item = subst (λ (w : List ℕ). IsItem true MAP_DEPTH (w ++ within.rest)) same is_item;
           len = len;
-          rest = begins.0;
-          is = begins.1;
+          rest = within.rest;
+          is = refl;
           starts = start;
           ends = end ∙ whole.offset;
         };

@@ -1,5 +1,6 @@
 mod CoseLaws
 mod MapLaws
+mod PairLaws
 mod ShortestLaws
 mod Steps
 mod StreamLaws

@@ -1,6 +1,6 @@
 -- A signed message, COSE_Sign1 (RFC 9052, 4.2): its parts, where they stand, and why none was read.
-use Rattle.std.specs.Prelude.{◌≡◌, ℕ, ◌+◌, ◌<◌, ◌≤◌, ◌⊎◌, List, [], ◌∷◌, ◌++◌, length, Option, Some, None}
-use Rattle.std.specs.Prelude.{true, false, Result, Err}
+use Rattle.std.specs.Prelude.{◌≡◌, ℕ, ◌+◌, ◌-◌, ◌<◌, ◌≤◌, ◌⊎◌, List, [], ◌∷◌, ◌++◌, length, Option, Some, None}
+use Rattle.std.specs.Prelude.{Bool, true, Result, Ok, Err}
 use Rattle.std.specs.Io.KnownBytes.{Consumes}
 use Rattle.ciborium_ll.specs.Types.Read.{Ghosts}
 use Rattle.ciborium_ll.specs.Types.Header.{Header}
@@ -9,10 +9,11 @@ use Rattle.ciborium_ll.specs.Types.Decoder.{Decoder}
 use Rattle.ciborium_ll.specs.Types.Error.{Error}
 use Rattle.ciborium_ll.specs.Title.{shortest_title}
 use Rattle.ciborium_ll.specs.Items.{IsItem}
-use Rattle.ciborium_ll.specs.Decoding.{view, IsSteady, Passes, PullsHeader, PullsTitle, ReadsBytes, TakesBack}
+use Rattle.ciborium_ll.specs.Decoding.{view, IsSteady, Passes, PullsHeader, PullsTitle, ReadsBytes}
 use Rattle.ciborium_ll.specs.Segments.{PullsOther}
 use Rattle.cbor_skip.specs.declared.SkipError.{SkipError}
-use Rattle.cbor_skip.specs.Skipping.{SkipsItem}
+use Rattle.cbor_skip.specs.declared.SkipError.TheVariants as s
+use Rattle.cbor_skip.specs.Skipping.{SkipsWithin}
 use Rattle.ciborium_ll_uses.specs.declared.cose.CoseError.{CoseError}
 use Rattle.ciborium_ll_uses.specs.declared.cose.CoseError.TheVariants as c
 use Rattle.ciborium_ll_uses.specs.declared.cose.Span.{Span}
@@ -28,9 +29,10 @@ pub record IsByteString (bytes : List ℕ) (at : ℕ) (span : Span) : Type 0 whe
   pub ends : span.end ≡ at + length bytes
   pub starts : span.start + length body ≡ span.end
 
--- the bytes are a map under its shortest title, which begins at this offset; the span is that of the whole map
+-- the bytes are a map in its shortest spelling (RFC 7049, 3.9), which begins at this offset; the span is that of the
+-- whole map
 pub record IsMap (bytes : List ℕ) (at : ℕ) (span : Span) : Type 0 where
-  pub is_item : IsItem false MAP_DEPTH bytes
+  pub is_item : IsItem true MAP_DEPTH bytes
   pub len : Option ℕ
   pub rest : List ℕ
   pub is : bytes ≡ shortest_title (h.Map len) ++ rest
@@ -100,6 +102,12 @@ pub data Reaches : List ℕ → Due → Type 0 where
   to_signature : (before bytes : List ℕ) (span : Option Span) → Reaches before PayloadDue
       → IsPayload bytes (length before) span → Reaches (before ++ bytes) SignatureDue
 
+-- what the error of an item of a map says, which begins at the place: of a break there, where one may stand, that the
+-- map has ended (RFC 7049, 2.2.1)
+abbrev pub EndsPairs : {E : Type 0} → Bool → ℕ → SkipError E → Result (Unit {0}) (SkipError E) → Type 0
+EndsPairs closes place error (Ok done) = (closes ≡ true) × (error ≡ s.Break place)
+EndsPairs closes place error (Err other) = (other ≡ error) × (closes ≡ true → error ≡ s.Break place → ⊥)
+
 module _ {R E : Type 0} (source : Ghosts R E) where
   -- ---- what was read
 
@@ -148,6 +156,11 @@ module _ {R E : Type 0} (source : Ghosts R E) where
     pub within : length read + length asked ≤ len
     pub fails : ReadsBytes source between (Err error) asked new
 
+  -- the read of a map behind its title, by its answer: the rest of it was read, or of its items a beginning, and there
+  -- it stops. Both are of a strict decoder on which no header waits in the shortest spelling (RFC 7049, 3.9)
+  abbrev pub SkipsPairs : Option ℕ → Decoder R → Result (Unit {0}) (SkipError E) → Decoder R → Type 0
+  SkipsPairs len old result new = SkipsWithin source (h.Map len) (MAP_DEPTH - 1) 64 old result new
+
   module _ (IsDue : Header → Type 0) where
     -- the title of a byte string came that may stand here, and the read of its body failed
     pub record StopsInBody (old : Decoder R) (error : Error E) (new : Decoder R) : Type 0 where
@@ -157,15 +170,13 @@ module _ {R E : Type 0} (source : Ghosts R E) where
       pub pulled : PullsTitle source old (h.Bytes (Some len)) titled
       pub fails : BodyFails len titled error new
 
-    -- the title of a map came that may stand here, and the read of the map from there failed
+    -- the title of a map came that may stand here, and the read of its items failed
     pub record StopsInMap (old : Decoder R) (error : SkipError E) (new : Decoder R) : Type 0 where
       pub len : Option ℕ
       pub titled : Decoder R
-      pub pushed : Decoder R
       pub allowed : IsDue (h.Map len)
       pub pulled : PullsTitle source old (h.Map len) titled
-      pub back : TakesBack source titled (h.Map len) pushed
-      pub fails : SkipsItem source MAP_DEPTH 64 pushed (Err error) new
+      pub fails : SkipsPairs len titled (Err error) new
 
     -- why a part was not read where such a header is due: no title came, another one came, or the part is cut or
     -- broken behind its title

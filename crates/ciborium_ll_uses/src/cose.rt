@@ -3,10 +3,10 @@
 ghost use Rattle.std.specs.Prelude.{◌≡◌, IfErr, IfOk, OnOk, None, true};
 ghost use Rattle.ciborium_ll.specs.Decoding.{strict_of, waiting_of};
 ghost use Rattle.ciborium_ll.specs.Title.{shortest_title};
-ghost use Rattle.ciborium_ll_uses.specs.Cose.{BeginsBytes, BeginsMap, BeginsPayload, BeginsSign1, BodyFails, StopsAt};
-ghost use Rattle.ciborium_ll_uses.specs.Cose.{StopsSign1, Took, TookBody, TookMap, TookPayload, TookString};
+ghost use Rattle.ciborium_ll_uses.specs.Cose.{BeginsBytes, BeginsMap, BeginsPayload, BeginsSign1, BodyFails, EndsPairs, StopsAt};
+ghost use Rattle.ciborium_ll_uses.specs.Cose.{SkipsPairs, StopsSign1, Took, TookBody, TookMap, TookPayload, TookString};
 
-use cbor_skip::{SkipError, skip_item};
+use cbor_skip::{Remaining, SkipError, skip_item};
 use ciborium_ll::io::{EndOfFile, Read, SliceReader};
 use ciborium_ll::{Decoder, Error, Header, simple};
 
@@ -69,8 +69,8 @@ impl<E> From<SkipError<E>> for CoseError<E> {
 /// The parts of the tagged COSE_Sign1 (RFC 9052, 4.2) in front of the bytes, whatever follows it.
 ///
 /// It is tag 18, an array of four, and in this array a byte string, a map, a byte string or null, and a byte string.
-/// Each title has to be the shortest one, and no byte string may be of indefinite length. The map may be nested 16
-/// levels deep. What the map and the byte strings hold is not looked at.
+/// Each title has to be the shortest one, within the map too, and none of the byte strings may be of indefinite length.
+/// The map may be nested 16 levels deep. What else the map and the byte strings hold is not looked at.
 ///
 /// `Unexpected` names the offset of a title that may not stand there. `Read` carries the decoder's error: `Syntax` with
 /// the offset of a title that is none or not the shortest, and `Io` where the bytes end too early. `Skip` carries the
@@ -170,12 +170,39 @@ fn map<R: Read>(decoder: &mut Decoder<R>) -> Result<Span, CoseError<R::Error>>
     ensures stops { IfErr result (λ error. StopsAt R.Read BeginsMap decoder.old error decoder.new) }
 {
     let start = decoder.offset();
-    let header = decoder.pull()?;
-    let Header::Map(_) = header else {
-        return Err(CoseError::Unexpected(start));
-    };
-    decoder.push(header);
-    skip_item(decoder, MAP_DEPTH, &mut [0; 64])?;
+    match decoder.pull()? {
+        Header::Map(len) => pairs(decoder, len)?,
+        _ => return Err(CoseError::Unexpected(start)),
+    }
     let end = decoder.offset();
     Ok(Span { start, end })
+}
+
+/// Skips the pairs of a map, behind its header.
+///
+/// A header that was pushed back is given again in whatever spelling it had, so the map is not skipped as one item:
+/// of the items behind its title a strict decoder takes the shortest spelling alone.
+fn pairs<R: Read>(decoder: &mut Decoder<R>, len: Option<usize>) -> Result<(), SkipError<R::Error>>
+    ensures { SkipsPairs R.Read len decoder.old result decoder.new }
+{
+    let mut remaining = Remaining::behind(Header::Map(len));
+    'items: while !remaining.is_done() {
+        let place = decoder.offset();
+        if let Err(error) = skip_item(decoder, MAP_DEPTH - 1, &mut [0; 64]) {
+            return ended(error, remaining.closes(), place);
+        }
+        remaining = remaining.after_item();
+    }
+    Ok(())
+}
+
+/// What the error of an item of a map says, which begins at this place: of a break there, where one may stand, that the
+/// map has ended.
+fn ended<E>(error: SkipError<E>, closes: bool, place: usize) -> Result<(), SkipError<E>>
+    ensures { EndsPairs closes place error result }
+{
+    match error {
+        SkipError::Break(at) if closes && at == place => Ok(()),
+        error => Err(error),
+    }
 }

@@ -1,6 +1,5 @@
 use Rattle.std.proofs.Common.{Bool, subst, ◌↔◌, IsOk}
 use Rattle.cbor_look.specs.Sequences.{IsSequence}
-use Rattle.cbor_look_service.specs.Checking.{FindsEnd, dump_said}
 use Rattle.cbor_look_service.proofs.FoundLaws.{dump_found}
 use Rattle.cbor_look_service.proofs.dump.printed.Goals as goal
 

@@ -1,4 +1,4 @@
-use Rattle.std.proofs.Common.{rules, ◌≡◌, ◌<◌, ◌≤◌, ℕ, ◌+◌, ◌++◌, length, Err, arith, length-append, length-take-le}
+use Rattle.std.proofs.Common.{rules, ◌≡◌, ◌<◌, ◌≤◌, ◌++◌, length, Err, arith, length-append, length-take-le}
 use Rattle.std.proofs.lemmas.Result.{err_from_is_err_and}
 use Rattle.ciborium_ll.proofs.BodyLaws.{Passes-read}
 use Rattle.ciborium_ll_uses.proofs.cose.body.Goals as goal

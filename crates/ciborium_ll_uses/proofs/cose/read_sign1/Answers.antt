@@ -1,4 +1,4 @@
-use Rattle.std.proofs.Common.{rules, ◌≡◌, Err, [], ◌∷◌, refl}
+use Rattle.std.proofs.Common.{rules, ◌≡◌, Err, refl}
 use Rattle.std.proofs.lemmas.Result.{err_from_is_err_and}
 use Rattle.ciborium_ll_uses.specs.Cose.{TagDue, ArrayDue, ProtectedDue, UnprotectedDue, PayloadDue, SignatureDue}
 use Rattle.ciborium_ll_uses.proofs.CoseLaws.{began, stopped, came_none, came_tag, came_array, came_protected}

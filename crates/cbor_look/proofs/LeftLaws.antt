@@ -1,0 +1,44 @@
+-- What is left behind a dump, byte by byte.
+use Rattle.std.proofs.Common.{◌≡◌, ℕ, ◌+◌, ◌<◌, ◌≤◌, List, [], ◌++◌, length, Option, Some, Result, Ok, Err, OnOk, sym, ap}
+use Rattle.std.proofs.Common.{◌∙◌, subst, arith, append-nil, length-append}
+use Rattle.ciborium_ll.specs.Types.Read.{Ghosts}
+use Rattle.ciborium_ll.specs.Types.Decoder.{Decoder}
+use Rattle.ciborium_ll.specs.Decoding.{offset_limit, view}
+use Rattle.ciborium_ll.proofs.CopyingTold.{consumes_told}
+use Rattle.cbor_look.specs.Dumps.{Draws, ShowsLeft, fault_lines}
+use Rattle.cbor_look.specs.Levels.{Line}
+use Rattle.cbor_look.specs.Takings.{IsIdle, IsLast, Keeps, Takes, most_bytes}
+
+-- what follows where all went well
+pub on_ok : {A E : Type 0} {P Q : Type 0} (result : Result A E) → (P → Q) → OnOk result P → OnOk result Q
+on_ok (Ok value) follows holds = follows holds
+on_ok (Err error) follows holds = tt
+
+module _ {R E : Type 0} (source : Ghosts R E) where
+  -- all that was left was taken
+  taken_all : (old new : Decoder R) (bytes : List ℕ) → Keeps source [] bytes old new
+      → (IsIdle source old → IsLast source bytes new) → (due : List ℕ) → IsIdle source old → view source old ≡ Some due
+      → length due ≤ most_bytes → old.offset + length due < offset_limit → bytes ≡ due
+  taken_all old new bytes keeps last due idle told few fits =
+      let consumed = keeps.takes.consumed idle in
+      let gone = consumes_told _ _ due keeps.bytes told consumed.0 in
+      let long = ap length gone.2 in
+      let same : bytes ≡ keeps.bytes = keeps.appended in
+      let counted = ap length same in
+      let none : gone.0 ≡ [] = last idle gone.0 gone.1
+      (omega (arith, counted, long, few, length-append keeps.bytes gone.0))
+      (omega (arith, counted, long, fits, keeps.takes.offset, length-append keeps.bytes gone.0)) in
+      same ∙ sym (gone.2 ∙ (ap (λ (z : List ℕ). keeps.bytes ++ z) none ∙ append-nil keeps.bytes))
+
+  pub shows_left : (level : ℕ) (drawn then_drawn : Option (List Line)) (old new : Decoder R) (bytes : List ℕ)
+      → Keeps source [] bytes old new → length bytes ≤ most_bytes
+      → (IsIdle source old → IsLast source bytes new)
+      → Draws drawn then_drawn (fault_lines level old.offset bytes)
+      → ShowsLeft source level drawn then_drawn old new
+  shows_left level drawn then_drawn old new bytes keeps few last draws = record {
+    bytes = bytes;
+    draws = draws;
+    few = few;
+    takes = subst (λ (z : List ℕ). Takes source old z new) (sym keeps.appended) keeps.takes;
+    all = taken_all old new bytes keeps last;
+  }
