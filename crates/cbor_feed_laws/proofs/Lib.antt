@@ -1,0 +1,5 @@
+pub mod BodyRuns
+pub mod Levels
+pub mod Runs
+pub mod StringRuns
+pub mod TitleRuns
