@@ -1,4 +1,5 @@
 pub mod BodyRuns
+pub mod ItemRuns
 pub mod Levels
 pub mod Runs
 pub mod StringRuns
