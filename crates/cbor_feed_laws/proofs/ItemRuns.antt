@@ -68,7 +68,7 @@ module _ (fault : Fault) (s : Bool) where
       (subst (Runs fault (settled d gs (at s w.Nothing d gs a n))) e runs))
 
   -- behind the title of a nest
-  nest_begun : (c a n : ℕ) (g : Level) (gs : List Level) (due : List ℕ)
+  pub nest_begun : (c a n : ℕ) (g : Level) (gs : List Level) (due : List ℕ)
       → Runs fault (settled c (g ∷ gs) (at s w.Nothing (suc c) gs a n)) due → Behind c (g ∷ gs) n due
   nest_begun c a n g gs due runs =
       (a, subst (λ (z : Spot). Runs fault z due) (settled_with (g ∷ gs) c p.Title s w.Nothing (suc c) gs a n) runs)

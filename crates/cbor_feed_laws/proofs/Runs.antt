@@ -1,5 +1,5 @@
 -- From a spot a beginning of some bytes leads to a fault. The steps are taken off in front, one by one.
-use Rattle.std.proofs.Common.{◌≡◌, ℕ, zero, suc, ◌+◌, Bool, true, false, List, [], ◌∷◌, ◌++◌, length, Option, Some}
+use Rattle.std.proofs.Common.{◌≡◌, ℕ, zero, suc, ◌+◌, ◌<◌, Bool, true, false, List, [], ◌∷◌, ◌++◌, length, Option, Some}
 use Rattle.std.proofs.Common.{None, refl, sym, ap, subst, ◌∙◌, arith, append_assoc}
 use Rattle.ciborium_ll_grammar.specs.Strings.{Kind, Bytes, Text}
 use Rattle.cbor_feed_laws.proofs.Levels.{Level}
@@ -16,7 +16,7 @@ use Rattle.cbor_feed.specs.Telling.{is_due}
 -- from the spot a beginning of the bytes leads to the fault
 pub data Runs (fault : Fault) : Spot → List ℕ → Type 0 where
   faulted : {spot : Spot} {due : List ℕ} → spot.phase ≡ p.Faulted fault → Runs fault spot due
-  goes : {spot next : Spot} {due : List ℕ} (byte : ℕ) → Step spot byte next → Runs fault next due
+  goes : {spot next : Spot} {due : List ℕ} (byte : ℕ) → byte < 256 → Step spot byte next → Runs fault next due
       → Runs fault spot (byte ∷ due)
 
 -- a run of a fed checker is one of all bytes
@@ -25,7 +25,7 @@ pub fed_runs : (fault : Fault) (s : Bool) (d : ℕ) (fed due : List ℕ) (spot :
 fed_runs fault s d fed due spot fresh runs = runs
 fed_runs fault s d fed due spot (more {bytes = a} {spot = before} b byte is step) runs =
     subst (Runs fault (start s d)) (sym (append_assoc a (b ∷ []) due))
-    (fed_runs fault s d a (b ∷ due) before is (goes b step runs))
+    (fed_runs fault s d a (b ∷ due) before is (goes b byte step runs))
 
 -- ---- where a fault stands, it is the one
 
@@ -35,7 +35,7 @@ same_fault a b e = cc
 pub fault_of : (fault other : Fault) (spot : Spot) (due : List ℕ) → spot.phase ≡ p.Faulted other
     → Runs fault spot due → fault ≡ other
 fault_of fault other spot due at (faulted is) = same_fault fault other (sym is ∙ at)
-fault_of fault other spot due at (goes {next = m} b step runs) =
+fault_of fault other spot due at (goes {next = m} b byte step runs) =
     let no : ⊥ = subst (λ (z : Phase). StepIn z spot b m) at step in
     absurd no
 
@@ -43,6 +43,7 @@ fault_of fault other spot due at (goes {next = m} b step runs) =
 
 pub record Next (fault : Fault) (phase : Phase) (spot : Spot) (due : List ℕ) : Type 0 where
   pub byte : ℕ
+  pub is_byte : byte < 256
   pub rest : List ℕ
   pub next : Spot
   pub step : StepIn phase spot byte next
@@ -55,8 +56,9 @@ off phase fault due at = let both = sym due ∙ ap is_due at in cc
 pub next_of : (fault : Fault) (phase : Phase) (spot : Spot) (due : List ℕ) → is_due phase ≡ true → phase ≡ spot.phase
     → Runs fault spot due → Next fault phase spot due
 next_of fault phase spot due on e (faulted at) = absurd (off phase fault on (e ∙ at))
-next_of fault phase spot due on e (goes {next = m} {due = rest} b step runs) = record {
+next_of fault phase spot due on e (goes {next = m} {due = rest} b byte step runs) = record {
   byte = b;
+  is_byte = byte;
   rest = rest;
   next = m;
   step = subst (λ (z : Phase). StepIn z spot b m) (sym e) step;

@@ -47,7 +47,7 @@ definite_run fault s Text d gs j n title body rest due q g sound runs e =
     (n, text_run fault s (w.Text j) d gs n body rest (body ++ rest) (n + length title) on (text_ends body sound) refl)
 
 -- an open
-open_run : (fault : Fault) (k : Kind) (d : ℕ) (gs : List Level) (j n : ℕ) (title rest due : List ℕ)
+pub open_run : (fault : Fault) (k : Kind) (d : ℕ) (gs : List Level) (j n : ℕ) (title rest due : List ℕ)
     → IsTitle title (kind_header k None) → Inside fault false k d gs j n due → due ≡ title ++ rest
     → Inside fault false k d gs (suc j) (n + length title) rest
 open_run fault Bytes d gs j n title rest due q runs e =
@@ -107,7 +107,7 @@ module _ (fault : Fault) (k : Kind) (d : ℕ) (gs : List Level) where
         subst (λ (z : ℕ). Here j z rest) counts all
 
 -- strings of a definite length in front, each under a strict title
-flat_run : (fault : Fault) (k : Kind) (d : ℕ) (gs : List Level) (u : List ℕ) (bs : List (List ℕ)) → AreFlat k u bs
+pub flat_run : (fault : Fault) (k : Kind) (d : ℕ) (gs : List Level) (u : List ℕ) (bs : List (List ℕ)) → AreFlat k u bs
     → (j n : ℕ) (rest due : List ℕ) → AreWritable k bs → Inside fault true k d gs j n due → due ≡ u ++ rest
     → Inside fault true k d gs j (n + length u) rest
 flat_run fault k d gs u bs no_flat j n rest due sound runs e =

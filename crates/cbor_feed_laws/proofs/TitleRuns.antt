@@ -24,14 +24,14 @@ use Rattle.cbor_feed_laws.proofs.Runs.{Runs, faulted, goes, fault_of, Next, next
 
 -- ---- a fault behind a title does not depend on how many bytes came
 
-abbrev Faults : Fault → Spot → Type 0
+abbrev pub Faults : Fault → Spot → Type 0
 Faults fault spot = spot.phase ≡ p.Faulted fault
 
-bytes_sound : (len : ℕ) (spot : Spot) (fault : Fault) → Faults fault (bytes_due len spot) → ⊥
+pub bytes_sound : (len : ℕ) (spot : Spot) (fault : Fault) → Faults fault (bytes_due len spot) → ⊥
 bytes_sound zero spot fault is = string_sound spot.within spot fault is
 bytes_sound (suc len) spot fault is = cc
 
-text_sound : (len : ℕ) (spot : Spot) (fault : Fault) → Faults fault (text_due len spot) → ⊥
+pub text_sound : (len : ℕ) (spot : Spot) (fault : Fault) → Faults fault (text_due len spot) → ⊥
 text_sound zero spot fault is = string_sound spot.within spot fault is
 text_sound (suc len) spot fault is = cc
 
@@ -56,7 +56,7 @@ module _ (fault : Fault) (s : Bool) (i : Within) (gs : List Level) (a m n : ℕ)
   open_moved true o d is = is
   open_moved false o d is = absurd cc
 
-  closed_sound : (o : ℕ → Within) (k d : ℕ) → Faults fault (string_closed o k (at s i d gs a m)) → ⊥
+  pub closed_sound : (o : ℕ → Within) (k d : ℕ) → Faults fault (string_closed o k (at s i d gs a m)) → ⊥
   closed_sound o zero d is = settled_sound gs d (at s i d gs a m) fault is
   closed_sound o (suc k) d is = cc
 
