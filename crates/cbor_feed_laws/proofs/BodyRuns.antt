@@ -15,6 +15,10 @@ use Rattle.cbor_feed.proofs.LeadLaws.{due_alike, left_alike}
 use Rattle.cbor_feed_laws.proofs.Levels.{Level}
 use Rattle.cbor_feed_laws.proofs.Runs.{Runs, faulted, goes, fault_of, Next, next_of, with, at}
 
+-- no text of so many bytes is in front
+abbrev pub NoText : State → ℕ → List ℕ → Type 0
+NoText state len due = len ≤ length due → after state (take len due) ≡ st.Between → ⊥
+
 module _ (fault : Fault) (s : Bool) (i : Within) (d : ℕ) (gs : List Level) (a : ℕ) where
   -- a body of bytes in front
   pub bytes_run : (body rest due : List ℕ) (n : ℕ) → Runs fault (bytes_due (length body) (at s i d gs a n)) due
@@ -90,10 +94,6 @@ module _ (fault : Fault) (s : Bool) (i : Within) (d : ℕ) (gs : List Level) (a 
   none_left st.BehindF0 may = absurd cc
   none_left st.BehindF4 may = absurd cc
   none_left st.Damaged may = absurd cc
-
-  -- no text of so many bytes is in front
-  abbrev pub NoText : State → ℕ → List ℕ → Type 0
-  NoText state len due = len ≤ length due → after state (take len due) ≡ st.Between → ⊥
 
   -- behind a byte: either a fault, or the text goes on
   text_on : (may : Bool) (left : ℕ) (to : State) (n : ℕ) (new : Spot) (rest : List ℕ)

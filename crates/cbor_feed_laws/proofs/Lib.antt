@@ -1,7 +1,9 @@
 pub mod BodyRuns
+pub mod FaultRuns
 pub mod ItemRuns
 pub mod Levels
 pub mod ReachRuns
 pub mod Runs
+pub mod SameFaultLaws
 pub mod StringRuns
 pub mod TitleRuns
