@@ -87,7 +87,7 @@ module _ (fault : Fault) (s : Bool) where
 
   mutual
     -- what completes an item, behind its title
-    completes_run : (c : ℕ) (x : Header) (r : List ℕ) → Completes s c x r → (gs : List Level) (a n : ℕ)
+    pub completes_run : (c : ℕ) (x : Header) (r : List ℕ) → Completes s c x r → (gs : List Level) (a n : ℕ)
         (rest due : List ℕ) → Runs fault (item_entered x (at s w.Nothing c gs a n)) due → due ≡ r ++ rest
         → Behind c gs (n + length r) rest
     completes_run c x r positive gs a n rest due runs e = plain_completes c a n gs rest due runs e
