@@ -1,6 +1,9 @@
 -- The fault that a checker names, and what a skip answers.
 use Rattle.std.proofs.Common.{◌≡◌, ℕ, zero, suc, ◌+◌, Bool, true, false, List, [], ◌∷◌, ◌++◌, length, take, drop, refl, sym, ap}
-use Rattle.std.proofs.Common.{subst, ◌∙◌, arith, append_assoc, append-nil, Result, Ok, Err, Option, Some, None, IsTrue, ◌<◌, ◌≤◌}
+use Rattle.std.proofs.Common.{subst, ◌∙◌, arith, append_assoc, append-nil, Result, Ok, Err, Option, Some, None, IsTrue, ◌<◌, ◌≤◌, ◌^◌}
+use Rattle.std.proofs.Common.{◌↔◌, length-append}
+use Rattle.std.proofs.Math.Seq.{take-length}
+use Rattle.ciborium_ll_grammar.proofs.ItemLaws.{one_item}
 use Rattle.std.proofs.lemmas.List.{take-append-drop}
 use Rattle.ciborium_ll_io.specs.declared.io.Read.{Ghosts}
 use Rattle.ciborium_ll_grammar.specs.Faults.{Syntax}
@@ -22,8 +25,9 @@ use Rattle.cbor_feed.specs.declared.progress.Progress.{Progress}
 use Rattle.cbor_feed.specs.declared.progress.Progress.TheVariants as r
 use Rattle.cbor_feed.specs.Spots.{Spot, settled}
 use Rattle.cbor_feed.specs.Steps.{StepIn, IsFed}
-use Rattle.cbor_feed.specs.Telling.{progress_in, IsAnswer}
+use Rattle.cbor_feed.specs.Telling.{progress_in, progress_of, IsAnswer, IsMore, Tells}
 use Rattle.cbor_feed_laws.specs.SameFaults.{Names, HasLongNest, NamesSyntax, AnswersFault}
+use Rattle.cbor_feed_laws.specs.SameFaults.{IsEnd, IsFault, BeginsNoItem}
 use Rattle.cbor_feed_laws.proofs.Runs.{Runs, faulted, goes, fed_runs, with, at, behind}
 use Rattle.cbor_feed_laws.proofs.TitleRuns.{taken_run}
 use Rattle.cbor_feed_laws.proofs.ItemRuns.{completes_run}
@@ -63,7 +67,7 @@ module _ (s : Bool) (depth : ℕ) (fed more : List ℕ) (fault : Fault) (names :
   ended_none spot due is (faulted at) = let both = sym is ∙ at in cc
   ended_none spot due is (goes {next = m} b byte step runs) = subst (λ (z : Phase). StepIn z spot b m) is step
 
-  item_none : (item rest : List ℕ) → IsItem s depth item → fed ++ more ≡ item ++ rest → ⊥
+  pub item_none : (item rest : List ℕ) → IsItem s depth item → fed ++ more ≡ item ++ rest → ⊥
   item_none item rest (more_items {title = t} {rest = r} {header = x} q g completes no_items) e =
       let far = r ++ rest in
       let parts : fed ++ more ≡ t ++ far =
@@ -127,3 +131,76 @@ module _ {R E : Type 0} (source : Ghosts R E) (old new : Decoder R) where
       (subst (λ (z : Bool). SkipsTold source z depth bytes old result new) mode told)) in
       subst (λ (z : ℕ). AnswersFault s depth bytes fault z result) start
       (subst (λ (z : List ℕ). AnswersFault s depth z fault old.offset result) all here)
+
+-- ---- what a checker answers, in terms of all bytes
+
+module _ (s : Bool) (depth taken : ℕ) (bytes : List ℕ) (spot : Spot) (room : length bytes + 1 < 2 ^ 64) where
+  abbrev fed : List ℕ
+  fed = [] ++ take taken bytes
+
+  all_bytes : fed ++ drop taken bytes ≡ bytes
+  all_bytes = take-append-drop taken bytes
+
+  ended_front : IsItem s depth fed → ItemInFront s depth bytes
+  ended_front item = record { item = fed; rest = drop taken bytes; is_item = item; is = sym all_bytes }
+
+  whole : taken ≡ length bytes → fed ≡ bytes
+  whole e = ap (λ (n : ℕ). take n bytes) e ∙ take-length bytes
+
+  -- where more is due no item is in front
+  more_none : (due : ℕ) → Tells s depth fed (r.More due) → taken ≡ length bytes → ItemInFront s depth bytes → ⊥
+  more_none due tells e front =
+      let more = tells.1.0 in
+      let parts : front.item ++ (front.rest ++ more) ≡ (fed ++ more) ++ [] =
+      sym (append_assoc front.item front.rest more) ∙ (ap (λ (z : List ℕ). z ++ more) (sym front.is ∙ sym (whole e))
+      ∙ sym (append-nil (fed ++ more))) in
+      let one = one_item s s depth depth front.item (fed ++ more) (front.rest ++ more) [] front.is_item tells.1.1
+      parts in
+      let nothing = ap length one.1 in
+      let least = tells.2 more tells.1.1 in
+      omega (arith, nothing, least, tells.0, length-append front.rest more)
+
+  -- and some bytes make one
+  more_begins : (due : ℕ) → Tells s depth fed (r.More due) → taken ≡ length bytes → BeginsNoItem s depth bytes → ⊥
+  more_begins due tells e none =
+      let more = tells.1.0 in
+      none more (record {
+        item = fed ++ more;
+        rest = [];
+        is_item = tells.1.1;
+        is = ap (λ (z : List ℕ). z ++ more) (sym (whole e)) ∙ sym (append-nil (fed ++ more));
+      })
+
+  -- no more bytes come than there are
+  not_long : 2 ^ 64 ≤ length fed + 1 → ⊥
+  not_long long =
+      let parts = ap length all_bytes in
+      omega (arith, long, room, parts, length-append fed (drop taken bytes))
+
+  fault_none : (fault : Fault) → IsFed s depth fed spot → r.Fault fault ≡ progress_of spot → BeginsNoItem s depth bytes
+  fault_none fault is_fed e more front =
+      let names : Names s depth fed fault = record { spot = spot; is_fed = is_fed; answers = sym e } in
+      let all : fed ++ (drop taken bytes ++ more) ≡ bytes ++ more =
+      sym (append_assoc fed (drop taken bytes) more) ∙ ap (λ (z : List ℕ). z ++ more) all_bytes in
+      item_none s depth fed (drop taken bytes ++ more) fault names front.item front.rest front.is_item (all ∙ front.is)
+
+  item_here : ItemInFront s depth bytes → BeginsNoItem s depth bytes → ⊥
+  item_here front none = none [] (subst (ItemInFront s depth) (sym (append-nil bytes)) front)
+
+  module _ (is_fed : IsFed s depth fed spot) where
+    pub ended_exactly : (progress : Progress) → IsAnswer progress spot → Tells s depth fed progress
+        → (IsMore progress → taken ≡ length bytes) → IsEnd progress ↔ ItemInFront s depth bytes
+    ended_exactly (r.More due) answers tells all =
+        (λ is. absurd is, λ front. more_none due tells (all tt) front)
+    ended_exactly (r.Ended len) answers tells all = (λ is. ended_front tells.0, λ front. tt)
+    ended_exactly (r.Fault fault) answers tells all =
+        (λ is. absurd is, λ front. item_here front (fault_none fault is_fed answers))
+    ended_exactly r.TooLong answers tells all = (λ is. absurd is, λ front. not_long tells)
+
+    pub fault_exactly : (progress : Progress) → IsAnswer progress spot → Tells s depth fed progress
+        → (IsMore progress → taken ≡ length bytes) → IsFault progress ↔ BeginsNoItem s depth bytes
+    fault_exactly (r.More due) answers tells all =
+        (λ is. absurd is, λ none. more_begins due tells (all tt) none)
+    fault_exactly (r.Ended len) answers tells all = (λ is. absurd is, λ none. item_here (ended_front tells.0) none)
+    fault_exactly (r.Fault fault) answers tells all = (λ is. fault_none fault is_fed answers, λ none. tt)
+    fault_exactly r.TooLong answers tells all = (λ is. absurd is, λ none. not_long tells)

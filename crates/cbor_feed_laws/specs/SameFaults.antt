@@ -8,8 +8,10 @@ use Rattle.ciborium_ll_decoder.specs.declared.dec.Error.TheVariants as e
 use Rattle.cbor_skip.specs.declared.SkipError.{SkipError}
 use Rattle.cbor_skip.specs.declared.SkipError.TheVariants as s
 use Rattle.cbor_skip.specs.Due.{IsNest, ItemDue}
+use Rattle.cbor_skip.specs.ItemFaults.{ItemInFront}
 use Rattle.cbor_feed.specs.declared.phase.Fault.{Fault}
 use Rattle.cbor_feed.specs.declared.phase.Fault.TheVariants as f
+use Rattle.cbor_feed.specs.declared.progress.Progress.{Progress}
 use Rattle.cbor_feed.specs.declared.progress.Progress.TheVariants as r
 use Rattle.cbor_feed.specs.Spots.{Spot}
 use Rattle.cbor_feed.specs.Steps.{IsFed}
@@ -20,6 +22,20 @@ pub record Names (strict : Bool) (depth : ℕ) (fed : List ℕ) (fault : Fault) 
   pub spot : Spot
   pub is_fed : IsFed strict depth fed spot
   pub answers : progress_of spot ≡ r.Fault fault
+
+-- the answer is that the item has ended
+abbrev pub IsEnd : Progress → Type 0
+IsEnd (r.Ended len) = Unit {0}
+IsEnd progress = ⊥
+
+-- the answer is a fault
+abbrev pub IsFault : Progress → Type 0
+IsFault (r.Fault fault) = Unit {0}
+IsFault progress = ⊥
+
+-- whatever follows the bytes, no item is in front
+abbrev pub BeginsNoItem : Bool → ℕ → List ℕ → Type 0
+BeginsNoItem strict depth bytes = (more : List ℕ) → ItemInFront strict depth (bytes ++ more) → ⊥
 
 -- behind a beginning of an item a tag, an array or a map stands where no level is left, and its title isn't the shortest
 -- one where only that is taken (RFC 7049, 3.9): two faults at one place

@@ -1,13 +1,14 @@
 //! The faults that `feed` of `cbor_feed` names are those of `skip_item` of `cbor_skip`, with their places.
 #![tactic(auto)]
 
-ghost use Rattle.std.specs.Prelude.{◌≡◌, ◌+◌, ◌≤◌, [], length};
+ghost use Rattle.std.specs.Prelude.{◌≡◌, ◌↔◌, ◌+◌, ◌≤◌, [], length, IsOk};
 ghost use Rattle.ciborium_ll_decoder.specs.Decoding.{IsFreshAs};
+ghost use Rattle.cbor_skip.specs.ItemFaults.{ItemInFront};
 ghost use Rattle.cbor_feed.specs.Checking.{spot_of};
 ghost use Rattle.cbor_feed.specs.Steps.{IsFed};
 ghost use Rattle.cbor_feed.specs.declared.phase.Fault.{Fault};
 ghost use Rattle.cbor_feed.specs.declared.progress.Progress.TheVariants as r;
-ghost use Rattle.cbor_feed_laws.specs.SameFaults.{AnswersFault};
+ghost use Rattle.cbor_feed_laws.specs.SameFaults.{AnswersFault, BeginsNoItem, IsEnd, IsFault};
 
 pub mod laws;
 
@@ -32,7 +33,10 @@ pub fn feed_and_skip(
 ) -> (Progress, Result<(), SkipError<EndOfFile>>)
     requires shallow { depth ≤ 256 }
     requires room { length bytes.now + BUFFER_SIZE ≤ usize.MAX }
-    ensures { (fault : Fault) → result.0 ≡ r.Fault fault → AnswersFault strict depth bytes.now fault 0 result.1 }
+    ensures ended { IsEnd result.0 ↔ ItemInFront strict depth bytes.now }
+    ensures skipped { IsOk result.1 ↔ ItemInFront strict depth bytes.now }
+    ensures faulted { IsFault result.0 ↔ BeginsNoItem strict depth bytes.now }
+    ensures same { (fault : Fault) → result.0 ≡ r.Fault fault → AnswersFault strict depth bytes.now fault 0 result.1 }
 {
     let mut checker = checker_of(strict, depth);
     let fed = checker.feed(bytes);
