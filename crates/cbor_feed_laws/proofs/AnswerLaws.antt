@@ -1,5 +1,5 @@
 -- The fault that a checker names, and what a skip answers.
-use Rattle.std.proofs.Common.{◌≡◌, ℕ, zero, suc, ◌+◌, Bool, true, false, List, [], ◌∷◌, ◌++◌, length, take, drop, refl, sym, ap}
+use Rattle.std.proofs.Common.{◌≡◌, ℕ, ◌+◌, Bool, List, [], ◌++◌, length, take, drop, refl, sym, ap}
 use Rattle.std.proofs.Common.{subst, ◌∙◌, arith, append_assoc, append-nil, Result, Ok, Err, Option, Some, None, IsTrue, ◌<◌, ◌≤◌, ◌^◌}
 use Rattle.std.proofs.Common.{◌↔◌, length-append}
 use Rattle.std.proofs.Math.Seq.{take-length}
@@ -23,12 +23,12 @@ use Rattle.cbor_feed.specs.declared.phase.Fault.TheVariants as f
 use Rattle.cbor_feed.specs.declared.phase.Within.TheVariants as w
 use Rattle.cbor_feed.specs.declared.progress.Progress.{Progress}
 use Rattle.cbor_feed.specs.declared.progress.Progress.TheVariants as r
-use Rattle.cbor_feed.specs.Spots.{Spot, settled}
+use Rattle.cbor_feed.specs.Spots.{Spot}
 use Rattle.cbor_feed.specs.Steps.{StepIn, IsFed}
 use Rattle.cbor_feed.specs.Telling.{progress_in, progress_of, IsAnswer, IsMore, Tells}
 use Rattle.cbor_feed_laws.specs.SameFaults.{Names, HasLongNest, NamesSyntax, AnswersFault}
 use Rattle.cbor_feed_laws.specs.SameFaults.{IsEnd, IsFault, BeginsNoItem}
-use Rattle.cbor_feed_laws.proofs.Runs.{Runs, faulted, goes, fed_runs, with, at, behind}
+use Rattle.cbor_feed_laws.proofs.Runs.{Runs, faulted, goes, fed_runs, at, behind}
 use Rattle.cbor_feed_laws.proofs.TitleRuns.{taken_run}
 use Rattle.cbor_feed_laws.proofs.ItemRuns.{completes_run}
 use Rattle.cbor_feed_laws.proofs.ReachRuns.{FromStart}

@@ -1,6 +1,6 @@
 -- A run over the body of a string.
 use Rattle.std.proofs.Common.{◌≡◌, ℕ, zero, suc, ◌+◌, ◌≤◌, Bool, true, false, List, [], ◌∷◌, ◌++◌, length, take, refl}
-use Rattle.std.proofs.Common.{sym, ap, subst, ◌∙◌, arith, rules}
+use Rattle.std.proofs.Common.{sym, ap, subst, ◌∙◌, arith}
 use Rattle.ciborium_ll_text.specs.declared.state.State.{State}
 use Rattle.ciborium_ll_text.specs.declared.state.State.TheVariants as st
 use Rattle.ciborium_ll_text.specs.States.{after, after_byte}
@@ -9,11 +9,11 @@ use Rattle.cbor_feed.specs.declared.phase.Fault.{Fault}
 use Rattle.cbor_feed.specs.declared.phase.Fault.TheVariants as f
 use Rattle.cbor_feed.specs.declared.phase.Within.{Within}
 use Rattle.cbor_feed.specs.Spots.{Spot, string_done, bytes_due, text_due}
-use Rattle.cbor_feed.specs.Steps.{may_end, text_left, counted}
+use Rattle.cbor_feed.specs.Steps.{may_end, text_left}
 use Rattle.cbor_feed.proofs.StepLaws.{one_more_due}
 use Rattle.cbor_feed.proofs.LeadLaws.{due_alike, left_alike}
 use Rattle.cbor_feed_laws.proofs.Levels.{Level}
-use Rattle.cbor_feed_laws.proofs.Runs.{Runs, faulted, goes, fault_of, Next, next_of, with, at}
+use Rattle.cbor_feed_laws.proofs.Runs.{Runs, fault_of, next_of, with, at}
 
 -- no text of so many bytes is in front
 abbrev pub NoText : State → ℕ → List ℕ → Type 0

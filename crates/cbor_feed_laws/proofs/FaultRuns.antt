@@ -1,40 +1,30 @@
 -- The fault to which a run leads, where what stops a skip is due.
-use Rattle.std.proofs.Common.{◌≡◌, ℕ, zero, suc, ◌+◌, ◌-◌, ◌<◌, ◌≤◌, ◌⊎◌, inl, inr, Bool, true, false, List, [], ◌∷◌}
-use Rattle.std.proofs.Common.{◌++◌, length, take, Some, None, refl, sym, ap, subst, ◌∙◌, arith, append_assoc}
-use Rattle.std.proofs.Common.{append-nil, length-append}
+use Rattle.std.proofs.Common.{◌≡◌, ℕ, zero, suc, ◌-◌, ◌⊎◌, inl, inr, Bool, true, false, List, [], ◌∷◌}
+use Rattle.std.proofs.Common.{◌++◌, Some, None, refl, sym, ap, subst}
 use Rattle.ciborium_ll_grammar.specs.declared.hdr.Header.{Header}
 use Rattle.ciborium_ll_grammar.specs.declared.hdr.Header.TheVariants as h
 use Rattle.ciborium_ll_grammar.specs.Title.{IsTitle, BeginsRefused, title_len}
 use Rattle.ciborium_ll_grammar.specs.Strings.{Kind, Bytes, Text, kind_header, IsMisplaced}
 use Rattle.ciborium_ll_grammar.specs.Items.{IsTakenTitle}
-use Rattle.ciborium_ll_grammar.specs.Faults.{Place, Due, In, BodyDue, IsAtTitle, IsRefusedIn, Answer, Short, Syntax}
-use Rattle.ciborium_ll_grammar.specs.Faults.{FirstFault, CutTitle, NoTitle, LongTitle, OtherTitle, DamagedText, CutBody}
-use Rattle.ciborium_ll_grammar.specs.Faults.{CutDamagedText}
+use Rattle.ciborium_ll_grammar.specs.Faults.{IsRefusedIn}
 use Rattle.ciborium_ll_grammar.proofs.AffixLaws.{refused_begins_none}
-use Rattle.ciborium_ll_grammar.proofs.StringLaws.{break_title}
-use Rattle.ciborium_ll_text.specs.Text.{IsCharacters}
-use Rattle.ciborium_ll_text.proofs.StateLaws.{text_from}
-use Rattle.cbor_skip.specs.Due.{IsNest, ItemDue, ReachesItem, at_item, at_body, at_piece}
-use Rattle.cbor_feed.specs.declared.phase.Phase.{Phase}
+use Rattle.cbor_skip.specs.Due.{IsNest}
 use Rattle.cbor_feed.specs.declared.phase.Phase.TheVariants as p
 use Rattle.cbor_feed.specs.declared.phase.Fault.{Fault}
 use Rattle.cbor_feed.specs.declared.phase.Fault.TheVariants as f
 use Rattle.cbor_feed.specs.declared.phase.Within.{Within}
 use Rattle.cbor_feed.specs.declared.phase.Within.TheVariants as w
-use Rattle.cbor_feed.specs.Levels.{closes, contents}
-use Rattle.cbor_feed.specs.Spots.{Spot, nested, broken, item_entered, entered, refused, open_entered}
-use Rattle.cbor_feed.specs.Steps.{NoneTaken, TitleStep, cut, early, whole, none}
+use Rattle.cbor_feed.specs.Levels.{contents}
+use Rattle.cbor_feed.specs.Spots.{Spot, nested, broken, item_entered, entered, open_entered}
+use Rattle.cbor_feed.specs.Steps.{TitleStep, cut, early, whole, none}
 use Rattle.cbor_feed.proofs.BlockedLaws.{settled_sound}
 use Rattle.cbor_feed.proofs.EnterLaws.{break_bytes}
-use Rattle.cbor_feed_laws.specs.SameFaults.{HasLongNest, NamesSyntax}
 use Rattle.cbor_feed_laws.proofs.Levels.{Level}
-use Rattle.cbor_feed_laws.proofs.Runs.{Runs, fault_of, Next, next_of, with, at, inside}
-use Rattle.cbor_feed_laws.proofs.TitleRuns.{Faults, Titled, taken, known, untaken, title_run, taken_run, bytes_sound}
+use Rattle.cbor_feed_laws.proofs.Runs.{Runs, fault_of, next_of, at, inside}
+use Rattle.cbor_feed_laws.proofs.TitleRuns.{Faults, Titled, taken, known, untaken, bytes_sound}
 use Rattle.cbor_feed_laws.proofs.TitleRuns.{text_sound, closed_sound}
-use Rattle.cbor_feed_laws.proofs.BodyRuns.{NoText, no_text}
 use Rattle.cbor_feed_laws.proofs.StringRuns.{break_taken}
-use Rattle.cbor_feed_laws.proofs.ReachRuns.{can_close, AtItem, InString, FromStart, DueSome, item_reached}
-use Rattle.cbor_feed_laws.proofs.ReachRuns.{string_reached, due_reached}
+use Rattle.cbor_feed_laws.proofs.ReachRuns.{can_close}
 
 -- ---- no title
 

@@ -1,12 +1,12 @@
 -- A run over whole items.
-use Rattle.std.proofs.Common.{◌≡◌, ℕ, zero, suc, ◌+◌, ◌-◌, ◌*◌, Bool, true, false, List, [], ◌∷◌, ◌++◌, length, Some}
-use Rattle.std.proofs.Common.{None, refl, sym, ap, subst, ◌∙◌, arith, append_assoc, append-nil, length-append}
+use Rattle.std.proofs.Common.{◌≡◌, ℕ, suc, ◌+◌, ◌-◌, ◌*◌, Bool, List, [], ◌∷◌, ◌++◌, length, Some}
+use Rattle.std.proofs.Common.{refl, sym, ap, subst, ◌∙◌, arith, append_assoc, length-append}
 use Rattle.ciborium_ll_grammar.specs.declared.hdr.Header.{Header}
 use Rattle.ciborium_ll_grammar.specs.declared.hdr.Header.TheVariants as h
-use Rattle.ciborium_ll_grammar.specs.Title.{IsTitle, title_len}
+use Rattle.ciborium_ll_grammar.specs.Title.{title_len}
 use Rattle.ciborium_ll_grammar.specs.Strings.{Kind, Bytes, Text, AreStrings}
 use Rattle.ciborium_ll_grammar.specs.Elements.{AreWritable}
-use Rattle.ciborium_ll_grammar.specs.Items.{IsTakenTitle, AreTakenStrings, Completes, positive, negative, float, simple}
+use Rattle.ciborium_ll_grammar.specs.Items.{AreTakenStrings, Completes, positive, negative, float, simple}
 use Rattle.ciborium_ll_grammar.specs.Items.{byte_string, text_string, open_bytes, open_text, tag, array, pairs}
 use Rattle.ciborium_ll_grammar.specs.Items.{open_array, open_pairs, AreItems, no_items, more_items}
 use Rattle.ciborium_ll_grammar.proofs.ElementLaws.{bytes_writable}
@@ -15,12 +15,12 @@ use Rattle.ciborium_ll_text.proofs.StateLaws.{text_ends}
 use Rattle.cbor_feed.specs.declared.phase.Phase.TheVariants as p
 use Rattle.cbor_feed.specs.declared.phase.Fault.{Fault}
 use Rattle.cbor_feed.specs.declared.phase.Within.TheVariants as w
-use Rattle.cbor_feed.specs.Levels.{contents, next}
+use Rattle.cbor_feed.specs.Levels.{next}
 use Rattle.cbor_feed.specs.Spots.{Spot, settled, item_entered, bytes_due, text_due}
 use Rattle.cbor_feed_laws.proofs.Levels as v
 use Rattle.cbor_feed_laws.proofs.Levels.{Level, left_behind, left_first, items_left, pairs_left, open_items_left}
 use Rattle.cbor_feed_laws.proofs.Levels.{open_pairs_left}
-use Rattle.cbor_feed_laws.proofs.Runs.{Runs, with, at, inside, behind, settled_with}
+use Rattle.cbor_feed_laws.proofs.Runs.{Runs, at, behind, settled_with}
 use Rattle.cbor_feed_laws.proofs.TitleRuns.{taken_run}
 use Rattle.cbor_feed_laws.proofs.BodyRuns.{bytes_run, text_run}
 use Rattle.cbor_feed_laws.proofs.StringRuns.{Inside, break_taken, strings_taken_run}
@@ -63,9 +63,11 @@ module _ (fault : Fault) (s : Bool) where
       → Runs fault (settled d gs (at s w.Nothing d gs a n)) due → due ≡ rest → Behind d gs (n + 0) rest
   plain_completes d a n gs rest due runs e =
       let counts : n ≡ n + 0 = omega arith in
-      subst (λ (z : ℕ). Behind d gs z rest) counts
-      (a, subst (λ (z : Spot). Runs fault z rest) (settled_with gs d p.Title s w.Nothing d gs a n)
-      (subst (Runs fault (settled d gs (at s w.Nothing d gs a n))) e runs))
+      subst (λ (z : ℕ). Behind d gs z rest) counts (
+        a,
+        subst (λ (z : Spot). Runs fault z rest) (settled_with gs d p.Title s w.Nothing d gs a n)
+            (subst (Runs fault (settled d gs (at s w.Nothing d gs a n))) e runs),
+      )
 
   -- behind the title of a nest
   pub nest_begun : (c a n : ℕ) (g : Level) (gs : List Level) (due : List ℕ)
@@ -96,15 +98,19 @@ module _ (fault : Fault) (s : Bool) where
     completes_run c x r simple gs a n rest due runs e = plain_completes c a n gs rest due runs e
     completes_run c x r (byte_string {len = len} long) gs a n rest due runs e =
         let here = subst (λ (z : ℕ). Runs fault (bytes_due z (at s w.Nothing c gs a n)) due) (sym long) runs in
-        let on = bytes_run fault s w.Nothing c gs a r rest due n here e in
-        (a, subst (λ (z : Spot). Runs fault z rest)
-        (settled_with gs c p.Title s w.Nothing c gs a (n + length r)) on)
+        let on = bytes_run fault s w.Nothing c gs a r rest due n here e in (
+          a,
+          subst (λ (z : Spot). Runs fault z rest)
+              (settled_with gs c p.Title s w.Nothing c gs a (n + length r)) on,
+        )
     completes_run c x r (text_string {len = len} long sound) gs a n rest due runs e =
         let b = n - title_len (h.Text (Some len)) in
         let here = subst (λ (z : ℕ). Runs fault (text_due z (at s w.Nothing c gs b n)) due) (sym long) runs in
-        let on = text_run fault s w.Nothing c gs b r rest due n here (text_ends r sound) e in
-        (b, subst (λ (z : Spot). Runs fault z rest)
-        (settled_with gs c p.Title s w.Nothing c gs b (n + length r)) on)
+        let on = text_run fault s w.Nothing c gs b r rest due n here (text_ends r sound) e in (
+          b,
+          subst (λ (z : Spot). Runs fault z rest)
+              (settled_with gs c p.Title s w.Nothing c gs b (n + length r)) on,
+        )
     completes_run c x r (open_bytes {strings = u} {bodies = bs} are taken) gs a n rest due runs e =
         open_completes Bytes c n gs u rest due bs are taken (bytes_writable bs) (a, runs) e
     completes_run c x r (open_text {strings = u} {bodies = bs} are taken sound) gs a n rest due runs e =

@@ -1,9 +1,9 @@
 -- The title of a nest that isn't the shortest, where no level is left: the fault is known with its first byte.
-use Rattle.std.proofs.Common.{◌≡◌, ℕ, zero, suc, ◌+◌, ◌<◌, ◌≤◌, ◌%◌, ◌⊎◌, inl, inr, Bool, true, false, List, [], ◌∷◌}
-use Rattle.std.proofs.Common.{◌++◌, length, get_or, slice_index, refl, sym, ap, subst, ◌∙◌, arith, append-nil}
+use Rattle.std.proofs.Common.{◌≡◌, ℕ, zero, suc, ◌+◌, ◌<◌, ◌%◌, inl, inr, Bool, true, false, List, [], ◌∷◌}
+use Rattle.std.proofs.Common.{◌++◌, length, get_or, refl, sym, ap, subst, ◌∙◌, arith, append-nil}
 use Rattle.ciborium_ll_grammar.specs.declared.hdr.Header.{Header}
 use Rattle.ciborium_ll_grammar.specs.declared.hdr.Header.TheVariants as h
-use Rattle.ciborium_ll_grammar.specs.Title.{IsTitle, IsSmallSimple, shortest_title, affix_len}
+use Rattle.ciborium_ll_grammar.specs.Title.{IsTitle, IsSmallSimple, affix_len}
 use Rattle.ciborium_ll_grammar.specs.Items.{IsTakenTitle}
 use Rattle.ciborium_ll_grammar.proofs.TitleLaws.{one_title, shortest_or_longer, shortest_some}
 use Rattle.ciborium_ll_grammar.proofs.AffixLaws.{announced}
@@ -13,14 +13,14 @@ use Rattle.cbor_feed.specs.declared.phase.Fault.{Fault}
 use Rattle.cbor_feed.specs.declared.phase.Fault.TheVariants as f
 use Rattle.cbor_feed.specs.declared.phase.Within.TheVariants as w
 use Rattle.cbor_feed.specs.Longer.{BeginsLonger}
-use Rattle.cbor_feed.specs.Spots.{Spot, item_entered}
+use Rattle.cbor_feed.specs.Spots.{Spot}
 use Rattle.cbor_feed.specs.Steps.{SomeTaken, titled, TitleStep, cut, early, whole, none, with_byte}
 use Rattle.cbor_feed.proofs.LongerBegun.{strict_some}
 use Rattle.cbor_feed_laws.specs.SameFaults.{HasLongNest}
 use Rattle.cbor_feed_laws.proofs.Levels.{Level}
-use Rattle.cbor_feed_laws.proofs.Runs.{Runs, fault_of, Next, next_of, with, at}
+use Rattle.cbor_feed_laws.proofs.Runs.{Runs, fault_of, next_of, at}
 use Rattle.cbor_feed_laws.proofs.TitleRuns.{Faults}
-use Rattle.cbor_feed_laws.proofs.ReachRuns.{AtItem, FromStart, item_reached}
+use Rattle.cbor_feed_laws.proofs.ReachRuns.{FromStart, item_reached}
 use Rattle.cbor_feed_laws.proofs.FaultRuns.{nest_deep}
 
 not_simple : (x : Header) → IsNest x → IsSmallSimple x → ⊥

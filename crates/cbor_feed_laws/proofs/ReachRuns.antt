@@ -1,25 +1,24 @@
 -- A run over a beginning of an item, up to what is due behind it.
-use Rattle.std.proofs.Common.{◌≡◌, ℕ, zero, suc, ◌+◌, Bool, true, false, List, [], ◌∷◌, ◌++◌, length, Some, None, refl}
-use Rattle.std.proofs.Common.{sym, ap, subst, ◌∙◌, arith, append_assoc, append-nil, length-append}
+use Rattle.std.proofs.Common.{◌≡◌, ℕ, suc, ◌+◌, Bool, true, false, List, [], ◌∷◌, ◌++◌, length, None, refl}
+use Rattle.std.proofs.Common.{ap, subst, ◌∙◌, arith, append_assoc, length-append}
 use Rattle.ciborium_ll_grammar.specs.declared.hdr.Header.{Header}
 use Rattle.ciborium_ll_grammar.specs.declared.hdr.Header.TheVariants as h
 use Rattle.ciborium_ll_grammar.specs.Title.{IsTitle, shortest_title}
 use Rattle.ciborium_ll_grammar.specs.Strings.{Kind, Bytes, Text, kind_header}
 use Rattle.ciborium_ll_grammar.specs.Elements.{AreWritable}
-use Rattle.ciborium_ll_grammar.specs.Items.{AreItems, IsTakenTitle}
-use Rattle.ciborium_ll_grammar.specs.Faults.{IsInside, opened, deeper, Place, Due, In}
+use Rattle.ciborium_ll_grammar.specs.Items.{IsTakenTitle}
+use Rattle.ciborium_ll_grammar.specs.Faults.{IsInside, opened, deeper, Due, In}
 use Rattle.ciborium_ll_grammar.proofs.ElementLaws.{AreWritable-left, AreWritable-right}
 use Rattle.ciborium_ll_grammar.proofs.TitleLaws.{IsTitle-shortest}
 use Rattle.ciborium_ll_grammar.proofs.AloneLaws.{open_in_range}
 use Rattle.cbor_skip.specs.Due.{TakesMore, may_close, ItemDue, here, within, IsTakenInside, ReachesItem, at_item}
 use Rattle.cbor_skip.specs.Due.{at_string}
 use Rattle.cbor_feed.specs.declared.phase.Fault.{Fault}
-use Rattle.cbor_feed.specs.declared.phase.Within.{Within}
 use Rattle.cbor_feed.specs.declared.phase.Within.TheVariants as w
 use Rattle.cbor_feed.specs.Levels.{closes, contents}
 use Rattle.cbor_feed.specs.Spots.{Spot, settled, item_entered}
 use Rattle.cbor_feed_laws.proofs.Levels.{Level, one_more}
-use Rattle.cbor_feed_laws.proofs.Runs.{Runs, with, at, inside}
+use Rattle.cbor_feed_laws.proofs.Runs.{Runs, at}
 use Rattle.cbor_feed_laws.proofs.TitleRuns.{taken_run}
 use Rattle.cbor_feed_laws.proofs.StringRuns.{Inside, open_run, strings_taken_run, flat_run}
 use Rattle.cbor_feed_laws.proofs.ItemRuns.{due_behind, nest_begun, items_run}

@@ -1,35 +1,32 @@
 -- The fault that a checker names is what stops a skip of the same bytes.
-use Rattle.std.proofs.Common.{◌≡◌, ℕ, zero, suc, ◌+◌, ◌-◌, ◌<◌, ◌≤◌, ◌⊎◌, inl, inr, Bool, true, false, List, [], ◌∷◌}
-use Rattle.std.proofs.Common.{◌++◌, length, take, Some, None, refl, sym, ap, subst, ◌∙◌, arith, append_assoc}
-use Rattle.std.proofs.Common.{append-nil, length-append}
+use Rattle.std.proofs.Common.{◌≡◌, ℕ, ◌+◌, ◌-◌, inl, inr, Bool, false, List, [], ◌∷◌}
+use Rattle.std.proofs.Common.{◌++◌, length, take, Some, refl, ap, subst, ◌∙◌, arith, append_assoc}
+use Rattle.std.proofs.Common.{length-append}
 use Rattle.ciborium_ll_grammar.specs.declared.hdr.Header.{Header}
 use Rattle.ciborium_ll_grammar.specs.declared.hdr.Header.TheVariants as h
 use Rattle.ciborium_ll_grammar.specs.Title.{IsTitle, BeginsRefused, title_len}
-use Rattle.ciborium_ll_grammar.specs.Strings.{Kind, Bytes, Text, kind_header}
+use Rattle.ciborium_ll_grammar.specs.Strings.{Kind, Bytes, Text}
 use Rattle.ciborium_ll_grammar.specs.Items.{IsTakenTitle}
 use Rattle.ciborium_ll_grammar.specs.Faults.{Place, Due, In, BodyDue, IsAtTitle, IsRefusedIn, Answer, Short, Syntax}
 use Rattle.ciborium_ll_grammar.specs.Faults.{FirstFault, CutTitle, NoTitle, LongTitle, OtherTitle, DamagedText, CutBody}
 use Rattle.ciborium_ll_grammar.specs.Faults.{CutDamagedText}
 use Rattle.ciborium_ll_grammar.proofs.StringLaws.{break_title}
 use Rattle.ciborium_ll_text.specs.declared.state.State.TheVariants as st
-use Rattle.ciborium_ll_text.specs.States.{after}
-use Rattle.ciborium_ll_text.specs.Text.{IsCharacters}
 use Rattle.ciborium_ll_text.proofs.StateLaws.{text_from}
-use Rattle.cbor_skip.specs.Due.{IsNest, ItemDue, ReachesItem, at_item, at_body, at_piece}
+use Rattle.cbor_skip.specs.Due.{ItemDue, ReachesItem, at_item, at_body, at_piece}
 use Rattle.cbor_skip.specs.ItemFaults.{HasItemFault, HasEarlyBreak, HasDeepNest}
 use Rattle.cbor_feed.specs.declared.phase.Fault.{Fault}
 use Rattle.cbor_feed.specs.declared.phase.Fault.TheVariants as f
 use Rattle.cbor_feed.specs.declared.phase.Within.TheVariants as w
 use Rattle.cbor_feed.specs.Spots.{broken, item_entered}
-use Rattle.cbor_feed_laws.specs.SameFaults.{HasLongNest, NamesSyntax}
-use Rattle.cbor_feed_laws.proofs.Levels.{Level}
-use Rattle.cbor_feed_laws.proofs.Runs.{Runs, fault_of, with, at, inside}
+use Rattle.cbor_feed_laws.specs.SameFaults.{NamesSyntax}
+use Rattle.cbor_feed_laws.proofs.Runs.{fault_of, at, inside}
 use Rattle.cbor_feed_laws.proofs.TitleRuns.{title_run, taken_run}
 use Rattle.cbor_feed_laws.proofs.BodyRuns.{NoText, no_text}
 use Rattle.cbor_feed_laws.proofs.StringRuns.{break_taken}
-use Rattle.cbor_feed_laws.proofs.ReachRuns.{can_close, AtItem, InString, FromStart, DueSome, item_reached}
+use Rattle.cbor_feed_laws.proofs.ReachRuns.{FromStart, item_reached}
 use Rattle.cbor_feed_laws.proofs.ReachRuns.{string_reached, due_reached}
-use Rattle.cbor_feed_laws.proofs.FaultRuns.{no_title, other_title, long_in_string, DeepAt, long_due, nest_deep}
+use Rattle.cbor_feed_laws.proofs.FaultRuns.{no_title, other_title, long_in_string, long_due, nest_deep}
 use Rattle.cbor_feed_laws.proofs.FaultRuns.{break_early}
 
 syntax_at : (a b : ℕ) → Syntax a ≡ Syntax b → a ≡ b

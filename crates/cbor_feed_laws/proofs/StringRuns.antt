@@ -1,9 +1,8 @@
 -- A run over strings within an open one.
-use Rattle.std.proofs.Common.{◌≡◌, ℕ, zero, suc, ◌+◌, Bool, true, false, List, [], ◌∷◌, ◌++◌, length, Some, None}
-use Rattle.std.proofs.Common.{refl, sym, ap, subst, ◌∙◌, arith, append_assoc, append-nil, length-append}
-use Rattle.ciborium_ll_grammar.specs.declared.hdr.Header.{Header}
+use Rattle.std.proofs.Common.{◌≡◌, ℕ, suc, ◌+◌, Bool, true, false, List, [], ◌∷◌, ◌++◌, length, Some, None}
+use Rattle.std.proofs.Common.{refl, ap, subst, ◌∙◌, arith, append_assoc, length-append}
 use Rattle.ciborium_ll_grammar.specs.declared.hdr.Header.TheVariants as h
-use Rattle.ciborium_ll_grammar.specs.Title.{IsTitle, shortest_title}
+use Rattle.ciborium_ll_grammar.specs.Title.{IsTitle}
 use Rattle.ciborium_ll_grammar.specs.Strings.{Kind, Bytes, Text, kind_header, IsString, AreStrings, IsWritable}
 use Rattle.ciborium_ll_grammar.specs.Strings.IsString.{definite, indefinite}
 use Rattle.ciborium_ll_grammar.specs.Strings.AreStrings.{none, more}
@@ -14,11 +13,9 @@ use Rattle.ciborium_ll_grammar.proofs.ElementLaws.{AreWritable-left, AreWritable
 use Rattle.ciborium_ll_grammar.proofs.StringLaws.{break_title}
 use Rattle.ciborium_ll_text.proofs.StateLaws.{text_ends}
 use Rattle.cbor_feed.specs.declared.phase.Fault.{Fault}
-use Rattle.cbor_feed.specs.declared.phase.Within.{Within}
 use Rattle.cbor_feed.specs.declared.phase.Within.TheVariants as w
-use Rattle.cbor_feed.specs.Spots.{Spot, entered, string_closed}
 use Rattle.cbor_feed_laws.proofs.Levels.{Level}
-use Rattle.cbor_feed_laws.proofs.Runs.{Runs, with, at, inside}
+use Rattle.cbor_feed_laws.proofs.Runs.{Runs, at, inside}
 use Rattle.cbor_feed_laws.proofs.TitleRuns.{taken_run}
 use Rattle.cbor_feed_laws.proofs.BodyRuns.{bytes_run, text_run}
 
@@ -58,12 +55,16 @@ open_run fault Text d gs j n title rest due q runs e =
 -- a break that ends an inner one
 close_run : (fault : Fault) (s : Bool) (k : Kind) (d : ℕ) (gs : List Level) (j n : ℕ) (rest due : List ℕ)
     → Inside fault s k d gs (suc j) n due → due ≡ 0xff ∷ rest → Inside fault s k d gs j (n + 1) rest
-close_run fault s Bytes d gs j n rest due runs e =
-    (n, taken_run fault s (w.Bytes (suc j)) d gs runs.0 n h.Break (0xff ∷ []) rest due break_title (break_taken s)
-    runs.1 e)
-close_run fault s Text d gs j n rest due runs e =
-    (n, taken_run fault s (w.Text (suc j)) d gs runs.0 n h.Break (0xff ∷ []) rest due break_title (break_taken s)
-    runs.1 e)
+close_run fault s Bytes d gs j n rest due runs e = (
+  n,
+  taken_run fault s (w.Bytes (suc j)) d gs runs.0 n h.Break (0xff ∷ []) rest due break_title (break_taken s)
+      runs.1 e,
+)
+close_run fault s Text d gs j n rest due runs e = (
+  n,
+  taken_run fault s (w.Text (suc j)) d gs runs.0 n h.Break (0xff ∷ []) rest due break_title (break_taken s)
+      runs.1 e,
+)
 
 module _ (fault : Fault) (k : Kind) (d : ℕ) (gs : List Level) where
   abbrev Here : ℕ → ℕ → List ℕ → Type 0

@@ -9,7 +9,6 @@ use Rattle.ciborium_ll_grammar.proofs.TitleLaws.{one_title}
 use Rattle.ciborium_ll_grammar.proofs.AffixLaws.{title_not_cut}
 use Rattle.ciborium_ll_grammar.proofs.AloneLaws.{title_some}
 use Rattle.cbor_feed_laws.proofs.Levels.{Level}
-use Rattle.cbor_feed.specs.declared.phase.Phase.{Phase}
 use Rattle.cbor_feed.specs.declared.phase.Phase.TheVariants as p
 use Rattle.cbor_feed.specs.declared.phase.Fault.{Fault}
 use Rattle.cbor_feed.specs.declared.phase.Fault.TheVariants as f
@@ -17,10 +16,10 @@ use Rattle.cbor_feed.specs.declared.phase.Within.{Within}
 use Rattle.cbor_feed.specs.declared.phase.Within.TheVariants as w
 use Rattle.cbor_feed.specs.Levels.{closes, contents}
 use Rattle.cbor_feed.specs.Spots.{Spot, nested, broken, item_entered, open_entered, bytes_entered, text_entered}
-use Rattle.cbor_feed.specs.Spots.{string_closed, string_done, bytes_due, text_due, body_placed, entered, refused}
+use Rattle.cbor_feed.specs.Spots.{string_closed, bytes_due, text_due, body_placed, entered}
 use Rattle.cbor_feed.specs.Steps.{NoneTaken, titled, TitleStep, cut, early, whole, none}
 use Rattle.cbor_feed.proofs.BlockedLaws.{settled_sound, string_sound}
-use Rattle.cbor_feed_laws.proofs.Runs.{Runs, faulted, goes, fault_of, Next, next_of, with, at}
+use Rattle.cbor_feed_laws.proofs.Runs.{Runs, faulted, fault_of, next_of, at}
 
 -- ---- a fault behind a title does not depend on how many bytes came
 

@@ -1,4 +1,4 @@
-use Rattle.std.proofs.Common.{rules, ◌≡◌, ◌↔◌, List, ℕ, Bool, [], subst, arith, length, refl, IsOk}
+use Rattle.std.proofs.Common.{◌↔◌, Bool, [], subst, arith, refl, IsOk}
 use Rattle.cbor_skip.specs.ItemFaults.{ItemInFront}
 use Rattle.cbor_feed_laws.proofs.AnswerLaws.{both_answer, fresh_ready, ended_exactly, fault_exactly}
 use Rattle.cbor_feed_laws.proofs.feed_and_skip.Goals as goal
