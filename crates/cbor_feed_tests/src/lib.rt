@@ -4,6 +4,8 @@
 #[cfg(test)]
 mod answers;
 #[cfg(test)]
+mod both;
+#[cfg(test)]
 mod cuts;
 #[cfg(test)]
 mod memory;

@@ -1,0 +1,206 @@
+-- The fault that a checker names, and what a skip answers.
+use Rattle.std.proofs.Common.{◌≡◌, ℕ, ◌+◌, Bool, List, [], ◌++◌, length, take, drop, refl, sym, ap}
+use Rattle.std.proofs.Common.{subst, ◌∙◌, arith, append_assoc, append-nil, Result, Ok, Err, Option, Some, None, IsTrue, ◌<◌, ◌≤◌, ◌^◌}
+use Rattle.std.proofs.Common.{◌↔◌, length-append}
+use Rattle.std.proofs.Math.Seq.{take-length}
+use Rattle.ciborium_ll_grammar.proofs.ItemLaws.{one_item}
+use Rattle.std.proofs.lemmas.List.{take-append-drop}
+use Rattle.ciborium_ll_io.specs.declared.io.Read.{Ghosts}
+use Rattle.ciborium_ll_grammar.specs.Faults.{Syntax}
+use Rattle.ciborium_ll_grammar.specs.Items.{IsItem, no_items, more_items}
+use Rattle.ciborium_ll_grammar.specs.declared.hdr.Header.{Header}
+use Rattle.ciborium_ll_decoder.specs.Decoding.{IsFreshAs, behind_waiting, offset_limit, strict_of}
+use Rattle.ciborium_ll_decoder.specs.declared.dec.Decoder.{Decoder}
+use Rattle.ciborium_ll_decoder.specs.declared.dec.Error.TheVariants as e
+use Rattle.cbor_skip.specs.declared.SkipError.{SkipError}
+use Rattle.cbor_skip.specs.declared.SkipError.TheVariants as k
+use Rattle.cbor_skip.specs.ItemFaults.{ItemInFront, HasItemFault, HasEarlyBreak, HasDeepNest}
+use Rattle.cbor_skip.specs.SkippingTold.{IsReadyToSkip, SkipsTold}
+use Rattle.cbor_feed.specs.declared.phase.Phase.{Phase}
+use Rattle.cbor_feed.specs.declared.phase.Phase.TheVariants as p
+use Rattle.cbor_feed.specs.declared.phase.Fault.{Fault}
+use Rattle.cbor_feed.specs.declared.phase.Fault.TheVariants as f
+use Rattle.cbor_feed.specs.declared.phase.Within.TheVariants as w
+use Rattle.cbor_feed.specs.declared.progress.Progress.{Progress}
+use Rattle.cbor_feed.specs.declared.progress.Progress.TheVariants as r
+use Rattle.cbor_feed.specs.Spots.{Spot}
+use Rattle.cbor_feed.specs.Steps.{StepIn, IsFed}
+use Rattle.cbor_feed.specs.Telling.{progress_in, progress_of, IsAnswer, IsMore, Tells}
+use Rattle.cbor_feed_laws.specs.SameFaults.{Names, HasLongNest, NamesSyntax, AnswersFault}
+use Rattle.cbor_feed_laws.specs.SameFaults.{IsEnd, IsFault, BeginsNoItem}
+use Rattle.cbor_feed_laws.proofs.Runs.{Runs, faulted, goes, fed_runs, at, behind}
+use Rattle.cbor_feed_laws.proofs.TitleRuns.{taken_run}
+use Rattle.cbor_feed_laws.proofs.ItemRuns.{completes_run}
+use Rattle.cbor_feed_laws.proofs.ReachRuns.{FromStart}
+use Rattle.cbor_feed_laws.proofs.SameFaultLaws.{syntax_named, break_named, deep_named}
+use Rattle.cbor_feed_laws.proofs.LongNestLaws.{long_named}
+
+-- the answer at a spot is a fault where the spot is at one
+phase_is : (phase : Phase) (spot : Spot) (fault : Fault) → progress_in phase spot ≡ r.Fault fault → phase ≡ p.Faulted fault
+phase_is p.Title spot fault e = absurd cc
+phase_is (p.Bytes left) spot fault e = absurd cc
+phase_is (p.Text left state) spot fault e = absurd cc
+phase_is p.Ended spot fault e = absurd cc
+phase_is (p.Faulted other) spot fault e = cc
+
+module _ (s : Bool) (depth : ℕ) (fed more : List ℕ) (fault : Fault) (names : Names s depth fed fault) where
+  runs_here : FromStart fault s depth (fed ++ more)
+  runs_here =
+      fed_runs fault s depth fed more names.spot names.is_fed (faulted (phase_is names.spot.phase names.spot fault names.answers))
+
+  pub same_syntax : (met : HasItemFault s depth (fed ++ more)) → (at : ℕ) → met.answer ≡ Syntax at
+      → NamesSyntax s depth (fed ++ more) at fault
+  same_syntax met at e = syntax_named fault s depth (fed ++ more) runs_here met at e
+
+  pub same_break : (met : HasEarlyBreak s depth (fed ++ more)) → fault ≡ f.Break (length met.before)
+  same_break met = break_named fault s depth (fed ++ more) runs_here met
+
+  pub same_deep : (met : HasDeepNest s depth (fed ++ more)) → fault ≡ f.Deep (length met.before)
+  same_deep met = deep_named fault s depth (fed ++ more) runs_here met
+
+  pub same_long : (met : HasLongNest s depth (fed ++ more)) → fault ≡ f.Deep (length met.before)
+  same_long met = long_named fault s depth (fed ++ more) runs_here met
+
+  -- ---- no item is in front
+
+  ended_none : (spot : Spot) (due : List ℕ) → spot.phase ≡ p.Ended → Runs fault spot due → ⊥
+  ended_none spot due is (faulted at) = let both = sym is ∙ at in cc
+  ended_none spot due is (goes {next = m} b byte step runs) = subst (λ (z : Phase). StepIn z spot b m) is step
+
+  pub item_none : (item rest : List ℕ) → IsItem s depth item → fed ++ more ≡ item ++ rest → ⊥
+  item_none item rest (more_items {title = t} {rest = r} {header = x} q g completes no_items) e =
+      let far = r ++ rest in
+      let parts : fed ++ more ≡ t ++ far =
+      e ∙ (append_assoc t (r ++ []) rest ∙ ap (λ (z : List ℕ). t ++ (z ++ rest)) (append-nil r)) in
+      let n : ℕ = 0 + length t in
+      let titled = taken_run fault s w.Nothing depth [] 0 0 x t far (fed ++ more) q g runs_here parts in
+      let all = completes_run fault s depth x r completes [] 0 n rest far titled refl in
+      ended_none (behind s depth [] all.0 (n + length r)) rest refl all.1
+
+  -- ---- what a skip answers
+
+  module _ {R E : Type 0} (source : Ghosts R E) (old new : Decoder R) where
+    pub skip_answers : (result : Result (Unit {0}) (SkipError E))
+        → SkipsTold source s depth (fed ++ more) old result new
+        → AnswersFault s depth (fed ++ more) fault old.offset result
+    skip_answers (Ok done) told = item_none told.front.item told.front.rest told.front.is_item told.front.is
+    skip_answers (Err (k.Break place)) told =
+        (length told.fault.before, told.place, same_break told.fault)
+    skip_answers (Err (k.Deep place)) told = (length told.fault.before, told.place, same_deep told.fault)
+    skip_answers (Err (k.Read (e.Syntax place))) told =
+        (told.0, told.1, same_syntax told.2.fault told.0 told.2.answered)
+    skip_answers (Err (k.Read (e.Io error))) told = tt
+    skip_answers (Err (k.Read e.TooLong)) told = told
+    skip_answers (Err (k.Read e.Waiting)) told = told
+
+-- ---- both of the same bytes
+
+waits_none : (waiting : Option Header) (ahead : Option (List ℕ)) → waiting ≡ None
+    → behind_waiting waiting ahead ≡ ahead
+waits_none None ahead e = refl
+waits_none (Some header) ahead e = absurd cc
+
+-- a decoder of a steady reader that tells its bytes
+pub fresh_ready : {R E : Type 0} (source : Ghosts R E) (room : ℕ) (strict : Bool) (reader : R) (decoder : Decoder R)
+    (due : List ℕ) → IsFreshAs strict reader 0 decoder → IsTrue (source.steady reader) → source.ahead reader ≡ Some due
+    → 8 ≤ room → length due + room < offset_limit → IsReadyToSkip source room decoder due
+fresh_ready source room strict reader decoder due fresh steady ahead wide fits = record {
+  none_waits = λ on. fresh.none_waits;
+  steady = subst (λ z. IsTrue (source.steady z)) (sym fresh.reader) steady;
+  told = waits_none decoder.waiting (source.ahead decoder.reader) fresh.none_waits
+      ∙ (ap source.ahead fresh.reader ∙ ahead);
+  fits-title = omega (arith, fresh.offset, fits, wide);
+  fits-chunk = omega (arith, fresh.offset, fits);
+}
+
+module _ {R E : Type 0} (source : Ghosts R E) (old new : Decoder R) where
+  pub both_answer : (s : Bool) (depth taken : ℕ) (bytes : List ℕ) (fault : Fault) (progress : Progress) (spot : Spot)
+      (result : Result (Unit {0}) (SkipError E)) → IsFed s depth ([] ++ take taken bytes) spot → IsAnswer progress spot
+      → old.offset ≡ 0 → strict_of old ≡ s → SkipsTold source (strict_of old) depth bytes old result new
+      → progress ≡ r.Fault fault
+      → AnswersFault s depth bytes fault 0 result
+  both_answer s depth taken bytes fault progress spot result is_fed answers start mode told e =
+      let names : Names s depth (take taken bytes) fault = record {
+        spot = spot;
+        is_fed = is_fed;
+        answers = sym (subst (λ (z : Progress). IsAnswer z spot) e answers);
+      } in
+      let all : take taken bytes ++ drop taken bytes ≡ bytes = take-append-drop taken bytes in
+      let here = skip_answers s depth (take taken bytes) (drop taken bytes) fault names source old new result
+      (subst (λ (z : List ℕ). SkipsTold source s depth z old result new) (sym all)
+      (subst (λ (z : Bool). SkipsTold source z depth bytes old result new) mode told)) in
+      subst (λ (z : ℕ). AnswersFault s depth bytes fault z result) start
+      (subst (λ (z : List ℕ). AnswersFault s depth z fault old.offset result) all here)
+
+-- ---- what a checker answers, in terms of all bytes
+
+module _ (s : Bool) (depth taken : ℕ) (bytes : List ℕ) (spot : Spot) (room : length bytes + 1 < 2 ^ 64) where
+  abbrev fed : List ℕ
+  fed = [] ++ take taken bytes
+
+  all_bytes : fed ++ drop taken bytes ≡ bytes
+  all_bytes = take-append-drop taken bytes
+
+  ended_front : IsItem s depth fed → ItemInFront s depth bytes
+  ended_front item = record { item = fed; rest = drop taken bytes; is_item = item; is = sym all_bytes }
+
+  whole : taken ≡ length bytes → fed ≡ bytes
+  whole e = ap (λ (n : ℕ). take n bytes) e ∙ take-length bytes
+
+  -- where more is due no item is in front
+  more_none : (due : ℕ) → Tells s depth fed (r.More due) → taken ≡ length bytes → ItemInFront s depth bytes → ⊥
+  more_none due tells e front =
+      let more = tells.1.0 in
+      let parts : front.item ++ (front.rest ++ more) ≡ (fed ++ more) ++ [] =
+      sym (append_assoc front.item front.rest more) ∙ (ap (λ (z : List ℕ). z ++ more) (sym front.is ∙ sym (whole e))
+      ∙ sym (append-nil (fed ++ more))) in
+      let one = one_item s s depth depth front.item (fed ++ more) (front.rest ++ more) [] front.is_item tells.1.1
+      parts in
+      let nothing = ap length one.1 in
+      let least = tells.2 more tells.1.1 in
+      omega (arith, nothing, least, tells.0, length-append front.rest more)
+
+  -- and some bytes make one
+  more_begins : (due : ℕ) → Tells s depth fed (r.More due) → taken ≡ length bytes → BeginsNoItem s depth bytes → ⊥
+  more_begins due tells e none =
+      let more = tells.1.0 in
+      none more (record {
+        item = fed ++ more;
+        rest = [];
+        is_item = tells.1.1;
+        is = ap (λ (z : List ℕ). z ++ more) (sym (whole e)) ∙ sym (append-nil (fed ++ more));
+      })
+
+  -- no more bytes come than there are
+  not_long : 2 ^ 64 ≤ length fed + 1 → ⊥
+  not_long long =
+      let parts = ap length all_bytes in
+      omega (arith, long, room, parts, length-append fed (drop taken bytes))
+
+  fault_none : (fault : Fault) → IsFed s depth fed spot → r.Fault fault ≡ progress_of spot → BeginsNoItem s depth bytes
+  fault_none fault is_fed e more front =
+      let names : Names s depth fed fault = record { spot = spot; is_fed = is_fed; answers = sym e } in
+      let all : fed ++ (drop taken bytes ++ more) ≡ bytes ++ more =
+      sym (append_assoc fed (drop taken bytes) more) ∙ ap (λ (z : List ℕ). z ++ more) all_bytes in
+      item_none s depth fed (drop taken bytes ++ more) fault names front.item front.rest front.is_item (all ∙ front.is)
+
+  item_here : ItemInFront s depth bytes → BeginsNoItem s depth bytes → ⊥
+  item_here front none = none [] (subst (ItemInFront s depth) (sym (append-nil bytes)) front)
+
+  module _ (is_fed : IsFed s depth fed spot) where
+    pub ended_exactly : (progress : Progress) → IsAnswer progress spot → Tells s depth fed progress
+        → (IsMore progress → taken ≡ length bytes) → IsEnd progress ↔ ItemInFront s depth bytes
+    ended_exactly (r.More due) answers tells all =
+        (λ is. absurd is, λ front. more_none due tells (all tt) front)
+    ended_exactly (r.Ended len) answers tells all = (λ is. ended_front tells.0, λ front. tt)
+    ended_exactly (r.Fault fault) answers tells all =
+        (λ is. absurd is, λ front. item_here front (fault_none fault is_fed answers))
+    ended_exactly r.TooLong answers tells all = (λ is. absurd is, λ front. not_long tells)
+
+    pub fault_exactly : (progress : Progress) → IsAnswer progress spot → Tells s depth fed progress
+        → (IsMore progress → taken ≡ length bytes) → IsFault progress ↔ BeginsNoItem s depth bytes
+    fault_exactly (r.More due) answers tells all =
+        (λ is. absurd is, λ none. more_begins due tells (all tt) none)
+    fault_exactly (r.Ended len) answers tells all = (λ is. absurd is, λ none. item_here (ended_front tells.0) none)
+    fault_exactly (r.Fault fault) answers tells all = (λ is. fault_none fault is_fed answers, λ none. tt)
+    fault_exactly r.TooLong answers tells all = (λ is. absurd is, λ none. not_long tells)

@@ -1,0 +1,176 @@
+-- The fault that a checker names is what stops a skip of the same bytes.
+use Rattle.std.proofs.Common.{◌≡◌, ℕ, ◌+◌, ◌-◌, inl, inr, Bool, false, List, [], ◌∷◌}
+use Rattle.std.proofs.Common.{◌++◌, length, take, Some, refl, ap, subst, ◌∙◌, arith, append_assoc}
+use Rattle.std.proofs.Common.{length-append}
+use Rattle.ciborium_ll_grammar.specs.declared.hdr.Header.{Header}
+use Rattle.ciborium_ll_grammar.specs.declared.hdr.Header.TheVariants as h
+use Rattle.ciborium_ll_grammar.specs.Title.{IsTitle, BeginsRefused, title_len}
+use Rattle.ciborium_ll_grammar.specs.Strings.{Kind, Bytes, Text}
+use Rattle.ciborium_ll_grammar.specs.Items.{IsTakenTitle}
+use Rattle.ciborium_ll_grammar.specs.Faults.{Place, Due, In, BodyDue, IsAtTitle, IsRefusedIn, Answer, Short, Syntax}
+use Rattle.ciborium_ll_grammar.specs.Faults.{FirstFault, CutTitle, NoTitle, LongTitle, OtherTitle, DamagedText, CutBody}
+use Rattle.ciborium_ll_grammar.specs.Faults.{CutDamagedText}
+use Rattle.ciborium_ll_grammar.proofs.StringLaws.{break_title}
+use Rattle.ciborium_ll_text.specs.declared.state.State.TheVariants as st
+use Rattle.ciborium_ll_text.proofs.StateLaws.{text_from}
+use Rattle.cbor_skip.specs.Due.{ItemDue, ReachesItem, at_item, at_body, at_piece}
+use Rattle.cbor_skip.specs.ItemFaults.{HasItemFault, HasEarlyBreak, HasDeepNest}
+use Rattle.cbor_feed.specs.declared.phase.Fault.{Fault}
+use Rattle.cbor_feed.specs.declared.phase.Fault.TheVariants as f
+use Rattle.cbor_feed.specs.declared.phase.Within.TheVariants as w
+use Rattle.cbor_feed.specs.Spots.{broken, item_entered}
+use Rattle.cbor_feed_laws.specs.SameFaults.{NamesSyntax}
+use Rattle.cbor_feed_laws.proofs.Runs.{fault_of, at, inside}
+use Rattle.cbor_feed_laws.proofs.TitleRuns.{title_run, taken_run}
+use Rattle.cbor_feed_laws.proofs.BodyRuns.{NoText, no_text}
+use Rattle.cbor_feed_laws.proofs.StringRuns.{break_taken}
+use Rattle.cbor_feed_laws.proofs.ReachRuns.{FromStart, item_reached}
+use Rattle.cbor_feed_laws.proofs.ReachRuns.{string_reached, due_reached}
+use Rattle.cbor_feed_laws.proofs.FaultRuns.{no_title, other_title, long_in_string, long_due, nest_deep}
+use Rattle.cbor_feed_laws.proofs.FaultRuns.{break_early}
+
+syntax_at : (a b : ℕ) → Syntax a ≡ Syntax b → a ≡ b
+syntax_at a b e = cc
+
+not_short : (a : ℕ) → Short ≡ Syntax a → ⊥
+not_short a e = cc
+
+module _ (fault : Fault) (s : Bool) (depth : ℕ) (due : List ℕ) (runs : FromStart fault s depth due) where
+  abbrev Named : ℕ → Type 0
+  Named at = NamesSyntax s depth due at fault
+
+  -- ---- a title is due
+
+  refused_named : (before ahead : List ℕ) (place : Place) → ReachesItem s depth before place → due ≡ before ++ ahead
+      → IsAtTitle place → BeginsRefused ahead → fault ≡ f.Syntax (length before)
+  refused_named before ahead Due reach e at_title refused =
+      let o = due_reached fault s depth before ahead due reach runs e in
+      no_title fault s w.Nothing o.left o.at_item.levels o.at_item.place (length before) ahead o.at_item.runs refused
+  refused_named before ahead (In k) reach e at_title refused =
+      let o = string_reached fault s depth before ahead due k reach runs e in
+      no_title fault s (inside k o.2) o.0 o.1 o.3.0 (length before) ahead o.3.1 refused
+  refused_named before ahead (BodyDue k len start) reach e at_title refused = absurd at_title
+
+  long_here : (before ahead t rest : List ℕ) (x : Header) → ReachesItem s depth before Due → due ≡ before ++ ahead
+      → IsTitle t x → (IsTakenTitle s t x → ⊥) → ahead ≡ t ++ rest → Named (length before)
+  long_here before ahead t rest x (at_item {levels = left} {closable = c} is) e q never parts =
+      let o = item_reached fault s depth before ahead due left c is runs e in
+      let n = length before in
+      let titled = title_run fault s w.Nothing left o.levels o.place n x t rest ahead q o.runs parts in
+      elim (long_due fault s o.levels n (n + length t) left x t rest q never titled) [
+        | inl named ↦ inl named
+        | inr deep ↦ inr (
+          record {
+            before = before;
+            title = t;
+            header = x;
+            rest = rest;
+            closable = c;
+            item_due = subst (λ (z : ℕ). ItemDue s false depth before z c) deep.none_left is;
+            is_title = q;
+            untaken = never;
+            is_nest = deep.is_nest;
+            is = e ∙ ap (λ (z : List ℕ). before ++ z) parts;
+          },
+          refl,
+          deep.deep,
+        )
+      ]
+
+  long_named : (before ahead t rest : List ℕ) (x : Header) (place : Place) → ReachesItem s depth before place
+      → due ≡ before ++ ahead → IsAtTitle place → IsTitle t x → (IsTakenTitle s t x → ⊥) → ahead ≡ t ++ rest
+      → Named (length before)
+  long_named before ahead t rest x Due reach e at_title q never parts =
+      long_here before ahead t rest x reach e q never parts
+  long_named before ahead t rest x (In k) reach e at_title q never parts =
+      let o = string_reached fault s depth before ahead due k reach runs e in
+      let n = length before in
+      let titled = title_run fault s (inside k o.2) o.0 o.1 o.3.0 n x t rest ahead q o.3.1 parts in
+      inl (long_in_string fault s o.0 o.1 n (n + length t) k o.2 x t rest never titled)
+  long_named before ahead t rest x (BodyDue k len start) reach e at_title q never parts = absurd at_title
+
+  other_named : (before ahead t rest : List ℕ) (x : Header) (k : Kind) → ReachesItem s depth before (In k)
+      → due ≡ before ++ ahead → IsTitle t x → IsRefusedIn s k x → ahead ≡ t ++ rest → fault ≡ f.Syntax (length before)
+  other_named before ahead t rest x k reach e q refused parts =
+      let o = string_reached fault s depth before ahead due k reach runs e in
+      let n = length before in
+      let titled = title_run fault s (inside k o.2) o.0 o.1 o.3.0 n x t rest ahead q o.3.1 parts in
+      other_title fault s o.0 o.1 n (n + length t) k o.2 x t rest refused titled
+
+  -- ---- the body of a text is due
+
+  text_named : (before ahead : List ℕ) (k : Kind) (len start : ℕ) → k ≡ Text
+      → ReachesItem s depth before (BodyDue k len start) → due ≡ before ++ ahead → NoText st.Between len ahead
+      → fault ≡ f.Syntax start
+  text_named before ahead Bytes len start is_text reach e none = absurd cc
+  text_named before ahead Text len start is_text (at_body {bytes = b} {title = t} k reach q taken) e none =
+      let o = due_reached fault s depth b (t ++ ahead) due reach runs (e ∙ append_assoc b t ahead) in
+      let n = length b in
+      let m = n + length t in
+      let on = taken_run fault s w.Nothing o.left o.at_item.levels o.at_item.place n (h.Text (Some len)) t ahead
+      (t ++ ahead) q taken o.at_item.runs refl in
+      let place = m - title_len (h.Text (Some len)) in
+      let named = no_text fault s w.Nothing o.left o.at_item.levels place len ahead m on none in
+      let long : m ≡ length (b ++ t) = let l = length-append b t in omega (arith, l) in
+      named ∙ ap (λ (z : ℕ). f.Syntax (z - title_len (h.Text (Some len)))) long
+  text_named before ahead Text len start is_text (at_piece {bytes = b} {title = t} reach q taken) e none =
+      let o = string_reached fault s depth b (t ++ ahead) due Text reach runs (e ∙ append_assoc b t ahead) in
+      let n = length b in
+      let on = taken_run fault s (w.Text o.2) o.0 o.1 o.3.0 n (h.Text (Some len)) t ahead (t ++ ahead) q taken o.3.1
+      refl in
+      no_text fault s (w.Text o.2) o.0 o.1 n len ahead (n + length t) on none
+
+  -- ---- a row of the faults
+
+  row_named : (before ahead written : List ℕ) (place : Place) (answer : Answer) (consumed at : ℕ)
+      → FirstFault s before [] place ahead answer written consumed → ReachesItem s depth before place
+      → due ≡ before ++ ahead → answer ≡ Syntax at → Named at
+  row_named before ahead written place answer consumed at (CutTitle at_title is_cut) reach e a =
+      absurd (not_short at a)
+  row_named before ahead written place answer consumed at (NoTitle at_title refused) reach e a =
+      inl (refused_named before ahead place reach e at_title refused ∙ ap f.Syntax (syntax_at (length before) at a))
+  row_named before ahead written place answer consumed at (LongTitle {title = t} x rest at_title q never parts)
+      reach e a =
+      subst Named (syntax_at (length before) at a)
+      (long_named before ahead t rest x place reach e at_title q never parts)
+  row_named before ahead written place answer consumed at (OtherTitle {kind = k} {title = t} x rest q refused parts)
+      reach e a =
+      inl (other_named before ahead t rest x k reach e q refused parts
+      ∙ ap f.Syntax (syntax_at (length before) at a))
+  row_named before ahead written place answer consumed at
+      (DamagedText {len = len} {start = start} front rest fits none parts sound within) reach e a =
+      inl (text_named before ahead Text len start refl reach e (λ long ends. none (text_from (take len ahead) ends))
+      ∙ ap f.Syntax (syntax_at start at a))
+  row_named before ahead written place answer consumed at (CutBody front rest short parts sound some most within)
+      reach e a = absurd (not_short at a)
+  row_named before ahead written place answer consumed at
+      (CutDamagedText {len = len} {start = start} front rest short none parts sound within) reach e a =
+      inl (text_named before ahead Text len start refl reach e (λ long ends. absurd (omega (arith, long, short)))
+      ∙ ap f.Syntax (syntax_at start at a))
+
+  -- ---- what stops a skip
+
+  pub syntax_named : (met : HasItemFault s depth due) → (at : ℕ) → met.answer ≡ Syntax at → Named at
+  syntax_named met at a =
+      row_named met.before met.ahead met.written met.place met.answer met.consumed at met.fault met.reach met.is a
+
+  pub break_named : (met : HasEarlyBreak s depth due) → fault ≡ f.Break (length met.before)
+  break_named met =
+      let ahead = 0xff ∷ met.rest in
+      let o = item_reached fault s depth met.before ahead due met.levels false met.item_due runs met.is in
+      let n = length met.before in
+      let on = taken_run fault s w.Nothing met.levels o.levels o.place n h.Break (0xff ∷ []) met.rest ahead break_title
+      (break_taken s) o.runs refl in
+      fault_of fault (f.Break n) (broken o.levels (at s w.Nothing met.levels o.levels n (n + 1))) met.rest
+      (break_early fault s o.levels n (n + 1) met.levels o.levels o.same) on
+
+  pub deep_named : (met : HasDeepNest s depth due) → fault ≡ f.Deep (length met.before)
+  deep_named met =
+      let ahead = met.title ++ met.rest in
+      let o = item_reached fault s depth met.before ahead due 0 met.closable met.item_due runs met.is in
+      let n = length met.before in
+      let m = n + length met.title in
+      let on = taken_run fault s w.Nothing 0 o.levels o.place n met.header met.title met.rest ahead met.is_title
+      met.taken o.runs refl in
+      fault_of fault (f.Deep n) (item_entered met.header (at s w.Nothing 0 o.levels n m)) met.rest
+      (nest_deep fault s o.levels n m met.header met.is_nest) on

@@ -1,0 +1,72 @@
+-- The fault that a checker of `cbor_feed` names, and what `skip_item` of `cbor_skip` answers to the same bytes with any
+-- more behind them.
+use Rattle.std.specs.Prelude.{◌≡◌, ℕ, ◌+◌, ◌⊎◌, Bool, false, List, ◌++◌, length, Result, Ok, Err}
+use Rattle.ciborium_ll_grammar.specs.declared.hdr.Header.{Header}
+use Rattle.ciborium_ll_grammar.specs.Title.{IsTitle}
+use Rattle.ciborium_ll_grammar.specs.Items.{IsTakenTitle}
+use Rattle.ciborium_ll_decoder.specs.declared.dec.Error.TheVariants as e
+use Rattle.cbor_skip.specs.declared.SkipError.{SkipError}
+use Rattle.cbor_skip.specs.declared.SkipError.TheVariants as s
+use Rattle.cbor_skip.specs.Due.{IsNest, ItemDue}
+use Rattle.cbor_skip.specs.ItemFaults.{ItemInFront}
+use Rattle.cbor_feed.specs.declared.phase.Fault.{Fault}
+use Rattle.cbor_feed.specs.declared.phase.Fault.TheVariants as f
+use Rattle.cbor_feed.specs.declared.progress.Progress.{Progress}
+use Rattle.cbor_feed.specs.declared.progress.Progress.TheVariants as r
+use Rattle.cbor_feed.specs.Spots.{Spot}
+use Rattle.cbor_feed.specs.Steps.{IsFed}
+use Rattle.cbor_feed.specs.Telling.{progress_of}
+
+-- fed these bytes, a checker answers this fault
+pub record Names (strict : Bool) (depth : ℕ) (fed : List ℕ) (fault : Fault) : Type 0 where
+  pub spot : Spot
+  pub is_fed : IsFed strict depth fed spot
+  pub answers : progress_of spot ≡ r.Fault fault
+
+-- the answer is that the item has ended
+abbrev pub IsEnd : Progress → Type 0
+IsEnd (r.Ended len) = Unit {0}
+IsEnd progress = ⊥
+
+-- the answer is a fault
+abbrev pub IsFault : Progress → Type 0
+IsFault (r.Fault fault) = Unit {0}
+IsFault progress = ⊥
+
+-- whatever follows the bytes, no item is in front
+abbrev pub BeginsNoItem : Bool → ℕ → List ℕ → Type 0
+BeginsNoItem strict depth bytes = (more : List ℕ) → ItemInFront strict depth (bytes ++ more) → ⊥
+
+-- behind a beginning of an item a tag, an array or a map stands where no level is left, and its title isn't the shortest
+-- one where only that is taken (RFC 7049, 3.9): two faults at one place
+pub record HasLongNest (strict : Bool) (depth : ℕ) (bytes : List ℕ) : Type 0 where
+  pub before : List ℕ
+  pub title : List ℕ
+  pub header : Header
+  pub rest : List ℕ
+  pub closable : Bool
+  pub item_due : ItemDue strict false depth before 0 closable
+  pub is_title : IsTitle title header
+  pub untaken : IsTakenTitle strict title header → ⊥
+  pub is_nest : IsNest header
+  pub is : bytes ≡ before ++ (title ++ rest)
+
+-- What a checker names where a skip finds a fault of syntax at this offset: that fault there. Where two stand there it
+-- names the nest, since it sees that with the first byte, and whether the title is the shortest only with the next
+-- ones; a skip reads the whole title first
+abbrev pub NamesSyntax : Bool → ℕ → List ℕ → ℕ → Fault → Type 0
+NamesSyntax strict depth due at fault =
+    (fault ≡ f.Syntax at)
+    ⊎ ((nest : HasLongNest strict depth due) × (length nest.before ≡ at) × (fault ≡ f.Deep at))
+
+-- The answer of a skip that began at an offset is the fault: of the same kind, and at the same place from there on; or
+-- the bytes end too early. It is never an item
+abbrev pub AnswersFault : {E : Type 0} → Bool → ℕ → List ℕ → Fault → ℕ → Result (Unit {0}) (SkipError E) → Type 0
+AnswersFault strict depth due fault from (Ok done) = ⊥
+AnswersFault strict depth due fault from (Err (s.Break at)) = (place : ℕ) × (at ≡ from + place) × (fault ≡ f.Break place)
+AnswersFault strict depth due fault from (Err (s.Deep at)) = (place : ℕ) × (at ≡ from + place) × (fault ≡ f.Deep place)
+AnswersFault strict depth due fault from (Err (s.Read (e.Syntax at))) =
+    (place : ℕ) × (at ≡ from + place) × NamesSyntax strict depth due place fault
+AnswersFault strict depth due fault from (Err (s.Read (e.Io error))) = Unit {0}
+AnswersFault strict depth due fault from (Err (s.Read e.TooLong)) = ⊥
+AnswersFault strict depth due fault from (Err (s.Read e.Waiting)) = ⊥
