@@ -9,8 +9,8 @@ use ciborium_ll_text::state::State;
 /// Why the bytes so far begin no item, whatever follows them. The number is an offset: of the title that may not stand
 /// there; of a text's body that is no text the byte from which its shortest title would reach it, or within an open
 /// string that of its title. Which fault it is, and which offset it names, is one for each list of bytes (`one_state`).
-/// That they are those of `skip_item` of `cbor_skip`, where that doesn't end short before them, no clause says: tests
-/// compare them.
+/// They are those of `skip_item` of `cbor_skip`, where that doesn't end short before them, but for a nest too deep whose
+/// title isn't the shortest: a strict checker names the nest. Laws of `cbor_feed_laws` say so.
 #[derive(Clone, Copy, Debug, PartialEq, Eq)]
 pub enum Fault {
     /// A title that is none or may not stand within its string, at this offset; or a body that is no text. Of that it
