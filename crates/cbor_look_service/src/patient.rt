@@ -73,7 +73,7 @@ impl Window {
 ///
 /// What came of a read that failed is kept, and smaller reads get it. Behind that each read fails, and nothing more is
 /// asked of the reader within: a terminal at its end would ask its user again. No read may be of more bytes than are
-/// read ahead; one that is fails too.
+/// read ahead; one that is fails too. It tells no bytes: that it hands out those it read, in their order, is tested.
 #[derive(Drop)]
 pub(crate) struct Patient<T> {
     source: T,
