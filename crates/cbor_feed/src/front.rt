@@ -7,14 +7,11 @@ use std::marker::Model;
 /// The longest title: a first byte and eight behind it.
 pub(crate) const LONGEST: usize = 9;
 
-/// How many bytes it has room for. A copy of so many is two moves.
-const ROOM: usize = 16;
-
-/// The bytes of a title so far.
+/// The bytes of a title so far. A copy of it is two moves.
 #[derive(Drop)]
 pub(crate) struct Front {
-    bytes: [u8; ROOM],
-    len: usize,
+    bytes: [u8; LONGEST],
+    len: u8,
 }
 
 impl Model for Front {
@@ -34,7 +31,7 @@ impl Front {
         ensures { result ≡ [] }
     {
         Front {
-            bytes: [0; ROOM],
+            bytes: [0; LONGEST],
             len: 0,
         }
     }
@@ -44,7 +41,7 @@ impl Front {
     pub(crate) fn len(&self) -> usize
         ensures { result ≡ length self.now }
     {
-        self.len
+        usize::from(self.len)
     }
 
     /// Gives the bytes up.
@@ -72,7 +69,7 @@ impl Front {
         requires { length self.old < 9 }
         ensures { self.new ≡ self.old ++ byte ∷ [] }
     {
-        self.bytes[self.len] = byte;
+        self.bytes[usize::from(self.len)] = byte;
         self.len += 1;
     }
 
@@ -81,7 +78,7 @@ impl Front {
     pub(crate) fn bytes(&self) -> &[u8]
         ensures { result.now ≡ self.now }
     {
-        &self.bytes[..self.len]
+        &self.bytes[..usize::from(self.len)]
     }
 
     /// Writes the bytes in front of these, and says how many they are. What stands behind them means nothing.
@@ -90,8 +87,8 @@ impl Front {
         ensures saved { take result bytes.new ≡ self.now }
         ensures len { result ≡ length self.now }
     {
-        bytes.copy_from_slice(&self.bytes[..LONGEST]);
-        self.len
+        *bytes = self.bytes;
+        usize::from(self.len)
     }
 
     /// Becomes the first so many of these bytes. They are written where they stay.
@@ -100,7 +97,7 @@ impl Front {
         requires { len ≤ 9 }
         ensures { self.new ≡ take len bytes.now }
     {
-        self.bytes[..LONGEST].copy_from_slice(bytes);
-        self.len = len;
+        self.bytes = *bytes;
+        self.len = len as u8;
     }
 }
