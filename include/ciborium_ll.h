@@ -13,10 +13,9 @@
  * own memory. So calls may run in several threads at once, where none writes what another one uses.
  *
  * Of the stack, as measured on x86-64, cll_pull, cll_push, cll_push_wide, cll_utf8, cll_checker_init,
- * cll_checker_init_strict, cll_checker_end and cll_copier_init take less than 128 bytes, cll_copier_feed,
- * cll_copier_end and cll_item_copier_end less than 1 KiB, cll_recode and cll_strict less than 2 KiB,
- * cll_item_copier_init and cll_item_copier_init_strict less than 3 KiB, and cll_checker_feed and cll_item_copier_feed
- * less than 4 KiB.
+ * cll_checker_init_strict, cll_checker_end and cll_copier_init take less than 128 bytes, cll_checker_feed,
+ * cll_copier_feed, cll_copier_end and cll_item_copier_end less than 1 KiB, cll_recode and cll_strict less than 2 KiB,
+ * cll_item_copier_init and cll_item_copier_init_strict less than 3 KiB, and cll_item_copier_feed less than 4 KiB.
  * cll_skip takes less than 2 KiB and 328 bytes for each level that it goes down: 8 KiB at 16 levels, 23 KiB at 64, and
  * 84 KiB at 256. Where the bytes end too early cll_recode, cll_strict and cll_skip take up to 4 KiB, if that is more.
  */
