@@ -24,13 +24,11 @@ use Rattle.ciborium_ll.proofs.DecodingLaws.{Passes-none, Passes-pulled, Passes-t
 use Rattle.ciborium_ll.proofs.EncodingLaws.{WritesBytes-then}
 use Rattle.ciborium_ll.proofs.HaltLaws.{kind_not_misplaced}
 use Rattle.ciborium_ll.proofs.StringLaws.{mixed, not_break, same_len}
-use Rattle.ciborium_ll.proofs.NestLaws.{advance_definite, advance_opened, alone_bytes, nest_inside}
-use Rattle.ciborium_ll.proofs.NestLaws.{open_in_range}
+use Rattle.ciborium_ll.proofs.NestLaws.{advance_definite, advance_opened, alone_bytes, nest_inside, open_in_range}
 use Rattle.ciborium_ll.proofs.SkipLaws.{close_string}
 use Rattle.ciborium_ll.proofs.StepLaws.{add_string, counted, never}
 use Rattle.ciborium_ll.proofs.TitleLaws.{IsTitle-shortest}
-use Rattle.ciborium_ll_decoder.proofs.RecodeLaws.{passes_same}
-use Rattle.ciborium_ll.proofs.SkipLaws.{silent}
+use Rattle.ciborium_ll_decoder.proofs.DecodingLaws.{passes_same}
 use Rattle.cbor_skip.specs.declared.SkipError.TheVariants as s
 use Rattle.cbor_diag.specs.declared.DiagError.{DiagError}
 use Rattle.cbor_diag.specs.declared.DiagError.TheVariants as d
@@ -207,7 +205,7 @@ module _ {R E : Type 0} (source : Reader R E) (k : Kind) where
         let found = only.found in
         let same : body ≡ only.body = cc in
         let count : body.length ≡ len = ap (λ (b : Body). b.length) same ∙ only.length-is in
-        let passed = passes_same source silent opened opened new [] (Passes-none source opened) settled only.reader
+        let passed = passes_same source opened opened new [] (Passes-none source opened) settled only.reader
         only.offset only.none_waits only.mode in
         record {
           behind = [];

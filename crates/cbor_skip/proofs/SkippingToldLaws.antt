@@ -25,7 +25,7 @@ use Rattle.ciborium_ll_strings.specs.Skipping.{SkipsString, SkipsInside, MeetsNo
 use Rattle.ciborium_ll_grammar.proofs.TitleLaws.{shortest_no_longer}
 use Rattle.ciborium_ll_text.proofs.TextLaws.{IsCharacters-nil}
 use Rattle.ciborium_ll_decoder.proofs.BodyLaws.{view_none}
-use Rattle.ciborium_ll_decoder.proofs.CopyingTold.{consumes_told, next_read_small, first_gone, refused_byte}
+use Rattle.ciborium_ll_decoder.proofs.ToldLaws.{consumes_told, next_read_small, first_gone, refused_byte}
 use Rattle.ciborium_ll_text.proofs.Lists.{first_counted, front_of, front_behind}
 use Rattle.ciborium_ll_text.proofs.FrontLaws.{no_text_behind}
 use Rattle.ciborium_ll_decoder.proofs.NestLaws.{alone_bytes, open_alone}

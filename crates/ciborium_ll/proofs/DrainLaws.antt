@@ -1,7 +1,6 @@
 -- A drain of a body, chunk by chunk.
 use Rattle.std.proofs.Common.{◌≡◌, ℕ, ◌+◌, ◌-◌, ◌<◌, ◌≤◌, ◌⊎◌, min, max, List, [], ◌∷◌, ◌++◌, length, take, drop}
-use Rattle.std.proofs.Common.{get_or, Ok, refl, sym, ap, ◌∙◌, inl, inr, arith, append_assoc, append-nil}
-use Rattle.std.proofs.Common.{length-append}
+use Rattle.std.proofs.Common.{get_or, Ok, refl, sym, ap, ◌∙◌, inl, inr, arith, append_assoc, append-nil, length-append}
 use Rattle.std.proofs.KnownBytes.{Appends-nil}
 use Rattle.std.proofs.lemmas.Bool.{cases_lt}
 use Rattle.std.proofs.Math.Seq.{take-append_seam}
@@ -14,13 +13,12 @@ use Rattle.ciborium_ll_decoder.specs.declared.seg.Segment.{Segment}
 use Rattle.ciborium_ll_grammar.specs.Strings.{Kind, Bytes, Text, most_kept}
 use Rattle.ciborium_ll_decoder.specs.Kept.{kept_bytes}
 use Rattle.ciborium_ll_decoder.specs.Decoding.{IsSteady}
-use Rattle.ciborium_ll_encoder.specs.Encoding.{WritesAll}
+use Rattle.ciborium_ll_io.specs.Writes.{WritesAll}
 use Rattle.ciborium_ll_decoder.specs.Chunks.{IsSplit, GivesChunk, left_of}
 use Rattle.ciborium_ll.specs.Drains.{gains, greatest, HasBehind, HandsOut, DrainsSome}
 use Rattle.ciborium_ll_decoder.proofs.DecodingLaws.{Passes-none}
 use Rattle.ciborium_ll_text.proofs.Lists.{length_zero}
-use Rattle.ciborium_ll_encoder.proofs.EncodingLaws.{WritesBytes-then}
-use Rattle.ciborium_ll_decoder.proofs.CopyingLaws.{Shrinks-zero}
+use Rattle.ciborium_ll_io.proofs.WriteLaws.{WritesBytes-then, Shrinks-zero}
 use Rattle.ciborium_ll_decoder.proofs.BodyLaws.{split_parts, writable_nil, writable_chunk, few_kept, Passes-read}
 
 -- ---- sizes

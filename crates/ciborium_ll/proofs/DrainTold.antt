@@ -13,8 +13,8 @@ use Rattle.std.proofs.lemmas.List.Elements.{All-take, recursion_from_All}
 use Rattle.ciborium_ll_io.specs.declared.io.Read.{Ghosts as Reader}
 use Rattle.ciborium_ll_io.specs.declared.io.Write.{Ghosts as Writer}
 use Rattle.ciborium_ll_decoder.specs.declared.dec.Error.TheVariants as e
-use Rattle.ciborium_ll_decoder.specs.declared.recode.RecodeError.{RecodeError}
-use Rattle.ciborium_ll_decoder.specs.declared.recode.RecodeError.TheVariants as r
+use Rattle.ciborium_ll_decoder.specs.declared.copy.RecodeError.{RecodeError}
+use Rattle.ciborium_ll_decoder.specs.declared.copy.RecodeError.TheVariants as r
 use Rattle.ciborium_ll.specs.declared.laws.drains.Drained.{Drained}
 use Rattle.ciborium_ll.specs.declared.laws.drains.End.{End}
 use Rattle.ciborium_ll.specs.declared.laws.drains.End.TheVariants as end
@@ -29,7 +29,8 @@ use Rattle.ciborium_ll.specs.Drains.{gains, calls_for, IsEnough, AddUp, DrainsSo
 use Rattle.ciborium_ll.specs.Drains.{DrainFails, DrainUnwritten, EndsDrain, Drains, IsDrainable, WritesBody}
 use Rattle.ciborium_ll.specs.Drains.{LeavesRest, FindsNoText, EndsTold, DrainsTold, HasEnded}
 use Rattle.ciborium_ll_decoder.proofs.BodyLaws.{view_none, split_parts, stuck_is_no_text, too_much_is_no_text}
-use Rattle.ciborium_ll_decoder.proofs.CopyingTold.{consumes_told, appends_told, shrinks_told}
+use Rattle.ciborium_ll_decoder.proofs.ToldLaws.{consumes_told}
+use Rattle.ciborium_ll_io.proofs.WriteLaws.{appends_told, shrinks_told}
 use Rattle.ciborium_ll_text.proofs.Lists.{length_zero}
 
 -- ---- sizes

@@ -1,3 +1,5 @@
+mod CopyingLaws
+pub mod CopyingTold
 pub mod DrainLaws
 pub mod DrainTold
 pub mod PiecesWritten
@@ -19,7 +21,6 @@ pub use Rattle.ciborium_ll_grammar.proofs.StepLaws
 pub use Rattle.ciborium_ll_encoder.proofs.EncodingLaws
 pub use Rattle.ciborium_ll_decoder.proofs.BodyCopyLaws
 pub use Rattle.ciborium_ll_decoder.proofs.BodyLaws
-pub use Rattle.ciborium_ll_decoder.proofs.CopyingTold
 pub use Rattle.ciborium_ll_decoder.proofs.DecodingLaws
 pub use Rattle.ciborium_ll_decoder.proofs.NestLaws
 pub use Rattle.ciborium_ll_strings.proofs.SkipLaws

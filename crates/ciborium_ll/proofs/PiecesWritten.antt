@@ -6,10 +6,10 @@ use Rattle.std.proofs.KnownBytes.{Appends-nil}
 use Rattle.ciborium_ll_io.specs.declared.io.Read.{Ghosts as Reader}
 use Rattle.ciborium_ll_io.specs.declared.io.Write.{Ghosts}
 use Rattle.ciborium_ll_decoder.specs.declared.dec.Decoder.{Decoder}
-use Rattle.ciborium_ll_decoder.specs.declared.recode.RecodeError.{RecodeError}
+use Rattle.ciborium_ll_decoder.specs.declared.copy.RecodeError.{RecodeError}
 use Rattle.ciborium_ll_grammar.specs.Faults.{RunInFront}
-use Rattle.ciborium_ll_decoder.specs.RecodingTold.{CopiesFront, RecodesTold}
-use Rattle.ciborium_ll_decoder.specs.Sides.{sides}
+use Rattle.ciborium_ll_recode.specs.RecodingTold.{CopiesFront, RecodesTold}
+use Rattle.ciborium_ll_decoder.specs.BodyCopies.{sides}
 use Rattle.ciborium_ll_grammar.specs.declared.hdr.Header.{Header}
 use Rattle.ciborium_ll.specs.declared.laws.pieces.Piece.{Piece}
 use Rattle.ciborium_ll_grammar.specs.Title.{IsInRange, shortest_title}
@@ -17,17 +17,16 @@ use Rattle.ciborium_ll_grammar.specs.Strings.{Kind, IsWritable}
 use Rattle.ciborium_ll_text.specs.Text.{joined}
 use Rattle.ciborium_ll_grammar.specs.Elements.{Mark, Plain, IsPlain, spelling, IsElement, plain, IsRun, done}
 use Rattle.ciborium_ll_grammar.specs.Values.{least_limit, value_limit, segments, IsWritten, in_one, in_pieces}
-use Rattle.ciborium_ll_encoder.specs.Encoding.{WritesAll, WritesFront, WritesBytes, WritesValue}
+use Rattle.ciborium_ll_io.specs.Writes.{WritesAll, WritesFront, WritesBytes}
+use Rattle.ciborium_ll_encoder.specs.Encoding.{WritesValue}
 use Rattle.ciborium_ll.specs.Pieces.{IsValue, IsPiece, HaveMarks, AreSpelled, CopiesSame, WritesMarked, WritesEach}
 use Rattle.ciborium_ll.specs.Pieces.{WritesElements}
 use Rattle.ciborium_ll.specs.Pieces.HaveMarks.{none as no_pieces, next as next_piece}
 use Rattle.ciborium_ll_grammar.proofs.TitleLaws.{IsTitle-shortest}
-use Rattle.ciborium_ll_decoder.proofs.CopyingLaws.{Shrinks-zero}
+use Rattle.ciborium_ll_io.proofs.WriteLaws.{Shrinks-zero, WritesBytes-then}
 use Rattle.ciborium_ll_grammar.proofs.ElementLaws.{spelling-append, one_run}
 use Rattle.ciborium_ll_grammar.proofs.StepLaws.{add_element}
-use Rattle.ciborium_ll_encoder.proofs.EncodingLaws.{WritesBytes-then}
-use Rattle.ciborium_ll_grammar.proofs.ValueLaws.{written_element, sound_pieces}
-use Rattle.ciborium_ll_grammar.proofs.ValueLaws.{segments_of_pieces}
+use Rattle.ciborium_ll_grammar.proofs.ValueLaws.{written_element, sound_pieces, segments_of_pieces}
 
 -- ---- the marks of a value
 

@@ -3,24 +3,20 @@ use Rattle.std.proofs.Common.{◌≡◌, ℕ, ◌≤◌, ◌↔◌, true, false,
 use Rattle.std.proofs.Common.{◌∙◌, arith, append-nil, length-append}
 use Rattle.std.specs.List.{AllByRecursion}
 use Rattle.ciborium_ll_grammar.specs.Title.{shortest_title}
-use Rattle.ciborium_ll_grammar.specs.Strings.{Kind, kind_header, AreStrings}
-use Rattle.ciborium_ll_grammar.specs.Strings.{none as no_strings, more as more_strings}
+use Rattle.ciborium_ll_grammar.specs.Strings.{Kind, kind_header, AreStrings, none as no_strings, more as more_strings}
 use Rattle.ciborium_ll_grammar.specs.Strings.IsString.{definite, indefinite}
 use Rattle.ciborium_ll_grammar.specs.Elements.{Mark, IsMeant, pieces, spelling, body_spelling, IsElement, IsRun, string}
-use Rattle.ciborium_ll_grammar.specs.Elements.{IsStrictRun}
-use Rattle.ciborium_ll_grammar.specs.Elements.{plain as plain_element, done as run_done, next as run_next}
+use Rattle.ciborium_ll_grammar.specs.Elements.{IsStrictRun, plain as plain_element, done as run_done, next as run_next}
 use Rattle.ciborium_ll_grammar.specs.Faults.{RunInFront}
 use Rattle.ciborium_ll_grammar.specs.StrictElements.{AreFlat, none, more, IsStrictElement, plain, whole, parts}
 use Rattle.ciborium_ll_grammar.specs.StrictElements.{AreStrictElements, done, next}
 use Rattle.ciborium_ll_grammar.proofs.TitleLaws.{shortest_no_longer}
 use Rattle.ciborium_ll_grammar.proofs.TightLaws.{tight_run}
-use Rattle.ciborium_ll_grammar.proofs.ElementLaws.{spelling-append, open_spelled}
-use Rattle.ciborium_ll_grammar.proofs.ElementLaws.{element_again, one_element, one_run}
+use Rattle.ciborium_ll_grammar.proofs.ElementLaws.{spelling-append, open_spelled, element_again, one_element, one_run}
 use Rattle.ciborium_ll_strings.proofs.FlatStrings.{strict_title, flat}
 use Rattle.ciborium_ll_decoder.proofs.NestLaws.{alone_bytes, open_alone}
-use Rattle.ciborium_ll_decoder.proofs.SpelledLaws.{meant_append, open_meant}
+use Rattle.ciborium_ll_grammar.proofs.SpelledLaws.{meant_append, open_meant, spelled_alone}
 use Rattle.ciborium_ll_grammar.proofs.FaultLaws.{meant_left, meant_right}
-use Rattle.ciborium_ll_grammar.proofs.SpelledLaws.{spelled_alone}
 
 -- ---- from the spelling to the titles
 

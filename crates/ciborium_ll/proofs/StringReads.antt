@@ -18,11 +18,11 @@ use Rattle.ciborium_ll_grammar.proofs.ElementLaws.{AreWritable-append}
 use Rattle.ciborium_ll_grammar.proofs.OpenStrings.{IsInsideAt, one_open}
 use Rattle.ciborium_ll_grammar.proofs.StepLaws.{add_string}
 use Rattle.ciborium_ll_grammar.proofs.TitleLaws.{title_in_range}
-use Rattle.ciborium_ll_decoder.proofs.DecodingLaws.{Passes-none, Passes-pulled, Passes-then}
+use Rattle.ciborium_ll_decoder.proofs.DecodingLaws.{Passes-none, Passes-pulled, Passes-then, passes_same}
 use Rattle.ciborium_ll_decoder.proofs.NestLaws.{FindsOnly, advance_definite, advance_opened, alone_bytes, nest_inside}
-use Rattle.ciborium_ll_decoder.proofs.RecodeLaws.{passes_same, sound_body}
+use Rattle.ciborium_ll_decoder.proofs.BodyLaws.{sound_body}
 use Rattle.ciborium_ll_decoder.proofs.SegmentLaws.{some_open}
-use Rattle.ciborium_ll_strings.proofs.SkipLaws.{close_string, silent}
+use Rattle.ciborium_ll_strings.proofs.SkipLaws.{close_string}
 
 module _ {R E : Type 0} (source : Reader R E) (k : Kind) where
   -- the header waits in front of the first body
@@ -111,7 +111,7 @@ module _ {R E : Type 0} (source : Reader R E) (k : Kind) where
         let found = only.found in
         let same : body ≡ only.body = cc in
         let lengths = ap (λ (b : Body). b.length) same ∙ only.length-is in
-        let passed = passes_same source silent opened opened new [] (Passes-none source opened) settled only.reader
+        let passed = passes_same source opened opened new [] (Passes-none source opened) settled only.reader
         only.offset only.none_waits only.mode in
         record {
           body = reads.read;

@@ -5,8 +5,8 @@ use Rattle.ciborium_ll_io.specs.declared.io.Read.{Ghosts as Reader}
 use Rattle.ciborium_ll_io.specs.declared.io.Write.{Ghosts as Writer}
 use Rattle.ciborium_ll_decoder.specs.declared.dec.Error.{Error}
 use Rattle.ciborium_ll_decoder.specs.declared.dec.Error.TheVariants as e
-use Rattle.ciborium_ll_decoder.specs.declared.recode.RecodeError.{RecodeError}
-use Rattle.ciborium_ll_decoder.specs.declared.recode.RecodeError.TheVariants as r
+use Rattle.ciborium_ll_decoder.specs.declared.copy.RecodeError.{RecodeError}
+use Rattle.ciborium_ll_decoder.specs.declared.copy.RecodeError.TheVariants as r
 use Rattle.ciborium_ll.specs.declared.laws.drains.Drained.{Drained}
 use Rattle.ciborium_ll.specs.declared.laws.drains.End.{End}
 use Rattle.ciborium_ll.specs.declared.laws.drains.End.TheVariants as end
@@ -16,7 +16,7 @@ use Rattle.ciborium_ll_grammar.specs.Strings.{Kind, Text, IsWritable, most_kept}
 use Rattle.ciborium_ll_text.specs.Text.{IsCharacters}
 use Rattle.ciborium_ll_decoder.specs.Kept.{kept_bytes}
 use Rattle.ciborium_ll_decoder.specs.Decoding.{offset_limit, IsSteady, MovesOn, Passes}
-use Rattle.ciborium_ll_encoder.specs.Encoding.{WritesAll, WritesFront}
+use Rattle.ciborium_ll_io.specs.Writes.{WritesAll, WritesFront}
 use Rattle.ciborium_ll_decoder.specs.Chunks.{GivesChunk, PullsChunk, SegmentEnds, left_of, rest}
 use Rattle.ciborium_ll_decoder.specs.Chunks.{segment_decoder, segment_reference}
 

@@ -1,3 +1,4 @@
+pub mod Copying
 pub mod Drains
 pub mod Pieces
 pub mod Types
@@ -21,17 +22,18 @@ pub use Rattle.ciborium_ll_io.specs.Discards
 pub use Rattle.ciborium_ll_io.specs.Slices
 pub use Rattle.ciborium_ll_streams.specs.Streams
 pub use Rattle.ciborium_ll_io.specs.Transfer
+pub use Rattle.ciborium_ll_io.specs.Writes
 pub use Rattle.ciborium_ll_encoder.specs.Encoding
+pub use Rattle.ciborium_ll_decoder.specs.BodyCopies
 pub use Rattle.ciborium_ll_decoder.specs.Chunks
-pub use Rattle.ciborium_ll_decoder.specs.Copying
 pub use Rattle.ciborium_ll_decoder.specs.Decoding
 pub use Rattle.ciborium_ll_decoder.specs.ErrorTexts
 pub use Rattle.ciborium_ll_decoder.specs.Finishing
 pub use Rattle.ciborium_ll_decoder.specs.Kept
 pub use Rattle.ciborium_ll_decoder.specs.Lend
 pub use Rattle.ciborium_ll_decoder.specs.Progress
-pub use Rattle.ciborium_ll_decoder.specs.Recoding
-pub use Rattle.ciborium_ll_decoder.specs.RecodingTold
 pub use Rattle.ciborium_ll_decoder.specs.Segments
-pub use Rattle.ciborium_ll_decoder.specs.Sides
+pub use Rattle.ciborium_ll_recode.specs.Recoding
+pub use Rattle.ciborium_ll_recode.specs.RecodingTold
+pub use Rattle.ciborium_ll_recode.specs.Sides
 pub use Rattle.ciborium_ll_strings.specs.Skipping

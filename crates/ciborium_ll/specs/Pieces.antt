@@ -10,7 +10,7 @@ use Rattle.ciborium_ll_grammar.specs.Strings.{Kind, Bytes, Text}
 use Rattle.ciborium_ll_grammar.specs.Elements.{Mark, Plain, IsPlain, IsElement, IsRun, spelling}
 use Rattle.ciborium_ll_grammar.specs.Values.{value_limit, IsWritten, segments}
 use Rattle.ciborium_ll_decoder.specs.Decoding.{view}
-use Rattle.ciborium_ll_encoder.specs.Encoding.{WritesAll, WritesBytes, WritesFront}
+use Rattle.ciborium_ll_io.specs.Writes.{WritesAll, WritesBytes, WritesFront}
 
 -- a piece is what one call writes. One that is a header begins no string: strings are written as values of bytes and of
 -- text

@@ -1,7 +1,7 @@
 -- The types of the library, by their names alone.
 pub use Rattle.ciborium_ll_decoder.specs.declared.dec.Decoder
 pub use Rattle.ciborium_ll_decoder.specs.declared.dec.Error
-pub use Rattle.ciborium_ll_decoder.specs.declared.recode.RecodeError
+pub use Rattle.ciborium_ll_decoder.specs.declared.copy.RecodeError
 pub use Rattle.ciborium_ll_decoder.specs.declared.seg.Body
 pub use Rattle.ciborium_ll_decoder.specs.declared.seg.Parser
 pub use Rattle.ciborium_ll_decoder.specs.declared.seg.Progress

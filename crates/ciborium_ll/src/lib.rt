@@ -9,9 +9,9 @@ pub mod laws;
 pub mod simple;
 pub mod tag;
 
+pub use ciborium_ll_decoder::copy::RecodeError;
 pub use ciborium_ll_decoder::dec::{Decoder, Error};
-pub use ciborium_ll_decoder::recode;
-pub use ciborium_ll_decoder::recode::RecodeError;
 pub use ciborium_ll_decoder::seg::{Body, Bytes, Chunked, Segment, Segments, Text};
 pub use ciborium_ll_encoder::enc::Encoder;
 pub use ciborium_ll_grammar::hdr::{Float, Header};
+pub use ciborium_ll_recode::recode;

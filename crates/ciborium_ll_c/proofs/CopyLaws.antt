@@ -26,8 +26,8 @@ use Rattle.ciborium_ll_c.specs.Checking.{Checks}
 use Rattle.ciborium_ll_c.specs.Copying.{CopiesInto, CopiesAnyhow, HasRoom, StandInFront, StopsForRoom, buffer_size}
 use Rattle.ciborium_ll_c.specs.Copying.{copy_answer, copy_place}
 use Rattle.ciborium_ll.proofs.CopyingTold.{appends_told, consumes_told, shrinks_told}
-use Rattle.ciborium_ll_decoder.proofs.RecodeAnyhowLaws.{recode_anyhow}
-use Rattle.ciborium_ll_decoder.proofs.RecodeReadyLaws.{short_told}
+use Rattle.ciborium_ll_recode.proofs.RecodeAnyhowLaws.{recode_anyhow}
+use Rattle.ciborium_ll_recode.proofs.RecodeReadyLaws.{short_told}
 use Rattle.ciborium_ll_c.proofs.PullLaws.{due_ahead, still_steady}
 
 same_bytes : (known : Option (List ℕ)) (one other : List ℕ) → known ≡ Some one → known ≡ Some other → one ≡ other

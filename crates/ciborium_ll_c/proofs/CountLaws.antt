@@ -20,9 +20,9 @@ use Rattle.ciborium_ll_c.specs.Copying.{HasRoom, buffer_size, copy_answer}
 use Rattle.ciborium_ll_c.specs.Counting.{CountsTo, CountsElements, CountsStrictTo, CountsStrictly, CountsCopy}
 use Rattle.ciborium_ll_grammar.proofs.StrictFaultLaws.{no_fault}
 use Rattle.ciborium_ll.proofs.CopyingTold.{consumes_told}
-use Rattle.ciborium_ll_decoder.proofs.RecodeAnyhowLaws.{recode_anyhow}
-use Rattle.ciborium_ll_decoder.proofs.RecodeReadyLaws.{recode_told, recode_exactly, short_told}
-use Rattle.ciborium_ll_decoder.proofs.CopyLaws.{copies_all}
+use Rattle.ciborium_ll_recode.proofs.RecodeAnyhowLaws.{recode_anyhow}
+use Rattle.ciborium_ll_recode.proofs.RecodeReadyLaws.{recode_told, recode_exactly, short_told}
+use Rattle.ciborium_ll_recode.proofs.CopyLaws.{copies_all}
 use Rattle.ciborium_ll_c.proofs.CopyLaws.{never_too_long}
 
 module _ {R E W F : Type 0} (source : Reader R E) (sink : Writer W F) (count : ℕ) (due : List ℕ)

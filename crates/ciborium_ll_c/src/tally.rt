@@ -8,7 +8,7 @@ ghost use Rattle.ciborium_ll_c.specs.Counting.{CountsCopy};
 
 use ciborium_ll::io::{Read, Write};
 use ciborium_ll::{Decoder, Encoder, RecodeError};
-use ciborium_ll_decoder::recode::copy_element;
+use ciborium_ll_recode::recode::copy_element;
 
 /// How many elements were done.
 #[derive(Clone, Copy)]

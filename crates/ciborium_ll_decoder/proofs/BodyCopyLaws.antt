@@ -1,28 +1,23 @@
 -- The copy of a body, chunk by chunk.
-use Rattle.std.proofs.Common.{◌≡◌, ℕ, ◌≤◌, List, [], ◌++◌, length, Result, Ok, Err, refl, sym, ap, subst}
+use Rattle.std.proofs.Common.{◌≡◌, ℕ, ◌≤◌, List, [], ◌++◌, length, Ok, Err, refl, sym, ap, subst}
 use Rattle.std.proofs.Common.{◌∙◌, arith, append_assoc, append-nil, length-append}
 use Rattle.std.proofs.KnownBytes.{Appends-nil}
 use Rattle.ciborium_ll_io.specs.declared.io.Read.{Ghosts as Reader}
 use Rattle.ciborium_ll_io.specs.declared.io.Write.{Ghosts as Writer}
 use Rattle.ciborium_ll_decoder.specs.declared.dec.Decoder.{Decoder}
 use Rattle.ciborium_ll_decoder.specs.declared.dec.Error.{Error}
-use Rattle.ciborium_ll_decoder.specs.declared.recode.RecodeError.{RecodeError}
-use Rattle.ciborium_ll_decoder.specs.declared.recode.RecodeError.TheVariants as r
+use Rattle.ciborium_ll_decoder.specs.declared.copy.RecodeError.TheVariants as r
 use Rattle.ciborium_ll_decoder.specs.declared.seg.Body.{Body}
 use Rattle.ciborium_ll_decoder.specs.declared.seg.Parser.{Ghosts as Parser}
 use Rattle.ciborium_ll_decoder.specs.declared.seg.Segment.{Segment}
 use Rattle.ciborium_ll_decoder.specs.Kept.{kept_bytes}
 use Rattle.ciborium_ll_decoder.specs.Decoding.{IsSteady, Passes}
-use Rattle.ciborium_ll_encoder.specs.declared.enc.Encoder.{Encoder}
-use Rattle.ciborium_ll_encoder.specs.Encoding.{WritesAll, WritesFront, writer_of}
-use Rattle.ciborium_ll_grammar.specs.Strings.{Kind}
+use Rattle.ciborium_ll_io.specs.Writes.{WritesAll, WritesFront}
 use Rattle.ciborium_ll_decoder.specs.Chunks.{IsWhole, GivesChunk, SegmentEnds, PullsChunk}
-use Rattle.ciborium_ll_decoder.specs.Recoding.{BodyUnwritten, CopiesBody}
-use Rattle.ciborium_ll_decoder.specs.Sides.{sides, sides_of}
+use Rattle.ciborium_ll_decoder.specs.BodyCopies.{BodyUnwritten, CopiesBody, sides}
 use Rattle.ciborium_ll_decoder.proofs.BodyLaws.{few_kept, split_parts, three_kept}
 use Rattle.ciborium_ll_decoder.proofs.FinishLaws.{HandsOut, RestSoFar, rest_start, rest_chunk, rest_ends}
-use Rattle.ciborium_ll_encoder.proofs.EncodingLaws.{WritesBytes-then}
-use Rattle.ciborium_ll_decoder.proofs.CopyingLaws.{Shrinks-zero}
+use Rattle.ciborium_ll_io.proofs.WriteLaws.{Shrinks-zero, WritesBytes-then}
 
 module _ {R E P W F : Type 0} {parser : Parser P} (source : Reader R E) (sink : Writer W F) where
   -- of the body of the first segment the chunks so far were written
@@ -141,45 +136,3 @@ module _ {R E P W F : Type 0} {parser : Parser P} (source : Reader R E) (sink : 
           ends = behind.0;
           written = subst (λ (z : List ℕ). WritesAll sink writer z now) (sym behind.1) so_far.written;
         }
-
-module _ {R E W F : Type 0} (source : Reader R E) (sink : Writer W F) where
-  -- an encoder as a writer passes on to its own
-  abbrev pub passing_on : Writer (Encoder W) F
-  passing_on = record {
-    written = λ encoder. sink.written (writer_of encoder);
-    room = λ encoder. sink.room (writer_of encoder);
-    failures = λ encoder. sink.failures (writer_of encoder);
-    flushed = λ old new. sink.flushed (writer_of old) (writer_of new);
-    target = λ encoder. sink.target (writer_of encoder);
-  }
-
-  module _ (old new : Encoder W) (bytes : List ℕ) where
-    all_passed_on : WritesAll passing_on old bytes new → WritesAll sink (writer_of old) bytes (writer_of new)
-    all_passed_on written =
-        record { appended = written.appended; room = written.room; failures = written.failures }
-
-    front_passed_on : WritesFront passing_on old bytes new → WritesFront sink (writer_of old) bytes (writer_of new)
-    front_passed_on stopped = record { front = stopped.front; full = stopped.full; failures = stopped.failures }
-
-  -- a body that was copied to an encoder was copied to its writer
-  pub through_encoder : (kind : Kind) (len room place : ℕ) (old new : Decoder R) (encoder encoder' : Encoder W)
-      (result : Result (Unit {0}) (RecodeError E F))
-      → CopiesBody source passing_on kind len room place (sides old encoder) result (sides new encoder')
-      → CopiesBody source sink kind len room place (sides_of old encoder) result (sides_of new encoder')
-  through_encoder kind len room place old new encoder encoder' (Ok done) copied =
-      record { ends = copied.ends; written = all_passed_on encoder encoder' _ copied.written }
-  through_encoder kind len room place old new encoder encoder' (Err (r.Read error)) copied =
-      record { ends = copied.ends; written = all_passed_on encoder encoder' _ copied.written }
-  through_encoder kind len room place old new encoder encoder' (Err (r.Write fault)) stops = record {
-    front = stops.front;
-    chunk = stops.chunk;
-    kept = stops.kept;
-    between = writer_of stops.between;
-    passed = stops.passed;
-    within = stops.within;
-    filled = stops.filled;
-    few = stops.few;
-    sound = stops.sound;
-    written = all_passed_on encoder stops.between stops.front stops.written;
-    stopped = front_passed_on stops.between encoder' stops.chunk stops.stopped;
-  }

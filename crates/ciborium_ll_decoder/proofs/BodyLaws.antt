@@ -1,5 +1,5 @@
 -- Bodies, chunk by chunk: what is handed out, what is kept, and a read behind what passed.
-use Rattle.std.proofs.Common.{◌≡◌, ℕ, ◌<◌, ◌≤◌, ◌⊎◌, List, [], ◌++◌, length, Option, Some, None, IfSome}
+use Rattle.std.proofs.Common.{◌≡◌, ℕ, ◌<◌, ◌≤◌, ◌⊎◌, List, [], ◌∷◌, ◌++◌, length, Option, Some, None, IfSome}
 use Rattle.std.proofs.Common.{refl, sym, ap, subst, ◌∙◌, inl, inr, arith, append_assoc, append-nil}
 use Rattle.std.proofs.Common.{length-append}
 use Rattle.std.proofs.KnownBytes.{Consumes-trans}
@@ -10,6 +10,7 @@ use Rattle.ciborium_ll_decoder.specs.declared.seg.Kept.{Kept}
 use Rattle.ciborium_ll_decoder.specs.declared.seg.Kept.TheVariants as k
 use Rattle.ciborium_ll_grammar.specs.Title.{shortest_title}
 use Rattle.ciborium_ll_grammar.specs.Strings.{Kind, Bytes, Text, IsWritable, most_kept}
+use Rattle.ciborium_ll_grammar.specs.Elements.{AreWritable}
 use Rattle.ciborium_ll_text.specs.Text.{IsCharacters, IsFront, IsStuck, BeginsNoText}
 use Rattle.ciborium_ll_decoder.specs.Kept.{kept_bytes}
 use Rattle.ciborium_ll_decoder.specs.Decoding.{Begins, behind_waiting, IsSteady, Passes, ReadsAll}
@@ -31,6 +32,10 @@ pub writable_chunk : (kind : Kind) (front bytes chunk rest : List ℕ) → IsWri
     → IsSplit kind bytes chunk rest → IsWritable kind (front ++ chunk)
 writable_chunk Bytes front bytes chunk rest w s = tt
 writable_chunk Text front bytes chunk rest w s = IsCharacters-append front chunk w s.text
+
+-- a body that is written is sound by itself
+pub sound_body : (k : Kind) (b : List ℕ) → IsWritable k b → AreWritable k (b ∷ [])
+sound_body k b w = (w, tt)
 
 pub three_kept : (kept : Kept) → length (kept_bytes kept) ≤ 3
 three_kept k.Nothing = omega arith

@@ -1,5 +1,6 @@
 -- What the relations of the decoder's calls have in common.
-use Rattle.std.proofs.Common.{◌≡◌, ℕ, false, ◌⊎◌, List, [], ◌++◌, length, Option, Some, None, IfSome, Result, Ok, Err}
+use Rattle.std.proofs.Common.{◌≡◌, ℕ, false, ◌⊎◌, List, [], ◌++◌, length, Option, Some, None, IfSome, IsTrue}
+use Rattle.std.proofs.Common.{Result, Ok, Err}
 use Rattle.std.proofs.Common.{refl, sym, ap, subst, ◌∙◌, inl, inr, arith, append_assoc, append-nil, length-append}
 use Rattle.std.proofs.KnownBytes.{Consumes-nil, Consumes-trans}
 use Rattle.std.specs.Io.KnownBytes.{Consumes, prepend_known}
@@ -176,3 +177,36 @@ module _ {R E : Type 0} (source : Ghosts R E) where
       → PullsHeader source old (Err (e.Syntax place)) new → RefusesTitle source old place new
   lenient_refuses old place new lenient (inl refused) = refused
   lenient_refuses old place new lenient (inr longer) = absurd (let on = longer.strict in cc)
+
+-- where no header waited none waits
+pub passes_settled : {R E : Type 0} (source : Ghosts R E) (old new : Decoder R) (bytes : List ℕ)
+    → Passes source old bytes new → old.waiting ≡ None → new.waiting ≡ None
+passes_settled source old new bytes passed none = elim passed.waiting
+    [ inl same ↦ ap (λ d. d.waiting) same.1 ∙ none | inr settled ↦ settled ]
+
+waited_same : {R : Type 0} (old now now' : Decoder R) (bytes : List ℕ) (waiting : Option Header) → old.waiting
+    ≡ waiting → now.waiting ≡ None
+    → IfSome waiting (λ h. (now ≡ old) ⊎ Begins (shortest_title h) bytes)
+    → IfSome waiting (λ h. (now' ≡ old) ⊎ Begins (shortest_title h) bytes)
+waited_same old now now' bytes None e none before = tt
+waited_same old now now' bytes (Some h) e none (inl same) = absurd
+    (let waits : now.waiting ≡ Some h = ap (λ d. d.waiting) same ∙ e in cc)
+waited_same old now now' bytes (Some h) e none (inr begins) = inr begins
+
+-- a decoder with the same reader and offset, and with no header that waits either
+pub passes_same : {R E : Type 0} (source : Ghosts R E) (old now now' : Decoder R) (bytes : List ℕ)
+    → Passes source old bytes now → now.waiting ≡ None → now'.reader ≡ now.reader → now'.offset ≡ now.offset
+    → now'.waiting ≡ None → now'.strict ≡ now.strict → Passes source old bytes now'
+passes_same {R} source old now now' bytes passed none reader offset none' mode =
+    let same : view source now' ≡ view source now = ap
+    (λ (w : Option Header). behind_waiting w (source.ahead now'.reader)) (none' ∙ sym none)
+    ∙ ap (λ (r : R). behind_waiting now.waiting (source.ahead r)) reader in
+    record {
+      consumed = subst (λ (z : Option (List ℕ)). Consumes (view source old) z bytes) (sym same) passed.consumed;
+      offset = offset ∙ passed.offset;
+      waiting = inr none';
+      waited = waited_same old now now' bytes old.waiting refl none passed.waited;
+      failures = ap source.failures reader ∙ passed.failures;
+      steady = λ s. subst (λ (r : R). IsTrue (source.steady r)) (sym reader) (passed.steady s);
+      mode = mode ∙ passed.mode;
+    }

@@ -2,8 +2,8 @@
 use Rattle.std.specs.Prelude.{ℕ, List, ◌++◌, Option, Some, None, codes, decimal}
 use Rattle.ciborium_ll_decoder.specs.declared.dec.Error.{Error}
 use Rattle.ciborium_ll_decoder.specs.declared.dec.Error.TheVariants as e
-use Rattle.ciborium_ll_decoder.specs.declared.recode.RecodeError.{RecodeError}
-use Rattle.ciborium_ll_decoder.specs.declared.recode.RecodeError.TheVariants as r
+use Rattle.ciborium_ll_decoder.specs.declared.copy.RecodeError.{RecodeError}
+use Rattle.ciborium_ll_decoder.specs.declared.copy.RecodeError.TheVariants as r
 
 -- a text behind these bytes
 abbrev pub behind : List ℕ → Option (List ℕ) → Option (List ℕ)

@@ -1,12 +1,9 @@
+pub mod BodyCopies
 pub mod Chunks
-pub mod Copying
 pub mod Decoding
 pub mod ErrorTexts
 pub mod Finishing
 pub mod Kept
 pub mod Lend
 pub mod Progress
-pub mod Recoding
-pub mod RecodingTold
 pub mod Segments
-pub mod Sides

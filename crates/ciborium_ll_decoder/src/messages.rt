@@ -2,8 +2,8 @@
 
 ghost use Rattle.ciborium_ll_decoder.specs.ErrorTexts.{error_text, recode_error_text};
 
+use crate::copy::RecodeError;
 use crate::dec::Error;
-use crate::recode::RecodeError;
 use std::{error, fmt};
 
 impl<T: fmt::Display> fmt::Display for Error<T> {

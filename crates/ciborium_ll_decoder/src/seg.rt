@@ -14,6 +14,7 @@ mod chunked;
 mod strings;
 
 pub use self::chunked::{Chunked, finish_body};
+pub use self::strings::open_segments;
 use crate::dec::{Decoder, Error};
 use ciborium_ll_grammar::hdr::Header;
 use ciborium_ll_io::io::Read;
@@ -131,22 +132,6 @@ impl<'r, R: Read, P: Parser> Segments<'r, R, P> {
         Segments {
             decoder,
             progress: Progress::Open(0),
-            strict,
-            parser: PhantomData,
-        }
-    }
-
-    /// The segments of a string of indefinite length whose open was pulled.
-    pub(crate) fn opened(decoder: &'r mut Decoder<R>) -> Segments<'r, R, P>
-        ensures lent { string_decoder result ≡ decoder.old }
-        ensures opened { progress_of result ≡ Open 1 }
-        ensures mode { string_strict result ≡ strict_of decoder.old }
-        ensures same_reference { string_reference result ≡ decoder.entry.ghost_name }
-    {
-        let strict = decoder.is_strict();
-        Segments {
-            decoder,
-            progress: Progress::Open(1),
             strict,
             parser: PhantomData,
         }

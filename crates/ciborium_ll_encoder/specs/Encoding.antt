@@ -1,11 +1,9 @@
--- What a write does to a writer, by its answer. Bytes are spoken of where the writer tells them, room where it tells
--- that.
-use Rattle.std.specs.Prelude.{◌≡◌, ℕ, ◌+◌, ◌<◌, ◌⊎◌, List, length, Option, Result, Ok, Err, IfSome}
-use Rattle.std.specs.Io.KnownBytes.{Appends}
+-- What the calls of an encoder do to its writer, by their answers: what a write of some bytes does is handed on.
+use Rattle.std.specs.Prelude.{◌≡◌, ℕ, ◌<◌, ◌⊎◌, List, length, Option, Result}
 use Rattle.ciborium_ll_io.specs.declared.io.Write.{Ghosts}
 use Rattle.ciborium_ll_grammar.specs.declared.hdr.Header.{Header}
 use Rattle.ciborium_ll_encoder.specs.declared.enc.Encoder.{Encoder}
-use Rattle.ciborium_ll_io.specs.Transfer.{Shrinks, AppendsFront}
+pub use Rattle.ciborium_ll_io.specs.Writes.{WritesAll, WritesFront, WritesBytes}
 use Rattle.ciborium_ll_grammar.specs.Title.{IsTitle, shortest_title}
 use Rattle.ciborium_ll_grammar.specs.Strings.{Kind, Text}
 use Rattle.ciborium_ll_grammar.specs.Elements.{Mark, spelling, pieces}
@@ -16,32 +14,15 @@ abbrev pub writer_of : {W : Type 0} → Encoder W → W
 writer_of encoder = encoder.writer
 
 module _ {W F : Type 0} (sink : Ghosts W F) where
-  -- all of the bytes were appended
-  pub record WritesAll (old : W) (bytes : List ℕ) (new : W) : Type 0 where
-    pub appended : Appends (sink.written old) (sink.written new) bytes
-    pub room : Shrinks (sink.room old) (sink.room new) (length bytes)
-    pub failures : sink.failures new ≡ sink.failures old
-
-  -- the writer failed once, with a beginning of the bytes appended; a room that is told was too small
-  pub record WritesFront (old : W) (bytes : List ℕ) (new : W) : Type 0 where
-    pub front : AppendsFront (sink.written old) (sink.written new) (sink.room old) (sink.room new) bytes
-    pub full : IfSome (sink.room old) (λ room. room < length bytes)
-    pub failures : sink.failures new ≡ sink.failures old + 1
-
-  -- what a write of these bytes does, by its answer: all of them, or a beginning
-  abbrev pub WritesBytes : {T : Type 0} → W → Result T F → List ℕ → W → Type 0
-  WritesBytes old (Ok done) bytes new = WritesAll old bytes new
-  WritesBytes old (Err fault) bytes new = WritesFront old bytes new
-
   -- a title was written, or a beginning of it, by the answer; the writer stays on its slice
   pub record WritesTitle {T : Type 0} (bytes : List ℕ) (old : W) (result : Result T F) (new : W) : Type 0 where
-    pub title : WritesBytes old result bytes new
+    pub title : WritesBytes sink old result bytes new
     pub target : sink.target new ≡ sink.target old
 
   -- what `push` of a header does: its shortest title is written, which no other title of it is as short as (RFC 7049,
   -- 3.9)
   pub record Pushes {T : Type 0} (header : Header) (old : W) (result : Result T F) (new : W) : Type 0 where
-    pub title : WritesBytes old result (shortest_title header) new
+    pub title : WritesBytes sink old result (shortest_title header) new
     pub shortest : (other : List ℕ) → IsTitle other header
         → (other ≡ shortest_title header) ⊎ (length (shortest_title header) < length other)
     pub target : sink.target new ≡ sink.target old
@@ -51,7 +32,7 @@ module _ {W F : Type 0} (sink : Ghosts W F) where
       (new : W) : Type 0 where
     pub members : List (List ℕ)
     pub are_pieces : ArePieces kind limit value members
-    pub bytes : WritesBytes old result (spelling (pieces kind members)) new
+    pub bytes : WritesBytes sink old result (spelling (pieces kind members)) new
 
   -- the spelling of a value, in segments of at most as many bytes as are asked for, was written, or a beginning of it,
   -- by the answer
@@ -59,7 +40,7 @@ module _ {W F : Type 0} (sink : Ghosts W F) where
       (result : Result T F) (new : W) : Type 0 where
     pub marks : List Mark
     pub written : IsWritten kind (value_limit kind segment value) value marks
-    pub bytes : WritesBytes old result (spelling marks) new
+    pub bytes : WritesBytes sink old result (spelling marks) new
 
   -- what `bytes` and `text` do with a value; the writer stays on its slice
   pub record WritesString {T : Type 0} (kind : Kind) (segment : Option ℕ) (bytes : List ℕ) (old : W)
@@ -72,4 +53,4 @@ module _ {W F : Type 0} (sink : Ghosts W F) where
     pub marks : List Mark
     pub written : IsWritten Text limit text marks
     pub fewest : HasFewestSegments limit text marks
-    pub bytes : WritesAll old (spelling marks) new
+    pub bytes : WritesAll sink old (spelling marks) new

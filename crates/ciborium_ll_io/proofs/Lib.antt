@@ -1,1 +1,2 @@
 pub mod SliceLaws
+pub mod WriteLaws

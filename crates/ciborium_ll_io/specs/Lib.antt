@@ -1,3 +1,4 @@
 pub mod Discards
 pub mod Slices
 pub mod Transfer
+pub mod Writes

@@ -10,14 +10,14 @@ use Rattle.ciborium_ll_decoder.specs.declared.dec.Error.TheVariants as e
 use Rattle.ciborium_ll_streams.specs.declared.buffered.FaultKept.{FaultKept}
 use Rattle.ciborium_ll_streams.specs.declared.streams.ReadFault.{ReadFault}
 use Rattle.ciborium_ll_streams.specs.declared.streams.WriteFault.{WriteFault}
-use Rattle.ciborium_ll_decoder.specs.declared.recode.RecodeError.{RecodeError}
-use Rattle.ciborium_ll_decoder.specs.declared.recode.RecodeError.TheVariants as r
+use Rattle.ciborium_ll_decoder.specs.declared.copy.RecodeError.{RecodeError}
+use Rattle.ciborium_ll_decoder.specs.declared.copy.RecodeError.TheVariants as r
 use Rattle.ciborium_ll_grammar.specs.Elements.{spelling}
 use Rattle.ciborium_ll_grammar.specs.Faults.{Syntax}
 use Rattle.ciborium_ll_decoder.specs.Decoding.{Passes, view}
-use Rattle.ciborium_ll_decoder.specs.Recoding.{CopiesElements}
-use Rattle.ciborium_ll_decoder.specs.Sides.{sides}
-use Rattle.ciborium_ll_decoder.specs.RecodingTold.{IsTold, RecodesAnyhow, StopsShort}
+use Rattle.ciborium_ll_recode.specs.Recoding.{CopiesElements}
+use Rattle.ciborium_ll_decoder.specs.BodyCopies.{sides}
+use Rattle.ciborium_ll_recode.specs.RecodingTold.{IsTold, RecodesAnyhow, StopsShort}
 use Rattle.ciborium_ll_decoder.proofs.BodyLaws.{view_none}
 use Rattle.ciborium_ll_service.specs.Restoring.{Restores, RestoresCopy, RestoresFlush}
 use Rattle.ciborium_ll_service.specs.Raw.{CopiesRaw, ReadsShort, TellsFlushed, WritesShort}

@@ -8,8 +8,8 @@ use Rattle.ciborium_ll_decoder.specs.declared.dec.Error.TheVariants as d
 use Rattle.ciborium_ll_streams.specs.declared.streams.ReadFault.{ReadFault}
 use Rattle.ciborium_ll_streams.specs.declared.streams.WriteFault.{WriteFault}
 use Rattle.ciborium_ll_streams.specs.declared.streams.WriteFault.TheVariants as w
-use Rattle.ciborium_ll_decoder.specs.declared.recode.RecodeError.{RecodeError}
-use Rattle.ciborium_ll_decoder.specs.declared.recode.RecodeError.TheVariants as r
+use Rattle.ciborium_ll_decoder.specs.declared.copy.RecodeError.{RecodeError}
+use Rattle.ciborium_ll_decoder.specs.declared.copy.RecodeError.TheVariants as r
 
 -- the fault of an error that ended a run
 abbrev pub fault_of : ToolError → Fault

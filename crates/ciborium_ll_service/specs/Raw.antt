@@ -4,12 +4,12 @@
 -- still.
 use Rattle.std.specs.Prelude.{◌≡◌, ℕ, false, ◌+◌, ◌≤◌, List, ◌++◌, length, drop, Option, Some, Result, Ok, Err}
 use Rattle.ciborium_ll_decoder.specs.declared.dec.Error.TheVariants as e
-use Rattle.ciborium_ll_decoder.specs.declared.recode.RecodeError.{RecodeError}
-use Rattle.ciborium_ll_decoder.specs.declared.recode.RecodeError.TheVariants as r
+use Rattle.ciborium_ll_decoder.specs.declared.copy.RecodeError.{RecodeError}
+use Rattle.ciborium_ll_decoder.specs.declared.copy.RecodeError.TheVariants as r
 use Rattle.ciborium_ll_grammar.specs.Elements.{spelling}
 use Rattle.ciborium_ll_grammar.specs.Faults.{Syntax, RunInFront, HasFault}
 use Rattle.ciborium_ll_decoder.specs.Decoding.{offset_limit}
-use Rattle.ciborium_ll_decoder.specs.RecodingTold.{StopInReading, StopInWriting}
+use Rattle.ciborium_ll_recode.specs.RecodingTold.{StopInReading, StopInWriting}
 
 -- the bytes are told, and are just these
 abbrev pub Tells : {T : Type 0} → (T → Option (List ℕ)) → T → List ℕ → Type 0

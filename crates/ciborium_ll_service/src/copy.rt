@@ -2,9 +2,9 @@
 
 use crate::answer::Last;
 use ciborium_ll_decoder::dec::{Decoder, Error};
-use ciborium_ll_decoder::recode::{RecodeError, recode};
 use ciborium_ll_encoder::enc::Encoder;
 use ciborium_ll_io::io::{SliceReader, SliceWriter};
+use ciborium_ll_recode::recode::{RecodeError, recode};
 use ciborium_ll_requests::word::word_of;
 use std::alloc::Global;
 use std::fmt;

@@ -6,7 +6,7 @@ ghost use Rattle.ciborium_ll_service.specs.Fault.{fault_of, fault_of_copy};
 use crate::memory::OutOfMemory;
 use crate::service::ToolError;
 use ciborium_ll_decoder::dec::Error;
-use ciborium_ll_decoder::recode::RecodeError;
+use ciborium_ll_recode::recode::RecodeError;
 use ciborium_ll_streams::{ReadFault, WriteFault};
 use std::{error, fmt};
 

@@ -6,9 +6,9 @@ ghost use Rattle.ciborium_ll_service.specs.Restoring.{Restores, RestoresCopy, Re
 
 use crate::copy::BUFFER_SIZE;
 use ciborium_ll_decoder::dec::{Decoder, Error};
-use ciborium_ll_decoder::recode::{RecodeError, recode};
 use ciborium_ll_encoder::enc::Encoder;
 use ciborium_ll_io::io::Write;
+use ciborium_ll_recode::recode::{RecodeError, recode};
 use ciborium_ll_streams::{
     BufferedReader, BufferedWriter, FaultKept, ReadFault, StdReader, StdWriter, WriteFault,
 };

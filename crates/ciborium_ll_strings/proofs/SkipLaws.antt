@@ -4,7 +4,6 @@ use Rattle.std.proofs.Common.{Some}
 use Rattle.std.proofs.Common.{None, Result, Ok, Err, refl, sym, ap, subst, ◌∙◌, inl, inr, arith, append_assoc}
 use Rattle.std.proofs.Common.{length-append}
 use Rattle.ciborium_ll_io.specs.declared.io.Read.{Ghosts as Reader}
-use Rattle.ciborium_ll_io.specs.declared.io.Write.{Ghosts as Writer}
 use Rattle.ciborium_ll_grammar.specs.declared.hdr.Header.TheVariants as h
 use Rattle.ciborium_ll_decoder.specs.declared.dec.Decoder.{Decoder}
 use Rattle.ciborium_ll_decoder.specs.declared.dec.Error.{Error}
@@ -16,10 +15,7 @@ use Rattle.ciborium_ll_grammar.specs.Title.{IsTitle, IsInRange, shortest_title, 
 use Rattle.ciborium_ll_grammar.specs.Strings.{Kind, kind_header, IsString, definite, indefinite}
 use Rattle.ciborium_ll_grammar.proofs.OpenStrings.{IsInsideAt, one_open, more_open}
 use Rattle.ciborium_ll_decoder.specs.Decoding.{Passes, IsSteady, TakesBack}
-use Rattle.ciborium_ll_encoder.specs.Encoding.{WritesAll}
 use Rattle.ciborium_ll_decoder.specs.Segments.{AdvancesFrom, AdvancesTo}
-use Rattle.ciborium_ll_decoder.specs.Recoding.{BodyWritten}
-use Rattle.ciborium_ll_decoder.specs.Sides.{sides}
 use Rattle.ciborium_ll_decoder.specs.Finishing.{ReadsRest, BeginsRest, EndsBody}
 use Rattle.ciborium_ll_strings.specs.Skipping.{SkipsWhole, SkipsInside, MeetsBody, StopsInside, SkipsString}
 use Rattle.ciborium_ll_grammar.specs.Elements.{spelling, pieces}
@@ -29,25 +25,11 @@ use Rattle.ciborium_ll_grammar.proofs.ElementLaws.{respell_all}
 use Rattle.ciborium_ll_grammar.proofs.TitleLaws.{IsTitle-shortest}
 use Rattle.ciborium_ll_grammar.proofs.StepLaws.{counted, never}
 use Rattle.ciborium_ll_strings.proofs.FlatStrings.{flat}
-use Rattle.ciborium_ll_decoder.proofs.DecodingLaws.{Passes-none, Passes-then, Passes-pulled}
+use Rattle.ciborium_ll_decoder.proofs.BodyLaws.{sound_body}
+use Rattle.ciborium_ll_decoder.proofs.DecodingLaws.{Passes-none, Passes-then, Passes-pulled, passes_same}
 use Rattle.ciborium_ll_decoder.proofs.NestLaws.{alone_bytes, open_length, title_some, advance_definite, FindsOnly}
-use Rattle.ciborium_ll_decoder.proofs.RecodeLaws.{sound_body, passes_same}
 use Rattle.ciborium_ll_decoder.proofs.SegmentLaws.{StringSoFar, AdvancesAmong, IsAmong, advances_among, segment_added}
 use Rattle.ciborium_ll_decoder.proofs.SegmentLaws.{opens_counted, other_inside, some_open}
-
--- a writer that tells nothing
-abbrev pub silent : Writer (Unit {0}) (Unit {0})
-silent = record {
-  written = λ w. None;
-  room = λ w. None;
-  failures = λ w. 0;
-  flushed = λ old new. Unit {0};
-  target =
-      λ w. None;
-}
-
-nothing : (bytes : List ℕ) → WritesAll silent tt bytes tt
-nothing bytes = record { appended = tt; room = tt; failures = refl }
 
 -- the last break makes a string
 pub close_string : (k : Kind) (u : List ℕ) (bs : List (List ℕ)) → IsInsideAt k (suc zero) u bs
@@ -143,7 +125,7 @@ module _ {R E : Type 0} (source : Reader R E) (k : Kind) where
   -- what the loop keeps
   abbrev pub SkipsSoFar : Option ℕ → Decoder R → Progress → Decoder R → Type 0
   SkipsSoFar None opened progress now =
-      StringSoFar source silent k (sides opened tt) progress (sides now tt) × (0 < opened.offset)
+      ((bodies : List (List ℕ)) × StringSoFar source k bodies opened progress now) × (0 < opened.offset)
   SkipsSoFar (Some len) opened progress now = AloneSoFar len opened progress now
 
   -- ---- a lone body
@@ -220,7 +202,7 @@ module _ {R E : Type 0} (source : Reader R E) (k : Kind) where
           record {
             lengths = lengths;
             place = omega (arith, places, only.place);
-            passed = passes_same source silent opened opened new [] (Passes-none source opened) so_far.none_waits
+            passed = passes_same source opened opened new [] (Passes-none source opened) so_far.none_waits
                 only.reader only.offset only.none_waits only.mode;
             ended = only.ended;
             rises = elim so_far.far [
@@ -270,29 +252,27 @@ module _ {R E : Type 0} (source : Reader R E) (k : Kind) where
   body_stops room opened e.Waiting ended meets = meets.ends
 
   module _ (strict : Bool) (opened now new : Decoder R) (progress progress' : Progress) (mode : strict ≡ opened.strict)
-      (so_far : StringSoFar source silent k (sides opened tt) progress (sides now tt)) (settled : 0 < opened.offset)
+      (bodies : List (List ℕ)) (so_far : StringSoFar source k bodies opened progress now) (settled : 0 < opened.offset)
       (steady : IsSteady source now → IsSteady source new) where
     among : (result : Result (Option Body) (Error E)) → AdvancesTo source k strict progress now result progress' new
-        → AdvancesAmong source silent k (sides opened tt) (sides now tt) result progress' new
-    among result advances = advances_among source silent k (sides opened tt) (sides now tt) strict result progress
-        progress' new mode so_far advances steady
+        → AdvancesAmong source k bodies opened now result progress' new
+    among result advances = advances_among source k bodies opened now strict result progress progress' new mode so_far
+        advances steady
 
-    taken_among : (left : ℕ) (between : Decoder R)
-        → (a : IsAmong source silent k left (sides opened tt) (sides between tt))
-        → AreTakenStrings opened.strict k a.strings a.bodies
+    taken_among : (left : ℕ) (between : Decoder R) → (a : IsAmong source k left bodies opened between)
+        → AreTakenStrings opened.strict k a.strings bodies
     taken_among left between a =
         let front = shortest_title (kind_header k None) in
-        taken_strings opened.strict k a.strings a.bodies (λ on.
+        taken_strings opened.strict k a.strings bodies (λ on.
         let tight = a.tight on in
-        let one = subst (λ (n : ℕ). IsInsideAt k n (front ++ a.strings) a.bodies) tight.0 a.within in
-        subst (λ (z : List ℕ). AreFlat k z a.bodies) (sym tight.1)
-        (flat_inside k (front ++ a.strings) a.bodies one))
+        let one = subst (λ (n : ℕ). IsInsideAt k n (front ++ a.strings) bodies) tight.0 a.within in
+        subst (λ (z : List ℕ). AreFlat k z bodies) (sym tight.1) (flat_inside k (front ++ a.strings) bodies one))
 
-    part_of : (left : ℕ) (between : Decoder R) → IsAmong source silent k left (sides opened tt) (sides between tt)
+    part_of : (left : ℕ) (between : Decoder R) → IsAmong source k left bodies opened between
         → SkipsInside source k opened between
     part_of left between a = record {
       behind = a.strings;
-      bodies = a.bodies;
+      bodies = bodies;
       inside =
           counted k left _ _ a.within;
       taken = taken_among left between a;
@@ -304,7 +284,6 @@ module _ {R E : Type 0} (source : Reader R E) (k : Kind) where
     open_end advances =
         let all = among (Ok None) advances in
         let strings = all.among.strings in
-        let bodies = all.among.bodies in
         let front = shortest_title (kind_header k None) in
         let break = alone_bytes all.ends.pulled.title h.Break all.ends.pulled.is_title refl in
         let last = subst (λ (n : ℕ). IsInsideAt k n (front ++ strings) bodies) all.ends.last all.among.within in
@@ -321,7 +300,7 @@ module _ {R E : Type 0} (source : Reader R E) (k : Kind) where
 
     -- so many opens take more bytes than an offset counts
     not_too_deep : (left : ℕ) (between : Decoder R) (title : List ℕ)
-        → IsAmong source silent k left (sides opened tt) (sides between tt) → left ≡ 2 ^ 64 - 1 → new.offset
+        → IsAmong source k left bodies opened between → left ≡ 2 ^ 64 - 1 → new.offset
         ≡ between.offset + length title
         → IsTitle title (kind_header k None) → new.offset < 2 ^ 64 → ⊥
     not_too_deep left between title a most moved t less =
@@ -373,13 +352,10 @@ module _ {R E : Type 0} (source : Reader R E) (k : Kind) where
     open_reads : (body : Body) (ended : Decoder R) → AdvancesTo source k strict progress now (Ok (Some body)) progress'
         new
         → (IsSteady source new → IsSteady source ended)
-        → ReadsRest source k [] body.length new ended → StringSoFar source silent k (sides opened tt) progress'
-        (sides ended tt)
-    open_reads body ended advances steady' reads =
-        let whole : BodyWritten source silent k body.length 0 body.place (sides new tt) (Ok (tt {0})) (sides ended tt) =
-        record { ends = reads; written = nothing reads.read } in
-        segment_added source silent k (sides opened tt) (sides now tt) new tt (sides ended tt) 0 body progress'
-        so_far.none_waits (among (Ok (Some body)) advances) (nothing _) whole steady'
+        → (reads : ReadsRest source k [] body.length new ended)
+        → StringSoFar source k (bodies ++ reads.read ∷ []) opened progress' ended
+    open_reads body ended advances steady' reads = segment_added source k bodies opened now new ended body progress'
+        so_far.none_waits (among (Ok (Some body)) advances) reads steady'
 
     open_stops : (room : ℕ) (body : Body) (ended : Decoder R) (error : Error E)
         → AdvancesTo source k strict progress now (Ok (Some body)) progress' new
@@ -406,7 +382,7 @@ module _ {R E : Type 0} (source : Reader R E) (k : Kind) where
       → AdvancesTo source k strict progress now (Ok None) progress' new → SkipsString source k len room opened
       (Ok (tt {0})) new
   skips_end strict None room opened now new progress progress' mode so_far steady advances =
-      open_end strict opened now new progress progress' mode so_far.0 so_far.1 steady advances
+      open_end strict opened now new progress progress' mode so_far.0.0 so_far.0.1 so_far.1 steady advances
   skips_end strict (Some len) room opened now new progress progress' mode so_far steady advances =
       lone_end strict len opened now new progress progress' so_far advances
 
@@ -416,7 +392,8 @@ module _ {R E : Type 0} (source : Reader R E) (k : Kind) where
       → (IsSteady source now → IsSteady source new) → AdvancesTo source k strict progress now (Err error) progress' new
       → SkipsString source k len room opened (Err error) new
   skips_error strict None room opened now new progress progress' error less mode so_far steady advances =
-      open_error strict opened now new progress progress' mode so_far.0 so_far.1 steady room error less advances
+      open_error strict opened now new progress progress' mode so_far.0.0 so_far.0.1 so_far.1 steady room error less
+      advances
   skips_error strict (Some len) room opened now new progress progress' error less mode so_far steady advances =
       absurd (lone_error strict len opened now new progress progress' so_far error advances)
 
@@ -426,7 +403,11 @@ module _ {R E : Type 0} (source : Reader R E) (k : Kind) where
       → AdvancesTo source k strict progress now (Ok (Some body)) progress' new
       → EndsBody source k [] body.length room body.place new (Ok (tt {0})) ended → SkipsSoFar len opened progress' ended
   skips_body strict None room opened now new ended progress progress' body mode so_far steady steady' advances reads = (
-    open_reads strict opened now new progress progress' mode so_far.0 so_far.1 steady body ended advances steady' reads,
+    (
+      so_far.0.0 ++ reads.read ∷ [],
+      open_reads strict opened now new progress progress' mode so_far.0.0 so_far.0.1 so_far.1 steady body ended advances
+          steady' reads,
+    ),
     so_far.1,
   )
   skips_body strict (Some len) room opened now new ended progress progress' body mode so_far steady steady' advances
@@ -441,8 +422,8 @@ module _ {R E : Type 0} (source : Reader R E) (k : Kind) where
       → EndsBody source k [] body.length room body.place new (Err error) ended
       → SkipsString source k len room opened (Err error) ended
   skips_stop strict None room opened now new ended progress progress' body error mode so_far steady advances ends =
-      open_stops strict opened now new progress progress' mode so_far.0 so_far.1 steady room body ended error advances
-      ends
+      open_stops strict opened now new progress progress' mode so_far.0.0 so_far.0.1 so_far.1 steady room body ended
+      error advances ends
   skips_stop strict (Some len) room opened now new ended progress progress' body error mode so_far steady advances ends
       =
       lone_stops strict len opened now new progress progress' so_far room body ended error

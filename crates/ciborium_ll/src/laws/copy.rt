@@ -1,13 +1,13 @@
 //! Headers copied from a decoder to an encoder.
 
 ghost use Rattle.std.specs.Prelude.{ℕ, List, ◌↔◌, IsOk};
-ghost use Rattle.ciborium_ll_decoder.specs.Copying.{CopiesByHeaders, CopiesTold, IsReadyForTitles, TitlesInFront};
-ghost use Rattle.ciborium_ll_decoder.specs.Sides.{sides_of};
+ghost use Rattle.ciborium_ll.specs.Copying.{CopiesByHeaders, CopiesTold, IsReadyForTitles, TitlesInFront};
+ghost use Rattle.ciborium_ll_recode.specs.Sides.{sides_of};
 
 use ciborium_ll_decoder::dec::Decoder;
-use ciborium_ll_decoder::recode::RecodeError;
 use ciborium_ll_encoder::enc::Encoder;
 use ciborium_ll_io::io::{Read, Write};
+use ciborium_ll_recode::recode::RecodeError;
 
 /// Pulls `count` headers, and pushes each as soon as it has it. Bodies are not followed.
 ///

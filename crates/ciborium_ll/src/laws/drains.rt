@@ -9,10 +9,10 @@ ghost use Rattle.ciborium_ll_text.specs.Text.{IsCharacters};
 ghost use Rattle.ciborium_ll.specs.Drains.{calls_for, AddUp, Drains, DrainsSegment, DrainsTold, HasEnded, IsDrainable};
 ghost use Rattle.ciborium_ll.specs.Drains.{IsEnough};
 
-use ciborium_ll_decoder::recode::RecodeError;
 use ciborium_ll_decoder::seg::{Bytes, Chunked, Segment, Text};
 use ciborium_ll_encoder::enc::Encoder;
 use ciborium_ll_io::io::{Read, Write};
+use ciborium_ll_recode::recode::RecodeError;
 
 /// How far a drain came.
 #[derive(Debug, PartialEq, Eq, Drop)]

@@ -5,16 +5,16 @@ ghost use Rattle.std.specs.List.{All};
 ghost use Rattle.ciborium_ll_grammar.specs.Strings.{Bytes, Text};
 ghost use Rattle.ciborium_ll_grammar.specs.Elements.{Mark, Plain, IsPlain, IsRun, spelling};
 ghost use Rattle.ciborium_ll_encoder.specs.Encoding.{writer_of};
-ghost use Rattle.ciborium_ll_decoder.specs.Recoding.{Recodes};
-ghost use Rattle.ciborium_ll_decoder.specs.Sides.{sides_of};
-ghost use Rattle.ciborium_ll_decoder.specs.RecodingTold.{IsReady};
+ghost use Rattle.ciborium_ll_recode.specs.Recoding.{Recodes};
+ghost use Rattle.ciborium_ll_recode.specs.Sides.{sides_of};
+ghost use Rattle.ciborium_ll_recode.specs.RecodingTold.{IsReady};
 ghost use Rattle.ciborium_ll.specs.Pieces.{CopiesSame, IsPiece, IsPlainPiece, IsValue, WritesMarked, WritesPieceList};
 
 use ciborium_ll_decoder::dec::Decoder;
-use ciborium_ll_decoder::recode::{RecodeError, recode};
 use ciborium_ll_encoder::enc::Encoder;
 use ciborium_ll_grammar::hdr::Header;
 use ciborium_ll_io::io::{Read, Write};
+use ciborium_ll_recode::recode::{RecodeError, recode};
 
 /// What one call writes: a header, or a value in segments of limited length.
 #[derive(Drop)]

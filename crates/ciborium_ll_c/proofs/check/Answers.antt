@@ -1,6 +1,6 @@
 use Rattle.std.proofs.Common.{ℕ, true, length, [], refl, sym, inr, arith, ◌∙◌}
 use Rattle.ciborium_ll.specs.Sides.{sides}
-use Rattle.ciborium_ll_decoder.proofs.RecodeReadyLaws.{recode_told, recode_exactly}
+use Rattle.ciborium_ll_recode.proofs.RecodeReadyLaws.{recode_told, recode_exactly}
 use Rattle.ciborium_ll_c.proofs.CopyLaws.{check_said, copy_exactly, ready_to_copy}
 use Rattle.ciborium_ll_c.proofs.CountLaws.{strictly_said}
 use Rattle.ciborium_ll_c.proofs.check.Goals as goal

@@ -2,7 +2,7 @@ use Rattle.std.proofs.Common.{false, length, ap, ◌∙◌, [], refl, sym, arith
 use Rattle.ciborium_ll_c.proofs.CopyLaws.{anyhow_said, copy_exactly, copy_said, ready_to_copy, stands_behind}
 use Rattle.ciborium_ll_c.proofs.CopyLaws.{told_to_copy}
 use Rattle.ciborium_ll_c.proofs.CountLaws.{counts_said}
-use Rattle.ciborium_ll_decoder.proofs.RecodeReadyLaws.{recode_exactly, recode_told}
+use Rattle.ciborium_ll_recode.proofs.RecodeReadyLaws.{recode_exactly, recode_told}
 use Rattle.ciborium_ll.specs.Sides.{sides}
 use Rattle.ciborium_ll.specs.Transfer.{Target}
 use Rattle.ciborium_ll_c.specs.Copying.{HasRoom}

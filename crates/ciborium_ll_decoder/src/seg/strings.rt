@@ -3,13 +3,16 @@
 ghost use Rattle.std.specs.Prelude.{◌≡◌, ◌≤◌, None};
 ghost use Rattle.ciborium_ll_grammar.specs.Title.{title_len};
 ghost use Rattle.ciborium_ll_grammar.specs.Strings.{kind_header};
-ghost use Rattle.ciborium_ll_decoder.specs.Decoding.{offset_of, waiting_of};
-ghost use Rattle.ciborium_ll_decoder.specs.Segments.{BeginsString};
+ghost use Rattle.ciborium_ll_decoder.specs.declared.seg.Progress.TheVariants.{Open};
+ghost use Rattle.ciborium_ll_decoder.specs.Decoding.{offset_of, strict_of, waiting_of};
+ghost use Rattle.ciborium_ll_decoder.specs.Segments.{BeginsString, progress_of, string_decoder};
+ghost use Rattle.ciborium_ll_decoder.specs.Segments.{string_reference, string_strict};
 
 use crate::dec::Decoder;
-use crate::seg::{Bytes, Parser, Segments, Text};
+use crate::seg::{Bytes, Parser, Progress, Segments, Text};
 use ciborium_ll_grammar::hdr::Header;
 use ciborium_ll_io::io::Read;
+use std::marker::PhantomData;
 
 impl<R: Read> Decoder<R> {
     /// The segments of a byte string, behind its header with this length, which was just pulled.
@@ -48,5 +51,22 @@ impl<R: Read> Decoder<R> {
     {
         self.push(P::header(len));
         Segments::new(self)
+    }
+}
+
+/// The segments of a string of indefinite length, behind its open, which was just pulled. It doesn't wait again. Users
+/// take [`Decoder::bytes`] or [`Decoder::text`].
+pub fn open_segments<R: Read, P: Parser>(decoder: &mut Decoder<R>) -> Segments<'_, R, P>
+    ensures lent { string_decoder result ≡ decoder.old }
+    ensures opened { progress_of result ≡ Open 1 }
+    ensures mode { string_strict result ≡ strict_of decoder.old }
+    ensures same_reference { string_reference result ≡ decoder.entry.ghost_name }
+{
+    let strict = decoder.is_strict();
+    Segments {
+        decoder,
+        progress: Progress::Open(1),
+        strict,
+        parser: PhantomData,
     }
 }

@@ -2,7 +2,7 @@ use Rattle.std.proofs.Common.{rules, refl, sym, ◌≡◌, ◌∙◌, ◌+◌, �
 use Rattle.ciborium_ll.specs.Types.Decoder.{Decoder}
 use Rattle.ciborium_ll.specs.Recoding.{CopiesRun}
 use Rattle.ciborium_ll.specs.Sides.{sides_of}
-use Rattle.ciborium_ll_decoder.proofs.CopyLaws.{run_none, run_behind, added_run, copies_all}
+use Rattle.ciborium_ll_recode.proofs.CopyLaws.{run_none, run_behind, added_run, copies_all}
 use Rattle.ciborium_ll_c.specs.Counting.{CountsCopy}
 use Rattle.ciborium_ll_c.proofs.tally.copy_counted.Goals as goal
 

@@ -1,10 +1,10 @@
 use Rattle.std.proofs.Common.{[], ◌∷◌, ◌++◌, Ok, Err, refl, arith, length-append, ◌∙◌}
-use Rattle.ciborium_ll_decoder.specs.declared.recode.RecodeError.TheVariants as r
-use Rattle.ciborium_ll_decoder.specs.Copying.{CopiesEach, StopsAtPull, StopsAtPush}
-use Rattle.ciborium_ll_decoder.specs.Sides.{sides_of}
+use Rattle.ciborium_ll_decoder.specs.declared.copy.RecodeError.TheVariants as r
+use Rattle.ciborium_ll.specs.Copying.{CopiesEach, StopsAtPull, StopsAtPush}
+use Rattle.ciborium_ll_recode.specs.Sides.{sides_of}
 use Rattle.ciborium_ll_decoder.proofs.DecodingLaws.{MovesOn-none, MovesOn-then}
-use Rattle.ciborium_ll_decoder.proofs.CopyingLaws.{Copies-none, Copies-push, AreTitles-shortest}
-use Rattle.ciborium_ll_decoder.proofs.CopyingTold.{told, exactly}
+use Rattle.ciborium_ll.proofs.CopyingLaws.{Copies-none, Copies-push, AreTitles-shortest}
+use Rattle.ciborium_ll.proofs.CopyingTold.{told, exactly}
 use Rattle.ciborium_ll.proofs.laws.copy.copy_headers.Goals as goal
 
 pub headers-init : goal.headers-init

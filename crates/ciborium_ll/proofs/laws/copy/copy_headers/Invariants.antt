@@ -1,8 +1,8 @@
 use Rattle.std.proofs.Common.{◌≡◌, List, length}
 use Rattle.ciborium_ll_grammar.specs.declared.hdr.Header.{Header}
 use Rattle.ciborium_ll_decoder.specs.Decoding.{MovesOn}
-use Rattle.ciborium_ll_decoder.specs.Copying.{Copies}
-use Rattle.ciborium_ll_decoder.specs.Sides.{sides_of}
+use Rattle.ciborium_ll.specs.Copying.{Copies}
+use Rattle.ciborium_ll_recode.specs.Sides.{sides_of}
 use Rattle.ciborium_ll.proofs.laws.copy.copy_headers.Given as goal
 
 abbrev pub invariant-headers : goal.invariant-headers

@@ -62,7 +62,7 @@ use Rattle.std.proofs.result.Result.TheLaws as result_laws
 use Rattle.ciborium_ll_decoder.proofs.dec.Error.TheLaws as error_laws
 use Rattle.ciborium_ll_decoder.proofs.seg.Body.TheLaws as body_laws
 use Rattle.ciborium_ll_decoder.proofs.seg.Segment.TheLaws as segment_laws
-use Rattle.std.specs.Prelude.{◌+◌, Some, None, Ok, Err}
+use Rattle.std.specs.Prelude.{Some, None, Ok, Err}
 use Rattle.std.specs.contracts.option.Option as option
 use Rattle.std.specs.contracts.result.Result as result
 use Rattle.ciborium_ll_decoder.specs.Chunks.{GoesOnTo, IsWhole, PullsSegment}

@@ -1,0 +1,51 @@
+use Rattle.std.proofs.Common.{rules, refl, subst, ℕ, Err, length}
+use Rattle.ciborium_ll_decoder.specs.Chunks.{GivesChunk, PullsChunk}
+use Rattle.ciborium_ll_decoder.proofs.DecodingLaws.{MovesOn-none, MovesOn-then}
+use Rattle.ciborium_ll_decoder.proofs.BodyCopyLaws.{so_far_start, so_far_chunk, so_far_unwritten, so_far_whole}
+use Rattle.ciborium_ll_decoder.proofs.BodyCopyLaws.{so_far_error}
+use Rattle.ciborium_ll_decoder.proofs.copy.copy_chunks.Goals as goal
+
+pub chunks-init : goal.chunks-init
+chunks-init g c = record {
+  same = refl;
+  so_far = so_far_start g.R.Read g.W.Write c.args.segment.now c.args.writer.now;
+  moves_on = MovesOn-none g.R.Read c.args.segment.now.decoder.now;
+  target = refl;
+}
+
+pub chunks-preserved : goal.chunks-preserved
+chunks-preserved g c =
+    let kept = c.chunks.invariant in
+    let pulled = c.in-Ok-Some.ensures in
+    let gives = rw c.in-Ok-Some.field-0-is at pulled.chunk in
+    record {
+      same = search rules;
+      so_far = so_far_chunk g.R.Read g.W.Write _ _ _ _ kept.so_far _ _ c.chunk.new.segment _ gives
+          pulled.moves_on.steady
+          (record { appended = search rules; room = search rules; failures = search rules });
+      moves_on = MovesOn-then g.R.Read _ _ _ kept.moves_on pulled.moves_on;
+      target = search rules;
+    }
+
+pub returns-in-Ok-None-clause-copied : goal.returns-in-Ok-None-clause-copied
+returns-in-Ok-None-clause-copied g c =
+    so_far_whole g.R.Read g.W.Write c.args.body _ _ _ _ c.requires.whole c.chunks.invariant.so_far _
+    c.chunk.new.segment (rw c.in-Ok-None.field-0-is at c.in-Ok-None.ensures.chunk)
+
+pub returns-in-Err-clause-copied : goal.returns-in-Err-clause-copied
+returns-in-Err-clause-copied g c =
+    let pulled = c.in-Err.ensures in
+    let chunk = subst (λ (room : ℕ). PullsChunk g.R.Read room c.chunks.segment (Err c.in-Err.error)
+    c.chunk.new.segment) c.chunks.auto.buffer pulled.chunk in
+    so_far_error g.R.Read g.W.Write c.args.body _ c.chunks.segment _ _ c.requires.whole c.chunks.invariant.so_far _
+    c.in-Err.error c.chunk.new.segment c.requires.room pulled.moves_on.steady chunk
+
+pub returns-in-Err-write_all-clause-copied : goal.returns-in-Err-write_all-clause-copied
+returns-in-Err-write_all-clause-copied g c =
+    let pulled = c.in-Ok-Some.ensures in
+    let gives = subst (λ (room : ℕ). GivesChunk g.R.Read room c.chunks.segment c.in-Ok-Some.chunk.now
+    c.chunk.new.segment) c.chunks.auto.buffer (rw c.in-Ok-Some.field-0-is at pulled.chunk) in
+    let wrote = c.in-Err-write_all.ensures in
+    so_far_unwritten g.R.Read g.W.Write c.args.body _ _ _ _ c.requires.whole c.chunks.invariant.so_far
+    (length c.args.buffer.now) _ c.chunk.new.segment _ gives c.requires.room pulled.moves_on.steady
+    (record { front = wrote.front; full = wrote.full; failures = wrote.err })

@@ -1,0 +1,73 @@
+-- A body copied from a decoder to a writer: what was read and written, over any reader and writer. Each relation leads
+-- from the old two sides of the copy to the new ones.
+use Rattle.std.specs.Prelude.{◌≡◌, ℕ, ◌+◌, ◌-◌, ◌<◌, ◌≤◌, min, List, [], ◌++◌, length, Result, Ok, Err}
+use Rattle.ciborium_ll_io.specs.declared.io.Read.{Ghosts as Reader}
+use Rattle.ciborium_ll_io.specs.declared.io.Write.{Ghosts as Writer}
+use Rattle.ciborium_ll_io.specs.Writes.{WritesAll, WritesFront}
+use Rattle.ciborium_ll_grammar.specs.Strings.{Kind, IsWritable, most_kept}
+use Rattle.ciborium_ll_decoder.specs.declared.copy.RecodeError.{RecodeError}
+use Rattle.ciborium_ll_decoder.specs.declared.copy.RecodeError.TheVariants as r
+use Rattle.ciborium_ll_decoder.specs.declared.dec.Decoder.{Decoder}
+use Rattle.ciborium_ll_decoder.specs.declared.dec.Error.{Error}
+use Rattle.ciborium_ll_decoder.specs.declared.seg.Body.{Body}
+use Rattle.ciborium_ll_decoder.specs.declared.seg.Parser.{Ghosts as Parser}
+use Rattle.ciborium_ll_decoder.specs.declared.seg.Segments.{Segments}
+use Rattle.ciborium_ll_decoder.specs.Decoding.{MovesOn, Passes}
+use Rattle.ciborium_ll_decoder.specs.Finishing.{EndsBody, handed_out}
+use Rattle.ciborium_ll_decoder.specs.Segments.{progress_of, string_decoder, string_reference, string_strict}
+
+-- the decoder that a copy reads from, and the writer that it writes to
+pub record Sides (R W : Type 0) : Type 0 where
+  pub decoder : Decoder R
+  pub writer : W
+
+module _ {R W : Type 0} where
+  -- a decoder, and a writer
+  abbrev pub sides : Decoder R → W → Sides R W
+  sides decoder writer = record { decoder = decoder; writer = writer }
+
+-- ---- one body
+
+module _ {R E W F : Type 0} (source : Reader R E) (sink : Writer W F) (kind : Kind) where
+  -- a body of so many bytes at this place was read to this answer, through a buffer of so much room, and all that was
+  -- handed out of it was written
+  pub record BodyWritten (len room place : ℕ) (old : Sides R W) (result : Result (Unit {0}) (Error E))
+      (new : Sides R W) : Type 0 where
+    pub ends : EndsBody source kind [] len room place old.decoder result new.decoder
+    pub written : WritesAll sink old.writer
+        (handed_out source kind [] len room place old.decoder result new.decoder ends) new.writer
+
+  -- the writer failed at a chunk, which came through a buffer of so much room. Of a text up to three bytes were read
+  -- behind it
+  pub record BodyUnwritten (len room : ℕ) (old new : Sides R W) : Type 0 where
+    pub front : List ℕ
+    pub chunk : List ℕ
+    pub kept : List ℕ
+    pub between : W
+    pub passed : Passes source old.decoder (front ++ (chunk ++ kept)) new.decoder
+    pub within : length front < len
+    pub filled : length chunk + length kept ≡ min room (len - length front)
+    pub few : length kept ≤ most_kept kind
+    pub sound : IsWritable kind (front ++ chunk)
+    pub written : WritesAll sink old.writer front between
+    pub stopped : WritesFront sink between chunk new.writer
+
+  -- the copy of a body of so many bytes through a buffer of so much room, at this place, which is that of its title:
+  -- all that was read and handed out of it was written, or the writer failed at a chunk
+  abbrev pub CopiesBody : ℕ → ℕ → ℕ → Sides R W → Result (Unit {0}) (RecodeError E F) → Sides R W → Type 0
+  CopiesBody len room place old (Ok done) new = BodyWritten len room place old (Ok done) new
+  CopiesBody len room place old (Err (r.Read error)) new = BodyWritten len room place old (Err error) new
+  CopiesBody len room place old (Err (r.Write fault)) new = BodyUnwritten len room old new
+
+module _ {R E W F P : Type 0} {parser : Parser P} (source : Reader R E) (sink : Writer W F) where
+  -- what `copy` of a string does with the body that `advance` gave last, and what it keeps; the writer stays on its
+  -- slice
+  pub record CopiesSegment (body : Body) (room : ℕ) (old : Segments R P parser) (writer : W)
+      (result : Result (Unit {0}) (RecodeError E F)) (new : Segments R P parser) (writer' : W) : Type 0 where
+    pub copied : CopiesBody source sink parser.kind body.length room body.place (sides (string_decoder old) writer)
+        result (sides (string_decoder new) writer')
+    pub same_reference : string_reference new ≡ string_reference old
+    pub progress : progress_of new ≡ progress_of old
+    pub mode : string_strict new ≡ string_strict old
+    pub moves_on : MovesOn source (string_decoder old) (string_decoder new)
+    pub target : sink.target writer' ≡ sink.target writer

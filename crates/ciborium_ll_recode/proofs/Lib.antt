@@ -1,0 +1,9 @@
+pub mod CopyLaws
+pub mod RecodeAnyhowLaws
+pub mod RecodeFaultLaws
+pub mod RecodeLaws
+pub mod RecodeReadyLaws
+pub mod RoomLaws
+pub mod RunLaws
+pub mod SegmentCopyLaws
+pub mod ThroughEncoder

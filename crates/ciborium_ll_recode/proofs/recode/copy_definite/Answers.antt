@@ -1,0 +1,49 @@
+use Rattle.std.proofs.Common.{rules, ap, subst, ◌∙◌, ◌≡◌, ◌+◌, ℕ, Err, Some, length, arith}
+use Rattle.std.proofs.lemmas.Result.{err_from_is_err_and}
+use Rattle.ciborium_ll_decoder.specs.declared.dec.Decoder.{Decoder}
+use Rattle.ciborium_ll_decoder.specs.BodyCopies.{CopiesBody}
+use Rattle.ciborium_ll_recode.specs.Recoding.{GoesOn}
+use Rattle.ciborium_ll_grammar.specs.Title.{title_len}
+use Rattle.ciborium_ll_grammar.specs.Strings.{kind_header}
+use Rattle.ciborium_ll_recode.specs.Sides.{sides_of}
+use Rattle.ciborium_ll_recode.proofs.ThroughEncoder.{through_encoder}
+use Rattle.ciborium_ll_recode.proofs.RecodeLaws.{definite_goes_on, definite_unwritten, header_error}
+use Rattle.ciborium_ll_recode.proofs.recode.copy_definite.Goals as goal
+
+pub returns-in_err-write_header-clause-copied : goal.returns-in_err-write_header-clause-copied
+returns-in_err-write_header-clause-copied g c = λ count before old title t taken behind.
+    let p = err_from_is_err_and c.from_residual.result c.from_residual.ensures.1 in
+    let q = p.1 in
+    let r = p.2 in
+    let same : c.from_residual.result ≡ Err c.in_err-write_header.field-0.0 = cc in
+    let wrote = c.in_err-write_header.ensures.header in
+    rw same (header_error g.R.Read g.W.Write count (length c.args.buffer.now) old
+    (sides_of c.args.decoder.now c.args.encoder.now) _ _
+    c.in_err-write_header.field-0.0 (rw c.header.ensures at wrote) (λ fault stopped.
+    definite_unwritten g.R.Read g.W.Write count (length c.args.buffer.now) old before behind.bytes title behind.marks
+    g.P.Parser.kind c.args.len _ _ fault behind.due t behind.run behind.copied stopped))
+
+pub returns-clause-copied : goal.returns-clause-copied
+returns-clause-copied g c = λ count before old title t taken behind.
+    let k = g.P.Parser.kind in
+    let lent = c.args.decoder.now in
+    let titled = rw c.header.ensures at c.in_ok-write_header.ensures.header in
+    let size : c.title_len.result ≡ title_len (kind_header k (Some c.args.len)) = c.title_len.ensures.value
+    ∙ ap title_len c.header-2.ensures in
+    let at : c.offset.result ≡ lent.offset = c.offset.ensures.value in
+    let covered = c.requires.covered in
+    -- whichever place the body was given, the title's shortest form has to reach from there to the body
+    let goes_on = λ (place : ℕ) (copied : CopiesBody g.R.Read g.W.Write k c.args.len (length c.args.buffer.now) place
+    (sides_of c.offset.new.self c.write_header.new.encoder) c.copy_body.result
+    (sides_of c.copy_body.new.decoder c.copy_body.new.writer))
+    (placed : place + title_len (kind_header k (Some c.args.len)) ≡ lent.offset).
+    definite_goes_on g.R.Read g.W.Write count (length c.args.buffer.now) old before behind.bytes title behind.marks k
+    c.args.len place (sides_of lent c.args.encoder.now) _ _ c.copy_body.result behind.due t behind.run behind.copied
+    placed titled (subst (λ (d : Decoder g.row.R.Denot). CopiesBody g.R.Read g.W.Write k c.args.len
+    (length c.args.buffer.now) place (sides_of d c.write_header.new.encoder) c.copy_body.result
+    (sides_of c.copy_body.new.decoder c.copy_body.new.writer)) c.offset.ensures.same copied) taken behind.strict in
+    subst (λ (d : Decoder g.row.R.Denot). GoesOn g.R.Read g.W.Write count before (length c.args.buffer.now) old
+    c.copy_body.result (sides_of d c.copy_body.new.writer)) (search rules)
+    (goes_on _ (through_encoder g.R.Read g.W.Write k c.args.len (length c.args.buffer.now) _
+    c.offset.new.self c.copy_body.new.decoder c.write_header.new.encoder
+    c.copy_body.new.writer c.copy_body.result c.copy_body.ensures.copied) (omega (arith, size, at, covered)))

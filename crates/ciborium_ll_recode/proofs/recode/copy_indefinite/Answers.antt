@@ -1,0 +1,41 @@
+use Rattle.std.proofs.Common.{◌≡◌, Err, length}
+use Rattle.std.proofs.lemmas.Result.{err_from_is_err_and}
+use Rattle.ciborium_ll_recode.specs.Sides.{sides_of}
+use Rattle.ciborium_ll_recode.proofs.RecodeLaws.{header_error}
+use Rattle.ciborium_ll_recode.proofs.CopyLaws.{opened_within, open_unwritten, close_goes_on}
+use Rattle.ciborium_ll_recode.proofs.recode.copy_indefinite.Goals as goal
+
+pub returns-in_err-write_header-clause-copied : goal.returns-in_err-write_header-clause-copied
+returns-in_err-write_header-clause-copied g c = λ count before old title t only behind.
+    let p = err_from_is_err_and c.from_residual.result c.from_residual.ensures.1 in
+    let q = p.1 in
+    let r = p.2 in
+    let same : c.from_residual.result ≡ Err c.in_err-write_header.field-0.0 = cc in
+    let wrote = rw c.header.ensures at c.in_err-write_header.ensures.header in
+    rw same (header_error g.R.Read g.W.Write count (length c.args.buffer.now) old
+    (sides_of c.args.decoder.now c.args.encoder.now) _ _
+    c.in_err-write_header.field-0.0 wrote (λ fault stopped.
+    open_unwritten g.R.Read g.W.Write count before old (sides_of c.args.decoder.now c.args.encoder.now)
+    (length c.args.buffer.now) g.P.Parser.kind title _ fault t behind stopped))
+
+pub returns-in_err-copy_segments-clause-copied : goal.returns-in_err-copy_segments-clause-copied
+returns-in_err-copy_segments-clause-copied g c = λ count before old title t only behind.
+    let p = err_from_is_err_and c.from_residual-in_err-copy_segments.result
+    c.from_residual-in_err-copy_segments.ensures.1 in
+    let q = p.1 in
+    let r = p.2 in
+    let same : c.from_residual-in_err-copy_segments.result ≡ Err c.in_err-copy_segments.field-0.0 = cc in
+    let titled = rw c.header.ensures at c.in_ok-write_header.ensures.header in
+    let copied = rw c.in_err-copy_segments.was at c.copy_segments.ensures.copied in
+    rw same (copied count before old (opened_within g.R.Read g.W.Write count before old
+    (sides_of c.args.decoder.now c.args.encoder.now) g.P.Parser.kind title _ t behind titled))
+
+pub returns-clause-copied : goal.returns-clause-copied
+returns-clause-copied g c = λ count before old title t only behind.
+    let titled = rw c.header.ensures at c.in_ok-write_header.ensures.header in
+    let copied = rw c.in_ok-copy_segments.was at c.copy_segments.ensures.copied in
+    let string = copied count before old (opened_within g.R.Read g.W.Write count before old
+    (sides_of c.args.decoder.now c.args.encoder.now) g.P.Parser.kind title _ t behind titled) in
+    close_goes_on g.R.Read g.W.Write count before old
+    (sides_of c.copy_segments.new.decoder c.copy_segments.new.encoder) (length c.args.buffer.now) g.P.Parser.kind _ _
+    behind.due string c.write_header-2.ensures.header

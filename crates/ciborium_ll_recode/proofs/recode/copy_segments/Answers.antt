@@ -1,0 +1,157 @@
+use Rattle.std.proofs.Common.{refl, rules, sym, subst, ◌∙◌, ◌≡◌, ◌<◌, ℕ, Some, None, Ok, Err, length, arith}
+use Rattle.std.proofs.lemmas.Result.{err_from_is_err_and}
+use Rattle.ciborium_ll_decoder.specs.declared.dec.Decoder.{Decoder}
+use Rattle.ciborium_ll_decoder.specs.declared.copy.RecodeError.TheVariants as r
+use Rattle.ciborium_ll_decoder.specs.Decoding.{MovesOn}
+use Rattle.ciborium_ll_decoder.specs.BodyCopies.{CopiesBody}
+use Rattle.ciborium_ll_recode.specs.Recoding.{ReadsString, StopsCopy, GoesOnWithin}
+use Rattle.ciborium_ll_recode.specs.Sides.{sides_of}
+use Rattle.ciborium_ll_decoder.proofs.DecodingLaws.{MovesOn-none, MovesOn-then}
+use Rattle.ciborium_ll_recode.proofs.ThroughEncoder.{through_encoder}
+use Rattle.ciborium_ll_recode.proofs.RecodeLaws.{header_error}
+use Rattle.ciborium_ll_decoder.proofs.SegmentLaws.{advances_among, announced_rises}
+use Rattle.ciborium_ll_recode.proofs.SegmentCopyLaws.{copied_opened, segments_stop, segments_end, segment_unwritten}
+use Rattle.ciborium_ll_recode.proofs.SegmentCopyLaws.{segment_stops, segment_copied}
+use Rattle.ciborium_ll_recode.proofs.recode.copy_segments.Goals as goal
+
+pub segments-init : goal.segments-init
+segments-init g c = record {
+  same = search rules;
+  mode = c.open_segments-segments.ensures.mode;
+  so_far = copied_opened g.R.Read g.W.Write g.P.Parser.kind (sides_of c.args.decoder.now c.args.encoder.now)
+      c.open_segments-segments.result.decoder.now c.open_segments-segments.result.progress c.requires.none_waits
+      c.open_segments-segments.ensures.opened c.open_segments-segments.ensures.lent;
+  moves_on = subst (λ (d : Decoder g.row.R.Denot). MovesOn g.R.Read c.args.decoder.now d)
+      (sym c.open_segments-segments.ensures.lent) (MovesOn-none g.R.Read c.args.decoder.now);
+  target = refl;
+}
+
+pub returns-in-Ok-None-clause-copied : goal.returns-in-Ok-None-clause-copied
+returns-in-Ok-None-clause-copied g c = λ count before old within.
+    let k = g.P.Parser.kind in
+    let opened = sides_of c.args.decoder.now c.args.encoder.now in
+    let now = sides_of c.segments.segments.decoder.now c.segments.encoder in
+    let so_far = c.segments.invariant.so_far in
+    let advances = rw c.in-Ok-None.field-0-is at c.in-Ok-None.ensures.advances in
+    let all = advances_among g.R.Read k so_far.bodies opened.decoder now.decoder c.segments.segments.strict
+    (Ok None) c.segments.segments.progress c.advance.new.self.progress c.advance.new.self.decoder.now
+    c.segments.invariant.mode so_far.so_far advances c.advance.ensures.moves_on.steady in
+    let fin = segments_end g.R.Read g.W.Write k count before old opened within so_far.bodies now _ _ so_far.written all
+    in
+    subst (λ (d : Decoder g.row.R.Denot). ReadsString g.R.Read g.W.Write before k old
+    (sides_of d c.segments.encoder)) (search rules) fin
+
+pub returns-in-Err-clause-copied : goal.returns-in-Err-clause-copied
+returns-in-Err-clause-copied g c = λ count before old within.
+    let k = g.P.Parser.kind in
+    let opened = sides_of c.args.decoder.now c.args.encoder.now in
+    let now = sides_of c.segments.segments.decoder.now c.segments.encoder in
+    let so_far = c.segments.invariant.so_far in
+    let all = advances_among g.R.Read k so_far.bodies opened.decoder now.decoder c.segments.segments.strict
+    (Err c.in-Err.error) c.segments.segments.progress c.advance.new.self.progress c.advance.new.self.decoder.now
+    c.segments.invariant.mode so_far.so_far c.in-Err.ensures.advances c.advance.ensures.moves_on.steady in
+    subst (λ (d : Decoder g.row.R.Denot). StopsCopy g.R.Read g.W.Write count (length c.args.buffer.now) old
+    (r.Read c.in-Err.error) (sides_of d c.segments.encoder)) (search rules)
+    (segments_stop g.R.Read g.W.Write k count before old opened within so_far.bodies now _ _ so_far.written
+    (length c.args.buffer.now) c.in-Err.error all)
+
+pub returns-in_err-write_header-clause-copied : goal.returns-in_err-write_header-clause-copied
+returns-in_err-write_header-clause-copied g c = λ count before old within.
+    let k = g.P.Parser.kind in
+    let opened = sides_of c.args.decoder.now c.args.encoder.now in
+    let now = sides_of c.segments.segments.decoder.now c.segments.encoder in
+    let so_far = c.segments.invariant.so_far in
+    let p = err_from_is_err_and c.from_residual.result c.from_residual.ensures.1 in
+    let q = p.1 in
+    let r = p.2 in
+    let same : c.from_residual.result ≡ Err c.in_err-write_header.field-0.0 = cc in
+    let advances = rw c.in-Ok-Some.field-0-is at c.in-Ok-Some.ensures.advances in
+    let all = advances_among g.R.Read k so_far.bodies opened.decoder now.decoder c.segments.segments.strict
+    (Ok (Some c.in-Ok-Some.body)) c.segments.segments.progress c.advance.new.self.progress
+    c.advance.new.self.decoder.now c.segments.invariant.mode so_far.so_far advances c.advance.ensures.moves_on.steady in
+    let wrote = rw c.header.ensures at c.in_err-write_header.ensures.header in
+    subst (λ (d : Decoder g.row.R.Denot). GoesOnWithin g.R.Read g.W.Write count before k (length c.args.buffer.now)
+    old c.from_residual.result (sides_of d c.write_header.new.encoder))
+    {x = c.advance.new.self.decoder.now} (search rules)
+    (rw same (header_error g.R.Read g.W.Write count (length c.args.buffer.now) old
+    (sides_of c.advance.new.self.decoder.now c.segments.encoder) c.write_header.new.encoder.writer _
+    c.in_err-write_header.field-0.0 wrote (λ fault stopped.
+    segment_unwritten g.R.Read g.W.Write k count before old opened within so_far.bodies now
+    c.advance.new.self.decoder.now c.advance.new.self.progress so_far.written c.in-Ok-Some.body all
+    (length c.args.buffer.now) c.write_header.new.encoder.writer fault
+    stopped)))
+
+pub segments-smaller : goal.segments-smaller
+segments-smaller g c =
+    let k = g.P.Parser.kind in
+    let opened = sides_of c.args.decoder.now c.args.encoder.now in
+    let now = sides_of c.segments.segments.decoder.now c.segments.encoder in
+    let so_far = c.segments.invariant.so_far in
+    let advances = rw c.in-Ok-Some.field-0-is at c.in-Ok-Some.ensures.advances in
+    let all = advances_among g.R.Read k so_far.bodies opened.decoder now.decoder c.segments.segments.strict
+    (Ok (Some c.in-Ok-Some.body)) c.segments.segments.progress c.advance.new.self.progress
+    c.advance.new.self.decoder.now c.segments.invariant.mode so_far.so_far advances c.advance.ensures.moves_on.steady in
+    let rises = announced_rises g.R.Read k so_far.bodies opened.decoder now.decoder c.advance.new.self.decoder.now
+    c.in-Ok-Some.body c.advance.new.self.progress all in
+    let more = c.in_ok-copy.ensures.moves_on.rises in
+    let risen : c.segments.segments.decoder.now.offset < c.copy.new.self.decoder.now.offset = omega (arith, rises, more)
+    in
+    search rules
+
+pub segments-preserved : goal.segments-preserved
+segments-preserved g c =
+    let k = g.P.Parser.kind in
+    let opened = sides_of c.args.decoder.now c.args.encoder.now in
+    let now = sides_of c.segments.segments.decoder.now c.segments.encoder in
+    let so_far = c.segments.invariant.so_far in
+    let advances = rw c.in-Ok-Some.field-0-is at c.in-Ok-Some.ensures.advances in
+    let all = advances_among g.R.Read k so_far.bodies opened.decoder now.decoder c.segments.segments.strict
+    (Ok (Some c.in-Ok-Some.body)) c.segments.segments.progress c.advance.new.self.progress
+    c.advance.new.self.decoder.now c.segments.invariant.mode so_far.so_far advances c.advance.ensures.moves_on.steady in
+    let titled = rw c.header.ensures at c.in_ok-write_header.ensures.header in
+    let whole = through_encoder g.R.Read g.W.Write k c.in-Ok-Some.body.length (length c.segments.buffer)
+    c.in-Ok-Some.body.place c.advance.new.self.decoder.now c.copy.new.self.decoder.now c.write_header.new.encoder
+    c.copy.new.writer (Ok (tt {0})) c.in_ok-copy.ensures.copied in
+    let advance = c.advance.ensures.moves_on in
+    let copy = c.copy.ensures.moves_on in
+    record {
+      same = search rules;
+      mode = c.copy.ensures.mode ∙ (c.advance.ensures.mode ∙ c.segments.invariant.mode);
+      so_far = segment_copied g.R.Read g.W.Write k so_far.bodies opened now c.advance.new.self.decoder.now
+          c.write_header.new.encoder.writer (sides_of c.copy.new.self.decoder.now c.copy.new.writer) _
+          c.in-Ok-Some.body c.copy.new.self.progress c.requires.none_waits
+          (rw (sym c.copy.ensures.progress) at all) so_far.written titled whole copy.steady;
+      moves_on = MovesOn-then g.R.Read _ _ _ c.segments.invariant.moves_on (MovesOn-then g.R.Read _ _ _ advance copy);
+      target = c.copy.ensures.target ∙ (c.write_header.ensures.target ∙ c.segments.invariant.target);
+    }
+
+pub returns-in_err-copy-clause-copied : goal.returns-in_err-copy-clause-copied
+returns-in_err-copy-clause-copied g c = λ count before old within.
+    let k = g.P.Parser.kind in
+    let opened = sides_of c.args.decoder.now c.args.encoder.now in
+    let now = sides_of c.segments.segments.decoder.now c.segments.encoder in
+    let so_far = c.segments.invariant.so_far in
+    let p = err_from_is_err_and c.from_residual-in_err-copy.result c.from_residual-in_err-copy.ensures.1 in
+    let q = p.1 in
+    let r = p.2 in
+    let same : c.from_residual-in_err-copy.result ≡ Err c.in_err-copy.field-0.0 = cc in
+    let advances = rw c.in-Ok-Some.field-0-is at c.in-Ok-Some.ensures.advances in
+    let all = advances_among g.R.Read k so_far.bodies opened.decoder now.decoder c.segments.segments.strict
+    (Ok (Some c.in-Ok-Some.body)) c.segments.segments.progress c.advance.new.self.progress
+    c.advance.new.self.decoder.now c.segments.invariant.mode so_far.so_far advances c.advance.ensures.moves_on.steady in
+    let titled = rw c.header.ensures at c.in_ok-write_header.ensures.header in
+    let error = c.in_err-copy.field-0.0 in
+    let body = c.in-Ok-Some.body in
+    let stops = subst (λ (room : ℕ). CopiesBody g.R.Read g.W.Write k body.length room body.place
+    (sides_of c.advance.new.self.decoder.now c.write_header.new.encoder) (Err error)
+    (sides_of c.copy.new.self.decoder.now c.copy.new.writer)) c.segments.auto.buffer
+    (through_encoder g.R.Read g.W.Write k body.length (length c.segments.buffer) body.place
+    c.advance.new.self.decoder.now c.copy.new.self.decoder.now c.write_header.new.encoder c.copy.new.writer
+    (Err error) (rw c.in_err-copy.was at c.copy.ensures.copied)) in
+    subst (λ (d : Decoder g.row.R.Denot). GoesOnWithin g.R.Read g.W.Write count before k (length c.args.buffer.now)
+    old c.from_residual-in_err-copy.result (sides_of d c.copy.new.writer)) {x = c.copy.new.self.decoder.now}
+    (search rules)
+    (rw same (segment_stops g.R.Read g.W.Write k count before old opened within so_far.bodies now
+    c.advance.new.self.decoder.now c.advance.new.self.progress so_far.written c.in-Ok-Some.body all
+    (length c.args.buffer.now) c.write_header.new.encoder.writer
+    (sides_of c.copy.new.self.decoder.now c.copy.new.writer) error titled stops))

@@ -1,0 +1,82 @@
+use Rattle.std.proofs.Common.{rules, refl, ◌≡◌, ◌∙◌, ℕ, Ok, Err, length, arith, subst}
+use Rattle.std.proofs.lemmas.Result.{err_from_is_err_and}
+use Rattle.ciborium_ll_recode.specs.Recoding.{CopiesElements, CopiesRun}
+use Rattle.ciborium_ll_recode.specs.Sides.{sides_of}
+use Rattle.ciborium_ll_decoder.proofs.DecodingLaws.{MovesOn-none, MovesOn-then}
+use Rattle.ciborium_ll_recode.proofs.CopyLaws.{run_none, run_behind, added_run, copies_all}
+use Rattle.ciborium_ll_recode.proofs.RecodeReadyLaws.{recode_told, recode_exactly}
+use Rattle.ciborium_ll_recode.proofs.RecodeAnyhowLaws.{recode_anyhow}
+use Rattle.ciborium_ll_recode.proofs.recode.recode.Goals as goal
+
+pub elements-init : goal.elements-init
+elements-init g c = record {
+  so_far = run_none g.R.Read g.W.Write (sides_of c.args.decoder.now c.args.encoder.now);
+  moves_on = MovesOn-none g.R.Read c.args.decoder.now;
+  target = refl;
+}
+
+pub elements-preserved : goal.elements-preserved
+elements-preserved g c =
+    let old = sides_of c.args.decoder.now c.args.encoder.now in
+    let now = sides_of c.elements.decoder c.elements.encoder in
+    let behind = run_behind g.R.Read g.W.Write c.args.count c.elements._copied old now c.elements-test.true
+    c.elements.invariant.so_far in
+    let is_ok : c.copy_element.result ≡ Ok (tt {0}) = search rules in
+    let copied = rw is_ok at c.copy_element.ensures.copied in
+    record {
+      so_far = added_run g.R.Read g.W.Write c.elements._copied old
+          (sides_of c.copy_element.new.decoder c.copy_element.new.encoder)
+          (copied c.args.count c.elements._copied old behind);
+      moves_on = MovesOn-then g.R.Read _ _ _ c.elements.invariant.moves_on c.copy_element.ensures.moves_on;
+      target = c.copy_element.ensures.target ∙ c.elements.invariant.target;
+    }
+
+pub returns-in_err-copy_element : goal.returns-in_err-copy_element
+returns-in_err-copy_element g c =
+    let p = err_from_is_err_and c.from_residual.result c.from_residual.ensures.1 in
+    let q = p.1 in
+    let r = p.2 in
+    let same : c.from_residual.result ≡ Err c.in_err-copy_element.field-0.0 = cc in
+    let old = sides_of c.args.decoder.now c.args.encoder.now in
+    let now = sides_of c.elements.decoder c.elements.encoder in
+    let behind = run_behind g.R.Read g.W.Write c.args.count c.elements._copied old now c.elements-test.true
+    c.elements.invariant.so_far in
+    let copied = rw c.in_err-copy_element.was at c.copy_element.ensures.copied in
+    let stopped = rw c.elements.auto.buffer at copied c.args.count c.elements._copied old behind in
+    let all : CopiesElements g.R.Read g.W.Write c.args.count (length c.args.buffer.now) old c.from_residual.result
+    (sides_of c.copy_element.new.decoder c.copy_element.new.encoder) = rw same stopped in
+    record {
+      copied = record {
+        copied = all;
+        moves_on = MovesOn-then g.R.Read _ _ _ c.elements.invariant.moves_on c.copy_element.ensures.moves_on;
+        target = c.copy_element.ensures.target ∙ c.elements.invariant.target;
+      };
+      told = λ strict due written ready. recode_told g.R.Read g.W.Write c.args.count (length c.args.buffer.now) old due
+          written ready _ c.from_residual.result all;
+      exactly = λ strict due written ready. recode_exactly g.R.Read g.W.Write c.args.count (length c.args.buffer.now) old due
+          written ready _ c.from_residual.result all;
+      anyhow = λ strict due written told. recode_anyhow g.R.Read g.W.Write c.args.count (length c.args.buffer.now) old due
+          written told _ c.from_residual.result all;
+    }
+
+pub returns : goal.returns
+returns g c =
+    let old = sides_of c.args.decoder.now c.args.encoder.now in
+    let now = sides_of c.elements.decoder c.elements.encoder in
+    let counted : c.elements._copied ≡ c.args.count = omega
+    (arith, c.elements-test.false, c.elements.auto._copied-end) in
+    let run = subst (λ (n : ℕ). CopiesRun g.R.Read g.W.Write n old now) counted c.elements.invariant.so_far in
+    let all = copies_all g.R.Read g.W.Write c.args.count old now run in
+    record {
+      copied = record {
+        copied = all;
+        moves_on = c.elements.invariant.moves_on;
+        target = c.elements.invariant.target;
+      };
+      told = λ strict due written ready. recode_told g.R.Read g.W.Write c.args.count (length c.args.buffer.now) old due
+          written ready _ (Ok (tt {0})) all;
+      exactly = λ strict due written ready. recode_exactly g.R.Read g.W.Write c.args.count (length c.args.buffer.now) old due
+          written ready _ (Ok (tt {0})) all;
+      anyhow = λ strict due written told. recode_anyhow g.R.Read g.W.Write c.args.count (length c.args.buffer.now) old due
+          written told _ (Ok (tt {0})) all;
+    }

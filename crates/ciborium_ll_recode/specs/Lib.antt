@@ -1,0 +1,3 @@
+pub mod Recoding
+pub mod RecodingTold
+pub mod Sides

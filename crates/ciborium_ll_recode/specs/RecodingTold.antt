@@ -1,0 +1,147 @@
+-- What a copy of elements means where the bytes are told: whatever fails, and where no side fails by itself. A strict
+-- decoder takes elements in their shortest spelling alone.
+use Rattle.std.specs.Prelude.{◌≡◌, ℕ, Bool, true, false, ◌+◌, ◌<◌, ◌≤◌, ◌⊎◌, min, max, List, [], ◌++◌, length, drop, None}
+use Rattle.std.specs.Prelude.{Some, Result, Ok, Err}
+use Rattle.ciborium_ll_io.specs.declared.io.Read.{Ghosts as Reader}
+use Rattle.ciborium_ll_io.specs.declared.io.Write.{Ghosts as Writer}
+use Rattle.ciborium_ll_decoder.specs.declared.dec.Decoder.{Decoder}
+use Rattle.ciborium_ll_decoder.specs.declared.dec.Error.TheVariants as e
+use Rattle.ciborium_ll_decoder.specs.declared.copy.RecodeError.{RecodeError}
+use Rattle.ciborium_ll_decoder.specs.declared.copy.RecodeError.TheVariants as r
+use Rattle.ciborium_ll_grammar.specs.Title.{shortest_title}
+use Rattle.ciborium_ll_grammar.specs.Strings.{kind_header, IsWritable, most_kept}
+use Rattle.ciborium_ll_grammar.specs.Elements.{Mark, spelling, IsRun}
+use Rattle.ciborium_ll_grammar.specs.Faults.{Place, Due, In, BodyDue, Reaches, Answer, Short, Syntax, RunInFront}
+use Rattle.ciborium_ll_grammar.specs.Faults.{HasFault}
+use Rattle.ciborium_ll_decoder.specs.Decoding.{offset_limit, Begins, view, IsSteady}
+use Rattle.ciborium_ll_recode.specs.Recoding.{IsUnderWay}
+use Rattle.ciborium_ll_decoder.specs.BodyCopies.{Sides}
+
+-- A side failed at this place, with these bytes ahead. `more` is what is written of a body under way: its shortest
+-- title, and a front of it. The count is that of the bytes ahead that are consumed: of a title the first byte at most,
+-- of a text up to three more than are written
+abbrev pub StopsAt : Place → List ℕ → List ℕ → ℕ → Type 0
+StopsAt Due ahead more consumed = (more ≡ []) × (consumed ≤ min 1 (length ahead))
+StopsAt (In kind) ahead more consumed = (more ≡ []) × (consumed ≤ min 1 (length ahead))
+StopsAt (BodyDue kind len start) ahead more consumed =
+    (front : List ℕ) × (rest : List ℕ) × (ahead ≡ front ++ rest)
+    × (more ≡ shortest_title (kind_header kind (Some len)) ++ front) × IsWritable kind front
+    × (length front ≤ consumed) × (consumed ≤ length front + most_kept kind) × (consumed ≤ min len (length ahead))
+
+-- a copy of so many elements stops there, since no more can be read: behind a part of them. What is written of it in
+-- all
+pub record StopInReading (count : ℕ) (bytes : List ℕ) : Type 0 where
+  pub before : List ℕ
+  pub marks : List Mark
+  pub place : Place
+  pub ahead : List ℕ
+  pub more : List ℕ
+  pub consumed : ℕ
+  pub reach : Reaches count before marks place
+  pub is : bytes ≡ before ++ ahead
+  pub stops : StopsAt place ahead more consumed
+  pub written : List ℕ
+  pub spelled : written ≡ spelling marks ++ more
+
+-- a copy of so many elements stops there, since no more can be written: behind all of them or a part. What is written
+-- of it in all is a beginning of its spelling and of a body under way; what was read and not written yet is that body's
+pub record StopInWriting (count : ℕ) (bytes : List ℕ) : Type 0 where
+  pub before : List ℕ
+  pub marks : List Mark
+  pub read : List ℕ
+  pub more : List ℕ
+  pub rest : List ℕ
+  pub belongs : (IsRun count before marks × (more ≡ []) × (read ≡ [])) ⊎
+      ((place : Place) × Reaches count before marks place × IsUnderWay place more read)
+  pub is : bytes ≡ (before ++ read) ++ rest
+  pub written : List ℕ
+  pub begun : Begins written (spelling marks ++ more)
+
+module _ {R E W F : Type 0} (source : Reader R E) (sink : Writer W F) where
+  -- the bytes that are due are told, and those that were written. The decoder is strict or not, as given; a header
+  -- that waits on a strict one was never read, so none may
+  pub record IsTold (strict : Bool) (now : Sides R W) (due written : List ℕ) : Type 0 where
+    pub mode : now.decoder.strict ≡ strict
+    pub due-told : view source now.decoder ≡ Some due
+    pub written-told : sink.written now.writer ≡ Some written
+    pub none_waits : strict ≡ true → now.decoder.waiting ≡ None
+
+  -- the reader gives the bytes that it tells, and the offset fits what is due, with 8 and with the buffer's length to
+  -- spare. The writer has room for the spelling of the elements where that many stand in front, else for as many bytes
+  -- as are due
+  pub record IsReady (strict : Bool) (count room-in : ℕ) (now : Sides R W)
+      (due written : List ℕ) : Type 0 where
+    pub steady : IsSteady source now.decoder
+    pub told : IsTold strict now due written
+    pub room : ℕ
+    pub room-told : sink.room now.writer ≡ Some room
+    -- for the spelling of the elements where they stand in front, else for as many bytes as are due
+    pub enough : ((front : RunInFront false count due) × (length (spelling front.marks) ≤ room)) ⊎ (length due ≤ room)
+    pub fits-title : now.decoder.offset + length due + 8 < offset_limit
+    pub fits-chunk : now.decoder.offset + length due + room-in < offset_limit
+
+  -- ---- from the old decoder to both sides: of the old writer it is said what was written
+
+  -- that many elements stood in front of what was due: just their shortest spelling was written and just what follows
+  -- them is left. The spelling is the same elements again, so a copy of it changes nothing
+  pub record CopiesFront (strict : Bool) (count : ℕ) (due written : List ℕ) (old : Decoder R)
+      (new : Sides R W) : Type 0 where
+    pub front : RunInFront strict count due
+    pub output : sink.written new.writer ≡ Some (written ++ spelling front.marks)
+    pub again : IsRun count (spelling front.marks) front.marks
+    pub left : view source new.decoder ≡ Some front.rest
+    pub offset : new.decoder.offset ≡ old.offset + length front.elements
+    -- behind an element no header waits; behind none one waits just where one waited
+    pub settled : 0 < count → new.decoder.waiting ≡ None
+    pub still : count ≡ 0 → new.decoder.waiting ≡ old.waiting
+
+  -- a fault was met: the answer, what was written up to it and what is consumed are its own
+  pub record MeetsFault (strict : Bool) (count : ℕ) (due written : List ℕ) (answer : Answer) (old : Decoder R)
+      (new : Sides R W) : Type 0 where
+    pub fault : HasFault strict count due
+    pub answered : fault.answer ≡ answer
+    pub output : sink.written new.writer ≡ Some (written ++ fault.written)
+    pub left : view source new.decoder ≡ Some (drop fault.consumed fault.ahead)
+    pub offset : new.decoder.offset ≡ old.offset + length fault.before + fault.consumed
+
+  -- what `recode` then does: all elements are copied, or the first fault stops it, with what is written, what is left
+  -- and the offset
+  abbrev pub RecodesTold : Bool → ℕ → List ℕ → List ℕ → Decoder R → Result (Unit {0}) (RecodeError E F) → Sides R W
+      → Type 0
+  RecodesTold strict count due written old (Ok done) new = CopiesFront strict count due written old new
+  RecodesTold strict count due written old (Err (r.Read (e.Io fault))) new =
+      MeetsFault strict count due written Short old new
+  RecodesTold strict count due written old (Err (r.Read (e.Syntax place))) new =
+      (start : ℕ) × (place ≡ old.offset + start) × MeetsFault strict count due written (Syntax start) old new
+  RecodesTold strict count due written old (Err (r.Read e.TooLong)) new = ⊥
+  RecodesTold strict count due written old (Err (r.Read e.Waiting)) new = ⊥
+  RecodesTold strict count due written old (Err (r.Write fault)) new = ⊥
+
+  -- ---- where a side may fail by itself
+
+  -- the reader failed, or the offset is full
+  pub record StopsShort (count : ℕ) (due written : List ℕ) (old : Decoder R) (new : Sides R W) : Type 0 where
+    pub stop : StopInReading count due
+    pub output : sink.written new.writer ≡ Some (written ++ stop.written)
+    pub offset : new.decoder.offset ≡ old.offset + length stop.before + stop.consumed
+
+  -- the writer failed
+  pub record StopsUnwritten (count : ℕ) (due written : List ℕ) (old : Decoder R) (new : Sides R W) : Type 0 where
+    pub stop : StopInWriting count due
+    pub output : sink.written new.writer ≡ Some (written ++ stop.written)
+    pub left : view source new.decoder ≡ Some stop.rest
+    pub offset : new.decoder.offset ≡ old.offset + length stop.before + length stop.read
+
+  -- `recode` through a buffer of so much room, whatever fails: `Ok` and `Syntax` mean the same as where nothing does
+  abbrev pub RecodesAnyhow : Bool → ℕ → ℕ → List ℕ → List ℕ → Decoder R → Result (Unit {0}) (RecodeError E F)
+      → Sides R W → Type 0
+  RecodesAnyhow strict count room-in due written old (Ok done) new = CopiesFront strict count due written old new
+  RecodesAnyhow strict count room-in due written old (Err (r.Read (e.Io fault))) new =
+      StopsShort count due written old new
+  RecodesAnyhow strict count room-in due written old (Err (r.Read (e.Syntax place))) new =
+      (start : ℕ) × (place ≡ old.offset + start) × MeetsFault strict count due written (Syntax start) old new
+  RecodesAnyhow strict count room-in due written old (Err (r.Read e.TooLong)) new =
+      StopsShort count due written old new × (offset_limit ≤ new.decoder.offset + max 8 room-in)
+  RecodesAnyhow strict count room-in due written old (Err (r.Read e.Waiting)) new = ⊥
+  RecodesAnyhow strict count room-in due written old (Err (r.Write fault)) new =
+      StopsUnwritten count due written old new
