@@ -1,5 +1,5 @@
+pub mod Depth
 pub mod Fault
-pub mod Line
 pub mod Raw
 pub mod Restoring
 pub mod Value

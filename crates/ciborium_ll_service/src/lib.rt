@@ -6,7 +6,7 @@
 mod answer;
 mod copy;
 pub mod fault;
-mod input;
+mod head;
 pub mod memory;
 pub mod raw;
 pub mod service;

@@ -1,9 +1,9 @@
 //! The service: each line that is read gets its answer.
 
 use crate::answer;
-use crate::input::Lines;
 use crate::memory::OutOfMemory;
 use ciborium_ll_io::io::Write;
+use ciborium_ll_requests::input::{LineError, Lines};
 use ciborium_ll_streams::{StdWriter, WriteFault};
 use std::alloc::{AllocError, Global};
 use std::{fmt, io};
@@ -50,6 +50,15 @@ impl From<OutOfMemory> for ToolError {
 
     fn from(_refused: OutOfMemory) -> ToolError {
         ToolError::Memory
+    }
+}
+
+impl From<LineError> for ToolError {
+    fn from(error: LineError) -> ToolError {
+        match error {
+            LineError::Memory => ToolError::Memory,
+            LineError::Read(error) => ToolError::Read(error),
+        }
     }
 }
 
