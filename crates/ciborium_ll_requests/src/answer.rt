@@ -77,14 +77,14 @@ pub fn title_line<T: Write>(offset: usize, name: &str, value: Value, sink: &mut 
 
 /// Writes bytes as a line of one word.
 pub fn word_line<T: Write>(alloc: Global, bytes: &[u8], sink: &mut T) -> fmt::Result {
-    let word = word_of(alloc, bytes)?;
-    writeln!(sink, "{word}")
+    write_word(alloc, bytes, sink)?;
+    sink.write_str("\n")
 }
 
 /// Writes the line of a chunk.
 pub fn chunk_line<T: Write>(alloc: Global, chunk: &[u8], sink: &mut T) -> fmt::Result {
-    let word = word_of(alloc, chunk)?;
-    writeln!(sink, "chunk {word}")
+    sink.write_str("chunk ")?;
+    word_line(alloc, chunk, sink)
 }
 
 /// Writes what a copy wrote, and what is left or why the copy stopped. Where it stopped for want of room that is all.
@@ -95,13 +95,22 @@ pub fn copy_line<T: Write>(
     left: &[u8],
     sink: &mut T,
 ) -> fmt::Result {
-    if let Some(Last::Room) = last {
-        return writeln!(sink, "{}", Last::Room);
+    match last {
+        Some(Last::Room) => writeln!(sink, "{}", Last::Room),
+        Some(last) => {
+            write_word(alloc, written, sink)?;
+            writeln!(sink, " {last}")
+        }
+        None => {
+            write_word(alloc, written, sink)?;
+            sink.write_str(" rest ")?;
+            word_line(alloc, left, sink)
+        }
     }
-    let output = word_of(alloc, written)?;
-    if let Some(last) = last {
-        return writeln!(sink, "{output} {last}");
-    }
-    let rest = word_of(alloc, left)?;
-    writeln!(sink, "{output} rest {rest}")
+}
+
+/// Writes bytes as a word.
+fn write_word<T: Write>(alloc: Global, bytes: &[u8], sink: &mut T) -> fmt::Result {
+    let word = word_of(alloc, bytes)?;
+    sink.write_str(word.as_str())
 }

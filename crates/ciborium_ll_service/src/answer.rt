@@ -2,21 +2,19 @@
 
 ghost use Rattle.ciborium_ll_service.specs.Depth.{IsWithinDepth};
 
-use crate::service::ToolError;
 use crate::{copy, head, skip, string, value};
 use ciborium_ll_requests::request::Request;
 use std::alloc::Global;
 use std::fmt;
 use std::fmt::Write;
 
-/// Answers a line. The error is `Memory`: the sink refused text, or there is no memory.
+/// Answers a line. The error comes only where the sink refused text, or where there is no memory.
 #[tactic(auto, using(crate::proofs::DepthLaws::within_depth))]
-pub fn line<T: Write>(alloc: Global, line: &[u8], sink: &mut T) -> Result<(), ToolError> {
+pub fn line<T: Write>(alloc: Global, line: &[u8], sink: &mut T) -> fmt::Result {
     match Request::parse(alloc, line)? {
-        Some(request) => answer(alloc, &request, sink)?,
-        None => sink.write_str("error: line\n")?,
+        Some(request) => answer(alloc, &request, sink),
+        None => sink.write_str("error: line\n"),
     }
-    Ok(())
 }
 
 /// Answers a request. Each has a function of its own.

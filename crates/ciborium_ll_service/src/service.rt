@@ -108,12 +108,26 @@ fn answer_lines<R: io::Read + Drop, W: io::Write>(
     let mut line = Vec::new(alloc);
     let mut answer = String::new(alloc);
     for _ in 0..u64::MAX {
-        if !lines.read_line(&mut line)? {
+        if !answer_next(alloc, &mut lines, &mut line, &mut answer, writer)? {
             break;
         }
-        answer.clear();
-        answer::line(alloc, line.as_slice(), &mut answer)?;
-        writer.write_all(answer.as_bytes())?;
     }
     Ok(writer.flush()?)
+}
+
+/// Answers the next line, and tells whether there was one. The line and its answer are read and made in this memory.
+fn answer_next<R: io::Read + Drop, W: io::Write>(
+    alloc: Global,
+    lines: &mut Lines<R>,
+    line: &mut Vec<u8>,
+    answer: &mut String,
+    writer: &mut StdWriter<W>,
+) -> Result<bool, ToolError> {
+    if !lines.read_line(line)? {
+        return Ok(false);
+    }
+    answer.clear();
+    answer::line(alloc, line.as_slice(), answer)?;
+    writer.write_all(answer.as_bytes())?;
+    Ok(true)
 }

@@ -44,9 +44,18 @@ impl<E: Drop> From<Error<E>> for Stop {
 /// Answers `chunks`: a line for each segment, chunk and end of a segment, and one for what ended the string.
 pub fn chunks<T: Write>(alloc: Global, asked: &Numbered, sink: &mut T) -> fmt::Result {
     let mut buffer = vec![in alloc; 0u8; asked.number]?;
-    let most = asked.bytes.len();
-    let mut decoder = Decoder::from(SliceReader::new(asked.bytes.as_slice()));
-    let stop = string(alloc, &mut decoder, most, buffer.as_mut_slice(), sink)?;
+    chunks_within(alloc, asked.bytes.as_slice(), buffer.as_mut_slice(), sink)
+}
+
+/// The same, through this buffer.
+fn chunks_within<T: Write>(
+    alloc: Global,
+    bytes: &[u8],
+    buffer: &mut [u8],
+    sink: &mut T,
+) -> fmt::Result {
+    let mut decoder = Decoder::from(SliceReader::new(bytes));
+    let stop = string(alloc, &mut decoder, bytes.len(), buffer, sink)?;
     writeln!(sink, "{}", stopped(stop, decoder.offset()))
 }
 
