@@ -1,2 +1,1 @@
 mod DepthLaws
-mod RawLaws

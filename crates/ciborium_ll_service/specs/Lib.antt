@@ -1,5 +1,1 @@
 pub mod Depth
-pub mod Fault
-pub mod Raw
-pub mod Restoring
-pub mod Value

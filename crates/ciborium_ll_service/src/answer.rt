@@ -2,7 +2,8 @@
 
 ghost use Rattle.ciborium_ll_service.specs.Depth.{IsWithinDepth};
 
-use crate::{copy, head, skip, string, value};
+use crate::skip;
+use ciborium_ll_answers::{copy, head, string, value};
 use ciborium_ll_requests::request::Request;
 use std::alloc::Global;
 use std::fmt;

@@ -2,8 +2,8 @@
 
 ghost use Rattle.std.specs.Prelude.{◌≤◌};
 
-use crate::copy::BUFFER_SIZE;
 use cbor_skip::{SkipError, skip_item};
+use ciborium_ll_answers::copy::BUFFER_SIZE;
 use ciborium_ll_decoder::dec::{Decoder, Error};
 use ciborium_ll_io::io::{EndOfFile, SliceReader};
 use ciborium_ll_requests::answer::Last;

@@ -4,10 +4,10 @@
 //! so many elements from standard input to standard output.
 #![tactic(auto)]
 
+use ciborium_ll_answers::fault::{Fault, fault_of_raw, fault_of_run};
+use ciborium_ll_answers::raw::raw_buffered;
 use ciborium_ll_requests::arguments::chosen;
 use ciborium_ll_requests::choice::Chosen;
-use ciborium_ll_service::fault::{Fault, fault_of_raw, fault_of_run};
-use ciborium_ll_service::raw::raw_buffered;
 use ciborium_ll_service::service::run;
 use std::process::ExitCode;
 use std::{env, io};
