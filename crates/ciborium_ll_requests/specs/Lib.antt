@@ -1,4 +1,5 @@
 pub mod Choice
+pub mod Line
 pub mod Number
 pub mod Request
 pub mod Word

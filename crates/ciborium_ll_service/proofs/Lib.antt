@@ -1,1 +1,1 @@
-mod RawLaws
+mod DepthLaws

@@ -1,5 +1,1 @@
-pub mod Fault
-pub mod Line
-pub mod Raw
-pub mod Restoring
-pub mod Value
+pub mod Depth

@@ -1,15 +1,8 @@
-//! Answers lines on CBOR titles, strings and copies, and copies raw bytes, over any reader and writer of std.
+//! Answers lines on CBOR titles, strings and copies over any reader and writer of std.
 //!
 //! `ciborium_ll_tool` is the program that calls it.
 #![tactic(auto)]
 
 mod answer;
-mod copy;
-pub mod fault;
-mod input;
-pub mod memory;
-pub mod raw;
 pub mod service;
 mod skip;
-mod string;
-mod value;

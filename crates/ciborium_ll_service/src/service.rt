@@ -1,70 +1,12 @@
 //! The service: each line that is read gets its answer.
 
 use crate::answer;
-use crate::input::Lines;
-use crate::memory::OutOfMemory;
+use ciborium_ll_answers::fault::ToolError;
 use ciborium_ll_io::io::Write;
-use ciborium_ll_streams::{StdWriter, WriteFault};
-use std::alloc::{AllocError, Global};
-use std::{fmt, io};
-
-/// Why a run ended early.
-#[derive(Debug, Drop)]
-pub enum ToolError {
-    /// There was no memory for a line or for its answer.
-    Memory,
-    /// The reader failed.
-    Read(io::Error),
-    /// The writer failed.
-    Write(io::Error),
-}
-
-impl From<AllocError> for ToolError {
-    ghost use Rattle.std.specs.Prelude.{◌≡◌};
-    ghost use Rattle.ciborium_ll_service.specs.declared.service.ToolError.TheVariants.{Memory};
-
-    ghost from_gives = { λ _ error. error ≡ Memory };
-
-    fn from(_refused: AllocError) -> ToolError {
-        ToolError::Memory
-    }
-}
-
-impl From<fmt::Error> for ToolError {
-    ghost use Rattle.std.specs.Prelude.{◌≡◌};
-    ghost use Rattle.ciborium_ll_service.specs.declared.service.ToolError.TheVariants.{Memory};
-
-    ghost from_gives = { λ _ error. error ≡ Memory };
-
-    /// An answer is made in memory, so that only memory can fail there.
-    fn from(_refused: fmt::Error) -> ToolError {
-        ToolError::Memory
-    }
-}
-
-impl From<OutOfMemory> for ToolError {
-    ghost use Rattle.std.specs.Prelude.{◌≡◌};
-    ghost use Rattle.ciborium_ll_service.specs.declared.service.ToolError.TheVariants.{Memory};
-
-    ghost from_gives = { λ _ error. error ≡ Memory };
-
-    fn from(_refused: OutOfMemory) -> ToolError {
-        ToolError::Memory
-    }
-}
-
-impl From<WriteFault> for ToolError {
-    ghost use Rattle.ciborium_ll_service.specs.Fault.{IsWriteError};
-
-    ghost from_gives = { λ fault error. IsWriteError fault error };
-
-    fn from(fault: WriteFault) -> ToolError {
-        match fault {
-            WriteFault::Zero => ToolError::Write(io::Error::from(io::ErrorKind::WriteZero)),
-            WriteFault::Failed(error) => ToolError::Write(error),
-        }
-    }
-}
+use ciborium_ll_requests::input::Lines;
+use ciborium_ll_streams::StdWriter;
+use std::alloc::Global;
+use std::io;
 
 /// Answers each line of the reader on the writer, and flushes the writer at the end.
 ///
@@ -99,12 +41,26 @@ fn answer_lines<R: io::Read + Drop, W: io::Write>(
     let mut line = Vec::new(alloc);
     let mut answer = String::new(alloc);
     for _ in 0..u64::MAX {
-        if !lines.read_line(&mut line)? {
+        if !answer_next(alloc, &mut lines, &mut line, &mut answer, writer)? {
             break;
         }
-        answer.clear();
-        answer::line(alloc, line.as_slice(), &mut answer)?;
-        writer.write_all(answer.as_bytes())?;
     }
     Ok(writer.flush()?)
+}
+
+/// Answers the next line, and tells whether there was one. The line and its answer are read and made in this memory.
+fn answer_next<R: io::Read + Drop, W: io::Write>(
+    alloc: Global,
+    lines: &mut Lines<R>,
+    line: &mut Vec<u8>,
+    answer: &mut String,
+    writer: &mut StdWriter<W>,
+) -> Result<bool, ToolError> {
+    if !lines.read_line(line)? {
+        return Ok(false);
+    }
+    answer.clear();
+    answer::line(alloc, line.as_slice(), answer)?;
+    writer.write_all(answer.as_bytes())?;
+    Ok(true)
 }

@@ -4,10 +4,10 @@
 //! so many elements from standard input to standard output.
 #![tactic(auto)]
 
+use ciborium_ll_answers::fault::{Fault, fault_of_raw, fault_of_run};
+use ciborium_ll_answers::raw::raw_buffered;
 use ciborium_ll_requests::arguments::chosen;
 use ciborium_ll_requests::choice::Chosen;
-use ciborium_ll_service::fault::{Fault, fault_of_raw, fault_of_run};
-use ciborium_ll_service::raw::raw_buffered;
 use ciborium_ll_service::service::run;
 use std::process::ExitCode;
 use std::{env, io};
@@ -17,9 +17,7 @@ fn main(rt: HostRuntime) -> ExitCode {
         return failed(&rt, Fault::Read);
     };
     let outcome = match chosen(words.as_slice()) {
-        Chosen::Lines => {
-            run(rt.alloc(), rt.reader(), io::writer(&rt)).map_err(|error| fault_of_run(&error))
-        }
+        Chosen::Lines => answered(&rt),
         Chosen::Raw(count) => copied(&rt, count),
         Chosen::Usage => {
             let _ = eprintln!(rt; "usage: ciborium_ll_tool [recode COUNT]");
@@ -35,19 +33,32 @@ fn main(rt: HostRuntime) -> ExitCode {
 /// The words behind the program's name. The error is that of the arguments, or says that there is no memory.
 fn words_of(rt: &HostRuntime) -> io::Result<Vec<String>> {
     let mut words = Vec::new(rt.alloc());
-    for word in env::args(rt)?.skip(1) {
-        words
-            .push(word)
-            .map_err(|_| io::Error::from(io::ErrorKind::OutOfMemory))?;
+    let mut arguments = env::args(rt)?;
+    let _ = arguments.next();
+    for word in arguments {
+        if words.push(word).is_err() {
+            return Err(io::Error::from(io::ErrorKind::OutOfMemory));
+        }
     }
     Ok(words)
+}
+
+/// Answers the lines of standard input on standard output.
+fn answered(rt: &HostRuntime) -> Result<(), Fault> {
+    match run(rt.alloc(), rt.reader(), io::writer(rt)) {
+        Ok(()) => Ok(()),
+        Err(error) => Err(fault_of_run(&error)),
+    }
 }
 
 /// Copies so many elements from standard input to standard output.
 fn copied(rt: &HostRuntime, count: usize) -> Result<(), Fault> {
     let copy = raw_buffered(rt.reader(), io::writer(rt), count);
-    copy.copied.map_err(|error| fault_of_raw(&error))?;
-    copy.flushed.map_err(|_| Fault::Write)
+    match (copy.copied, copy.flushed) {
+        (Ok(()), Ok(())) => Ok(()),
+        (Ok(()), Err(_)) => Err(Fault::Write),
+        (Err(error), _) => Err(fault_of_raw(&error)),
+    }
 }
 
 /// Names the fault on standard error.

@@ -1,6 +1,7 @@
 // Runs of the program's lines over bytes in memory.
 
-use ciborium_ll_service::service::{ToolError, run};
+use ciborium_ll_answers::fault::ToolError;
+use ciborium_ll_service::service::run;
 use std::alloc::{AllocError, Global};
 use std::test::Fail;
 

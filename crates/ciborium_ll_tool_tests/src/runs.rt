@@ -1,10 +1,10 @@
 // Runs over readers and writers that move few bytes a call or fail, and where an allocation is refused.
 
 use ciborium_ll::io::Write;
+use ciborium_ll_answers::fault::{ToolError, fault_of_run};
+use ciborium_ll_answers::memory::{OutOfMemory, VecWriter};
 use ciborium_ll_fixtures::streams::{PartReader, PartWriter};
-use ciborium_ll_service::fault::fault_of_run;
-use ciborium_ll_service::memory::{OutOfMemory, VecWriter};
-use ciborium_ll_service::service::{ToolError, run};
+use ciborium_ll_service::service::run;
 use std::alloc::Global;
 use std::io;
 use std::test::Fail;

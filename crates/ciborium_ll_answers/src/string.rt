@@ -4,12 +4,12 @@ ghost use Rattle.std.specs.Prelude.{◌≡◌};
 ghost use Rattle.ciborium_ll_decoder.specs.Chunks.{segment_reference};
 ghost use Rattle.ciborium_ll_decoder.specs.Segments.{string_reference};
 
-use crate::answer::Last;
 use ciborium_ll_decoder::dec::{Decoder, Error};
 use ciborium_ll_decoder::seg::{Bytes, Chunked, Segment, Segments, Text};
 use ciborium_ll_grammar::hdr::Header;
 use ciborium_ll_io::io::{Read, SliceReader};
-use ciborium_ll_requests::word::word_of;
+use ciborium_ll_requests::answer::{Last, chunk_line};
+use ciborium_ll_requests::request::Numbered;
 use std::alloc::Global;
 use std::fmt;
 use std::fmt::Write;
@@ -17,6 +17,8 @@ use std::fmt::Write;
 /// Why the reading of a string stopped.
 #[derive(Drop)]
 enum Stop {
+    /// The item is no string.
+    Other,
     /// The string has ended.
     Ended,
     /// The bytes at this offset are no part of it.
@@ -40,16 +42,33 @@ impl<E: Drop> From<Error<E>> for Stop {
 }
 
 /// Answers `chunks`: a line for each segment, chunk and end of a segment, and one for what ended the string.
-pub fn chunks<T: Write>(alloc: Global, size: usize, bytes: &[u8], sink: &mut T) -> fmt::Result {
-    let mut buffer = vec![in alloc; 0u8; size]?;
+pub fn chunks<T: Write>(alloc: Global, asked: &Numbered, sink: &mut T) -> fmt::Result {
+    let mut buffer = vec![in alloc; 0u8; asked.number]?;
+    chunks_within(alloc, asked.bytes.as_slice(), buffer.as_mut_slice(), sink)
+}
+
+/// The same, through this buffer.
+fn chunks_within<T: Write>(
+    alloc: Global,
+    bytes: &[u8],
+    buffer: &mut [u8],
+    sink: &mut T,
+) -> fmt::Result {
     let mut decoder = Decoder::from(SliceReader::new(bytes));
-    string(
-        alloc,
-        &mut decoder,
-        bytes.len(),
-        buffer.as_mut_slice(),
-        sink,
-    )
+    let stop = string(alloc, &mut decoder, bytes.len(), buffer, sink)?;
+    writeln!(sink, "{}", stopped(stop, decoder.offset()))
+}
+
+/// What a stop at this offset is for the answer.
+fn stopped(stop: Stop, offset: usize) -> Last {
+    match stop {
+        Stop::Other => Last::Other,
+        Stop::Ended => Last::End(offset),
+        Stop::Syntax(place) => Last::Syntax(place),
+        Stop::Short => Last::Short(offset),
+        Stop::Stuck => Last::Stuck,
+        Stop::Room => Last::Room,
+    }
 }
 
 /// Reads a string of at most so many bytes.
@@ -59,28 +78,20 @@ fn string<R: Read, T: Write>(
     most: usize,
     buffer: &mut [u8],
     sink: &mut T,
-) -> fmt::Result
+) -> Result<Stop, fmt::Error>
 where
     R::Error: Drop,
 {
-    let stop = match decoder.pull() {
+    match decoder.pull() {
         Ok(Header::Bytes(length)) => {
-            segment_lines::<R, Bytes, T>(alloc, &mut decoder.bytes(length), most, buffer, sink)?
+            segment_lines::<R, Bytes, T>(alloc, &mut decoder.bytes(length), most, buffer, sink)
         }
         Ok(Header::Text(length)) => {
-            segment_lines::<R, Text, T>(alloc, &mut decoder.text(length), most, buffer, sink)?
+            segment_lines::<R, Text, T>(alloc, &mut decoder.text(length), most, buffer, sink)
         }
-        Ok(_) => return writeln!(sink, "other"),
-        Err(error) => Stop::from(error),
-    };
-    let last = match stop {
-        Stop::Ended => Last::End(decoder.offset()),
-        Stop::Syntax(place) => Last::Syntax(place),
-        Stop::Short => Last::Short(decoder.offset()),
-        Stop::Stuck => return writeln!(sink, "stuck"),
-        Stop::Room => Last::Room,
-    };
-    writeln!(sink, "{last}")
+        Ok(_) => Ok(Stop::Other),
+        Err(error) => Ok(Stop::from(error)),
+    }
 }
 
 /// Reads the segments of a string, each to its end. Each takes a byte, and the call after the last one ends them.
@@ -133,16 +144,10 @@ where
                 chunk_line(alloc, chunk, sink)?;
             }
             Ok(None) => {
-                writeln!(sink, "stop")?;
+                sink.write_str("stop\n")?;
                 return Ok(None);
             }
             Err(error) => return Ok(Some(Stop::from(error))),
         }
     }
-}
-
-/// Writes the line of a chunk.
-fn chunk_line<T: Write>(alloc: Global, chunk: &[u8], sink: &mut T) -> fmt::Result {
-    let word = word_of(alloc, chunk)?;
-    writeln!(sink, "chunk {word}")
 }

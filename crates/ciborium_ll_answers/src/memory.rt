@@ -6,10 +6,18 @@ ghost use Rattle.ciborium_ll_io.specs.Transfer.{AppendsFront};
 
 use ciborium_ll_io::io::{Failures, Write};
 use std::alloc::Global;
+use std::fmt;
 
 /// A growth of the memory was refused. Nothing was written.
 #[derive(Debug, Drop)]
 pub struct OutOfMemory;
+
+impl From<OutOfMemory> for fmt::Error {
+    /// An answer that is made in memory has no other error.
+    fn from(_refused: OutOfMemory) -> fmt::Error {
+        fmt::Error
+    }
+}
 
 /// Writes to the end of a `Vec`. It tells what it wrote, and no room.
 #[derive(Drop)]

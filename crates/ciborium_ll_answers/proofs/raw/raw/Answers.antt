@@ -2,10 +2,10 @@ use Rattle.std.proofs.Common.{◌≡◌, List, ℕ, Some, subst, sym, ap, ◌∙
 use Rattle.std.specs.Io.KnownBytes.{Keeps}
 use Rattle.ciborium_ll_streams.specs.declared.streams.StdReader.{StdReader}
 use Rattle.ciborium_ll_streams.specs.declared.streams.StdWriter.{StdWriter}
-use Rattle.ciborium_ll_service.specs.Raw.{Tells}
-use Rattle.ciborium_ll_service.proofs.RawLaws.{kept_known, told_ahead, raw_all, raw_stopped, raw_unflushed}
-use Rattle.ciborium_ll_service.proofs.raw.raw.Goals as goal
-use Rattle.ciborium_ll_service.proofs.raw.raw.Goals.{in-Ok-Ok, in-Ok-Err, in-Err-default}
+use Rattle.ciborium_ll_answers.specs.Raw.{Tells}
+use Rattle.ciborium_ll_answers.proofs.RawLaws.{kept_known, told_ahead, raw_all, raw_stopped, raw_unflushed}
+use Rattle.ciborium_ll_answers.proofs.raw.raw.Goals as goal
+use Rattle.ciborium_ll_answers.proofs.raw.raw.Goals.{in-Ok-Ok, in-Ok-Err, in-Err-default}
 
 pub returns : goal.returns
 returns g c = λ due written told-due told-written.

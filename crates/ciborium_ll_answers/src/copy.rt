@@ -1,11 +1,11 @@
 //! Elements that are copied.
 
-use crate::answer::Last;
 use ciborium_ll_decoder::dec::{Decoder, Error};
 use ciborium_ll_encoder::enc::Encoder;
 use ciborium_ll_io::io::{SliceReader, SliceWriter};
 use ciborium_ll_recode::recode::{RecodeError, recode};
-use ciborium_ll_requests::word::word_of;
+use ciborium_ll_requests::answer::{Last, copy_line};
+use ciborium_ll_requests::request::Numbered;
 use std::alloc::Global;
 use std::fmt;
 use std::fmt::Write;
@@ -13,41 +13,32 @@ use std::fmt::Write;
 /// How many bytes of a string are copied at a time, at most.
 pub const BUFFER_SIZE: usize = 64;
 
-/// Answers `recode` and `strict`: what a copy of so many elements wrote, and what is left of the bytes or why the copy
-/// stopped. The decoder reads bytes of this length.
-pub fn elements<T: Write>(
+/// Answers `recode`: what a copy of so many elements wrote, and what is left of the bytes or why the copy stopped.
+pub fn elements<T: Write>(alloc: Global, asked: &Numbered, sink: &mut T) -> fmt::Result {
+    let decoder = Decoder::from(SliceReader::new(asked.bytes.as_slice()));
+    copy(alloc, decoder, asked, sink)
+}
+
+/// Answers `strict`: the same by a strict decoder.
+pub fn strict_elements<T: Write>(alloc: Global, asked: &Numbered, sink: &mut T) -> fmt::Result {
+    let decoder = Decoder::strict(SliceReader::new(asked.bytes.as_slice()));
+    copy(alloc, decoder, asked, sink)
+}
+
+/// Copies elements of this decoder, and says what was written, and what is left or why the copy stopped.
+fn copy<T: Write>(
     alloc: Global,
     mut decoder: Decoder<SliceReader<'_>>,
-    count: usize,
-    length: usize,
+    asked: &Numbered,
     sink: &mut T,
 ) -> fmt::Result {
     // No element has a longer spelling than the one that it is read from.
-    let mut space = vec![in alloc; 0u8; length]?;
+    let mut space = vec![in alloc; 0u8; asked.bytes.len()]?;
     let mut encoder = Encoder::from(SliceWriter::new(space.as_mut_slice()));
-    let last = copied(&mut decoder, &mut encoder, count);
+    let last = copied(&mut decoder, &mut encoder, asked.number);
     let writer = encoder.into_inner();
     let reader = decoder.into_inner();
-    told(alloc, last, writer.written(), reader.left(), sink)
-}
-
-/// Says what was written, and what is left or why the copy stopped. Where it stopped for want of room that is all.
-fn told<T: Write>(
-    alloc: Global,
-    last: Option<Last>,
-    written: &[u8],
-    left: &[u8],
-    sink: &mut T,
-) -> fmt::Result {
-    if let Some(Last::Room) = last {
-        return writeln!(sink, "{}", Last::Room);
-    }
-    let output = word_of(alloc, written)?;
-    if let Some(last) = last {
-        return writeln!(sink, "{output} {last}");
-    }
-    let rest = word_of(alloc, left)?;
-    writeln!(sink, "{output} rest {rest}")
+    copy_line(alloc, last, writer.written(), reader.left(), sink)
 }
 
 /// Copies so many elements, and says why the copy stopped before, if it did. Its contract says nothing of the copy:

@@ -1,12 +1,26 @@
 //! Lines out of a reader.
 
-ghost use Rattle.std.specs.Prelude.{◌≡◌, [], false, IfOk, OnOk, vec_len};
-ghost use Rattle.ciborium_ll_service.specs.Line.{IsOneLine};
+ghost use Rattle.std.specs.Prelude.{◌≡◌, ◌≤◌, [], false, IfOk, OnOk, length, take, vec_len};
+ghost use Rattle.ciborium_ll_requests.specs.Line.{IsOneLine};
 
-use crate::service::ToolError;
 use std::alloc::{AllocError, Global};
 use std::io;
 use std::io::{BufRead, BufReader};
+
+/// Why a line can't be read.
+#[derive(Debug, Drop)]
+pub enum LineError {
+    /// There is no memory for it.
+    Memory,
+    /// The reader failed.
+    Read(io::Error),
+}
+
+impl From<AllocError> for LineError {
+    fn from(_refused: AllocError) -> LineError {
+        LineError::Memory
+    }
+}
 
 /// Gives the lines of a reader one by one, and asks the reader for many bytes at a time.
 #[derive(Drop)]
@@ -30,7 +44,7 @@ impl<R: io::Read + Drop> Lines<R> {
     /// Puts the next line in place of what `line` holds, without its line feed. It tells whether there was one.
     ///
     /// The errors are `Memory` and `Read`. Some of the line is then lost.
-    pub fn read_line(&mut self, line: &mut Vec<u8>) -> Result<bool, ToolError>
+    pub fn read_line(&mut self, line: &mut Vec<u8>) -> Result<bool, LineError>
         ensures one { OnOk result (IsOneLine line.new.items) }
         ensures none { IfOk result (λ found. found ≡ false → line.new.items ≡ []) }
     {
@@ -47,21 +61,33 @@ impl<R: io::Read + Drop> Lines<R> {
     }
 
     /// Appends what one read gave, up to the end of the line. It tells whether a line feed ended the line.
-    fn take_part(&mut self, line: &mut Vec<u8>) -> Result<bool, ToolError>
+    fn take_part(&mut self, line: &mut Vec<u8>) -> Result<bool, LineError>
         requires { IsOneLine line.old.items }
         ensures { OnOk result (IsOneLine line.new.items) }
     {
-        let part = self.reader.fill_buf().map_err(ToolError::Read)?;
+        let part = match self.reader.fill_buf() {
+            Ok(part) => part,
+            Err(error) => return Err(LineError::Read(error)),
+        };
         if part.is_empty() {
             self.has_ended = true;
             return Ok(false);
         }
-        let (length, is_whole) = match part.iter().position(|byte| *byte == b'\n') {
-            Some(length) => (length, true),
-            None => (part.len(), false),
-        };
+        let length = line_length(part);
+        let is_whole = length < part.len();
         line.extend_from_slice(&part[..length])?;
         self.reader.consume(length + usize::from(is_whole));
         Ok(is_whole)
+    }
+}
+
+/// How many bytes stand before the first line feed, or in all where there is none.
+fn line_length(part: &[u8]) -> usize
+    ensures within { result ≤ length part.now }
+    ensures line { IsOneLine (take result part.now) }
+{
+    match part.iter().position(|byte| *byte == b'\n') {
+        Some(length) => length,
+        None => part.len(),
     }
 }

@@ -2,40 +2,29 @@
 
 ghost use Rattle.std.specs.Prelude.{IfOk};
 ghost use Rattle.ciborium_ll_grammar.specs.Strings.{Bytes as byte_strings, Text as text_strings};
-ghost use Rattle.ciborium_ll_service.specs.Value.{IsValueSpelling};
+ghost use Rattle.ciborium_ll_answers.specs.Value.{IsValueSpelling};
 
 use crate::memory::{OutOfMemory, VecWriter};
-use crate::service::ToolError;
 use ciborium_ll_encoder::enc::Encoder;
-use ciborium_ll_requests::word::word_of;
+use ciborium_ll_requests::answer::word_line;
+use ciborium_ll_requests::request::Limited;
 use std::alloc::Global;
+use std::fmt;
 use std::fmt::Write;
 
 /// Answers `bytes`: the spelling of a byte string under a limit.
-pub fn bytes<T: Write>(
-    alloc: Global,
-    value: &[u8],
-    limit: Option<usize>,
-    sink: &mut T,
-) -> Result<(), ToolError> {
-    let spelling = spelled_bytes(alloc, value, limit)?;
-    let word = word_of(alloc, spelling.as_slice())?;
-    Ok(writeln!(sink, "{word}")?)
+pub fn bytes<T: Write>(alloc: Global, asked: &Limited, sink: &mut T) -> fmt::Result {
+    let spelling = spelled_bytes(alloc, asked.bytes.as_slice(), asked.limit)?;
+    word_line(alloc, spelling.as_slice(), sink)
 }
 
 /// Answers `text`: the spelling of a text string under a limit, where the bytes are text.
-pub fn text<T: Write>(
-    alloc: Global,
-    value: &[u8],
-    limit: Option<usize>,
-    sink: &mut T,
-) -> Result<(), ToolError> {
-    let Ok(value) = std::str::from_utf8(value) else {
-        return Ok(writeln!(sink, "error: text")?);
+pub fn text<T: Write>(alloc: Global, asked: &Limited, sink: &mut T) -> fmt::Result {
+    let Ok(value) = std::str::from_utf8(asked.bytes.as_slice()) else {
+        return sink.write_str("error: text\n");
     };
-    let spelling = spelled_text(alloc, value, limit)?;
-    let word = word_of(alloc, spelling.as_slice())?;
-    Ok(writeln!(sink, "{word}")?)
+    let spelling = spelled_text(alloc, value, asked.limit)?;
+    word_line(alloc, spelling.as_slice(), sink)
 }
 
 /// The spelling of a byte string, in segments within the limit. The error says that there is no memory for it.

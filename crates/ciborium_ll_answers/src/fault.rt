@@ -1,14 +1,15 @@
 //! What the program says when it fails.
 
 ghost use Rattle.std.specs.Prelude.{◌≡◌};
-ghost use Rattle.ciborium_ll_service.specs.Fault.{fault_of, fault_of_copy};
+ghost use Rattle.ciborium_ll_answers.specs.Fault.{fault_of, fault_of_copy};
 
 use crate::memory::OutOfMemory;
-use crate::service::ToolError;
 use ciborium_ll_decoder::dec::Error;
 use ciborium_ll_recode::recode::RecodeError;
+use ciborium_ll_requests::input::LineError;
 use ciborium_ll_streams::{ReadFault, WriteFault};
-use std::{error, fmt};
+use std::alloc::AllocError;
+use std::{error, fmt, io};
 
 /// Why the program failed, printed as one line.
 #[derive(Debug, Drop)]
@@ -27,7 +28,7 @@ pub enum Fault {
 
 impl fmt::Display for Fault {
     ghost use Rattle.std.specs.Prelude.{Some};
-    ghost use Rattle.ciborium_ll_service.specs.Fault.{fault_text};
+    ghost use Rattle.ciborium_ll_answers.specs.Fault.{fault_text};
 
     ghost output = { λ fault. Some (fault_text fault) };
 
@@ -44,8 +45,75 @@ impl fmt::Display for Fault {
 
 impl error::Error for Fault {}
 
+/// Why a run ended early.
+#[derive(Debug, Drop)]
+pub enum ToolError {
+    /// There was no memory for a line or for its answer.
+    Memory,
+    /// The reader failed.
+    Read(io::Error),
+    /// The writer failed.
+    Write(io::Error),
+}
+
+impl From<AllocError> for ToolError {
+    ghost use Rattle.std.specs.Prelude.{◌≡◌};
+    ghost use Rattle.ciborium_ll_answers.specs.declared.fault.ToolError.TheVariants.{Memory};
+
+    ghost from_gives = { λ _ error. error ≡ Memory };
+
+    fn from(_refused: AllocError) -> ToolError {
+        ToolError::Memory
+    }
+}
+
+impl From<fmt::Error> for ToolError {
+    ghost use Rattle.std.specs.Prelude.{◌≡◌};
+    ghost use Rattle.ciborium_ll_answers.specs.declared.fault.ToolError.TheVariants.{Memory};
+
+    ghost from_gives = { λ _ error. error ≡ Memory };
+
+    /// An answer is made in memory, so that only memory can fail there.
+    fn from(_refused: fmt::Error) -> ToolError {
+        ToolError::Memory
+    }
+}
+
+impl From<OutOfMemory> for ToolError {
+    ghost use Rattle.std.specs.Prelude.{◌≡◌};
+    ghost use Rattle.ciborium_ll_answers.specs.declared.fault.ToolError.TheVariants.{Memory};
+
+    ghost from_gives = { λ _ error. error ≡ Memory };
+
+    fn from(_refused: OutOfMemory) -> ToolError {
+        ToolError::Memory
+    }
+}
+
+impl From<LineError> for ToolError {
+    fn from(error: LineError) -> ToolError {
+        match error {
+            LineError::Memory => ToolError::Memory,
+            LineError::Read(error) => ToolError::Read(error),
+        }
+    }
+}
+
+impl From<WriteFault> for ToolError {
+    ghost use Rattle.ciborium_ll_answers.specs.Fault.{IsWriteError};
+
+    ghost from_gives = { λ fault error. IsWriteError fault error };
+
+    fn from(fault: WriteFault) -> ToolError {
+        match fault {
+            WriteFault::Zero => ToolError::Write(io::Error::from(io::ErrorKind::WriteZero)),
+            WriteFault::Failed(error) => ToolError::Write(error),
+        }
+    }
+}
+
 impl fmt::Display for ToolError {
-    ghost use Rattle.ciborium_ll_service.specs.Fault.{tool_error_text};
+    ghost use Rattle.ciborium_ll_answers.specs.Fault.{tool_error_text};
 
     ghost output = { tool_error_text };
 

@@ -1,0 +1,4 @@
+pub mod Fault
+pub mod Raw
+pub mod Restoring
+pub mod Value

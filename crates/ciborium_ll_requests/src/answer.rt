@@ -1,0 +1,116 @@
+//! Answers, as lines of text.
+
+use crate::word::word_of;
+use std::alloc::Global;
+use std::fmt;
+use std::fmt::Write;
+
+/// What ended an answer, and at which offset.
+#[derive(Drop)]
+pub enum Last {
+    /// All bytes were consumed.
+    End(usize),
+    /// The bytes are no CBOR.
+    Syntax(usize),
+    /// Bytes are missing.
+    Short(usize),
+    /// An item was skipped.
+    Item(usize),
+    /// A break stands in place of an item.
+    Break(usize),
+    /// An item nests too deep.
+    Deep(usize),
+    /// The item is no string.
+    Other,
+    /// A buffer is too small for the next character.
+    Stuck,
+    /// The offset has no room. No line is long enough for it.
+    Room,
+}
+
+impl Last {
+    /// What it is called, and the offset that stands behind that.
+    fn parts(&self) -> (&'static str, Option<usize>) {
+        match self {
+            Last::End(offset) => ("end", Some(*offset)),
+            Last::Syntax(offset) => ("syntax", Some(*offset)),
+            Last::Short(offset) => ("short", Some(*offset)),
+            Last::Item(offset) => ("item", Some(*offset)),
+            Last::Break(offset) => ("break", Some(*offset)),
+            Last::Deep(offset) => ("deep", Some(*offset)),
+            Last::Other => ("other", None),
+            Last::Stuck => ("stuck", None),
+            Last::Room => ("error: room", None),
+        }
+    }
+}
+
+impl fmt::Display for Last {
+    fn fmt<W: Write>(&self, f: &mut fmt::Formatter<W>) -> fmt::Result {
+        let (name, offset) = self.parts();
+        match offset {
+            Some(offset) => write!(f, "{name} {offset}"),
+            None => f.write_str(name),
+        }
+    }
+}
+
+/// What stands behind the name of a title.
+#[derive(Drop)]
+pub enum Value {
+    /// Nothing.
+    Nothing,
+    /// A number.
+    Number(u64),
+    /// Bits, as so many hexadecimal digits.
+    Bits(u64, usize),
+}
+
+/// Writes the line of a title at this offset.
+pub fn title_line<T: Write>(offset: usize, name: &str, value: Value, sink: &mut T) -> fmt::Result {
+    match value {
+        Value::Nothing => writeln!(sink, "{offset} {name}"),
+        Value::Number(n) => writeln!(sink, "{offset} {name} {n}"),
+        Value::Bits(bits, digits) => writeln!(sink, "{offset} {name} {bits:0digits$x}"),
+    }
+}
+
+/// Writes bytes as a line of one word.
+pub fn word_line<T: Write>(alloc: Global, bytes: &[u8], sink: &mut T) -> fmt::Result {
+    write_word(alloc, bytes, sink)?;
+    sink.write_str("\n")
+}
+
+/// Writes the line of a chunk.
+pub fn chunk_line<T: Write>(alloc: Global, chunk: &[u8], sink: &mut T) -> fmt::Result {
+    sink.write_str("chunk ")?;
+    word_line(alloc, chunk, sink)
+}
+
+/// Writes what a copy wrote, and what is left or why the copy stopped. Where it stopped for want of room that is all.
+pub fn copy_line<T: Write>(
+    alloc: Global,
+    last: Option<Last>,
+    written: &[u8],
+    left: &[u8],
+    sink: &mut T,
+) -> fmt::Result {
+    match last {
+        Some(Last::Room) => writeln!(sink, "{}", Last::Room),
+        Some(last) => {
+            write_word(alloc, written, sink)?;
+            writeln!(sink, " {last}")
+        }
+        None => {
+            write_word(alloc, written, sink)?;
+            sink.write_str(" rest ")?;
+            word_line(alloc, left, sink)
+        }
+    }
+}
+
+/// Writes bytes as a word.
+fn write_word<T: Write>(alloc: Global, bytes: &[u8], sink: &mut T) -> fmt::Result {
+    let word = word_of(alloc, bytes)?;
+    sink.write_str(word.as_str())
+}
