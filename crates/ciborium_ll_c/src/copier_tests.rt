@@ -71,54 +71,112 @@ fn fed_row(
     );
 }
 
-#[test]
-fn copiers(rt: HostRuntime) {
-    let (ok, short) = (CllAnswer::Ok, CllAnswer::Short);
-    let (room, syntax) = (CllAnswer::Room, CllAnswer::Syntax);
-    fed_row(&rt, &[0x05], &[0x18, 0x06, 0x07], 16, ok, 2, 0, &[0x06]);
-    fed_row(
-        &rt,
+// Two pieces, the room, the answer to the second and to the end, how many bytes of the second were consumed, the place,
+// and what it becomes.
+type Row = (
+    &'static [u8],
+    &'static [u8],
+    usize,
+    CllAnswer,
+    u64,
+    u64,
+    &'static [u8],
+);
+
+static ROWS: [Row; 9] = [
+    (
+        &[0x05],
+        &[0x18, 0x06, 0x07],
+        16,
+        CllAnswer::Ok,
+        2,
+        0,
+        &[0x06],
+    ),
+    (
         &[0x05, 0x19, 0x00],
         &[0x20],
         16,
-        ok,
+        CllAnswer::Ok,
         1,
         0,
         &[0x18, 0x20],
-    );
-    fed_row(&rt, &[0x05, 0x06], &[0x07], 16, ok, 0, 0, &[]);
-    fed_row(&rt, &[0x62, 0xc3], &[0xa9], 16, short, 1, 0, &[0xc3, 0xa9]);
-    fed_row(&rt, &[0x62, 0xc3], &[], 16, short, 0, 0, &[]);
-    fed_row(
-        &rt,
+    ),
+    (&[0x05, 0x06], &[0x07], 16, CllAnswer::Ok, 0, 0, &[]),
+    (
+        &[0x62, 0xc3],
+        &[0xa9],
+        16,
+        CllAnswer::Short,
+        1,
+        0,
+        &[0xc3, 0xa9],
+    ),
+    (&[0x62, 0xc3], &[], 16, CllAnswer::Short, 0, 0, &[]),
+    (
         &[0x19, 0x03],
         &[0xe8, 0x05],
         2,
-        room,
+        CllAnswer::Room,
         1,
         0,
         &[0x19, 0x03],
-    );
-    fed_row(&rt, &[0x05, 0x1c], &[0x05], 16, syntax, 0, 1, &[]);
-    fed_row(&rt, &[0x78, 0x02, 0xc3], &[0x28], 16, syntax, 1, 1, &[]);
-    fed_row(&rt, &[0x5f, 0x41], &[0x01, 0x61], 16, syntax, 2, 3, &[0x01]);
+    ),
+    (&[0x05, 0x1c], &[0x05], 16, CllAnswer::Syntax, 0, 1, &[]),
+    (
+        &[0x78, 0x02, 0xc3],
+        &[0x28],
+        16,
+        CllAnswer::Syntax,
+        1,
+        1,
+        &[],
+    ),
+    (
+        &[0x5f, 0x41],
+        &[0x01, 0x61],
+        16,
+        CllAnswer::Syntax,
+        2,
+        3,
+        &[0x01],
+    ),
+];
+
+#[test]
+fn copiers(rt: HostRuntime) {
+    for &(first, second, room, answer, consumed, place, want) in &ROWS {
+        fed_row(&rt, first, second, room, answer, consumed, place, want);
+    }
+}
+
+// What a feed of one byte into 16 says of memory, and what then stands there.
+fn fed_once(copier: &mut CllCopier) -> (Told, [u8; 16]) {
+    let mut report = nothing();
+    let mut out = [0xee; 16];
+    let code = cll_copier_feed(copier, &[0x05], &mut out, &mut report);
+    (told(code, &report), out)
+}
+
+// What an end says of memory.
+fn ended(copier: &CllCopier) -> Told {
+    let mut report = nothing();
+    let code = cll_copier_end(copier, &mut report);
+    told(code, &report)
 }
 
 // Memory in which no copier was set up, or what is none any more.
 #[test]
 fn no_copiers(rt: HostRuntime) {
     let none = (CllAnswer::Argument.code(), [0, 0, 0]);
-    let (mut copier, mut report) = (no_copier(), nothing());
-    let mut out = [0xee; 16];
-    let code = cll_copier_feed(&mut copier, &[0x05], &mut out, &mut report);
-    assert!(&rt; told(code, &report) == none && out == [0xee; 16]);
-    let code = cll_copier_end(&copier, &mut report);
-    assert!(&rt; told(code, &report) == none);
-    assert!(&rt; cll_copier_init(&mut copier, 1) == 0);
+    let nowhere = (none, [0xee; 16]);
+    let mut copier = no_copier();
+    assert!(rt; fed_once(&mut copier) == nowhere);
+    assert!(rt; ended(&copier) == none);
+    assert!(rt; cll_copier_init(&mut copier, 1) == 0);
     copier.state.front_len = 10;
-    let code = cll_copier_feed(&mut copier, &[0x05], &mut out, &mut report);
-    assert!(&rt; told(code, &report) == none && out == [0xee; 16]);
+    assert!(rt; fed_once(&mut copier) == nowhere);
     copier.state.front_len = 0;
-    let code = cll_copier_feed(&mut copier, &[0x05], &mut out, &mut report);
-    assert!(&rt; told(code, &report) == (0, [1, 1, 0]) && out[0] == 0x05);
+    let (told, out) = fed_once(&mut copier);
+    assert!(rt; told == (0, [1, 1, 0]) && out[0] == 0x05);
 }

@@ -77,48 +77,83 @@ fn fed_row(
     );
 }
 
-#[test]
-fn item_copiers(rt: HostRuntime) {
-    let (ok, short, room) = (CllAnswer::Ok, CllAnswer::Short, CllAnswer::Room);
-    let (syntax, due, deep) = (CllAnswer::Syntax, CllAnswer::BreakDue, CllAnswer::TooDeep);
-    fed_row(
-        &rt,
+// Two pieces, the room, the answer to the second and to the end, how many bytes of the second were consumed, the place,
+// and what it becomes.
+type Row = (
+    &'static [u8],
+    &'static [u8],
+    usize,
+    CllAnswer,
+    u64,
+    u64,
+    &'static [u8],
+);
+
+static ROWS: [Row; 6] = [
+    (
         &[0x98, 0x01],
         &[0x18, 0x06, 0x07],
         8,
-        ok,
+        CllAnswer::Ok,
         2,
         4,
         &[0x06],
-    );
-    fed_row(&rt, &[0x81, 0x19], &[0x00], 8, short, 1, 1, &[]);
-    fed_row(
-        &rt,
+    ),
+    (&[0x81, 0x19], &[0x00], 8, CllAnswer::Short, 1, 1, &[]),
+    (
         &[0x81, 0x19],
         &[0x03, 0xe8],
         2,
-        room,
+        CllAnswer::Room,
         2,
         0,
         &[0x19, 0x03],
-    );
-    fed_row(&rt, &[0x81, 0x62], &[0xc3, 0x28], 8, syntax, 2, 1, &[]);
-    fed_row(&rt, &[0x82, 0x05], &[0xff], 8, due, 1, 2, &[]);
-    fed_row(&rt, &[0x82, 0x05], &[0x80], 8, deep, 1, 2, &[]);
+    ),
+    (
+        &[0x81, 0x62],
+        &[0xc3, 0x28],
+        8,
+        CllAnswer::Syntax,
+        2,
+        1,
+        &[],
+    ),
+    (&[0x82, 0x05], &[0xff], 8, CllAnswer::BreakDue, 1, 2, &[]),
+    (&[0x82, 0x05], &[0x80], 8, CllAnswer::TooDeep, 1, 2, &[]),
+];
+
+#[test]
+fn item_copiers(rt: HostRuntime) {
+    for &(first, second, room, answer, consumed, place, want) in &ROWS {
+        fed_row(&rt, first, second, room, answer, consumed, place, want);
+    }
+}
+
+// What a feed into 8 bytes says of memory, and what then stands there.
+fn fed_once(copier: &mut CllItemCopier, bytes: &[u8]) -> (Told, [u8; 8]) {
+    let mut report = nothing();
+    let mut out = [0xee; 8];
+    let code = cll_item_copier_feed(copier, bytes, &mut out, &mut report);
+    (told(code, &report), out)
+}
+
+// What an end says of memory.
+fn ended(copier: &CllItemCopier) -> Told {
+    let mut report = nothing();
+    let code = cll_item_copier_end(copier, &mut report);
+    told(code, &report)
 }
 
 // Memory in which no copier was set up, a depth that is too great, and a copier of the shortest spelling alone.
 #[test]
 fn other_item_copiers(rt: HostRuntime) {
     let argument = CllAnswer::Argument.code();
-    let (mut copier, mut report) = (no_copier(), nothing());
-    let mut out = [0xee; 8];
-    let code = cll_item_copier_feed(&mut copier, &[0x05], &mut out, &mut report);
-    assert!(&rt; told(code, &report) == (argument, [0, 0, 0]) && out == [0xee; 8]);
-    let code = cll_item_copier_end(&copier, &mut report);
-    assert!(&rt; told(code, &report) == (argument, [0, 0, 0]));
-    assert!(&rt; cll_item_copier_init(&mut copier, 257) == argument && copier.mark == 0);
-    assert!(&rt; cll_item_copier_init_strict(&mut copier, 256) == 0);
-    let code = cll_item_copier_feed(&mut copier, &[0x18, 0x05], &mut out, &mut report);
-    assert!(&rt; told(code, &report) == (CllAnswer::Syntax.code(), [2, 0, 0]));
+    let none = (argument, [0, 0, 0]);
+    let mut copier = no_copier();
+    assert!(rt; fed_once(&mut copier, &[0x05]) == (none, [0xee; 8]));
+    assert!(rt; ended(&copier) == none);
+    assert!(rt; cll_item_copier_init(&mut copier, 257) == argument && copier.mark == 0);
+    assert!(rt; cll_item_copier_init_strict(&mut copier, 256) == 0);
+    let (told, _) = fed_once(&mut copier, &[0x18, 0x05]);
+    assert!(rt; told == (CllAnswer::Syntax.code(), [2, 0, 0]));
 }

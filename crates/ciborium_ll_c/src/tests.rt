@@ -90,58 +90,74 @@ fn in_front(bytes: &[u8]) -> [u8; 16] {
     out
 }
 
-// A title, and the kind, the form and the value that C is told.
+// Pulls a title, and compares all that C is told.
 fn title_row(rt: &impl Abort, bytes: &[u8], kind: u8, indefinite: u8, value: u64) {
     let parts = [u64::from(kind), u64::from(indefinite), value];
     assert!(rt; pulled(bytes) == (0, parts, bytes.len()), "at {bytes:?}");
 }
 
-#[test]
-fn titles(rt: HostRuntime) {
-    title_row(&rt, &[0x17], 0, 0, 23);
-    title_row(
-        &rt,
+// A title, and the kind, the form and the value that C is told.
+type Title = (&'static [u8], u8, u8, u64);
+
+static TITLES: [Title; 17] = [
+    (&[0x17], 0, 0, 23),
+    (
         &[0x1b, 0xff, 0xff, 0xff, 0xff, 0xff, 0xff, 0xff, 0xff],
         0,
         0,
         u64::MAX,
-    );
-    title_row(&rt, &[0x39, 0x03, 0xe7], 1, 0, 999);
-    title_row(&rt, &[0x44], 2, 0, 4);
-    title_row(&rt, &[0x5f], 2, 1, 0);
-    title_row(&rt, &[0x78, 0x0d], 3, 0, 13);
-    title_row(&rt, &[0x7f], 3, 1, 0);
-    title_row(&rt, &[0x98, 0x19], 4, 0, 25);
-    title_row(&rt, &[0x9f], 4, 1, 0);
-    title_row(&rt, &[0xa2], 5, 0, 2);
-    title_row(&rt, &[0xbf], 5, 1, 0);
-    title_row(&rt, &[0xd8, 0x20], 6, 0, 32);
-    title_row(&rt, &[0xf8, 0x10], 7, 0, 16);
-    title_row(&rt, &[0xf9, 0x7e, 0x00], 8, 0, 0x7e00);
-    title_row(&rt, &[0xfa, 0x47, 0xc3, 0x50, 0x00], 9, 0, 0x47c3_5000);
-    title_row(
-        &rt,
+    ),
+    (&[0x39, 0x03, 0xe7], 1, 0, 999),
+    (&[0x44], 2, 0, 4),
+    (&[0x5f], 2, 1, 0),
+    (&[0x78, 0x0d], 3, 0, 13),
+    (&[0x7f], 3, 1, 0),
+    (&[0x98, 0x19], 4, 0, 25),
+    (&[0x9f], 4, 1, 0),
+    (&[0xa2], 5, 0, 2),
+    (&[0xbf], 5, 1, 0),
+    (&[0xd8, 0x20], 6, 0, 32),
+    (&[0xf8, 0x10], 7, 0, 16),
+    (&[0xf9, 0x7e, 0x00], 8, 0, 0x7e00),
+    (&[0xfa, 0x47, 0xc3, 0x50, 0x00], 9, 0, 0x47c3_5000),
+    (
         &[0xfb, 0x7f, 0xf0, 0, 0, 0, 0, 0, 0],
         10,
         0,
         0x7ff0_0000_0000_0000,
-    );
-    title_row(&rt, &[0xff], 11, 0, 0);
+    ),
+    (&[0xff], 11, 0, 0),
+];
+
+#[test]
+fn titles(rt: HostRuntime) {
+    for &(bytes, kind, indefinite, value) in &TITLES {
+        title_row(&rt, bytes, kind, indefinite, value);
+    }
 }
 
-// No title: the answer, and how many bytes were consumed.
+// Pulls no title, and compares the answer.
 fn no_title_row(rt: &impl Abort, bytes: &[u8], answer: CllAnswer, consumed: usize) {
     let want = (answer.code(), [98, 97, 99], consumed);
     assert!(rt; pulled(bytes) == want, "at {bytes:?}");
 }
 
+// No title: the answer, and how many bytes were consumed.
+type NoTitle = (&'static [u8], CllAnswer, usize);
+
+static NO_TITLES: [NoTitle; 5] = [
+    (&[], CllAnswer::Short, 0),
+    (&[0x19, 0x03], CllAnswer::Short, 1),
+    (&[0x1f, 0x00], CllAnswer::Syntax, 1),
+    (&[0x1c], CllAnswer::Syntax, 1),
+    (&[0xdf], CllAnswer::Syntax, 1),
+];
+
 #[test]
 fn no_titles(rt: HostRuntime) {
-    no_title_row(&rt, &[], CllAnswer::Short, 0);
-    no_title_row(&rt, &[0x19, 0x03], CllAnswer::Short, 1);
-    no_title_row(&rt, &[0x1f, 0x00], CllAnswer::Syntax, 1);
-    no_title_row(&rt, &[0x1c], CllAnswer::Syntax, 1);
-    no_title_row(&rt, &[0xdf], CllAnswer::Syntax, 1);
+    for &(bytes, answer, consumed) in &NO_TITLES {
+        no_title_row(&rt, bytes, answer, consumed);
+    }
 }
 
 // A header in its parts, and the title that is written into 16 bytes; and into a byte less than it has, nothing.
@@ -157,34 +173,42 @@ fn push_row(rt: &impl Abort, kind: u8, indefinite: u8, value: u64, want: &[u8]) 
     );
 }
 
-#[test]
-fn shortest_titles(rt: HostRuntime) {
-    push_row(&rt, 0, 0, 5, &[0x05]);
-    push_row(&rt, 0, 0, 24, &[0x18, 0x18]);
-    push_row(&rt, 0, 0, 1000, &[0x19, 0x03, 0xe8]);
-    push_row(&rt, 0, 0, 1_000_000, &[0x1a, 0x00, 0x0f, 0x42, 0x40]);
-    push_row(
-        &rt,
+// A header in its parts, and its title.
+type Pushed = (u8, u8, u64, &'static [u8]);
+
+static SHORTEST: [Pushed; 20] = [
+    (0, 0, 5, &[0x05]),
+    (0, 0, 24, &[0x18, 0x18]),
+    (0, 0, 1000, &[0x19, 0x03, 0xe8]),
+    (0, 0, 1_000_000, &[0x1a, 0x00, 0x0f, 0x42, 0x40]),
+    (
         1,
         0,
         u64::MAX,
         &[0x3b, 0xff, 0xff, 0xff, 0xff, 0xff, 0xff, 0xff, 0xff],
-    );
-    push_row(&rt, 2, 0, 5, &[0x45]);
-    push_row(&rt, 2, 1, 0, &[0x5f]);
-    push_row(&rt, 3, 0, 13, &[0x6d]);
-    push_row(&rt, 3, 1, 0, &[0x7f]);
-    push_row(&rt, 4, 0, 25, &[0x98, 0x19]);
-    push_row(&rt, 4, 1, 0, &[0x9f]);
-    push_row(&rt, 5, 0, 2, &[0xa2]);
-    push_row(&rt, 5, 1, 0, &[0xbf]);
-    push_row(&rt, 6, 0, 32, &[0xd8, 0x20]);
-    push_row(&rt, 7, 0, 16, &[0xf0]);
-    push_row(&rt, 7, 0, 255, &[0xf8, 0xff]);
-    push_row(&rt, 8, 0, 1, &[0xf9, 0x00, 0x01]);
-    push_row(&rt, 9, 0, 0x47c3_5000, &[0xfa, 0x47, 0xc3, 0x50, 0x00]);
-    push_row(&rt, 10, 0, 1, &[0xfb, 0, 0, 0, 0, 0, 0, 0, 1]);
-    push_row(&rt, 11, 0, 0, &[0xff]);
+    ),
+    (2, 0, 5, &[0x45]),
+    (2, 1, 0, &[0x5f]),
+    (3, 0, 13, &[0x6d]),
+    (3, 1, 0, &[0x7f]),
+    (4, 0, 25, &[0x98, 0x19]),
+    (4, 1, 0, &[0x9f]),
+    (5, 0, 2, &[0xa2]),
+    (5, 1, 0, &[0xbf]),
+    (6, 0, 32, &[0xd8, 0x20]),
+    (7, 0, 16, &[0xf0]),
+    (7, 0, 255, &[0xf8, 0xff]),
+    (8, 0, 1, &[0xf9, 0x00, 0x01]),
+    (9, 0, 0x47c3_5000, &[0xfa, 0x47, 0xc3, 0x50, 0x00]),
+    (10, 0, 1, &[0xfb, 0, 0, 0, 0, 0, 0, 0, 1]),
+    (11, 0, 0, &[0xff]),
+];
+
+#[test]
+fn shortest_titles(rt: HostRuntime) {
+    for &(kind, indefinite, value, want) in &SHORTEST {
+        push_row(&rt, kind, indefinite, value, want);
+    }
 }
 
 // Parts that no header has.
@@ -196,18 +220,27 @@ fn no_header_row(rt: &impl Abort, kind: u8, indefinite: u8, value: u64) {
     );
 }
 
+// The parts of a header.
+type Parts = (u8, u8, u64);
+
+static NO_HEADERS: [Parts; 10] = [
+    (12, 0, 0),
+    (255, 0, 0),
+    (7, 0, 256),
+    (8, 0, 0x1_0000),
+    (9, 0, 0x1_0000_0000),
+    (11, 0, 1),
+    (0, 1, 0),
+    (6, 1, 0),
+    (2, 1, 5),
+    (4, 2, 0),
+];
+
 #[test]
 fn no_headers(rt: HostRuntime) {
-    no_header_row(&rt, 12, 0, 0);
-    no_header_row(&rt, 255, 0, 0);
-    no_header_row(&rt, 7, 0, 256);
-    no_header_row(&rt, 8, 0, 0x1_0000);
-    no_header_row(&rt, 9, 0, 0x1_0000_0000);
-    no_header_row(&rt, 11, 0, 1);
-    no_header_row(&rt, 0, 1, 0);
-    no_header_row(&rt, 6, 1, 0);
-    no_header_row(&rt, 2, 1, 5);
-    no_header_row(&rt, 4, 2, 0);
+    for &(kind, indefinite, value) in &NO_HEADERS {
+        no_header_row(&rt, kind, indefinite, value);
+    }
 }
 
 // A header in its parts and a width, and the title that is written into 16 bytes; and into a byte less, nothing.
@@ -223,22 +256,31 @@ fn wide_row(rt: &impl Abort, kind: u8, indefinite: u8, value: u64, width: u32, w
     );
 }
 
+// A header in its parts and a width, and its title.
+type Wide = (u8, u8, u64, u32, &'static [u8]);
+
+static WIDE: [Wide; 14] = [
+    (0, 0, 5, 0, &[0x05]),
+    (0, 0, 5, 1, &[0x18, 0x05]),
+    (1, 0, 5, 2, &[0x39, 0x00, 0x05]),
+    (2, 0, 5, 4, &[0x5a, 0x00, 0x00, 0x00, 0x05]),
+    (3, 0, 5, 8, &[0x7b, 0, 0, 0, 0, 0, 0, 0, 5]),
+    (4, 0, 0x1234, 4, &[0x9a, 0x00, 0x00, 0x12, 0x34]),
+    (5, 1, 0, 0, &[0xbf]),
+    (6, 0, 1, 2, &[0xd9, 0x00, 0x01]),
+    (7, 0, 20, 0, &[0xf4]),
+    (7, 0, 20, 1, &[0xf8, 0x14]),
+    (8, 0, 0x7e00, 2, &[0xf9, 0x7e, 0x00]),
+    (9, 0, 1, 4, &[0xfa, 0, 0, 0, 1]),
+    (10, 0, 1, 8, &[0xfb, 0, 0, 0, 0, 0, 0, 0, 1]),
+    (11, 0, 0, 0, &[0xff]),
+];
+
 #[test]
 fn wide_titles(rt: HostRuntime) {
-    wide_row(&rt, 0, 0, 5, 0, &[0x05]);
-    wide_row(&rt, 0, 0, 5, 1, &[0x18, 0x05]);
-    wide_row(&rt, 1, 0, 5, 2, &[0x39, 0x00, 0x05]);
-    wide_row(&rt, 2, 0, 5, 4, &[0x5a, 0x00, 0x00, 0x00, 0x05]);
-    wide_row(&rt, 3, 0, 5, 8, &[0x7b, 0, 0, 0, 0, 0, 0, 0, 5]);
-    wide_row(&rt, 4, 0, 0x1234, 4, &[0x9a, 0x00, 0x00, 0x12, 0x34]);
-    wide_row(&rt, 5, 1, 0, 0, &[0xbf]);
-    wide_row(&rt, 6, 0, 1, 2, &[0xd9, 0x00, 0x01]);
-    wide_row(&rt, 7, 0, 20, 0, &[0xf4]);
-    wide_row(&rt, 7, 0, 20, 1, &[0xf8, 0x14]);
-    wide_row(&rt, 8, 0, 0x7e00, 2, &[0xf9, 0x7e, 0x00]);
-    wide_row(&rt, 9, 0, 1, 4, &[0xfa, 0, 0, 0, 1]);
-    wide_row(&rt, 10, 0, 1, 8, &[0xfb, 0, 0, 0, 0, 0, 0, 0, 1]);
-    wide_row(&rt, 11, 0, 0, 0, &[0xff]);
+    for &(kind, indefinite, value, width, want) in &WIDE {
+        wide_row(&rt, kind, indefinite, value, width, want);
+    }
 }
 
 // Parts that no header has with so many bytes behind the first one of its title.
@@ -250,25 +292,34 @@ fn no_width_row(rt: &impl Abort, kind: u8, indefinite: u8, value: u64, width: u3
     );
 }
 
+// The parts of a header, and a width.
+type NoWidth = (u8, u8, u64, u32);
+
+static NO_WIDTHS: [NoWidth; 17] = [
+    (0, 0, 24, 0),
+    (0, 0, 256, 1),
+    (2, 0, 0x1_0000, 2),
+    (6, 0, 0x1_0000_0000, 4),
+    (0, 0, 5, 3),
+    (0, 0, 5, 9),
+    (0, 0, 5, u32::MAX),
+    (4, 1, 0, 1),
+    (4, 1, 5, 0),
+    (7, 0, 20, 2),
+    (7, 0, 24, 0),
+    (7, 0, 256, 2),
+    (8, 0, 1, 0),
+    (9, 0, 1, 2),
+    (10, 0, 1, 4),
+    (11, 0, 0, 1),
+    (12, 0, 0, 0),
+];
+
 #[test]
 fn no_widths(rt: HostRuntime) {
-    no_width_row(&rt, 0, 0, 24, 0);
-    no_width_row(&rt, 0, 0, 256, 1);
-    no_width_row(&rt, 2, 0, 0x1_0000, 2);
-    no_width_row(&rt, 6, 0, 0x1_0000_0000, 4);
-    no_width_row(&rt, 0, 0, 5, 3);
-    no_width_row(&rt, 0, 0, 5, 9);
-    no_width_row(&rt, 0, 0, 5, u32::MAX);
-    no_width_row(&rt, 4, 1, 0, 1);
-    no_width_row(&rt, 4, 1, 5, 0);
-    no_width_row(&rt, 7, 0, 20, 2);
-    no_width_row(&rt, 7, 0, 24, 0);
-    no_width_row(&rt, 7, 0, 256, 2);
-    no_width_row(&rt, 8, 0, 1, 0);
-    no_width_row(&rt, 9, 0, 1, 2);
-    no_width_row(&rt, 10, 0, 1, 4);
-    no_width_row(&rt, 11, 0, 0, 1);
-    no_width_row(&rt, 12, 0, 0, 0);
+    for &(kind, indefinite, value, width) in &NO_WIDTHS {
+        no_width_row(&rt, kind, indefinite, value, width);
+    }
 }
 
 #[test]
@@ -292,32 +343,32 @@ fn copy_row(
     assert!(rt; copied(bytes, count, room) == stands, "at {bytes:?}");
 }
 
-#[test]
-fn copies(rt: HostRuntime) {
-    let nested = [0x5f, 0x5f, 0x58, 0x01, 0x01, 0xff, 0xff];
-    copy_row(
-        &rt,
-        &nested,
+// Bytes, how many elements, the room, the answer, how many bytes were consumed, the place, and what was written.
+type Copied = (
+    &'static [u8],
+    u64,
+    usize,
+    CllAnswer,
+    u64,
+    u64,
+    &'static [u8],
+);
+
+const NESTED: &[u8] = &[0x5f, 0x5f, 0x58, 0x01, 0x01, 0xff, 0xff];
+
+static COPIES: [Copied; 9] = [
+    (
+        NESTED,
         1,
         16,
         CllAnswer::Ok,
         7,
         0,
         &[0x5f, 0x41, 0x01, 0xff],
-    );
-    copy_row(
-        &rt,
-        &nested,
-        1,
-        4,
-        CllAnswer::Ok,
-        7,
-        0,
-        &[0x5f, 0x41, 0x01, 0xff],
-    );
-    copy_row(&rt, &nested, 0, 16, CllAnswer::Ok, 0, 0, &[]);
-    copy_row(
-        &rt,
+    ),
+    (NESTED, 1, 4, CllAnswer::Ok, 7, 0, &[0x5f, 0x41, 0x01, 0xff]),
+    (NESTED, 0, 16, CllAnswer::Ok, 0, 0, &[]),
+    (
         &[0x18, 0x05, 0xf8, 0x10, 0xa0],
         2,
         16,
@@ -325,10 +376,9 @@ fn copies(rt: HostRuntime) {
         4,
         0,
         &[0x05, 0xf0],
-    );
-    copy_row(&rt, &[0x7f, 0xff], 1, 2, CllAnswer::Ok, 2, 0, &[0x7f, 0xff]);
-    copy_row(
-        &rt,
+    ),
+    (&[0x7f, 0xff], 1, 2, CllAnswer::Ok, 2, 0, &[0x7f, 0xff]),
+    (
         &[0x7f, 0x61, 0x61, 0x5f, 0xff],
         1,
         16,
@@ -336,9 +386,8 @@ fn copies(rt: HostRuntime) {
         4,
         3,
         &[0x7f, 0x61, 0x61],
-    );
-    copy_row(
-        &rt,
+    ),
+    (
         &[0x78, 0x02, 0x61, 0xff],
         1,
         16,
@@ -346,40 +395,27 @@ fn copies(rt: HostRuntime) {
         4,
         1,
         &[0x62, 0x61],
-    );
-    copy_row(&rt, &[0x05, 0x06], 2, 1, CllAnswer::Room, 2, 0, &[0x05]);
-    copy_row(&rt, &[0x18, 0x18], 1, 1, CllAnswer::Room, 2, 0, &[0x18]);
+    ),
+    (&[0x05, 0x06], 2, 1, CllAnswer::Room, 2, 0, &[0x05]),
+    (&[0x18, 0x18], 1, 1, CllAnswer::Room, 2, 0, &[0x18]),
+];
+
+#[test]
+fn copies(rt: HostRuntime) {
+    for &(bytes, count, room, answer, consumed, place, want) in &COPIES {
+        copy_row(&rt, bytes, count, room, answer, consumed, place, want);
+    }
 }
 
 // Of bytes that end too early the place is how many more are due: what a title or a body lacks, or one. Where none that
 // may follow is good it is 0.
-#[test]
-fn cut_copies(rt: HostRuntime) {
-    copy_row(&rt, &[0x43, 0x01], 1, 16, CllAnswer::Short, 1, 2, &[0x43]);
-    copy_row(
-        &rt,
-        &[0x7f, 0x7f, 0xff],
-        1,
-        16,
-        CllAnswer::Short,
-        3,
-        1,
-        &[0x7f],
-    );
-    copy_row(&rt, &[], 1, 0, CllAnswer::Short, 0, 1, &[]);
-    copy_row(&rt, &[0x05], 9, 16, CllAnswer::Short, 1, 1, &[0x05]);
-    copy_row(
-        &rt,
-        &[0x82, 0x1b, 0x00],
-        9,
-        16,
-        CllAnswer::Short,
-        2,
-        7,
-        &[0x82],
-    );
-    copy_row(
-        &rt,
+static CUT_COPIES: [Copied; 6] = [
+    (&[0x43, 0x01], 1, 16, CllAnswer::Short, 1, 2, &[0x43]),
+    (&[0x7f, 0x7f, 0xff], 1, 16, CllAnswer::Short, 3, 1, &[0x7f]),
+    (&[], 1, 0, CllAnswer::Short, 0, 1, &[]),
+    (&[0x05], 9, 16, CllAnswer::Short, 1, 1, &[0x05]),
+    (&[0x82, 0x1b, 0x00], 9, 16, CllAnswer::Short, 2, 7, &[0x82]),
+    (
         &[0x05, 0x5f, 0x19, 0x00],
         2,
         16,
@@ -387,7 +423,14 @@ fn cut_copies(rt: HostRuntime) {
         3,
         0,
         &[0x05, 0x5f],
-    );
+    ),
+];
+
+#[test]
+fn cut_copies(rt: HostRuntime) {
+    for &(bytes, count, room, answer, consumed, place, want) in &CUT_COPIES {
+        copy_row(&rt, bytes, count, room, answer, consumed, place, want);
+    }
 }
 
 // A skip: the answer, how many bytes were consumed, and the place.
@@ -405,38 +448,53 @@ fn skip_row(
     assert!(rt; (code, told(&report)) == want, "at {bytes:?}");
 }
 
+// Bytes, the depth, the answer, how many bytes were consumed, and the place.
+type Skipped = (&'static [u8], u32, CllAnswer, u64, u64);
+
+const MAP: &[u8] = &[0xa1, 0x61, 0x61, 0x82, 0x01, 0x02];
+
+static ITEMS: [Skipped; 9] = [
+    (MAP, 2, CllAnswer::Ok, 6, 0),
+    (MAP, 256, CllAnswer::Ok, 6, 0),
+    (MAP, 257, CllAnswer::Argument, 0, 0),
+    (MAP, 1, CllAnswer::TooDeep, 4, 3),
+    (&[0x81, 0xff], 1, CllAnswer::BreakDue, 2, 1),
+    (&[0xbf, 0x01, 0xff], 1, CllAnswer::BreakDue, 3, 2),
+    (&[0x5f, 0x41, 0x01, 0xff], 0, CllAnswer::Ok, 4, 0),
+    (&[0x81, 0x1f], 1, CllAnswer::Syntax, 2, 1),
+    (&[0xff], 0, CllAnswer::BreakDue, 1, 0),
+];
+
 #[test]
 fn skips(rt: HostRuntime) {
-    let map = [0xa1, 0x61, 0x61, 0x82, 0x01, 0x02];
-    skip_row(&rt, &map, 2, CllAnswer::Ok, 6, 0);
-    skip_row(&rt, &map, 256, CllAnswer::Ok, 6, 0);
-    skip_row(&rt, &map, 257, CllAnswer::Argument, 0, 0);
-    skip_row(&rt, &map, 1, CllAnswer::TooDeep, 4, 3);
-    skip_row(&rt, &[0x81, 0xff], 1, CllAnswer::BreakDue, 2, 1);
-    skip_row(&rt, &[0xbf, 0x01, 0xff], 1, CllAnswer::BreakDue, 3, 2);
-    skip_row(&rt, &[0x5f, 0x41, 0x01, 0xff], 0, CllAnswer::Ok, 4, 0);
-    skip_row(&rt, &[0x81, 0x1f], 1, CllAnswer::Syntax, 2, 1);
-    skip_row(&rt, &[0xff], 0, CllAnswer::BreakDue, 1, 0);
+    for &(bytes, depth, answer, consumed, place) in &ITEMS {
+        skip_row(&rt, bytes, depth, answer, consumed, place);
+    }
 }
 
 // The same of items.
-#[test]
-fn cut_items(rt: HostRuntime) {
-    skip_row(&rt, &[], 0, CllAnswer::Short, 0, 1);
-    skip_row(&rt, &[0x82, 0x01], 1, CllAnswer::Short, 2, 1);
-    skip_row(&rt, &[0x81, 0x3b, 0x01, 0x02], 1, CllAnswer::Short, 2, 6);
-    skip_row(
-        &rt,
+static CUT_ITEMS: [Skipped; 7] = [
+    (&[], 0, CllAnswer::Short, 0, 1),
+    (&[0x82, 0x01], 1, CllAnswer::Short, 2, 1),
+    (&[0x81, 0x3b, 0x01, 0x02], 1, CllAnswer::Short, 2, 6),
+    (
         &[0x9f, 0x5a, 0x00, 0x01, 0x00, 0x00, 0x07],
         1,
         CllAnswer::Short,
         6,
         0xffff,
-    );
-    skip_row(&rt, &[0x7f, 0x62, 0xc3], 0, CllAnswer::Short, 2, 1);
+    ),
+    (&[0x7f, 0x62, 0xc3], 0, CllAnswer::Short, 2, 1),
     // A tag for which no level is left, and a number within a string.
-    skip_row(&rt, &[0xd9, 0x01], 0, CllAnswer::Short, 1, 0);
-    skip_row(&rt, &[0x7f, 0x19], 0, CllAnswer::Short, 2, 0);
+    (&[0xd9, 0x01], 0, CllAnswer::Short, 1, 0),
+    (&[0x7f, 0x19], 0, CllAnswer::Short, 2, 0),
+];
+
+#[test]
+fn cut_items(rt: HostRuntime) {
+    for &(bytes, depth, answer, consumed, place) in &CUT_ITEMS {
+        skip_row(&rt, bytes, depth, answer, consumed, place);
+    }
 }
 
 // A strict read of so many elements: the answer, how many bytes were consumed, and the place.
@@ -454,33 +512,47 @@ fn strict_row(
     assert!(rt; (code, told(&report)) == want, "at {bytes:?}");
 }
 
-#[test]
-fn strict_elements(rt: HostRuntime) {
-    strict_row(&rt, &[0x18, 0x18], 1, CllAnswer::Ok, 2, 0);
-    strict_row(&rt, &[0x05, 0x18, 0x05], 1, CllAnswer::Ok, 1, 0);
-    strict_row(&rt, &[0x05, 0x18, 0x05], 2, CllAnswer::Syntax, 3, 1);
-    strict_row(&rt, &[0x18, 0x05], 1, CllAnswer::Syntax, 2, 0);
-    strict_row(&rt, &[0xf8, 0x18], 1, CllAnswer::Syntax, 2, 0);
-    strict_row(
-        &rt,
+// Bytes, how many elements, the answer, how many bytes were consumed, and the place.
+type Strict = (&'static [u8], u64, CllAnswer, u64, u64);
+
+static STRICT: [Strict; 9] = [
+    (&[0x18, 0x18], 1, CllAnswer::Ok, 2, 0),
+    (&[0x05, 0x18, 0x05], 1, CllAnswer::Ok, 1, 0),
+    (&[0x05, 0x18, 0x05], 2, CllAnswer::Syntax, 3, 1),
+    (&[0x18, 0x05], 1, CllAnswer::Syntax, 2, 0),
+    (&[0xf8, 0x18], 1, CllAnswer::Syntax, 2, 0),
+    (
         &[0x5f, 0x5f, 0x41, 0x01, 0xff, 0xff],
         1,
         CllAnswer::Syntax,
         2,
         1,
-    );
-    strict_row(&rt, &[0x5f, 0x41, 0x01, 0xff], 1, CllAnswer::Ok, 4, 0);
-    strict_row(&rt, &[0x62, 0x61, 0xff], 1, CllAnswer::Syntax, 3, 0);
-    strict_row(&rt, &[], 0, CllAnswer::Ok, 0, 0);
+    ),
+    (&[0x5f, 0x41, 0x01, 0xff], 1, CllAnswer::Ok, 4, 0),
+    (&[0x62, 0x61, 0xff], 1, CllAnswer::Syntax, 3, 0),
+    (&[], 0, CllAnswer::Ok, 0, 0),
+];
+
+#[test]
+fn strict_elements(rt: HostRuntime) {
+    for &(bytes, count, answer, consumed, place) in &STRICT {
+        strict_row(&rt, bytes, count, answer, consumed, place);
+    }
 }
 
 // The same of elements in their shortest spelling.
+static CUT_STRICT: [Strict; 4] = [
+    (&[0x43, 0x01], 1, CllAnswer::Short, 1, 2),
+    (&[], 1, CllAnswer::Short, 0, 1),
+    (&[0x05, 0x9b, 0x01], 2, CllAnswer::Short, 2, 7),
+    (&[0x05, 0x19, 0x00], 2, CllAnswer::Short, 2, 0),
+];
+
 #[test]
 fn cut_strict_elements(rt: HostRuntime) {
-    strict_row(&rt, &[0x43, 0x01], 1, CllAnswer::Short, 1, 2);
-    strict_row(&rt, &[], 1, CllAnswer::Short, 0, 1);
-    strict_row(&rt, &[0x05, 0x9b, 0x01], 2, CllAnswer::Short, 2, 7);
-    strict_row(&rt, &[0x05, 0x19, 0x00], 2, CllAnswer::Short, 2, 0);
+    for &(bytes, count, answer, consumed, place) in &CUT_STRICT {
+        strict_row(&rt, bytes, count, answer, consumed, place);
+    }
 }
 
 // How far bytes are text: the number, and the report.
@@ -509,56 +581,77 @@ fn damage_row(rt: &impl Abort, bytes: &[u8], front: u64) {
 }
 
 // The examples of RFC 3629, 7, and the first and last bytes of each row of Unicode's Table 3-7.
+static TEXTS: [&'static [u8]; 14] = [
+    &[],
+    &[0x41, 0xe2, 0x89, 0xa2, 0xce, 0x91, 0x2e],
+    &[0xed, 0x95, 0x9c, 0xea, 0xb5, 0xad, 0xec, 0x96, 0xb4],
+    &[0xe6, 0x97, 0xa5, 0xe6, 0x9c, 0xac, 0xe8, 0xaa, 0x9e],
+    &[0xef, 0xbb, 0xbf, 0xf0, 0xa3, 0x8e, 0xb4],
+    &[0x00, 0x7f, 0xc2, 0x80, 0xdf, 0xbf],
+    &[0xe0, 0xa0, 0x80, 0xe0, 0xbf, 0xbf],
+    &[0xe1, 0x80, 0x80, 0xec, 0xbf, 0xbf],
+    &[0xed, 0x80, 0x80, 0xed, 0x9f, 0xbf],
+    &[0xee, 0x80, 0x80, 0xef, 0xbf, 0xbf],
+    &[0xf0, 0x90, 0x80, 0x80, 0xf0, 0xbf, 0xbf, 0xbf],
+    &[0xf1, 0x80, 0x80, 0x80, 0xf3, 0xbf, 0xbf, 0xbf],
+    &[0xf4, 0x80, 0x80, 0x80, 0xf4, 0x8f, 0xbf, 0xbf],
+    &[0x61; 40],
+];
+
 #[test]
 fn texts(rt: HostRuntime) {
-    text_row(&rt, &[]);
-    text_row(&rt, &[0x41, 0xe2, 0x89, 0xa2, 0xce, 0x91, 0x2e]);
-    text_row(&rt, &[0xed, 0x95, 0x9c, 0xea, 0xb5, 0xad, 0xec, 0x96, 0xb4]);
-    text_row(&rt, &[0xe6, 0x97, 0xa5, 0xe6, 0x9c, 0xac, 0xe8, 0xaa, 0x9e]);
-    text_row(&rt, &[0xef, 0xbb, 0xbf, 0xf0, 0xa3, 0x8e, 0xb4]);
-    text_row(&rt, &[0x00, 0x7f, 0xc2, 0x80, 0xdf, 0xbf]);
-    text_row(&rt, &[0xe0, 0xa0, 0x80, 0xe0, 0xbf, 0xbf]);
-    text_row(&rt, &[0xe1, 0x80, 0x80, 0xec, 0xbf, 0xbf]);
-    text_row(&rt, &[0xed, 0x80, 0x80, 0xed, 0x9f, 0xbf]);
-    text_row(&rt, &[0xee, 0x80, 0x80, 0xef, 0xbf, 0xbf]);
-    text_row(&rt, &[0xf0, 0x90, 0x80, 0x80, 0xf0, 0xbf, 0xbf, 0xbf]);
-    text_row(&rt, &[0xf1, 0x80, 0x80, 0x80, 0xf3, 0xbf, 0xbf, 0xbf]);
-    text_row(&rt, &[0xf4, 0x80, 0x80, 0x80, 0xf4, 0x8f, 0xbf, 0xbf]);
-    text_row(&rt, &[0x61; 40]);
+    for &bytes in &TEXTS {
+        text_row(&rt, bytes);
+    }
 }
+
+// Bytes, and how many of the first ones are text.
+type Front = (&'static [u8], u64);
+
+static CUT_TEXTS: [Front; 11] = [
+    (&[0xc2], 0),
+    (&[0x61, 0xdf], 1),
+    (&[0xe0], 0),
+    (&[0xe0, 0xa0], 0),
+    (&[0xed, 0x9f], 0),
+    (&[0xc3, 0xa9, 0xe6, 0x97], 2),
+    (&[0xf0], 0),
+    (&[0xf0, 0x90], 0),
+    (&[0xf0, 0x90, 0x80], 0),
+    (&[0xf4, 0x8f], 0),
+    (&[0x61, 0x62, 0xf4, 0x8f, 0xbf], 2),
+];
 
 #[test]
 fn cut_texts(rt: HostRuntime) {
-    cut_row(&rt, &[0xc2], 0);
-    cut_row(&rt, &[0x61, 0xdf], 1);
-    cut_row(&rt, &[0xe0], 0);
-    cut_row(&rt, &[0xe0, 0xa0], 0);
-    cut_row(&rt, &[0xed, 0x9f], 0);
-    cut_row(&rt, &[0xc3, 0xa9, 0xe6, 0x97], 2);
-    cut_row(&rt, &[0xf0], 0);
-    cut_row(&rt, &[0xf0, 0x90], 0);
-    cut_row(&rt, &[0xf0, 0x90, 0x80], 0);
-    cut_row(&rt, &[0xf4, 0x8f], 0);
-    cut_row(&rt, &[0x61, 0x62, 0xf4, 0x8f, 0xbf], 2);
+    for &(bytes, front) in &CUT_TEXTS {
+        cut_row(&rt, bytes, front);
+    }
 }
 
 // What is in no row of the table. The last ones of RFC 3629, 10 are slashes that are longer than they need be.
+static DAMAGED_TEXTS: [Front; 14] = [
+    (&[0x80], 0),
+    (&[0x61, 0xbf, 0x61], 1),
+    (&[0xc0], 0),
+    (&[0xc1, 0xbf], 0),
+    (&[0x61, 0xc2, 0x61], 1),
+    (&[0xe0, 0x9f], 0),
+    (&[0xe6, 0x97, 0xa5, 0xe6, 0x97, 0xc0], 3),
+    (&[0xed, 0xa0], 0),
+    (&[0xed, 0xa0, 0x80, 0xed, 0xb0, 0x80], 0),
+    (&[0xf0, 0x8f, 0xbf, 0xbf], 0),
+    (&[0xf4, 0x90], 0),
+    (&[0xc3, 0xa9, 0xf5], 2),
+    (&[0xff], 0),
+    (&[0x2f, 0xc0, 0xae, 0x2e, 0x2f], 1),
+];
+
 #[test]
 fn damaged_texts(rt: HostRuntime) {
-    damage_row(&rt, &[0x80], 0);
-    damage_row(&rt, &[0x61, 0xbf, 0x61], 1);
-    damage_row(&rt, &[0xc0], 0);
-    damage_row(&rt, &[0xc1, 0xbf], 0);
-    damage_row(&rt, &[0x61, 0xc2, 0x61], 1);
-    damage_row(&rt, &[0xe0, 0x9f], 0);
-    damage_row(&rt, &[0xe6, 0x97, 0xa5, 0xe6, 0x97, 0xc0], 3);
-    damage_row(&rt, &[0xed, 0xa0], 0);
-    damage_row(&rt, &[0xed, 0xa0, 0x80, 0xed, 0xb0, 0x80], 0);
-    damage_row(&rt, &[0xf0, 0x8f, 0xbf, 0xbf], 0);
-    damage_row(&rt, &[0xf4, 0x90], 0);
-    damage_row(&rt, &[0xc3, 0xa9, 0xf5], 2);
-    damage_row(&rt, &[0xff], 0);
-    damage_row(&rt, &[0x2f, 0xc0, 0xae, 0x2e, 0x2f], 1);
+    for &(bytes, front) in &DAMAGED_TEXTS {
+        damage_row(&rt, bytes, front);
+    }
 }
 
 // Texts of ten characters of three bytes, with one byte changed or left out.
@@ -630,43 +723,28 @@ fn fed_row(
     assert!(rt; fed(2, first, second) == ([piece, end], 0), "at {second:?}");
 }
 
+// Two pieces, the answer to the second, how many of its bytes were taken, the place, and that of the end.
+type Checked = (&'static [u8], &'static [u8], CllAnswer, u64, u64, u64);
+
+static CHECKED: [Checked; 11] = [
+    (&[0xa1, 0x61], &[0x61, 0x01, 0x05], CllAnswer::Ok, 2, 4, 0),
+    (&[0x05], &[0x05], CllAnswer::Ok, 0, 1, 0),
+    (&[0x9f, 0x01], &[0xff], CllAnswer::Ok, 1, 3, 0),
+    (&[0x1b, 0x01], &[0x02], CllAnswer::Short, 1, 6, 6),
+    (&[0x58, 0x20, 0x01], &[], CllAnswer::Short, 0, 31, 31),
+    (&[0x82], &[0x01], CllAnswer::Short, 1, 1, 1),
+    (&[0x62, 0xc3], &[0x28, 0x28], CllAnswer::Syntax, 1, 0, 0),
+    (&[0x7f, 0x61, 0x61], &[0x41], CllAnswer::Syntax, 1, 3, 3),
+    (&[0x81, 0x1f], &[0x00], CllAnswer::Syntax, 0, 1, 1),
+    (&[0xbf, 0x01], &[0xff], CllAnswer::BreakDue, 1, 2, 2),
+    (&[0x81, 0x81], &[0x81], CllAnswer::TooDeep, 1, 2, 2),
+];
+
 #[test]
 fn checkers(rt: HostRuntime) {
-    fed_row(
-        &rt,
-        &[0xa1, 0x61],
-        &[0x61, 0x01, 0x05],
-        CllAnswer::Ok,
-        2,
-        4,
-        0,
-    );
-    fed_row(&rt, &[0x05], &[0x05], CllAnswer::Ok, 0, 1, 0);
-    fed_row(&rt, &[0x9f, 0x01], &[0xff], CllAnswer::Ok, 1, 3, 0);
-    fed_row(&rt, &[0x1b, 0x01], &[0x02], CllAnswer::Short, 1, 6, 6);
-    fed_row(&rt, &[0x58, 0x20, 0x01], &[], CllAnswer::Short, 0, 31, 31);
-    fed_row(&rt, &[0x82], &[0x01], CllAnswer::Short, 1, 1, 1);
-    fed_row(
-        &rt,
-        &[0x62, 0xc3],
-        &[0x28, 0x28],
-        CllAnswer::Syntax,
-        1,
-        0,
-        0,
-    );
-    fed_row(
-        &rt,
-        &[0x7f, 0x61, 0x61],
-        &[0x41],
-        CllAnswer::Syntax,
-        1,
-        3,
-        3,
-    );
-    fed_row(&rt, &[0x81, 0x1f], &[0x00], CllAnswer::Syntax, 0, 1, 1);
-    fed_row(&rt, &[0xbf, 0x01], &[0xff], CllAnswer::BreakDue, 1, 2, 2);
-    fed_row(&rt, &[0x81, 0x81], &[0x81], CllAnswer::TooDeep, 1, 2, 2);
+    for &(first, second, answer, consumed, place, end_place) in &CHECKED {
+        fed_row(&rt, first, second, answer, consumed, place, end_place);
+    }
 }
 
 // Before a byte came, more of them is due, and an end is none within an item.

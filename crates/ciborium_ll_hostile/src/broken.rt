@@ -9,8 +9,8 @@ use std::test::Fail;
 // Reads bytes as titles and as elements, and compares all of it with a plain reading.
 fn reads(rt: &impl Abort, alloc: Global, count: usize, bytes: &[u8]) -> Result<(), Fail> {
     let never = usize::MAX;
-    assert!(rt; !reads_titles(rt, false, bytes, never));
-    assert!(rt; !reads_titles(rt, true, bytes, never));
+    let has_failed = reads_titles(rt, false, bytes, never) || reads_titles(rt, true, bytes, never);
+    assert!(rt; !has_failed, "at {bytes:?}");
     agrees(rt, alloc, Kind::Headers, count, bytes)?;
     agrees(rt, alloc, Kind::Elements, count, bytes)?;
     agrees(rt, alloc, Kind::StrictElements, count, bytes)
@@ -37,7 +37,8 @@ fn reads_sample(rt: &impl Abort, alloc: Global, count: usize, hex: &str) -> Resu
 
 #[test]
 fn each_sample_is_cut_at_each_place(rt: HostRuntime) -> Result<(), Fail> {
-    for (count, hex) in samples::all(rt.alloc())? {
+    let all = samples::all(rt.alloc())?;
+    for &(count, hex) in &all {
         reads_sample(&rt, rt.alloc(), 1, hex)?;
         reads_sample(&rt, rt.alloc(), count, hex)?;
     }

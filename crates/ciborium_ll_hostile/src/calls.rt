@@ -6,7 +6,9 @@ ghost use Rattle.std.specs.Prelude.{All, IsTrue, ◌≤◌};
 use ciborium_ll::io::{Read, SliceReader, SliceWriter, Write};
 use ciborium_ll::laws::{Drained, drain_bytes, drain_text};
 use ciborium_ll::recode::recode;
-use ciborium_ll::{Bytes, Decoder, Encoder, Error, Header, RecodeError, Segment, Segments, Text};
+use ciborium_ll::{
+    Bytes, Chunked, Decoder, Encoder, Error, Header, RecodeError, Segment, Segments, Text,
+};
 use ciborium_ll_fixtures::devices::{DeviceFault, Failing, FailingReader, FailingWriter};
 use std::alloc::Global;
 use std::process::Abort;
@@ -83,7 +85,7 @@ pub fn pulls<R: Read>(decoder: &mut Decoder<R>) -> Result<Header, Error<R::Error
 
 // Whether the reader fails, as it was told to, under the next title.
 pub fn pull_fails(decoder: &mut Decoder<FailingReader<'_>>) -> bool {
-    matches!(decoder.pull(), Err(Error::Io(DeviceFault::Planned)))
+    matches!(pulls(decoder), Err(Error::Io(DeviceFault::Planned)))
 }
 
 // The byte string whose title was read.
@@ -106,6 +108,48 @@ pub fn text_of<'a, R: Read>(
     assert!(rt; !decoder.is_waiting());
     assert!(rt; Header::Text(length).title_len() <= decoder.offset());
     decoder.text(length)
+}
+
+// The next segment of a string, which has one.
+pub fn next_segment<'a, R: Read, P: Chunked>(
+    rt: &impl Abort,
+    segments: &'a mut Segments<'_, R, P>,
+) -> Segment<'a, R, P>
+where
+    R::Error: Drop,
+{
+    match segments.pull() {
+        Ok(Some(segment)) => segment,
+        _ => panic!(rt; "no segment"),
+    }
+}
+
+// The next segment of a string, if there is one.
+pub fn segment_of<'a, R: Read, P: Chunked>(
+    segments: &'a mut Segments<'_, R, P>,
+) -> Result<Option<Segment<'a, R, P>>, Error<R::Error>> {
+    segments.pull()
+}
+
+// The next chunk of a segment of bytes.
+pub fn chunk_of_bytes<'a, R: Read>(
+    segment: &mut Segment<'_, R, Bytes>,
+    buffer: &'a mut [u8],
+) -> Result<Option<&'a [u8]>, Error<R::Error>> {
+    segment.pull(buffer)
+}
+
+// The next chunk of a segment of text.
+pub fn chunk_of_text<'a, R: Read>(
+    segment: &mut Segment<'_, R, Text>,
+    buffer: &'a mut [u8],
+) -> Result<Option<&'a str>, Error<R::Error>> {
+    segment.pull(buffer)
+}
+
+// A decoder over a reader that begins at an offset.
+pub fn decoder_from<R: Read>(reader: R, offset: usize) -> Decoder<R> {
+    Decoder::with_offset(reader, offset)
 }
 
 // Whether a buffer of this length has room for each size.

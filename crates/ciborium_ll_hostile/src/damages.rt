@@ -1,4 +1,4 @@
-use crate::calls::{self, drains_text, pulls, text_of};
+use crate::calls::{self, drains_text, next_segment, pulls, text_of};
 use crate::copies::{Answer, copies_slice, is_fault};
 use ciborium_ll::io::{EndOfFile, OutOfSpace, SliceReader, SliceWriter};
 use ciborium_ll::laws::{Drained, End};
@@ -39,6 +39,15 @@ struct Wrong {
     strictly: usize,
 }
 
+// Compares the answers to a text, of both kinds of decoders, with those of plain readings: whether each is a fault.
+fn compares(rt: &impl Abort, alloc: Global, bytes: &[u8]) -> Result<(bool, bool), Fail> {
+    let want = plain::copy(alloc, false, 1, bytes)?.fault;
+    let want_strictly = plain::strict_copy(alloc, 1, bytes)?.fault;
+    let is_right = all_end(rt, false, bytes, want) && all_end(rt, true, bytes, want_strictly);
+    assert!(rt; is_right, "at {bytes:?}");
+    Ok((want.is_some(), want_strictly.is_some()))
+}
+
 // Reads a text with each byte replaced by each other one. Buffers of all sizes give the answer of a plain reading, on a
 // strict decoder that of a strict one. Only where a damaged body is cut may one find the damage, and another the end.
 fn replaces_each_byte(rt: &impl Abort, alloc: Global, text: [u8; 10]) -> Result<Wrong, Fail> {
@@ -50,15 +59,11 @@ fn replaces_each_byte(rt: &impl Abort, alloc: Global, text: [u8; 10]) -> Result<
         for byte in 0..=u8::MAX {
             let mut bytes = text;
             bytes[index] = byte;
-            let want = plain::copy(alloc, false, 1, &bytes)?.fault;
-            let want_strictly = plain::strict_copy(alloc, 1, &bytes)?.fault;
-            let is_right = all_end(rt, false, &bytes, want)
-                && all_end(rt, true, &bytes, want_strictly);
-            assert!(rt; is_right, "{byte} at {index}");
-            wrong.texts = wrong.texts.saturating_add(usize::from(want.is_some()));
+            let (is_wrong, is_wrong_strictly) = compares(rt, alloc, &bytes)?;
+            wrong.texts = wrong.texts.saturating_add(usize::from(is_wrong));
             wrong.strictly = wrong
                 .strictly
-                .saturating_add(usize::from(want_strictly.is_some()));
+                .saturating_add(usize::from(is_wrong_strictly));
         }
     }
     Ok(wrong)
@@ -119,25 +124,52 @@ fn is_right(ending: Ending, sizes: usize, body: &[u8], written: &[u8], left: usi
     }
 }
 
+// Drains the only segment of a text through buffers of these sizes: how that ends, and how much is left.
+fn drains_segment(
+    rt: &impl Abort,
+    decoder: &mut Decoder<SliceReader<'_>>,
+    length: usize,
+    sizes: &[usize],
+    sink: &mut Encoder<SliceWriter<'_>>,
+) -> (Ending, usize) {
+    let mut segments = text_of(rt, decoder, Some(length));
+    let mut segment = next_segment(rt, &mut segments);
+    let ending = ending_by(rt, &mut segment, sizes, sink);
+    (ending, segment.left())
+}
+
+// Whether the next title is that of a text of this length.
+fn begins_text(decoder: &mut Decoder<SliceReader<'_>>, length: usize) -> bool {
+    matches!(pulls(decoder), Ok(Header::Text(Some(told))) if told == length)
+}
+
 // Drains a text of a short length through buffers of these sizes, and compares what was written and what is left.
 fn drains(rt: &impl Abort, bytes: &[u8], sizes: &[usize]) {
     let mut space = [0; 16];
     let body = bytes.get(1..).unwrap_or(&[]);
-    let length = body.len();
     let mut decoder = calls::decoder(bytes);
     let mut sink = calls::encoder(&mut space);
-    assert!(rt; matches!(pulls(&mut decoder), Ok(Header::Text(Some(told))) if told == length));
-    let mut segments = text_of(rt, &mut decoder, Some(length));
-    let Ok(Some(mut segment)) = segments.pull() else {
-        panic!(rt; "no segment");
-    };
-    let ending = ending_by(rt, &mut segment, sizes, &mut sink);
-    let left = segment.left();
+    let is_begun = begins_text(&mut decoder, body.len());
+    let (ending, left) = drains_segment(rt, &mut decoder, body.len(), sizes, &mut sink);
     let writer = sink.into_inner();
     let written = writer.written();
     let is_front = body.starts_with(written) && std::str::from_utf8(written).is_ok();
-    let is_right = is_front && is_right(ending, sizes.len(), body, written, left);
+    let is_right = is_begun && is_front && is_right(ending, sizes.len(), body, written, left);
     assert!(rt; is_right, "{bytes:?} by {sizes:?}");
+}
+
+// Drains a text by each five sizes of 0 to 3, which are the digits of a number by 4.
+fn by_small_buffers(rt: &impl Abort, text: &[u8]) {
+    for number in 0..1024usize {
+        let sizes = [
+            number % 4,
+            number / 4 % 4,
+            number / 16 % 4,
+            number / 64 % 4,
+            number / 256 % 4,
+        ];
+        drains(rt, text, &sizes);
+    }
 }
 
 #[test]
@@ -154,11 +186,7 @@ fn buffers_that_hold_no_character(rt: HostRuntime) {
         b"\x65\xff\xff\xff\xffa",
     ];
     for text in texts {
-        for number in 0..1024usize {
-            // Five sizes of 0 to 3, which are the digits of the number by 4.
-            let sizes = [number, number / 4, number / 16, number / 64, number / 256];
-            drains(&rt, text, &sizes.map(|digits| digits % 4));
-        }
+        by_small_buffers(&rt, text);
         // With room for a character the end is seen.
         drains(&rt, text, &[4, 4, 4, 4, 4, 4]);
     }

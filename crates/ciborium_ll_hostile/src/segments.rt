@@ -1,6 +1,6 @@
 use crate::calls::{
-    bytes_of, decoded, drains_bytes, drains_text, failing_decoder, failing_encoder, holds, pulls,
-    text_of,
+    bytes_of, chunk_of_bytes, chunk_of_text, decoded, drains_bytes, drains_text, failing_decoder,
+    failing_encoder, holds, next_segment, pulls, segment_of, text_of,
 };
 use ciborium_ll::laws::{self, End};
 use ciborium_ll::{Bytes, Decoder, Encoder, Error, Header, RecodeError, Segment, Segments, Text};
@@ -13,7 +13,7 @@ use std::process::Abort;
 use std::test::Fail;
 
 // How often the read that fails came under a pull of a title, of a string and of a segment, and the write that fails.
-#[derive(Clone, Copy, Debug, PartialEq, Eq)]
+#[derive(Clone, Copy, PartialEq, Eq)]
 struct Seen {
     titles: usize,
     strings: usize,
@@ -117,7 +117,7 @@ impl Chunks for Segment<'_, FailingReader<'_>, Bytes> {
     }
 
     fn chunk<'a>(&mut self, buffer: &'a mut [u8]) -> Chunk<'a> {
-        self.pull(buffer)
+        chunk_of_bytes(self, buffer)
     }
 
     fn drain<A: Abort>(
@@ -136,7 +136,11 @@ impl Chunks for Segment<'_, FailingReader<'_>, Text> {
     }
 
     fn chunk<'a>(&mut self, buffer: &'a mut [u8]) -> Chunk<'a> {
-        Ok(self.pull(buffer)?.map(|text| text.as_bytes()))
+        match chunk_of_text(self, buffer) {
+            Ok(Some(text)) => Ok(Some(text.as_bytes())),
+            Ok(None) => Ok(None),
+            Err(error) => Err(error),
+        }
     }
 
     fn drain<A: Abort>(
@@ -157,6 +161,26 @@ enum Step {
     Stopped(Stop),
 }
 
+// What a plain reading says of a chunk.
+type Due<'a> = Result<Option<&'a [u8]>, Stop>;
+
+// A chunk is the one that is due, or there is none for the reason that is due.
+fn is_due(chunk: &Chunk<'_>, due: &Due<'_>) -> bool {
+    match due {
+        Ok(bytes) => is_chunk(chunk, *bytes),
+        Err(stop) => is_no_chunk(chunk, *stop),
+    }
+}
+
+// How a call goes on behind what is due.
+fn step_of(due: &Due<'_>) -> Step {
+    match due {
+        Ok(Some(_)) => Step::Done,
+        Ok(None) => Step::Ended,
+        Err(stop) => Step::Stopped(*stop),
+    }
+}
+
 // Reads a chunk, and tells what was due.
 fn reads_chunk<S: Chunks>(
     rt: &impl Abort,
@@ -165,21 +189,20 @@ fn reads_chunk<S: Chunks>(
     tape: &mut Tape<'_>,
     buffer: &mut [u8],
 ) -> Step {
-    let want = body.pull(tape, buffer.len());
-    let chunk = segment.chunk(buffer);
-    match want {
-        Ok(bytes) => {
-            assert!(rt; is_chunk(&chunk, bytes), "another chunk");
-            if bytes.is_some() {
-                Step::Done
-            } else {
-                Step::Ended
-            }
+    let due = body.pull(tape, buffer.len());
+    let is_right = is_due(&segment.chunk(buffer), &due);
+    assert!(rt; is_right && segment.due() == body.left(), "another chunk");
+    step_of(&due)
+}
+
+// Counts where the read that fails came, and tells whether this step is an error.
+fn counts(count: &mut usize, step: Step) -> bool {
+    match step {
+        Step::Stopped(stop) => {
+            add_planned(count, stop);
+            true
         }
-        Err(stop) => {
-            assert!(rt; is_no_chunk(&chunk, stop), "another end of a chunk");
-            Step::Stopped(stop)
-        }
+        Step::Done | Step::Ended => false,
     }
 }
 
@@ -189,19 +212,22 @@ fn reads_chunks<S: Chunks>(rt: &impl Abort, segment: &mut S, mut body: Body, run
     let mut errors = 0usize;
     for call in 0..256usize {
         let size = run.way.sizes[call % 2].min(64);
-        match reads_chunk(rt, segment, &mut body, &mut run.tape, &mut buffer[..size]) {
-            Step::Done => {}
-            Step::Ended => break,
-            Step::Stopped(stop) => {
-                add_planned(&mut run.seen.segments, stop);
-                errors = errors.saturating_add(1);
-            }
-        }
-        assert_eq!(rt; segment.due(), body.left());
-        if run.stops(errors) {
+        let step = reads_chunk(rt, segment, &mut body, &mut run.tape, &mut buffer[..size]);
+        errors = errors.saturating_add(usize::from(counts(&mut run.seen.segments, step)));
+        if matches!(step, Step::Ended) || run.stops(errors) {
             break;
         }
     }
+}
+
+// Counts where the call that fails came, and tells whether this drain met an error.
+fn counts_drain(seen: &mut Seen, want: Drained) -> bool {
+    match want {
+        Drained::Ended | Drained::OutOfSizes => return false,
+        Drained::Unread(stop) => add_planned(&mut seen.segments, stop),
+        Drained::Unwritten => seen.writes = seen.writes.saturating_add(1),
+    }
+    true
 }
 
 // Drains a segment to its end, or to its second error.
@@ -215,22 +241,11 @@ fn drains_chunks<S: Chunks>(
     let mut errors = 0usize;
     for call in 0..256usize {
         let want = body.drain(&mut run.tape, run.way.sizes, &mut run.sink)?;
-        let drain = segment.drain(rt, run.way.sizes, writer);
-        assert!(rt; is_drained(&drain, want), "another answer of drain {call}");
-        assert_eq!(rt; segment.due(), body.left());
-        match want {
-            Drained::Ended => break,
-            Drained::OutOfSizes => {}
-            Drained::Unread(stop) => {
-                add_planned(&mut run.seen.segments, stop);
-                errors = errors.saturating_add(1);
-            }
-            Drained::Unwritten => {
-                run.seen.writes = run.seen.writes.saturating_add(1);
-                errors = errors.saturating_add(1);
-            }
-        }
-        if run.stops(errors) {
+        let is_right = is_drained(&segment.drain(rt, run.way.sizes, writer), want);
+        let is_left = segment.due() == body.left();
+        assert!(rt; is_right && is_left, "another answer of drain {call}");
+        errors = errors.saturating_add(usize::from(counts_drain(&mut run.seen, want)));
+        if want == Drained::Ended || run.stops(errors) {
             break;
         }
     }
@@ -278,19 +293,17 @@ impl Strings for Segments<'_, FailingReader<'_>, Bytes> {
         run: &mut Run<'_>,
         writer: &mut Encoder<FailingWriter<'_>>,
     ) -> Result<Step, Fail> {
-        let Ok(Some(mut segment)) = self.pull() else {
-            panic!(rt; "no segment of bytes");
-        };
+        let mut segment = next_segment(rt, self);
         reads_segment(rt, &mut segment, body, run, writer)?;
         Ok(Step::Done)
     }
 
     fn ends(&mut self) -> bool {
-        matches!(self.pull(), Ok(None))
+        matches!(segment_of(self), Ok(None))
     }
 
     fn fails(&mut self, want: Stop) -> bool {
-        matches!(self.pull(), Err(error) if is_stop(&error, want))
+        matches!(segment_of(self), Err(error) if is_stop(&error, want))
     }
 }
 
@@ -302,19 +315,17 @@ impl Strings for Segments<'_, FailingReader<'_>, Text> {
         run: &mut Run<'_>,
         writer: &mut Encoder<FailingWriter<'_>>,
     ) -> Result<Step, Fail> {
-        let Ok(Some(mut segment)) = self.pull() else {
-            panic!(rt; "no segment of a text");
-        };
+        let mut segment = next_segment(rt, self);
         reads_segment(rt, &mut segment, body, run, writer)?;
         Ok(Step::Done)
     }
 
     fn ends(&mut self) -> bool {
-        matches!(self.pull(), Ok(None))
+        matches!(segment_of(self), Ok(None))
     }
 
     fn fails(&mut self, want: Stop) -> bool {
-        matches!(self.pull(), Err(error) if is_stop(&error, want))
+        matches!(segment_of(self), Err(error) if is_stop(&error, want))
     }
 }
 
@@ -349,15 +360,9 @@ fn reads_string<S: Strings>(
 ) -> Result<(), Fail> {
     let mut errors = 0usize;
     for _ in 0..256usize {
-        match reads_next(rt, segments, &mut walk, run, writer)? {
-            Step::Done => {}
-            Step::Ended => break,
-            Step::Stopped(stop) => {
-                add_planned(&mut run.seen.strings, stop);
-                errors = errors.saturating_add(1);
-            }
-        }
-        if run.stops(errors) {
+        let step = reads_next(rt, segments, &mut walk, run, writer)?;
+        errors = errors.saturating_add(usize::from(counts(&mut run.seen.strings, step)));
+        if matches!(step, Step::Ended) || run.stops(errors) {
             break;
         }
     }
@@ -429,6 +434,25 @@ fn reads_element(
     }
 }
 
+// Reads title after title, and their strings, to the end of the bytes, or to where the run stops.
+fn reads_elements(
+    rt: &impl Abort,
+    decoder: &mut Decoder<FailingReader<'_>>,
+    run: &mut Run<'_>,
+    writer: &mut Encoder<FailingWriter<'_>>,
+    bytes: &[u8],
+    call: usize,
+) -> Result<(), Fail> {
+    for _ in 0..256usize {
+        let is_short = reads_element(rt, decoder, run, writer)?;
+        holds(rt, decoder.offset() == run.tape.offset(), call, bytes);
+        if run.stops(0) || is_short && run.tape.has_ended() {
+            break;
+        }
+    }
+    Ok(())
+}
+
 // Reads bytes by a reader that fails at one call, and a writer that fails at one. Each answer is that of a plain
 // reading, and so are the offset, the bytes that are left and those that were written. It tells how often those calls
 // came, and where.
@@ -440,6 +464,7 @@ fn reads(
     way: Way,
 ) -> Result<Seen, Fail> {
     let [read, write] = failing;
+    let call = read.min(write);
     let mut space = [0; 64];
     let mut decoder = failing_decoder(bytes, Failing::Call(read));
     let mut encoder = failing_encoder(&mut space, Failing::Call(write));
@@ -449,32 +474,47 @@ fn reads(
         sink: Sink::new(alloc, write),
         seen: NOWHERE,
     };
-    for _ in 0..256usize {
-        let is_short = reads_element(rt, &mut decoder, &mut run, &mut encoder)?;
-        let is_right = decoder.offset() == run.tape.offset();
-        holds(rt, is_right, read.min(write), bytes);
-        if run.stops(0) || is_short && run.tape.has_ended() {
-            break;
-        }
-    }
+    reads_elements(rt, &mut decoder, &mut run, &mut encoder, bytes, call)?;
     let offset = decoder.offset();
     let reader = decoder.into_inner();
     let writer = encoder.into_inner();
-    assert_eq!(rt; offset.saturating_add(reader.left().len()), bytes.len());
-    holds(
-        rt,
-        writer.written() == run.sink.taken(),
-        read.min(write),
-        bytes,
-    );
+    let is_left = offset.saturating_add(reader.left().len()) == bytes.len();
+    let is_written = writer.written() == run.sink.taken();
     let has_failed = reader.has_failed() || writer.has_failed();
-    assert_eq!(rt; has_failed, run.seen != NOWHERE);
+    let is_seen = has_failed == (run.seen != NOWHERE);
+    holds(rt, is_left && is_written && is_seen, call, bytes);
     Ok(run.seen)
 }
 
 const NEVER: usize = usize::MAX;
 
 const SIZES: [[usize; 2]; 6] = [[1, 4], [2, 5], [3, 4], [4, 4], [7, 7], [64, 64]];
+
+// Adds up where calls failed.
+fn add_seen(all: &mut Seen, seen: Seen) {
+    all.titles = all.titles.saturating_add(seen.titles);
+    all.strings = all.strings.saturating_add(seen.strings);
+    all.segments = all.segments.saturating_add(seen.segments);
+    all.writes = all.writes.saturating_add(seen.writes);
+}
+
+// Reads bytes with one call failing, on behind it and no further: both see the same.
+fn both_ways(
+    rt: &impl Abort,
+    alloc: Global,
+    bytes: &[u8],
+    failing: [usize; 2],
+    way: Way,
+) -> Result<Seen, Fail> {
+    let stops = Way {
+        goes_on: false,
+        ..way
+    };
+    let seen = reads(rt, alloc, bytes, failing, way)?;
+    let is_same = reads(rt, alloc, bytes, failing, stops)? == seen;
+    holds(rt, is_same, failing[0].min(failing[1]), bytes);
+    Ok(seen)
+}
 
 // Reads bytes with each call failing in turn, until none does, and adds up where they failed.
 fn each_fails(
@@ -491,38 +531,40 @@ fn each_fails(
         } else {
             [call, NEVER]
         };
-        let seen = reads(rt, alloc, bytes, failing, way)?;
-        let stops = Way {
-            goes_on: false,
-            ..way
-        };
-        assert_eq!(rt; reads(rt, alloc, bytes, failing, stops)?, seen);
+        let seen = both_ways(rt, alloc, bytes, failing, way)?;
         if seen == NOWHERE {
             return Ok(all);
         }
-        all = Seen {
-            titles: all.titles.saturating_add(seen.titles),
-            strings: all.strings.saturating_add(seen.strings),
-            segments: all.segments.saturating_add(seen.segments),
-            writes: all.writes.saturating_add(seen.writes),
-        };
+        add_seen(&mut all, seen);
     }
     panic!(rt; "the calls of {bytes:?} have no end")
 }
 
+// Each call fails in turn over a sample, by buffers of all sizes.
+fn each_fails_in_sample(
+    rt: &impl Abort,
+    alloc: Global,
+    drains: bool,
+    hex: &str,
+) -> Result<(), Fail> {
+    let bytes = decoded(alloc, hex)?;
+    for sizes in SIZES {
+        let way = Way {
+            sizes,
+            drains,
+            goes_on: true,
+        };
+        each_fails(rt, alloc, bytes.as_slice(), false, way)?;
+        each_fails(rt, alloc, bytes.as_slice(), true, way)?;
+    }
+    Ok(())
+}
+
 // Each call fails in turn over all samples.
 fn each_fails_in_samples(rt: &impl Abort, alloc: Global, drains: bool) -> Result<(), Fail> {
-    for (_, hex) in samples::all(alloc)? {
-        let bytes = decoded(alloc, hex)?;
-        for sizes in SIZES {
-            let way = Way {
-                sizes,
-                drains,
-                goes_on: true,
-            };
-            each_fails(rt, alloc, bytes.as_slice(), false, way)?;
-            each_fails(rt, alloc, bytes.as_slice(), true, way)?;
-        }
+    let all = samples::all(alloc)?;
+    for &(_, hex) in &all {
+        each_fails_in_sample(rt, alloc, drains, hex)?;
     }
     Ok(())
 }

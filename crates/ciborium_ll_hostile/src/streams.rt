@@ -41,6 +41,26 @@ fn is_write_answer(
     }
 }
 
+// A decoder over a reader of std.
+fn decoder_over<T: io::Read>(source: T) -> Decoder<StdReader<T>> {
+    Decoder::from(StdReader::new(source))
+}
+
+// The reader of std of a decoder.
+fn source_of<T: io::Read>(decoder: Decoder<StdReader<T>>) -> T {
+    decoder.into_inner().into_inner()
+}
+
+// An encoder over a writer of std.
+fn encoder_over<T: io::Write>(sink: T) -> Encoder<StdWriter<T>> {
+    Encoder::from(StdWriter::new(sink))
+}
+
+// The writer of std of an encoder.
+fn sink_of<T: io::Write>(encoder: Encoder<StdWriter<T>>) -> T {
+    encoder.into_inner().into_inner()
+}
+
 // Copies through a reader that gives few bytes a call and is interrupted once. What was written is just what the bytes
 // in front of that call give. It tells whether the interrupted call came.
 fn stops_reading(
@@ -52,18 +72,23 @@ fn stops_reading(
 ) -> Result<bool, Fail> {
     let (count, bytes) = row;
     let source = PartReader::new(bytes, most).failing_at(call, io::ErrorKind::Interrupted);
-    let mut decoder = Decoder::from(StdReader::new(source));
-    let mut encoder = Encoder::from(StdWriter::new(PartWriter::new(alloc, most)));
+    let mut decoder = decoder_over(source);
+    let mut encoder = encoder_over(PartWriter::new(alloc, most));
     let outcome = recodes(rt, &mut decoder, &mut encoder, count, &mut [0; 64]);
     let offset = decoder.offset();
-    let has_failed = decoder.into_inner().into_inner().calls >= call;
+    let has_failed = source_of(decoder).calls >= call;
     let length = if has_failed { offset } else { bytes.len() };
     let want = plain::copy(alloc, false, count, front_of(bytes, length))?;
-    let taken = encoder.into_inner().into_inner().taken;
+    let taken = sink_of(encoder).taken;
     let is_due = taken.as_slice() == want.output.as_slice() && offset == want.offset;
     let is_right = is_due && is_read_answer(outcome, has_failed, want.fault);
     holds(rt, is_right, call, bytes);
     Ok(has_failed)
+}
+
+// What a writer took that takes one byte a call, up to this call, begins what is due.
+fn begins(taken: &[u8], due: &[u8], call: usize) -> bool {
+    due.starts_with(taken) && taken.len().saturating_add(1) == call
 }
 
 // Copies through a writer that takes one byte a call, and at one call none, or is interrupted there. What it took are
@@ -76,17 +101,15 @@ fn stops_writing(
     call: usize,
 ) -> Result<bool, Fail> {
     let (count, bytes) = row;
-    let mut decoder = Decoder::from(StdReader::new(bytes));
-    let sink = PartWriter::new(alloc, 1).failing_at(call, kind);
-    let mut encoder = Encoder::from(StdWriter::new(sink));
+    let mut decoder = decoder_over(bytes);
+    let mut encoder = encoder_over(PartWriter::new(alloc, 1).failing_at(call, kind));
     let outcome = recodes(rt, &mut decoder, &mut encoder, count, &mut [0; 64]);
-    let sink = encoder.into_inner().into_inner();
+    let sink = sink_of(encoder);
     if sink.calls < call {
         return Ok(false);
     }
     let want = plain::copy(alloc, false, count, bytes)?;
-    let taken = sink.taken.as_slice();
-    let is_due = want.output.as_slice().starts_with(taken) && taken.len().saturating_add(1) == call;
+    let is_due = begins(sink.taken.as_slice(), want.output.as_slice(), call);
     holds(rt, is_due && is_write_answer(outcome, kind), call, bytes);
     Ok(true)
 }

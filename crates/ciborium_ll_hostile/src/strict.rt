@@ -1,9 +1,11 @@
 // A strict decoder that goes on behind a failure is strict as before.
 
-use crate::calls::{bytes_of, failing_decoder_as, failing_encoder, pull_fails, pulls};
+use crate::calls::{
+    bytes_of, chunk_of_bytes, failing_decoder_as, failing_encoder, next_segment, pull_fails, pulls,
+};
 use crate::copies::{Answer, copies_elements};
 use ciborium_ll::io::Read;
-use ciborium_ll::{Bytes, Decoder, Error, Header, Segments};
+use ciborium_ll::{Body, Bytes, Decoder, Error, Header, Segment, Segments};
 use ciborium_ll_fixtures::devices::{DeviceFault, Failing, FailingReader};
 use std::process::Abort;
 
@@ -33,15 +35,28 @@ enum Advance {
     Other,
 }
 
+// The next body of a string.
+fn next_body<R: Read>(
+    segments: &mut Segments<'_, R, Bytes>,
+) -> Result<Option<Body>, Error<R::Error>> {
+    segments.advance()
+}
+
 // The next body of a string, or why there is none.
 fn advances(segments: &mut Segments<'_, FailingReader<'_>, Bytes>) -> Advance {
-    match segments.advance() {
+    match next_body(segments) {
         Ok(Some(body)) => Advance::Body(body.length),
         Ok(None) => Advance::Ended,
         Err(Error::Syntax(place)) => Advance::Syntax(place),
         Err(Error::Io(DeviceFault::Planned)) => Advance::Unread,
         Err(_) => Advance::Other,
     }
+}
+
+// Whether a title is refused at this place, and once more.
+fn refuses_twice(segments: &mut Segments<'_, FailingReader<'_>, Bytes>, place: usize) -> bool {
+    let want = Advance::Syntax(place);
+    advances(segments) == want && advances(segments) == want
 }
 
 // A decoder in front of the bytes `REFUSED`, which begin at this place, refuses what it has to.
@@ -53,27 +68,18 @@ fn refuses(rt: &impl Abort, decoder: &mut Decoder<FailingReader<'_>>, place: usi
     );
     let mut segments = bytes_of(rt, decoder, None);
     let nested = place.saturating_add(3);
-    assert!(rt;
-        advances(&mut segments) == Advance::Syntax(nested),
-        "an open at {place}"
-    );
-    assert!(rt;
-        advances(&mut segments) == Advance::Syntax(nested),
-        "an open at {place}"
-    );
+    assert!(rt; refuses_twice(&mut segments, nested), "an open at {place}");
 }
 
-// Whether a read of two bytes of a body fails as it was told to.
-fn read_fails(decoder: &mut Decoder<FailingReader<'_>>) -> bool {
-    matches!(
-        decoder.read_exact(&mut [0; 2]),
-        Err(Error::Io(DeviceFault::Planned))
-    )
+// Reads two bytes of a body.
+fn reads<R: Read>(decoder: &mut Decoder<R>) -> Result<(), Error<R::Error>> {
+    decoder.read_exact(&mut [0; 2])
 }
 
-// Whether two bytes of a body are read.
-fn reads(decoder: &mut Decoder<FailingReader<'_>>) -> bool {
-    decoder.read_exact(&mut [0; 2]).is_ok()
+// Whether a read of two bytes of a body fails as it was told to, and one more gives them.
+fn reads_once_more(decoder: &mut Decoder<FailingReader<'_>>) -> bool {
+    let has_failed = matches!(reads(decoder), Err(Error::Io(DeviceFault::Planned)));
+    has_failed && reads(decoder).is_ok()
 }
 
 // A read of a body fails, and is made once more.
@@ -82,8 +88,7 @@ fn behind_a_read_of_a_body(rt: HostRuntime) {
     let bytes = [0x42, 1, 2, 0x18, 5, 0x5f, 0x5f];
     let mut decoder = strict_decoder(&bytes, 2);
     assert!(rt; matches!(pulls(&mut decoder), Ok(Header::Bytes(Some(2)))));
-    assert!(rt; read_fails(&mut decoder));
-    assert!(rt; reads(&mut decoder));
+    assert!(rt; reads_once_more(&mut decoder));
     refuses(&rt, &mut decoder, 3);
 }
 
@@ -118,15 +123,9 @@ fn string_row(rt: &impl Abort, bytes: &[u8], call: usize, place: usize) {
     let mut decoder = strict_decoder(bytes, call);
     assert!(rt; matches!(pulls(&mut decoder), Ok(Header::Bytes(None))));
     let mut segments = bytes_of(rt, &mut decoder, None);
-    assert!(rt; advances(&mut segments) == Advance::Unread, "at {place}");
-    assert!(rt;
-        advances(&mut segments) == Advance::Syntax(place),
-        "at {place}"
-    );
-    assert!(rt;
-        advances(&mut segments) == Advance::Syntax(place),
-        "at {place}"
-    );
+    let is_unread = advances(&mut segments) == Advance::Unread;
+    let is_refused = refuses_twice(&mut segments, place);
+    assert!(rt; is_unread && is_refused, "at {place}");
 }
 
 #[test]
@@ -136,18 +135,23 @@ fn behind_an_advance(rt: HostRuntime) {
     }
 }
 
-// A body is read once more, and an open behind it is refused.
+// Whether a pull of a chunk fails as it was told to.
+fn chunk_fails(segment: &mut Segment<'_, FailingReader<'_>, Bytes>) -> bool {
+    matches!(
+        chunk_of_bytes(segment, &mut [0; 4]),
+        Err(Error::Io(DeviceFault::Planned))
+    )
+}
+
+// Whether a pull of a chunk gives the bytes 1 and 2.
+fn chunk_is_there(segment: &mut Segment<'_, FailingReader<'_>, Bytes>) -> bool {
+    matches!(chunk_of_bytes(segment, &mut [0; 4]), Ok(Some([1, 2])))
+}
+
+// A body is read once more.
 fn body_row(rt: &impl Abort, segments: &mut Segments<'_, FailingReader<'_>, Bytes>) {
-    let Ok(Some(mut segment)) = segments.pull() else {
-        panic!(rt; "no segment");
-    };
-    assert!(rt;
-        matches!(
-            segment.pull(&mut [0; 4]),
-            Err(Error::Io(DeviceFault::Planned))
-        )
-    );
-    assert!(rt; matches!(segment.pull(&mut [0; 4]), Ok(Some([1, 2]))));
+    let mut segment = next_segment(rt, segments);
+    assert!(rt; chunk_fails(&mut segment) && chunk_is_there(&mut segment));
 }
 
 #[test]

@@ -1,5 +1,6 @@
 use crate::calls::{
-    self, bytes_of, decoded, failing_decoder, failing_encoder, holds, pulls, text_of,
+    self, bytes_of, chunk_of_text, decoded, failing_decoder, failing_encoder, holds, next_segment,
+    pulls, segment_of, text_of,
 };
 use ciborium_ll::laws::{Drained, End};
 use ciborium_ll::{Bytes, Decoder, Encoder, Error, Header, RecodeError, Segment, Segments, Text};
@@ -15,7 +16,7 @@ fn segment_fails(
     segments: &mut Segments<'_, FailingReader<'_>, Bytes>,
     damaged: Option<usize>,
 ) {
-    let is_right = match segments.pull() {
+    let is_right = match segment_of(segments) {
         Err(Error::Io(DeviceFault::Planned)) => damaged.is_none(),
         Err(Error::Syntax(place)) => damaged == Some(place),
         _ => false,
@@ -35,61 +36,61 @@ fn an_affix_fails_in_a_string(rt: HostRuntime) {
     assert_eq!(rt; decoder.offset(), 3);
 }
 
-// A pull of a chunk of a text gives these characters, or the end, and so many bytes are left then.
-fn chunk_is(
-    rt: &impl Abort,
-    segment: &mut Segment<'_, FailingReader<'_>, Text>,
-    buffer: &mut [u8],
-    want: Option<&str>,
-    left: usize,
-) {
-    let got = segment.pull(buffer);
-    assert!(rt; matches!(got, Ok(chunk) if chunk == want));
-    assert!(rt; segment.left() == left);
+// What a pull of a chunk of a text gives.
+#[derive(Clone, Copy)]
+enum Want {
+    Chunk(&'static str),
+    Ended,
+    // The reader fails, as it was told to.
+    Unread,
 }
 
-// A pull of a chunk of a text fails where the reader does, and so many bytes are left then.
-fn chunk_fails(
-    rt: &impl Abort,
-    segment: &mut Segment<'_, FailingReader<'_>, Text>,
-    buffer: &mut [u8],
-    left: usize,
-) {
-    let got = segment.pull(buffer);
-    assert!(rt; matches!(got, Err(Error::Io(DeviceFault::Planned))));
-    assert!(rt; segment.left() == left);
+// Whether a pull of a chunk by a buffer of this size, at most 4, gives what is wanted.
+fn gives(segment: &mut Segment<'_, FailingReader<'_>, Text>, size: usize, want: Want) -> bool {
+    let mut space = [0; 4];
+    match chunk_of_text(segment, &mut space[..size.min(4)]) {
+        Ok(Some(chunk)) => matches!(want, Want::Chunk(text) if text == chunk),
+        Ok(None) => matches!(want, Want::Ended),
+        Err(Error::Io(DeviceFault::Planned)) => matches!(want, Want::Unread),
+        Err(_) => false,
+    }
+}
+
+// Reads a text of two bytes by buffers of these sizes. It compares what each gives, and how many bytes are left then.
+fn text_row(rt: &impl Abort, bytes: &[u8], failing: Failing, steps: &[(usize, Want, usize)]) {
+    let mut decoder = failing_decoder(bytes, failing);
+    assert!(rt; matches!(pulls(&mut decoder), Ok(Header::Text(Some(2)))));
+    let mut segments = text_of(rt, &mut decoder, Some(2));
+    let mut segment = next_segment(rt, &mut segments);
+    for &(size, want, left) in steps {
+        let is_right = gives(&mut segment, size, want) && segment.left() == left;
+        assert!(rt; is_right, "by a buffer of {size}, {left} left");
+    }
 }
 
 // A read that failed keeps the byte of the character that the one before it cut, and what was not read.
 #[test]
 fn a_segment_whose_reader_fails(rt: HostRuntime) {
-    let mut decoder = failing_decoder(&[0x62, 0xc3, 0xa9], Failing::Call(3));
-    assert!(rt; matches!(pulls(&mut decoder), Ok(Header::Text(Some(2)))));
-    let mut segments = text_of(&rt, &mut decoder, Some(2));
-    let Ok(Some(mut segment)) = segments.pull() else {
-        panic!(rt; "no segment");
-    };
-    chunk_is(&rt, &mut segment, &mut [0; 1], Some(""), 2);
-    chunk_fails(&rt, &mut segment, &mut [0; 4], 2);
-    chunk_is(&rt, &mut segment, &mut [0; 4], Some("é"), 0);
-    chunk_is(&rt, &mut segment, &mut [0; 4], None, 0);
+    let steps = [
+        (1, Want::Chunk(""), 2),
+        (4, Want::Unread, 2),
+        (4, Want::Chunk("é"), 0),
+        (4, Want::Ended, 0),
+    ];
+    text_row(&rt, &[0x62, 0xc3, 0xa9], Failing::Call(3), &steps);
 }
 
 // A segment that can't go on, since its buffer is empty or kept bytes fill it, calls the reader all the same.
 #[test]
 fn a_segment_that_waits_is_a_call(rt: HostRuntime) {
-    let bytes = [0x78, 2, 0xc3, 0xa9];
-    let mut decoder = failing_decoder(&bytes, Failing::Empty);
-    assert!(rt; matches!(pulls(&mut decoder), Ok(Header::Text(Some(2)))));
-    let mut segments = text_of(&rt, &mut decoder, Some(2));
-    let Ok(Some(mut segment)) = segments.pull() else {
-        panic!(rt; "no segment");
-    };
-    chunk_fails(&rt, &mut segment, &mut [], 2);
-    chunk_is(&rt, &mut segment, &mut [0; 1], Some(""), 2);
-    chunk_fails(&rt, &mut segment, &mut [0; 1], 2);
-    chunk_is(&rt, &mut segment, &mut [0; 4], Some("é"), 0);
-    chunk_is(&rt, &mut segment, &mut [], None, 0);
+    let steps = [
+        (0, Want::Unread, 2),
+        (1, Want::Chunk(""), 2),
+        (1, Want::Unread, 2),
+        (4, Want::Chunk("é"), 0),
+        (0, Want::Ended, 0),
+    ];
+    text_row(&rt, &[0x78, 2, 0xc3, 0xa9], Failing::Empty, &steps);
 }
 
 // Strings of a definite length whose titles have no affix, and their bodies.
@@ -139,9 +140,7 @@ fn drains_text(
     sink: &mut Encoder<FailingWriter<'_>>,
 ) -> [Ending; 2] {
     let mut segments = text_of(rt, decoder, length);
-    let Ok(Some(mut segment)) = segments.pull() else {
-        panic!(rt; "no segment");
-    };
+    let mut segment = next_segment(rt, &mut segments);
     let first = ending_of(calls::drains_text(rt, &mut segment, &[4; 8], &mut [0; 4], sink));
     let second = ending_of(calls::drains_text(rt, &mut segment, &[4; 8], &mut [0; 4], sink));
     [first, second]
@@ -155,9 +154,7 @@ fn drains_bytes(
     sink: &mut Encoder<FailingWriter<'_>>,
 ) -> [Ending; 2] {
     let mut segments = bytes_of(rt, decoder, length);
-    let Ok(Some(mut segment)) = segments.pull() else {
-        panic!(rt; "no segment");
-    };
+    let mut segment = next_segment(rt, &mut segments);
     let first = ending_of(calls::drains_bytes(rt, &mut segment, &[4; 8], &mut [0; 4], sink));
     let second = ending_of(calls::drains_bytes(rt, &mut segment, &[4; 8], &mut [0; 4], sink));
     [first, second]
@@ -191,6 +188,15 @@ fn drains_on(
     Ok(drains_body(rt, bytes.as_slice(), body.as_slice(), reading, writing))
 }
 
+// What was written is the body, or a beginning of it where a write failed.
+fn is_front(written: &[u8], body: &[u8], has_failed: bool) -> bool {
+    if has_failed {
+        written.len() < body.len()
+    } else {
+        written == body
+    }
+}
+
 // The same of bytes and a body.
 fn drains_body(
     rt: &impl Abort,
@@ -205,15 +211,11 @@ fn drains_body(
     let writer = sink.into_inner();
     let has_write_failed = writer.has_failed();
     let [first, second] = endings;
-    let is_right = is_ending(first, has_read_failed, has_write_failed);
-    holds(rt, is_right && is_ending(second, false, false), 0, bytes);
+    let are_endings = is_ending(first, has_read_failed, has_write_failed)
+        && is_ending(second, false, false);
     let written = writer.written();
-    let is_due = if has_write_failed {
-        written.len() < body.len()
-    } else {
-        written == body
-    };
-    holds(rt, is_due, written.len(), bytes);
+    let is_due = is_front(written, body, has_write_failed);
+    holds(rt, are_endings && is_due, written.len(), bytes);
     has_read_failed || has_write_failed
 }
 

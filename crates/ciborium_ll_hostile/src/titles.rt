@@ -3,8 +3,8 @@ use crate::calls::{
     pulls,
 };
 use ciborium_ll::io::Write;
-use ciborium_ll::{Decoder, Error, Header};
-use ciborium_ll_fixtures::devices::{DeviceFault, Failing, FailingReader};
+use ciborium_ll::{Decoder, Encoder, Error, Header};
+use ciborium_ll_fixtures::devices::{DeviceFault, Failing, FailingReader, FailingWriter};
 use ciborium_ll_fixtures::plain::{self, Fault, Title};
 use ciborium_ll_fixtures::samples;
 use std::alloc::Global;
@@ -57,8 +57,38 @@ fn reads_of(title: Result<Title, Fault>) -> usize {
     }
 }
 
-// Reads bytes as titles, and compares each answer with a plain reading from the offset at which that call begins, to
-// which on a strict decoder a title may be a fault.
+// What a plain reading gives at an offset, to which on a strict decoder a title may be a fault, how far that reads, and
+// how many reads it is.
+#[derive(Clone, Copy)]
+struct Plain {
+    want: Result<Title, Fault>,
+    behind: usize,
+    reads: usize,
+}
+
+// Reads a title plainly.
+fn plain_at(bytes: &[u8], start: usize, is_strict: bool) -> Plain {
+    let mut behind = start;
+    let title = plain::next_title(bytes, &mut behind);
+    let want = if is_strict {
+        title.and_then(plain::strictly)
+    } else {
+        title
+    };
+    Plain {
+        want,
+        behind,
+        reads: reads_of(title),
+    }
+}
+
+// What a pull gave, and the offset behind it.
+fn pulled_at(decoder: &mut Decoder<FailingReader<'_>>) -> (Pulled, usize) {
+    let answer = pulled_of(pulls(decoder));
+    (answer, decoder.offset())
+}
+
+// Reads bytes as titles, and compares each answer with a plain reading from the offset at which that call begins.
 fn reads_on(
     rt: &impl Abort,
     decoder: &mut Decoder<FailingReader<'_>>,
@@ -69,23 +99,16 @@ fn reads_on(
     let mut calls = 0usize;
     for _ in 0..bytes.len().saturating_add(3) {
         let start = decoder.offset();
-        let answer = pulled_of(pulls(decoder));
-        let offset = decoder.offset();
-        let mut behind = start;
-        let title = plain::next_title(bytes, &mut behind);
-        let want = if is_strict {
-            title.and_then(plain::strictly)
-        } else {
-            title
-        };
+        let (answer, offset) = pulled_at(decoder);
+        let plain = plain_at(bytes, start, is_strict);
         let is_right = if matches!(answer, Pulled::Unread) {
             is_unread(start, offset, calls, failing)
         } else {
-            is_plain(answer, want) && offset == behind
+            is_plain(answer, plain.want) && offset == plain.behind
         };
         holds(rt, is_right, failing, bytes);
-        calls = calls.saturating_add(reads_of(title));
-        if want.err() == Some(Fault::Short) && start >= bytes.len() {
+        calls = calls.saturating_add(plain.reads);
+        if plain.want.err() == Some(Fault::Short) && start >= bytes.len() {
             break;
         }
     }
@@ -111,7 +134,8 @@ fn each_read_fails(rt: &impl Abort, alloc: Global, is_strict: bool, hex: &str) -
 
 #[test]
 fn each_read_fails_under_pull(rt: HostRuntime) -> Result<(), Fail> {
-    for (_, hex) in samples::all(rt.alloc())? {
+    let all = samples::all(rt.alloc())?;
+    for &(_, hex) in &all {
         each_read_fails(&rt, rt.alloc(), false, hex)?;
         each_read_fails(&rt, rt.alloc(), true, hex)?;
     }
@@ -125,20 +149,29 @@ fn an_empty_affix_is_a_call(rt: HostRuntime) {
     let bytes = [5, 0xff, 0x1f, 0x3f, 0xdf, 0x1c];
     let mut decoder = failing_decoder(&bytes, Failing::Empty);
     for offset in 1..=5 {
-        assert!(rt; pull_fails(&mut decoder));
-        assert!(rt; decoder.offset() == offset);
+        assert!(rt; pull_fails(&mut decoder) && decoder.offset() == offset);
     }
     assert!(rt; matches!(pulls(&mut decoder), Err(Error::Syntax(5))));
     an_empty_affix_is_written(&rt, Header::Positive(5), 5);
     an_empty_affix_is_written(&rt, Header::Break, 0xff);
 }
 
+// Whether a write of no bytes fails as it was told to.
+fn nothing_fails(encoder: &mut Encoder<FailingWriter<'_>>) -> bool {
+    matches!(encoder.write_all(&[]), Err(DeviceFault::Planned))
+}
+
+// Whether a write of a header does.
+fn header_fails(encoder: &mut Encoder<FailingWriter<'_>>, header: Header) -> bool {
+    matches!(encoder.push(header), Err(DeviceFault::Planned))
+}
+
 // A write of a header of this one byte is two calls too, and the second one moves no byte.
 fn an_empty_affix_is_written(rt: &impl Abort, header: Header, first: u8) {
     let mut space = [0; 1];
     let mut encoder = failing_encoder(&mut space, Failing::Empty);
-    assert!(rt; matches!(encoder.push(header), Err(DeviceFault::Planned)));
-    assert!(rt; matches!(encoder.write_all(&[]), Err(DeviceFault::Planned)));
+    assert!(rt; header_fails(&mut encoder, header), "at {first}");
+    assert!(rt; nothing_fails(&mut encoder), "at {first}");
     assert!(rt; encoder.into_inner().written() == [first].as_slice());
 }
 
@@ -146,8 +179,7 @@ fn an_empty_affix_is_written(rt: &impl Abort, header: Header, first: u8) {
 // offset, and the next one gives this number.
 fn asks_once_more(rt: &impl Abort, bytes: &[u8], call: usize, offset: usize, want: u64) {
     let mut decoder = failing_decoder(bytes, Failing::Call(call));
-    assert!(rt; pull_fails(&mut decoder));
-    assert!(rt; decoder.offset() == offset);
+    assert!(rt; pull_fails(&mut decoder) && decoder.offset() == offset);
     assert!(rt; matches!(pulls(&mut decoder), Ok(Header::Positive(number)) if number == want));
 }
 

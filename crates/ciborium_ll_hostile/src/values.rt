@@ -34,7 +34,7 @@ fn writes<W: Write>(encoder: &mut Encoder<W>, call: Call) -> Result<(), W::Error
 }
 
 // The writes of a call, each one that moves a byte at least.
-const ROWS: [(Call, &[&[u8]]); 15] = [
+static ROWS: [(Call, &[&[u8]]); 15] = [
     (Call::Push(Header::Positive(1000)), &[b"\x19", b"\x03\xe8"]),
     (Call::Push(Header::Break), &[b"\xff"]),
     (
@@ -109,26 +109,46 @@ fn written_before(row: &[&[u8]], failing: usize) -> usize {
     count
 }
 
+// What a call and a break behind it leave.
+#[derive(Clone, Copy)]
+struct Left {
+    written: Written,
+    goes_on: bool,
+}
+
+// Calls an encoder, and then writes a break.
+fn writes_on(encoder: &mut Encoder<FailingWriter<'_>>, call: Call) -> Left {
+    Left {
+        written: written_of(writes(encoder, call)),
+        goes_on: pushes_break(encoder),
+    }
+}
+
+// What stands is the front of these bytes, up to the middle of the write that fails, and behind it a break, unless that
+// failed.
+fn stands(written: &[u8], parts: &[&[u8]], whole: &[u8], failing: usize) -> bool {
+    let count = written_before(parts, failing);
+    let front = front_of(whole, count);
+    let behind: &[u8] = if failing == parts.len() { &[] } else { &[0xff] };
+    front.len() == count && written.strip_prefix(front) == Some(behind)
+}
+
 // Writes a row by a writer that fails at one write, and then a break, which goes on behind what stands.
 fn fails_at(rt: &impl Abort, row: (Call, &[&[u8]]), whole: &[u8], failing: usize) {
     let mut space = [0; 32];
     let (call, parts) = row;
     let number = failing.saturating_add(1);
     let mut encoder = failing_encoder(&mut space, Failing::Call(number));
-    let written = written_of(writes(&mut encoder, call));
-    let is_right = match written {
+    let left = writes_on(&mut encoder, call);
+    let is_right = match left.written {
         Written::All => failing >= parts.len(),
         Written::Planned => failing < parts.len(),
         Written::Wrong => false,
     };
-    let goes_on = pushes_break(&mut encoder) == (failing != parts.len());
-    holds(rt, is_right && goes_on, number, whole);
+    let goes_on = left.goes_on == (failing != parts.len());
     let writer = encoder.into_inner();
-    let count = written_before(parts, failing);
-    let front = front_of(whole, count);
-    let behind: &[u8] = if failing == parts.len() { &[] } else { &[0xff] };
-    let is_due = writer.written().strip_prefix(front) == Some(behind);
-    holds(rt, is_due && front.len() == count, number, whole);
+    let is_due = stands(writer.written(), parts, whole, failing);
+    holds(rt, is_right && goes_on && is_due, number, whole);
 }
 
 // How a call of an encoder ended.
@@ -171,10 +191,10 @@ fn each_write_fails(rt: &impl Abort, row: (Call, &[&[u8]])) {
     let (call, parts) = row;
     let mut space = [0; 32];
     let mut whole = failing_encoder(&mut space, Failing::Never);
-    assert!(rt; matches!(written_of(writes(&mut whole, call)), Written::All));
+    let is_written = matches!(written_of(writes(&mut whole, call)), Written::All);
     let writer = whole.into_inner();
     let written = writer.written();
-    holds(rt, are_parts(written, parts), 0, written);
+    holds(rt, is_written && are_parts(written, parts), 0, written);
     for failing in 0..=parts.len() {
         fails_at(rt, row, written, failing);
     }
@@ -182,7 +202,7 @@ fn each_write_fails(rt: &impl Abort, row: (Call, &[&[u8]])) {
 
 #[test]
 fn each_write_fails_under_values(rt: HostRuntime) {
-    for row in ROWS {
+    for &row in &ROWS {
         each_write_fails(&rt, row);
     }
 }

@@ -1,34 +1,15 @@
-use ciborium_ll::io::{EndOfFile, OutOfSpace, SliceReader, SliceWriter};
-use ciborium_ll::{Chunked, Decoder, Error, Header, RecodeError, Segments};
+use crate::elements::{Stop, stop_of};
+use ciborium_ll::io::{SliceReader, SliceWriter};
+use ciborium_ll::{Chunked, Decoder, Header, Segments};
 use std::process::Abort;
-
-// How the copy of a body ended.
-#[derive(Clone, Copy, Debug, PartialEq, Eq)]
-enum End {
-    Copied,
-    Short,
-    Syntax(usize),
-    Full,
-    Other,
-}
-
-fn end_of(answer: &Result<(), RecodeError<EndOfFile, OutOfSpace>>) -> End {
-    match answer {
-        Ok(()) => End::Copied,
-        Err(RecodeError::Read(Error::Io(EndOfFile))) => End::Short,
-        Err(RecodeError::Read(Error::Syntax(place))) => End::Syntax(*place),
-        Err(RecodeError::Read(_)) => End::Other,
-        Err(RecodeError::Write(OutOfSpace)) => End::Full,
-    }
-}
 
 // Copies the next body of a string to a writer, through four bytes. What it does is not known outside.
 fn copies_next<P: Chunked>(
     segments: &mut Segments<'_, SliceReader<'_>, P>,
     writer: &mut SliceWriter<'_>,
-) -> Option<End> {
+) -> Option<Stop> {
     match segments.advance() {
-        Ok(Some(body)) => Some(end_of(&segments.copy(body, writer, &mut [0; 4]))),
+        Ok(Some(body)) => Some(stop_of(&segments.copy(body, writer, &mut [0; 4]))),
         _ => None,
     }
 }
@@ -38,11 +19,11 @@ fn copies_all<P: Chunked>(
     segments: &mut Segments<'_, SliceReader<'_>, P>,
     writer: &mut SliceWriter<'_>,
     most: usize,
-) -> Option<End> {
+) -> Option<Stop> {
     let mut last = None;
     for _ in 0..=most {
         match copies_next(segments, writer) {
-            Some(End::Copied) => last = Some(End::Copied),
+            Some(Stop::Never) => last = Some(Stop::Never),
             Some(stop) => return Some(stop),
             None => return last,
         }
@@ -51,29 +32,29 @@ fn copies_all<P: Chunked>(
 }
 
 // A string, the room of the writer, how the last body ended, what is then written, and the offset of the decoder.
-static ROWS: [(&[u8], usize, Option<End>, &[u8], usize); 13] = [
+static ROWS: [(&[u8], usize, Option<Stop>, &[u8], usize); 13] = [
     // one body, of which the buffer holds less than all
     (
         b"\x46\x01\x02\x03\x04\x05\x06\x00",
         8,
-        Some(End::Copied),
+        Some(Stop::Never),
         &[1, 2, 3, 4, 5, 6],
         7,
     ),
-    (b"\x65hello\x00", 8, Some(End::Copied), b"hello", 6),
-    (b"\x40\x00", 0, Some(End::Copied), b"", 1),
+    (b"\x65hello\x00", 8, Some(Stop::Never), b"hello", 6),
+    (b"\x40\x00", 0, Some(Stop::Never), b"", 1),
     // segments, joined, and the break behind them
     (
         b"\x5f\x42\x01\x02\x40\x41\x03\xff\x00",
         8,
-        Some(End::Copied),
+        Some(Stop::Never),
         &[1, 2, 3],
         8,
     ),
     (
         b"\x7f\x62ab\x7f\x61c\xff\xff\x00",
         8,
-        Some(End::Copied),
+        Some(Stop::Never),
         b"abc",
         9,
     ),
@@ -83,16 +64,22 @@ static ROWS: [(&[u8], usize, Option<End>, &[u8], usize); 13] = [
     (
         b"\x66abc\xc3\xa9d",
         8,
-        Some(End::Copied),
+        Some(Stop::Never),
         b"abc\xc3\xa9d",
         7,
     ),
     // no text, in the second body: the first is written, and the front of the second
-    (b"\x7f\x61a\x62b\xff\xff", 8, Some(End::Syntax(3)), b"ab", 6),
+    (
+        b"\x7f\x61a\x62b\xff\xff",
+        8,
+        Some(Stop::Syntax(3)),
+        b"ab",
+        6,
+    ),
     (
         b"\x7f\x61a\x64\xff\xff\xff\xff\xff",
         8,
-        Some(End::Syntax(3)),
+        Some(Stop::Syntax(3)),
         b"a",
         8,
     ),
@@ -100,7 +87,7 @@ static ROWS: [(&[u8], usize, Option<End>, &[u8], usize); 13] = [
     (
         b"\x46\x01\x02\x03\x04\x05",
         8,
-        Some(End::Short),
+        Some(Stop::Short),
         &[1, 2, 3, 4],
         5,
     ),
@@ -108,17 +95,17 @@ static ROWS: [(&[u8], usize, Option<End>, &[u8], usize); 13] = [
     (
         b"\x46\x01\x02\x03\x04\x05\x06",
         5,
-        Some(End::Full),
+        Some(Stop::Full),
         &[1, 2, 3, 4],
         7,
     ),
-    (b"\x65hello", 3, Some(End::Full), b"", 5),
+    (b"\x65hello", 3, Some(Stop::Full), b"", 5),
     // no room for the second body
-    (b"\x7f\x62ab\x61c\xff", 2, Some(End::Full), b"ab", 6),
+    (b"\x7f\x62ab\x61c\xff", 2, Some(Stop::Full), b"ab", 6),
 ];
 
 // Copies the bodies of the string in front.
-fn copied(decoder: &mut Decoder<SliceReader<'_>>, writer: &mut SliceWriter<'_>) -> Option<End> {
+fn copied(decoder: &mut Decoder<SliceReader<'_>>, writer: &mut SliceWriter<'_>) -> Option<Stop> {
     match decoder.pull() {
         Ok(Header::Bytes(len)) => copies_all(&mut decoder.bytes(len), writer, 8),
         Ok(Header::Text(len)) => copies_all(&mut decoder.text(len), writer, 8),
@@ -130,7 +117,7 @@ fn row(
     rt: &impl Abort,
     bytes: &[u8],
     room: usize,
-    end: Option<End>,
+    end: Option<Stop>,
     written: &[u8],
     offset: usize,
 ) {
@@ -138,9 +125,8 @@ fn row(
     let mut writer = SliceWriter::new(&mut space[..room.min(8)]);
     let mut decoder = Decoder::from(SliceReader::new(bytes));
     let given = copied(&mut decoder, &mut writer);
-    assert!(rt; given == end, "at {bytes:?}");
-    assert!(rt; writer.written() == written, "at {bytes:?}");
-    assert!(rt; decoder.offset() == offset, "at {bytes:?}");
+    let is_right = writer.written() == written && decoder.offset() == offset;
+    assert!(rt; given == end && is_right, "at {bytes:?}");
 }
 
 #[test]

@@ -97,25 +97,32 @@ fn reads_ahead(rt: HostRuntime) {
     }
 }
 
+// A reader of the bytes 1 to 4 whose first read fails, with so many of eight bytes lent.
+fn failing_reader<'a>(lent: &'a mut [u8; 8], room: usize) -> BufferedReader<'a, PartReader<'a>> {
+    let source = PartReader::new(&[1, 2, 3, 4], usize::MAX);
+    let source = source.failing_at(1, io::ErrorKind::Interrupted);
+    BufferedReader::new(source, &mut lent[..room.min(8)])
+}
+
+// Reads three bytes, of which two are there.
+fn gives_three<'a>(reader: &mut BufferedReader<'a, PartReader<'a>>) -> bool {
+    let mut three = [0; 3];
+    !fills(reader, &mut three) && three == [3, 4, 0]
+}
+
 // Reads two bytes from a reader whose first read fails, and then three, of which two are there.
 fn keeps_faults(rt: &impl Abort, room: usize) {
     let mut lent = [0; 8];
-    let source = PartReader::new(&[1, 2, 3, 4], usize::MAX);
-    let source = source.failing_at(1, io::ErrorKind::Interrupted);
-    let mut reader = BufferedReader::new(source, &mut lent[..room.min(8)]);
-    let mut two = [0; 2];
-    assert!(rt; !fills(&mut reader, &mut two), "at {room}");
+    let mut reader = failing_reader(&mut lent, room);
+    assert!(rt; !fills(&mut reader, &mut [0; 2]), "at {room}");
     // A success keeps the fault that there was.
-    assert!(rt; fills(&mut reader, &mut two), "at {room}");
-    assert_eq!(rt; two, [1, 2]);
+    assert!(rt; gives(&mut reader, &[1, 2]), "at {room}");
     let interrupted = Failure::Failed(io::ErrorKind::Interrupted);
     assert!(rt; read_fault(&mut reader) == interrupted, "at {room}");
     assert!(rt; read_fault(&mut reader) == Failure::Never, "at {room}");
-    let mut three = [0; 3];
-    assert!(rt; !fills(&mut reader, &mut three), "at {room}");
-    assert_eq!(rt; three, [3, 4, 0]);
-    let (_, _, fault) = reader.into_parts();
-    assert!(rt; read_failure(fault) == Failure::Stopped, "at {room}");
+    assert!(rt; gives_three(&mut reader), "at {room}");
+    let parts = take_reader_apart(reader);
+    assert!(rt; parts.failure == Failure::Stopped, "at {room}");
 }
 
 #[test]
@@ -167,12 +174,15 @@ fn take_apart<'a>(writer: BufferedWriter<'a, PartWriter>) -> Parts<'a> {
     }
 }
 
+// A writer came to this: what was taken and kept, and the flushes.
+fn has_parts(parts: &Parts, taken: &[u8], kept: &[u8], flushes: usize) -> bool {
+    parts.taken.as_slice() == taken && parts.kept == kept && parts.flushes == flushes
+}
+
 // A writer that never failed came to this: what was taken and kept, and the calls and flushes.
 fn came_to(parts: &Parts, taken: &[u8], kept: &[u8], calls: (usize, usize)) -> bool {
-    parts.taken.as_slice() == taken
-        && parts.kept == kept
-        && (parts.calls, parts.flushes) == calls
-        && parts.failure == Failure::Never
+    let is_right = parts.failure == Failure::Never && parts.calls == calls.0;
+    is_right && has_parts(parts, taken, kept, calls.1)
 }
 
 // A writer to a sink that takes one byte a call, with so many of four bytes lent.
@@ -226,53 +236,50 @@ fn keeps_back(rt: HostRuntime) {
     }
 }
 
+// A writer with this sink, with four bytes lent.
+fn writer_to<'a>(sink: PartWriter, lent: &'a mut [u8; 4]) -> BufferedWriter<'a, PartWriter> {
+    BufferedWriter::new(sink, lent)
+}
+
 #[test]
 fn a_flush_passes_on_what_was_kept_back(rt: HostRuntime) {
     let mut lent = [0; 4];
-    let mut writer = BufferedWriter::new(PartWriter::new(rt.alloc(), 1), &mut lent);
+    let mut writer = writer_to(PartWriter::new(rt.alloc(), 1), &mut lent);
     assert!(rt; takes(&mut writer, &[1, 2, 3]));
-    assert!(rt; passes_on(&mut writer));
-    assert!(rt; writer.buffer().is_empty());
+    assert!(rt; passes_on(&mut writer) && keeps(&writer, &[]));
     assert!(rt; takes(&mut writer, &[4]));
     assert!(rt; passes_on(&mut writer));
     let parts = take_apart(writer);
-    assert_eq!(rt; parts.taken.as_slice(), [1, 2, 3, 4].as_slice());
-    assert_eq!(rt; (parts.calls, parts.flushes), (4, 2));
+    assert!(rt; came_to(&parts, &[1, 2, 3, 4], &[], (4, 2)));
 }
 
 // What a failed write could not pass on is kept back still.
 #[test]
 fn nothing_that_was_kept_back_is_lost(rt: HostRuntime) {
     let mut lent = [0; 4];
+    let interrupted = io::ErrorKind::Interrupted;
     let sink = PartWriter::new(rt.alloc(), 1).within(3);
-    let sink = sink.failing_at(2, Some(io::ErrorKind::Interrupted));
-    let mut writer = BufferedWriter::new(sink, &mut lent);
+    let mut writer = writer_to(sink.failing_at(2, Some(interrupted)), &mut lent);
     assert!(rt; takes(&mut writer, &[1, 2, 3, 4]));
-    assert!(rt; !takes(&mut writer, &[5]));
-    assert_eq!(rt; writer.buffer(), [2, 3, 4].as_slice());
-    let interrupted = Failure::Failed(io::ErrorKind::Interrupted);
-    assert!(rt; write_fault(&mut writer) == interrupted);
+    assert!(rt; !takes(&mut writer, &[5]) && keeps(&writer, &[2, 3, 4]));
+    assert!(rt; write_fault(&mut writer) == Failure::Failed(interrupted));
     assert!(rt; write_fault(&mut writer) == Failure::Never);
     assert!(rt; !passes_on(&mut writer));
     let parts = take_apart(writer);
     assert!(rt; parts.failure == Failure::Stopped);
-    assert_eq!(rt; parts.kept, [4].as_slice());
-    assert_eq!(rt; parts.taken.as_slice(), [1, 2, 3].as_slice());
-    assert_eq!(rt; parts.flushes, 0);
+    assert!(rt; has_parts(&parts, &[1, 2, 3], &[4], 0));
 }
 
 #[test]
 fn a_flush_within_that_fails(rt: HostRuntime) {
     let mut lent = [0; 4];
     let sink = PartWriter::new(rt.alloc(), 1).failing_to_flush();
-    let mut writer = BufferedWriter::new(sink, &mut lent);
+    let mut writer = writer_to(sink, &mut lent);
     assert!(rt; takes(&mut writer, &[1, 2]));
     assert!(rt; !passes_on(&mut writer));
     let parts = take_apart(writer);
     assert!(rt; parts.failure == Failure::Failed(io::ErrorKind::Other));
-    assert!(rt; parts.kept.is_empty());
-    assert_eq!(rt; parts.taken.as_slice(), [1, 2].as_slice());
-    assert_eq!(rt; parts.flushes, 1);
+    assert!(rt; has_parts(&parts, &[1, 2], &[], 1));
 }
 
 // An array's title, a number and a byte string, in their shortest spelling: three elements.

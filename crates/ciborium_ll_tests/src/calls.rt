@@ -5,23 +5,9 @@ ghost use Rattle.ciborium_ll.specs.Title.{title_len};
 use ciborium_ll::io::{
     Discard, EndOfFile, Failures, OutOfSpace, Read, SliceReader, SliceWriter, Write,
 };
-use ciborium_ll::{Decoder, Encoder, Error, Header};
+use ciborium_ll::{Bytes, Decoder, Encoder, Error, Header, Segments, Text};
 use std::process::Abort;
 use std::test::Fail;
-
-// Pulls a header that has to be there. It may be pushed back.
-fn pulled<R: Read>(rt: &impl Abort, decoder: &mut Decoder<R>) -> Header
-where
-    R::Error: Drop,
-    ensures none_waits { waiting_of decoder.new ≡ None }
-    ensures covered { title_len result ≤ offset_of decoder.new }
-    ensures steady { IsSteady R.Read decoder.old → IsSteady R.Read decoder.new }
-{
-    match decoder.pull() {
-        Ok(header) => header,
-        Err(_) => panic!(rt; "no header"),
-    }
-}
 
 // Pulls the header that is wanted.
 pub fn pulls<R: Read>(rt: &impl Abort, decoder: &mut Decoder<R>, want: Header, offset: usize)
@@ -31,13 +17,57 @@ where
     ensures covered { title_len want ≤ offset_of decoder.new }
     ensures steady { IsSteady R.Read decoder.old → IsSteady R.Read decoder.new }
 {
-    let header = pulled(rt, decoder);
-    assert!(rt; header == want);
-    assert_eq!(rt; decoder.offset(), offset);
+    let Ok(header) = decoder.pull() else {
+        panic!(rt; "no header");
+    };
+    assert!(rt; header == want, "another header");
+    assert!(rt; decoder.offset() == offset, "not at {offset}");
+}
+
+// Pulls the title of a byte string, and begins to read it. That the one is enough for the other is proved here.
+pub fn begins_bytes<'a, R: Read>(
+    rt: &impl Abort,
+    decoder: &'a mut Decoder<R>,
+    length: Option<usize>,
+    title: usize,
+) -> Segments<'a, R, Bytes>
+where
+    R::Error: Drop,
+{
+    pulls(rt, decoder, Header::Bytes(length), title);
+    decoder.bytes(length)
+}
+
+// The same of a text.
+pub fn begins_text<'a, R: Read>(
+    rt: &impl Abort,
+    decoder: &'a mut Decoder<R>,
+    length: Option<usize>,
+    title: usize,
+) -> Segments<'a, R, Text>
+where
+    R::Error: Drop,
+{
+    pulls(rt, decoder, Header::Text(length), title);
+    decoder.text(length)
+}
+
+// Whether a pull gives this header, and comes to this offset. It ensures nothing.
+pub fn gives<R: Read>(decoder: &mut Decoder<R>, want: Header, offset: usize) -> bool
+where
+    R::Error: Drop,
+{
+    let is_wanted = matches!(decoder.pull(), Ok(header) if header == want);
+    is_wanted && decoder.offset() == offset
 }
 
 // Gives a header back.
-fn gives_back<R: Read>(rt: &impl Abort, decoder: &mut Decoder<R>, header: Header, offset: usize) {
+pub fn gives_back<R: Read>(
+    rt: &impl Abort,
+    decoder: &mut Decoder<R>,
+    header: Header,
+    offset: usize,
+) {
     assert!(rt; !decoder.is_waiting());
     assert!(rt; header.title_len() <= decoder.offset());
     decoder.push(header);
@@ -155,30 +185,51 @@ fn a_cut_title_loses_its_first_byte(rt: HostRuntime) {
     pulls(&rt, &mut decoder, Header::Positive(3), 2);
 }
 
+// Whether these bytes are left behind a decoder.
+pub fn has_left(decoder: Decoder<SliceReader>, left: &[u8]) -> bool {
+    decoder.into_inner().left() == left
+}
+
 #[test]
 fn a_header_given_back(rt: HostRuntime) {
     // A longer title comes back as the shortest one.
-    let mut decoder = Decoder::from(SliceReader::new(&[0x18, 5, 0]));
-    pulls(&rt, &mut decoder, Header::Positive(5), 2);
+    let mut decoder = decoder_over(SliceReader::new(&[0x18, 5, 0]));
+    assert!(rt; gives(&mut decoder, Header::Positive(5), 2));
     gives_back(&rt, &mut decoder, Header::Positive(5), 1);
-    pulls(&rt, &mut decoder, Header::Positive(5), 2);
-    assert_eq!(rt; decoder.into_inner().left(), [0].as_slice());
+    assert!(rt; gives(&mut decoder, Header::Positive(5), 2));
+    assert!(rt; has_left(decoder, &[0]));
+}
+
+// Whether a header waits in front of the bytes, of which so many are asked for.
+fn finds_waiting<R: Read>(decoder: &mut Decoder<R>, data: &mut [u8]) -> bool
+where
+    R::Error: Drop,
+{
+    matches!(reads(decoder, data), Err(Error::Waiting))
+}
+
+// Reads a byte, and compares it and the offset.
+fn gives_byte(decoder: &mut Decoder<SliceReader>, want: u8, offset: usize) -> bool {
+    let mut one = [0; 1];
+    reads(decoder, &mut one).is_ok() && one[0] == want && decoder.offset() == offset
+}
+
+// Finds no byte, and stays at the offset.
+fn gives_no_byte(decoder: &mut Decoder<SliceReader>, offset: usize) -> bool {
+    let is_end = matches!(reads(decoder, &mut [0; 1]), Err(Error::Io(EndOfFile)));
+    is_end && decoder.offset() == offset
 }
 
 #[test]
 fn no_bytes_while_a_header_waits(rt: HostRuntime) {
-    let mut one = [0; 1];
-    let mut decoder = Decoder::from(SliceReader::new(&[1, 2]));
-    pulls(&rt, &mut decoder, Header::Positive(1), 1);
+    let mut decoder = decoder_over(SliceReader::new(&[1, 2]));
+    assert!(rt; gives(&mut decoder, Header::Positive(1), 1));
     gives_back(&rt, &mut decoder, Header::Positive(1), 0);
-    assert!(rt; matches!(reads(&mut decoder, &mut one), Err(Error::Waiting)));
-    assert!(rt; matches!(reads(&mut decoder, &mut []), Err(Error::Waiting)));
-    pulls(&rt, &mut decoder, Header::Positive(1), 1);
-    assert!(rt; reads(&mut decoder, &mut one).is_ok());
-    assert_eq!(rt; one, [2]);
-    assert_eq!(rt; decoder.offset(), 2);
-    assert!(rt; matches!(reads(&mut decoder, &mut one), Err(Error::Io(EndOfFile))));
-    assert_eq!(rt; decoder.offset(), 2);
+    assert!(rt; finds_waiting(&mut decoder, &mut [0; 1]));
+    assert!(rt; finds_waiting(&mut decoder, &mut []));
+    assert!(rt; gives(&mut decoder, Header::Positive(1), 1));
+    assert!(rt; gives_byte(&mut decoder, 2, 2));
+    assert!(rt; gives_no_byte(&mut decoder, 2));
 }
 
 // A decoder of bytes that begin so far behind the beginning of all.
@@ -227,28 +278,62 @@ fn a_title_that_does_not_fit(rt: HostRuntime) {
     assert_eq!(rt; encoder.into_inner().written(), [0x18].as_slice());
 }
 
+// The error of a pull, if it fails.
+fn pull_error<R: Read>(decoder: &mut Decoder<R>) -> Option<Error<R::Error>> {
+    decoder.pull().err()
+}
+
+// A decoder over any reader.
+fn decoder_over<R: Read>(reader: R) -> Decoder<R> {
+    Decoder::from(reader)
+}
+
+// The reader of a decoder.
+fn reader_of<R: Read>(decoder: Decoder<R>) -> R {
+    decoder.into_inner()
+}
+
+type Outer<'a> = Decoder<Decoder<SliceReader<'a>>>;
+
+// Whether a decoder over a decoder finds the end of the bytes.
+fn finds_the_end(outer: &mut Outer<'_>) -> bool {
+    matches!(pull_error(outer), Some(Error::Io(Error::Io(EndOfFile))))
+}
+
+// Whether a decoder over a decoder finds a header that waits in front of the bytes.
+fn finds_a_waiting_header(outer: &mut Outer<'_>) -> bool {
+    matches!(pull_error(outer), Some(Error::Io(Error::Waiting)))
+}
+
 #[test]
 fn a_decoder_over_a_decoder(rt: HostRuntime) {
-    let mut inner = Decoder::from(SliceReader::new(&[0x18, 24, 1]));
-    pulls(&rt, &mut inner, Header::Positive(24), 2);
-    let mut outer: Decoder<Decoder<SliceReader>> = Decoder::from(inner);
-    pulls(&rt, &mut outer, Header::Positive(1), 1);
-    assert!(rt; matches!(outer.pull(), Err(Error::Io(Error::Io(EndOfFile)))));
-    let mut inner = outer.into_inner();
+    let mut inner = decoder_over(SliceReader::new(&[0x18, 24, 1]));
+    assert!(rt; gives(&mut inner, Header::Positive(24), 2));
+    let mut outer = decoder_over(inner);
+    assert!(rt; gives(&mut outer, Header::Positive(1), 1));
+    assert!(rt; finds_the_end(&mut outer));
+    let mut inner = reader_of(outer);
     assert_eq!(rt; inner.offset(), 3);
-
     gives_back(&rt, &mut inner, Header::Positive(1), 2);
-    let mut outer: Decoder<Decoder<SliceReader>> = Decoder::from(inner);
-    assert!(rt; matches!(outer.pull(), Err(Error::Io(Error::Waiting))));
+    assert!(rt; finds_a_waiting_header(&mut decoder_over(inner)));
+}
+
+// An encoder over any writer.
+fn encoder_over<W: Write>(writer: W) -> Encoder<W> {
+    Encoder::from(writer)
+}
+
+// The writer of an encoder.
+fn writer_of<W: Write>(encoder: Encoder<W>) -> W {
+    encoder.into_inner()
 }
 
 #[test]
 fn an_encoder_over_an_encoder(rt: HostRuntime) {
     let mut space = [0; 4];
-    let inner = Encoder::from(SliceWriter::new(&mut space));
-    let mut encoder: Encoder<Encoder<SliceWriter>> = Encoder::from(inner);
+    let mut encoder = encoder_over(encoder_over(SliceWriter::new(&mut space)));
     assert!(rt; pushes(&mut encoder, Header::Bytes(Some(3))).is_ok());
     assert!(rt; writes(&mut encoder, &[1, 2, 3]).is_ok());
-    let writer = encoder.into_inner().into_inner();
+    let writer = writer_of(writer_of(encoder));
     assert_eq!(rt; writer.written(), [0x43, 1, 2, 3].as_slice());
 }

@@ -1,42 +1,54 @@
 use crate::elements::{Stop, stop_of};
 use ciborium_ll::io::{SliceReader, SliceWriter};
 use ciborium_ll::{Decoder, Encoder, Float, Header, laws, simple, tag};
-use std::process::Abort;
 
-// Copies so many headers into this much space, and compares what was written, the offset after and what is left.
-// It tells why the copy stopped.
-fn copies(
-    rt: &impl Abort,
+// Bytes, how many headers are copied, into how much space, what is written, why it stopped, and the offset behind that.
+type Row = (&'static [u8], usize, usize, &'static [u8], Stop, usize);
+
+// Three titles that are longer than they need be, and a number.
+const LONGER: &[u8] = &[0x18, 5, 0x58, 3, 0xf8, 0x10, 0];
+
+static ROWS: [Row; 5] = [
+    (LONGER, 3, 8, &[5, 0x43, 0xf0], Stop::Never, 6),
+    (LONGER, 0, 8, &[], Stop::Never, 0),
+    (&[0x18, 5, 0x1f], 2, 8, &[5], Stop::Syntax(2), 3),
+    (&[0x1a, 0, 0], 1, 8, &[], Stop::Short, 1),
+    (LONGER, 3, 1, &[5], Stop::Full, 4),
+];
+
+// Copies headers. What that does is not known outside.
+fn copies_headers(
+    decoder: &mut Decoder<SliceReader>,
+    encoder: &mut Encoder<SliceWriter>,
     count: usize,
+) -> Stop {
+    stop_of(&laws::copy_headers(decoder, encoder, count))
+}
+
+// Copies so many headers into this much space, and compares all that this comes to. What was not read is left.
+fn is_copied(
     bytes: &[u8],
+    count: usize,
     room: usize,
     written: &[u8],
+    stop: Stop,
     offset: usize,
-    left: &[u8],
-) -> Stop {
+) -> bool {
     let mut space = [0; 8];
     let mut decoder = Decoder::from(SliceReader::new(bytes));
     let mut encoder = Encoder::from(SliceWriter::new(&mut space[..room.min(8)]));
-    let stopped = stop_of(&laws::copy_headers(&mut decoder, &mut encoder, count));
-    assert!(rt; encoder.into_inner().written() == written);
-    assert_eq!(rt; decoder.offset(), offset);
-    assert!(rt; decoder.into_inner().left() == left);
-    stopped
+    let is_stopped = copies_headers(&mut decoder, &mut encoder, count) == stop;
+    let is_read = decoder.offset() == offset;
+    let is_left = Some(decoder.into_inner().left()) == bytes.get(offset..);
+    encoder.into_inner().written() == written && is_stopped && is_read && is_left
 }
 
 #[test]
 fn headers_are_copied(rt: HostRuntime) {
-    let all = [0x18, 5, 0x58, 3, 0xf8, 0x10, 0];
-    let stopped = copies(&rt, 3, &all, 8, &[5, 0x43, 0xf0], 6, &[0]);
-    assert!(rt; stopped == Stop::Never);
-    let stopped = copies(&rt, 0, &all, 8, &[], 0, &all);
-    assert!(rt; stopped == Stop::Never);
-    let stopped = copies(&rt, 2, &[0x18, 5, 0x1f], 8, &[5], 3, &[]);
-    assert!(rt; stopped == Stop::Syntax(2));
-    let stopped = copies(&rt, 1, &[0x1a, 0, 0], 8, &[], 1, &[0, 0]);
-    assert!(rt; stopped == Stop::Short);
-    let stopped = copies(&rt, 3, &all, 1, &[5], 4, &[0xf8, 0x10, 0]);
-    assert!(rt; stopped == Stop::Full);
+    for &(bytes, count, room, written, stop, offset) in &ROWS {
+        let is_right = is_copied(bytes, count, room, written, stop, offset);
+        assert!(rt; is_right, "at {bytes:?}");
+    }
 }
 
 #[test]
@@ -44,8 +56,7 @@ fn a_header_is_pulled_again(rt: HostRuntime) {
     let mut decoder = Decoder::from(SliceReader::new(&[0x18, 5, 0]));
     let again = laws::pull_again(&mut decoder);
     assert!(rt; matches!(again, Ok(Header::Positive(5))));
-    assert_eq!(rt; decoder.offset(), 2);
-    assert_eq!(rt; decoder.into_inner().left(), [0].as_slice());
+    assert!(rt; decoder.offset() == 2 && decoder.into_inner().left() == [0].as_slice());
 }
 
 #[test]

@@ -1,8 +1,8 @@
-use crate::calls::pulls;
-use crate::drains::next_segment;
+use crate::calls::begins_text;
+use crate::drains::{drains_text, next_segment};
 use ciborium_ll::io::{SliceReader, SliceWriter};
-use ciborium_ll::laws::{self, Drained, End};
-use ciborium_ll::{Decoder, Encoder, Header};
+use ciborium_ll::laws::End;
+use ciborium_ll::{Decoder, Encoder};
 use simdutf8::basic;
 use std::process::Abort;
 
@@ -12,43 +12,40 @@ const BYTES: [u8; 20] = [
     0xf0, 0xf1, 0xf4, 0xf5,
 ];
 
-// How many lists of one, two, three and four of these bytes there are.
-const COUNTS: [usize; 4] = [20, 400, 8_000, 160_000];
-
 // Whether the text of this length that the bytes are is read to its end, by buffers of four bytes.
 fn ends(rt: &impl Abort, bytes: &[u8], length: usize) -> bool {
-    let mut decoder = Decoder::from(SliceReader::new(bytes));
-    pulls(rt, &mut decoder, Header::Text(Some(length)), 1);
-    assert!(rt; !decoder.is_waiting());
-    assert!(rt; Header::Text(Some(length)).title_len() <= decoder.offset());
-    let mut segments = decoder.text(Some(length));
-    let mut segment = next_segment(rt, &mut segments);
     let mut written = [0; 4];
+    let mut decoder = Decoder::from(SliceReader::new(bytes));
     let mut sink = Encoder::from(SliceWriter::new(&mut written));
-    match laws::drain_text(&mut segment, &[4; 6], &mut [0; 4], &mut sink) {
-        Ok(
-            Drained {
-                end: End::Ended,
-                ..
-            },
-        ) => true,
-        _ => false,
+    let mut segments = begins_text(rt, &mut decoder, Some(length), 1);
+    let mut segment = next_segment(rt, &mut segments);
+    let drained = drains_text(rt, &mut segment, &[4; 6], &mut sink);
+    matches!(drained, Ok(drained) if drained.end == End::Ended)
+}
+
+// The title of a text of this length, at most four, and the bytes that are the digits of a number by 20.
+fn list_of(length: u8, number: usize) -> [u8; 5] {
+    let mut bytes = [0x60 | length, 0, 0, 0, 0];
+    let mut rest = number;
+    for byte in &mut bytes[1..] {
+        *byte = BYTES[rest % 20];
+        rest /= 20;
     }
+    bytes
+}
+
+// A list of bytes ends as a text where it is one.
+fn list_row(rt: &impl Abort, bytes: &[u8], length: usize) {
+    let is_text = basic::from_utf8(bytes.get(1..).unwrap_or(&[])).is_ok();
+    assert!(rt; ends(rt, bytes, length) == is_text, "{bytes:?}");
 }
 
 #[test]
 fn short_lists_end_where_they_are_text(rt: HostRuntime) {
-    for length in 1..=4usize {
-        for number in 0..COUNTS[length - 1] {
-            let mut bytes = [0x60; 5];
-            bytes[0] += length as u8;
-            let mut rest = number;
-            for at in 1..=length {
-                bytes[at] = BYTES[rest % 20];
-                rest /= 20;
-            }
-            let is_text = basic::from_utf8(&bytes[1..=length]).is_ok();
-            assert_eq!(rt; ends(&rt, &bytes[..=length], length), is_text, "{bytes:?}");
+    for (length, count) in [(1u8, 20usize), (2, 400), (3, 8_000), (4, 160_000)] {
+        let end = usize::from(length);
+        for number in 0..count {
+            list_row(&rt, &list_of(length, number)[..=end], end);
         }
     }
 }

@@ -1,12 +1,11 @@
-use crate::calls::pulls;
+use crate::calls::{begins_bytes, gives, gives_back};
 use crate::elements::{Stop, recodes};
 use crate::strings::refused_at;
 use crate::vectors::{Next, next_header};
-use ciborium_ll::io::{Read, SliceReader, SliceWriter};
+use ciborium_ll::io::{SliceReader, SliceWriter};
 use ciborium_ll::recode::strict_len;
 use ciborium_ll::{Decoder, Encoder, Header};
 use ciborium_ll_fixtures::samples::VECTORS;
-use std::alloc::Global;
 use std::process::Abort;
 use std::test::Fail;
 
@@ -27,75 +26,70 @@ fn copies_strictly(
     is_written && stopped == end && decoder.offset() == offset
 }
 
-// Compares a copy, and how long these elements are where each is in its shortest spelling.
-fn copy_row(rt: &impl Abort, bytes: &[u8], count: usize, written: &[u8], end: Stop, offset: usize) {
-    let is_copied = copies_strictly(rt, bytes, count, written, end, offset);
-    let want = if end == Stop::Never {
-        Some(offset)
-    } else {
-        None
-    };
-    assert!(rt;
-        is_copied && strict_len(bytes, count) == want,
-        "at {bytes:?}"
-    );
+// Bytes, how many elements are copied, what is written, how the copy ends, and the offset behind it.
+type Row = (&'static [u8], usize, &'static [u8], Stop, usize);
+
+// Compares copies, and how long these elements are where each is in its shortest spelling.
+fn copy_rows(rt: &impl Abort, rows: &[Row]) {
+    for &(bytes, count, written, end, offset) in rows {
+        let is_copied = copies_strictly(rt, bytes, count, written, end, offset);
+        let want = (end == Stop::Never).then_some(offset);
+        let is_long = strict_len(bytes, count) == want;
+        assert!(rt; is_copied && is_long, "at {bytes:?}");
+    }
 }
+
+static TITLES: [Row; 12] = [
+    (&[0x18, 5], 1, &[], Stop::Syntax(0), 2),
+    (&[0x18, 0x17], 1, &[], Stop::Syntax(0), 2),
+    (&[0x18, 0x18], 1, &[0x18, 0x18], Stop::Never, 2),
+    (&[0x19, 0, 0x18], 1, &[], Stop::Syntax(0), 3),
+    (&[0xf8, 0x18], 1, &[], Stop::Syntax(0), 2),
+    (&[0xf8, 0x1f], 1, &[], Stop::Syntax(0), 2),
+    (&[0xf8, 0x20], 1, &[0xf8, 0x20], Stop::Never, 2),
+    (&[0xf9, 0, 0], 1, &[0xf9, 0, 0], Stop::Never, 3),
+    (&[5, 0x18, 5], 2, &[5], Stop::Syntax(1), 3),
+    (&[0x1c], 1, &[], Stop::Syntax(0), 1),
+    (&[0x19, 0], 1, &[], Stop::Short, 1),
+    (&[0x18, 5], 0, &[], Stop::Never, 0),
+];
 
 #[test]
 fn titles_in_their_shortest_spelling(rt: HostRuntime) {
-    copy_row(&rt, &[0x18, 5], 1, &[], Stop::Syntax(0), 2);
-    copy_row(&rt, &[0x18, 0x17], 1, &[], Stop::Syntax(0), 2);
-    copy_row(&rt, &[0x18, 0x18], 1, &[0x18, 0x18], Stop::Never, 2);
-    copy_row(&rt, &[0x19, 0, 0x18], 1, &[], Stop::Syntax(0), 3);
-    copy_row(&rt, &[0xf8, 0x18], 1, &[], Stop::Syntax(0), 2);
-    copy_row(&rt, &[0xf8, 0x1f], 1, &[], Stop::Syntax(0), 2);
-    copy_row(&rt, &[0xf8, 0x20], 1, &[0xf8, 0x20], Stop::Never, 2);
-    copy_row(&rt, &[0xf9, 0, 0], 1, &[0xf9, 0, 0], Stop::Never, 3);
-    copy_row(&rt, &[5, 0x18, 5], 2, &[5], Stop::Syntax(1), 3);
-    copy_row(&rt, &[0x1c], 1, &[], Stop::Syntax(0), 1);
-    copy_row(&rt, &[0x19, 0], 1, &[], Stop::Short, 1);
-    copy_row(&rt, &[0x18, 5], 0, &[], Stop::Never, 0);
+    copy_rows(&rt, &TITLES);
 }
 
-#[test]
-fn strings_in_their_shortest_spelling(rt: HostRuntime) {
-    let segments = [0x5f, 0x41, 1, 0xff];
-    copy_row(&rt, &segments, 1, &segments, Stop::Never, 4);
-    copy_row(
-        &rt,
+static STRINGS: [Row; 8] = [
+    (
+        &[0x5f, 0x41, 1, 0xff],
+        1,
+        &[0x5f, 0x41, 1, 0xff],
+        Stop::Never,
+        4,
+    ),
+    (
         &[0x5f, 0x5f, 0x41, 1, 0xff, 0xff],
         1,
         &[0x5f],
         Stop::Syntax(1),
         2,
-    );
-    copy_row(
-        &rt,
-        &[0x5f, 0x5f, 0xff, 0xff],
-        1,
-        &[0x5f],
-        Stop::Syntax(1),
-        2,
-    );
-    copy_row(
-        &rt,
-        &[0x7f, 0x78, 1, 0x61, 0xff],
-        1,
-        &[0x7f],
-        Stop::Syntax(1),
-        3,
-    );
-    copy_row(&rt, &[0x78, 2, 0x61, 0xff], 1, &[], Stop::Syntax(0), 2);
-    copy_row(
-        &rt,
-        &[0x62, 0x61, 0xff],
-        1,
-        &[0x62, 0x61],
-        Stop::Syntax(0),
-        3,
-    );
-    copy_row(&rt, &[0x5f, 0x7f, 0xff], 1, &[0x5f], Stop::Syntax(1), 2);
-    copy_row(&rt, &[0x43, 1], 1, &[0x43], Stop::Short, 1);
+    ),
+    (&[0x5f, 0x5f, 0xff, 0xff], 1, &[0x5f], Stop::Syntax(1), 2),
+    (&[0x7f, 0x78, 1, 0x61, 0xff], 1, &[0x7f], Stop::Syntax(1), 3),
+    (&[0x78, 2, 0x61, 0xff], 1, &[], Stop::Syntax(0), 2),
+    (&[0x62, 0x61, 0xff], 1, &[0x62, 0x61], Stop::Syntax(0), 3),
+    (&[0x5f, 0x7f, 0xff], 1, &[0x5f], Stop::Syntax(1), 2),
+    (&[0x43, 1], 1, &[0x43], Stop::Short, 1),
+];
+
+#[test]
+fn strings_in_their_shortest_spelling(rt: HostRuntime) {
+    copy_rows(&rt, &STRINGS);
+}
+
+// Compares how long so many elements are.
+fn is_strict_len(bytes: &[u8], count: usize, want: Option<usize>) -> bool {
+    strict_len(bytes, count) == want
 }
 
 #[test]
@@ -104,45 +98,30 @@ fn a_body_of_many_chunks(rt: HostRuntime) {
     let mut bytes = [0; 300];
     bytes[0] = 0x58;
     bytes[1] = 250;
-    assert!(rt; strict_len(&bytes, 1) == Some(252));
-    assert!(rt; strict_len(&bytes, 49) == Some(300));
-    assert!(rt; strict_len(&bytes, 50).is_none());
-    assert!(rt; strict_len(&bytes[..251], 1).is_none());
+    assert!(rt; is_strict_len(&bytes, 1, Some(252)));
+    assert!(rt; is_strict_len(&bytes, 49, Some(300)));
+    assert!(rt; is_strict_len(&bytes, 50, None));
+    assert!(rt; is_strict_len(&bytes[..251], 1, None));
 }
 
-// A title whose affix has so many bytes, at most eight: zeros, and a number behind them.
-fn longer_title(alloc: Global, first: u8, number: &[u8], size: usize) -> Result<Vec<u8>, Fail> {
-    let mut title = vec![in alloc; first]?;
-    title.extend_from_slice([0; 8].get(number.len()..size).unwrap_or(&[]))?;
-    title.extend_from_slice(number)?;
-    Ok(title)
+// The numbers of bytes that an affix has, and what the first byte of a title says of each.
+const AFFIXES: [(u8, usize); 4] = [(24, 1), (25, 2), (26, 4), (27, 8)];
+
+// Whether a header whose shortest title this is has a longer one, with an affix of so many bytes, by a plain reading. A
+// float and a simple value in two bytes have none, nor has an indefinite form.
+fn has_longer(first: u8, affix: usize, size: usize) -> bool {
+    let is_number = first < 0xe0 || affix == 0 && size == 1;
+    size > affix && first % 32 < 31 && is_number
 }
 
-// The longer titles of the same header, by a plain reading of the shortest one.
-fn longer_titles(alloc: Global, title: &[u8]) -> Result<Vec<Vec<u8>>, Fail> {
-    let mut longer = Vec::new(alloc);
-    let Some((first, affix)) = title.split_first() else {
-        return Ok(longer);
-    };
-    let (major, minor) = (*first / 32, *first % 32);
-    // A float and a simple value in two bytes have no longer title, nor has an indefinite form.
-    let forms: &[(u8, usize)] = match (major, affix.is_empty()) {
-        (7, true) => &[(24, 1)],
-        (7, false) => &[],
-        _ => &[(24, 1), (25, 2), (26, 4), (27, 8)],
-    };
-    let own = [minor];
-    let number = if affix.is_empty() {
-        own.as_slice()
-    } else {
-        affix
-    };
-    for (code, size) in forms {
-        if *size > affix.len() && minor < 31 {
-            longer.push(longer_title(alloc, major * 32 + *code, number, *size)?)?;
-        }
+// A title with an affix of so many bytes, at most eight: zeros, and a number behind them.
+fn longer_title(first: u8, number: &[u8], size: usize) -> [u8; 9] {
+    let mut title = [first, 0, 0, 0, 0, 0, 0, 0, 0];
+    let start = size.saturating_sub(number.len()).saturating_add(1);
+    for (place, byte) in title[start.min(9)..].iter_mut().zip(number) {
+        *place = *byte;
     }
-    Ok(longer)
+    title
 }
 
 // Pulls a title by a decoder of either kind: the header, where it is taken whole.
@@ -165,23 +144,41 @@ fn both_pulled(rt: &impl Abort, title: &[u8]) -> (Option<Header>, Option<Header>
     (plain, strict)
 }
 
+// Compares what decoders of both kinds give for a title.
+fn title_row(rt: &impl Abort, title: &[u8], plain: Header, strict: Option<Header>) {
+    let is_right = both_pulled(rt, title) == (Some(plain), strict);
+    assert!(rt; is_right, "at {title:?}");
+}
+
+// No strict decoder takes a longer title of a header, and another one takes each. It tells how many there are.
+fn longer_rows(rt: &impl Abort, first: u8, affix: &[u8], header: Header) -> usize {
+    let own = [first % 32];
+    let number = if affix.is_empty() {
+        own.as_slice()
+    } else {
+        affix
+    };
+    let mut count = 0usize;
+    for (code, size) in AFFIXES {
+        if has_longer(first, affix.len(), size) {
+            let title = longer_title((first & 0xe0) | code, number, size);
+            title_row(rt, title.get(..=size).unwrap_or(&[]), header, None);
+            count = count.saturating_add(1);
+        }
+    }
+    count
+}
+
 // A strict decoder takes the shortest title of a header, unless it is that of a small simple value, and no longer one,
 // and another decoder takes each. It tells how many longer ones there are.
-fn vector_row(rt: &impl Abort, alloc: Global, title: &[u8], header: Header) -> Result<usize, Fail> {
+fn vector_row(rt: &impl Abort, title: &[u8], header: Header) -> usize {
     let is_small = matches!(header, Header::Simple(24..=31));
     let want = if is_small { None } else { Some(header) };
-    assert!(rt;
-        both_pulled(rt, title) == (Some(header), want),
-        "at {title:?}"
-    );
-    let longer = longer_titles(alloc, title)?;
-    for other in &longer {
-        assert!(rt;
-            both_pulled(rt, other.as_slice()) == (Some(header), None),
-            "at {other:?}"
-        );
+    title_row(rt, title, header, want);
+    match title.split_first() {
+        Some((first, affix)) => longer_rows(rt, *first, affix, header),
+        None => 0,
     }
-    Ok(longer.len())
 }
 
 #[test]
@@ -189,8 +186,7 @@ fn vectors_and_their_longer_titles(rt: HostRuntime) -> Result<(), Fail> {
     let mut all = 0usize;
     for &(hex, header) in &VECTORS {
         let shortest = hex::decode(rt.alloc(), hex)?;
-        let longer = vector_row(&rt, rt.alloc(), shortest.as_slice(), header)?;
-        all = all.saturating_add(longer);
+        all = all.saturating_add(vector_row(&rt, shortest.as_slice(), header));
     }
     // The titles of numbers that are a byte have four longer ones, and so on; simple values in one byte have one.
     assert_eq!(rt; all, 80);
@@ -226,13 +222,13 @@ fn is_copied(rt: &impl Abort, mut decoder: Decoder<SliceReader>, bytes: &[u8]) -
 
 // Compares both decoders on a list of one byte or two.
 fn both_decoders(rt: &impl Abort, bytes: &[u8], first: u8, second: Option<u8>) {
-    let plain = is_copied(rt, Decoder::from(SliceReader::new(bytes)), bytes);
-    let strict = is_copied(rt, Decoder::strict(SliceReader::new(bytes)), bytes);
+    let (plain, is_plain_same) = is_copied(rt, Decoder::from(SliceReader::new(bytes)), bytes);
+    let (strict, is_same) = is_copied(rt, Decoder::strict(SliceReader::new(bytes)), bytes);
     let is_small = first == 0xf8 && matches!(second, Some(24..=31));
-    assert_eq!(rt; strict.0, is_strict(first, second), "at {bytes:?}");
-    assert_eq!(rt; strict.0, plain.0 && plain.1 && !is_small, "at {bytes:?}");
-    assert!(rt; !strict.0 || strict.1, "at {bytes:?}");
-    assert_eq!(rt; strict_len(bytes, 1).is_some(), strict.0, "at {bytes:?}");
+    let is_plain = strict == (plain && is_plain_same && !is_small);
+    let is_right = strict == is_strict(first, second) && is_plain && (!strict || is_same);
+    let is_long = strict_len(bytes, 1).is_some() == strict;
+    assert!(rt; is_right && is_long, "at {bytes:?}");
 }
 
 #[test]
@@ -277,36 +273,26 @@ fn first_bytes_that_neither_takes(rt: HostRuntime) {
 }
 
 // Asks a string of indefinite length twice for a segment, where a further open stands.
-fn refuses_an_open<R: Read>(rt: &impl Abort, decoder: &mut Decoder<R>)
-where
-    R::Error: Drop,
-{
-    pulls(rt, decoder, Header::Bytes(None), 1);
-    assert!(rt; !decoder.is_waiting());
-    assert!(rt; Header::Bytes(None).title_len() <= decoder.offset());
-    let mut segments = decoder.bytes(None);
+fn refuses_an_open(rt: &impl Abort, bytes: &[u8]) {
+    let mut decoder = Decoder::strict(SliceReader::new(bytes));
+    let mut segments = begins_bytes(rt, &mut decoder, None, 1);
     for _ in 0..2 {
         assert!(rt; refused_at(&mut segments) == Some(1));
     }
-    assert_eq!(rt; decoder.offset(), 2);
+    assert!(rt; decoder.offset() == 2);
 }
 
 // Gives back a header that a strict decoder would not take, and pulls it again.
-fn takes_what_was_pushed<R: Read>(rt: &impl Abort, decoder: &mut Decoder<R>)
-where
-    R::Error: Drop,
-{
+fn takes_what_was_pushed(rt: &impl Abort, bytes: &[u8]) {
     let small = Header::Simple(24);
-    pulls(rt, decoder, Header::Positive(24), 2);
-    assert!(rt; !decoder.is_waiting());
-    assert!(rt; small.title_len() <= decoder.offset());
-    decoder.push(small);
-    pulls(rt, decoder, small, 2);
+    let mut decoder = Decoder::strict(SliceReader::new(bytes));
+    assert!(rt; gives(&mut decoder, Header::Positive(24), 2));
+    gives_back(rt, &mut decoder, small, 0);
+    assert!(rt; gives(&mut decoder, small, 2));
 }
 
 #[test]
 fn opens_and_waiting_headers(rt: HostRuntime) {
-    let bytes = [0x5f, 0x5f, 0x41, 1, 0xff, 0xff];
-    refuses_an_open(&rt, &mut Decoder::strict(SliceReader::new(&bytes)));
-    takes_what_was_pushed(&rt, &mut Decoder::strict(SliceReader::new(&[0x18, 0x18])));
+    refuses_an_open(&rt, &[0x5f, 0x5f, 0x41, 1, 0xff, 0xff]);
+    takes_what_was_pushed(&rt, &[0x18, 0x18]);
 }

@@ -1,8 +1,4 @@
-ghost use Rattle.std.specs.Prelude.{◌≡◌, ◌≤◌, None, Some};
-ghost use Rattle.ciborium_ll.specs.Decoding.{offset_of, waiting_of};
-ghost use Rattle.ciborium_ll.specs.Title.{title_len};
-
-use crate::calls::pulls;
+use crate::calls::{begins_bytes, begins_text, gives, has_left};
 use crate::drains::next_segment;
 use ciborium_ll::io::{Read, SliceReader};
 use ciborium_ll::{Bytes, Decoder, Error, Header, Segment, Segments, Text};
@@ -43,34 +39,15 @@ where
 }
 
 // Reads the only segment of a text by buffers of these sizes, and compares answers and what is left.
-fn reads_text<R: Read>(
-    rt: &impl Abort,
-    decoder: &mut Decoder<R>,
-    length: usize,
-    steps: &[(usize, Answer, usize)],
-)
-where
-    R::Error: Drop,
-    requires none_waits { waiting_of decoder.old ≡ None }
-    requires covered { title_len (Header.Text (Some length)) ≤ offset_of decoder.old }
-{
-    let mut segments = decoder.text(Some(length));
-    let mut segment = next_segment(rt, &mut segments);
-    assert_eq!(rt; segment.left(), length);
-    for (size, want, left) in steps {
-        assert!(rt;
-            pulls_chunk(&mut segment, *size, *want),
-            "by a buffer of {size}"
-        );
-        assert_eq!(rt; segment.left(), *left);
-    }
-}
-
-// Pulls a text's header, and reads it as `reads_text` does.
 fn text_row(rt: &impl Abort, bytes: &[u8], length: usize, steps: &[(usize, Answer, usize)]) {
     let mut decoder = Decoder::from(SliceReader::new(bytes));
-    pulls(rt, &mut decoder, Header::Text(Some(length)), 1);
-    reads_text(rt, &mut decoder, length, steps);
+    let mut segments = begins_text(rt, &mut decoder, Some(length), 1);
+    let mut segment = next_segment(rt, &mut segments);
+    assert!(rt; segment.left() == length, "at {bytes:?}");
+    for &(size, want, left) in steps {
+        let is_right = pulls_chunk(&mut segment, size, want) && segment.left() == left;
+        assert!(rt; is_right, "by a buffer of {size}");
+    }
 }
 
 #[test]
@@ -108,22 +85,25 @@ fn a_character_waits_for_room(rt: HostRuntime) {
     text_row(&rt, b"\x64\xf0\x9f\x98\x80", 4, &steps);
 }
 
-// Asks for the segments of a byte string, and drops them.
-fn asks_for_segments<R: Read>(decoder: &mut Decoder<R>, length: Option<usize>)
-    requires none_waits { waiting_of decoder.old ≡ None }
-    requires covered { title_len (Header.Bytes length) ≤ offset_of decoder.old }
+// Begins to read a byte string, and asks for none of its segments.
+fn asks_for_segments<R: Read>(
+    rt: &impl Abort,
+    decoder: &mut Decoder<R>,
+    length: Option<usize>,
+    title: usize,
+)
+where
+    R::Error: Drop,
 {
-    let _segments = decoder.bytes(length);
+    let _segments = begins_bytes(rt, decoder, length, title);
 }
 
 #[test]
 fn segments_that_are_never_asked_for(rt: HostRuntime) {
     let mut decoder = Decoder::from(SliceReader::new(&[0x58, 5, 1, 2, 3, 4, 5]));
-    pulls(&rt, &mut decoder, Header::Bytes(Some(5)), 2);
-    asks_for_segments(&mut decoder, Some(5));
-    assert_eq!(rt; decoder.offset(), 1);
-    assert!(rt; decoder.is_waiting());
-    pulls(&rt, &mut decoder, Header::Bytes(Some(5)), 2);
+    asks_for_segments(&rt, &mut decoder, Some(5), 2);
+    assert!(rt; decoder.offset() == 1 && decoder.is_waiting());
+    assert!(rt; gives(&mut decoder, Header::Bytes(Some(5)), 2));
 }
 
 // Pulls a byte from a segment by a buffer of one byte, and compares it.
@@ -138,17 +118,25 @@ where
     }
 }
 
+// Finds the end of a segment.
+fn segment_ends<R: Read>(segment: &mut Segment<'_, R, Bytes>) -> bool
+where
+    R::Error: Drop,
+{
+    matches!(segment.pull(&mut [0; 1]), Ok(None))
+}
+
 // Reads the next segment of a byte string to its end, byte by byte.
 fn reads_next<R: Read>(rt: &impl Abort, segments: &mut Segments<'_, R, Bytes>, body: &[u8])
 where
     R::Error: Drop,
 {
     let mut segment = next_segment(rt, segments);
-    assert_eq!(rt; segment.left(), body.len());
+    assert!(rt; segment.left() == body.len(), "at {body:?}");
     for byte in body {
         assert!(rt; pulls_byte(&mut segment, *byte), "at {byte}");
     }
-    assert!(rt; matches!(segment.pull(&mut [0; 1]), Ok(None)));
+    assert!(rt; segment_ends(&mut segment), "at {body:?}");
 }
 
 // Asks for a segment behind the last one.
@@ -159,31 +147,36 @@ where
     matches!(segments.pull(), Ok(None))
 }
 
-// Reads segments of bytes by a buffer of one byte, and then the string's end, again and again.
-fn reads_bodies<R: Read>(rt: &impl Abort, decoder: &mut Decoder<R>, bodies: &[&[u8]])
+// Asks for a body behind the last one.
+fn has_no_body<R: Read>(segments: &mut Segments<'_, R, Bytes>) -> bool
 where
     R::Error: Drop,
-    requires none_waits { waiting_of decoder.old ≡ None }
-    requires covered { title_len (Header.Bytes None) ≤ offset_of decoder.old }
 {
-    let mut segments = decoder.bytes(None);
+    matches!(segments.advance(), Ok(None))
+}
+
+// Reads segments of bytes by a buffer of one byte, and then the string's end, again and again.
+fn reads_bodies<R: Read>(rt: &impl Abort, segments: &mut Segments<'_, R, Bytes>, bodies: &[&[u8]])
+where
+    R::Error: Drop,
+{
     for body in bodies {
-        reads_next(rt, &mut segments, body);
+        reads_next(rt, segments, body);
     }
     for _ in 0..2 {
-        assert!(rt; has_ended(&mut segments));
+        assert!(rt; has_ended(segments));
     }
-    assert!(rt; matches!(segments.advance(), Ok(None)));
+    assert!(rt; has_no_body(segments));
 }
 
 #[test]
 fn bodies_of_nested_strings(rt: HostRuntime) {
     let bytes = [0x5f, 0x5f, 0x41, 1, 0xff, 0x41, 2, 0xff, 0];
     let mut decoder = Decoder::from(SliceReader::new(&bytes));
-    pulls(&rt, &mut decoder, Header::Bytes(None), 1);
-    reads_bodies(&rt, &mut decoder, &[&[1], &[2]]);
-    assert_eq!(rt; decoder.offset(), 8);
-    assert_eq!(rt; decoder.into_inner().left(), [0].as_slice());
+    let mut segments = begins_bytes(&rt, &mut decoder, None, 1);
+    reads_bodies(&rt, &mut segments, &[&[1], &[2]]);
+    assert!(rt; decoder.offset() == 8);
+    assert!(rt; has_left(decoder, &[0]));
 }
 
 // Pulls a segment, and drops it. It tells how long its body is.
@@ -215,60 +208,61 @@ where
 // Drops so many segments that have three bytes, and then finds twice a title that may not stand there.
 fn finds_no_segment<R: Read>(
     rt: &impl Abort,
-    decoder: &mut Decoder<R>,
+    segments: &mut Segments<'_, R, Bytes>,
     dropped: usize,
     place: usize,
 )
 where
     R::Error: Drop,
-    requires none_waits { waiting_of decoder.old ≡ None }
-    requires covered { title_len (Header.Bytes None) ≤ offset_of decoder.old }
 {
-    let mut segments = decoder.bytes(None);
     for _ in 0..dropped {
-        assert!(rt; dropped_len(&mut segments) == Some(3));
+        assert!(rt; dropped_len(segments) == Some(3));
     }
     for _ in 0..2 {
-        assert!(rt; refused_at(&mut segments) == Some(place));
+        assert!(rt; refused_at(segments) == Some(place));
     }
+}
+
+// Reads a byte string of the indefinite form as `finds_no_segment` does, and compares the offset behind that.
+fn no_segment_row(rt: &impl Abort, bytes: &[u8], dropped: usize, place: usize, offset: usize) {
+    let mut decoder = Decoder::from(SliceReader::new(bytes));
+    let mut segments = begins_bytes(rt, &mut decoder, None, 1);
+    finds_no_segment(rt, &mut segments, dropped, place);
+    assert!(rt; decoder.offset() == offset, "at {bytes:?}");
 }
 
 #[test]
 fn a_title_that_may_not_stand_in_a_string(rt: HostRuntime) {
-    let mut decoder = Decoder::from(SliceReader::new(&[0x5f, 1]));
-    pulls(&rt, &mut decoder, Header::Bytes(None), 1);
-    finds_no_segment(&rt, &mut decoder, 0, 1);
-    assert_eq!(rt; decoder.offset(), 2);
-
+    no_segment_row(&rt, &[0x5f, 1], 0, 1, 2);
     // A segment that is dropped early leaves its body, which is then read as a title.
-    let mut decoder = Decoder::from(SliceReader::new(&[0x5f, 0x43, 1, 2, 3, 0xff]));
-    pulls(&rt, &mut decoder, Header::Bytes(None), 1);
-    finds_no_segment(&rt, &mut decoder, 1, 2);
+    no_segment_row(&rt, &[0x5f, 0x43, 1, 2, 3, 0xff], 1, 2, 3);
 }
 
 // Goes on to the first body of an open text, and reads it in one chunk.
-fn reads_body<R: Read>(rt: &impl Abort, decoder: &mut Decoder<R>, place: usize, want: &'static str)
+fn reads_body<R: Read>(
+    rt: &impl Abort,
+    segments: &mut Segments<'_, R, Text>,
+    place: usize,
+    want: &'static str,
+)
 where
     R::Error: Drop,
-    requires none_waits { waiting_of decoder.old ≡ None }
-    requires covered { title_len (Header.Text None) ≤ offset_of decoder.old }
 {
-    let mut segments = decoder.text(None);
     let Ok(Some(body)) = segments.advance() else {
         panic!(rt; "no body");
     };
-    assert_eq!(rt; (body.length, body.place), (want.len(), place));
+    assert!(rt; (body.length, body.place) == (want.len(), place));
     let mut segment = segments.segment(body);
     assert!(rt; pulls_chunk(&mut segment, 8, Answer::Chunk(want)));
-    assert_eq!(rt; segment.left(), 0);
+    assert!(rt; segment.left() == 0);
 }
 
 #[test]
 fn a_body_by_length_and_place(rt: HostRuntime) {
     let mut decoder = Decoder::from(SliceReader::new(b"\x7f\x7f\x62\xc3\xa9\xff\xff"));
-    pulls(&rt, &mut decoder, Header::Text(None), 1);
-    reads_body(&rt, &mut decoder, 2, "\u{e9}");
-    assert_eq!(rt; decoder.offset(), 5);
+    let mut segments = begins_text(&rt, &mut decoder, None, 1);
+    reads_body(&rt, &mut segments, 2, "\u{e9}");
+    assert!(rt; decoder.offset() == 5);
 }
 
 #[test]
