@@ -1,5 +1,4 @@
 pub mod AdvanceLaws
-mod AffixReads
 pub mod BodyCopyLaws
 pub mod BodyLaws
 pub mod ChunkLaws

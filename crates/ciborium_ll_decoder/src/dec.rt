@@ -58,13 +58,13 @@ impl<R: Read> From<R> for Decoder<R> {
 }
 
 impl<R: Read> Decoder<R> {
-    ghost use Rattle.std.specs.Prelude.{replicate, ◌<◌, ◌^◌, ◌%◌, IsTrue, true, ◌↔◌, None, Some};
+    ghost use Rattle.std.specs.Prelude.{replicate, ℕ, ◌<◌, ◌^◌, ◌%◌, IsTrue, true, ◌↔◌, None, Some};
     ghost use Rattle.std.specs.Prelude.{Err, IfOk, MatchResult, IsErrOf, ◌/◌, ◌&&◌, if◌then◌else◌};
     ghost use Rattle.ciborium_ll_grammar.specs.Title.{title_len, IsTitle};
     ghost use Rattle.ciborium_ll_grammar.specs.Parts.{IsParts, longer_parts, title_bytes};
     ghost use Rattle.ciborium_ll_grammar.specs.TitleRows.{IsAffix};
-    ghost use Rattle.ciborium_ll_decoder.specs.Decoding.{IsFresh, IsFreshAs, IsWaiting, MovesOn, PullsHeader};
-    ghost use Rattle.ciborium_ll_decoder.specs.Decoding.{Pulls, PullsTitle, ReadsAll, ReadsBytes};
+    ghost use Rattle.ciborium_ll_decoder.specs.Decoding.{HoldsAffix, IsFresh, IsFreshAs, IsWaiting, MovesOn};
+    ghost use Rattle.ciborium_ll_decoder.specs.Decoding.{Pulls, PullsHeader, PullsTitle, ReadsAll, ReadsBytes};
     ghost use Rattle.ciborium_ll_decoder.specs.Decoding.{ReadsMinor, TakesBack, offset_of};
     ghost use Rattle.ciborium_ll_decoder.specs.Decoding.{reader_of, refusals_of, strict_of, waiting_of};
 
@@ -261,10 +261,10 @@ impl<R: Read> Decoder<R> {
                 self.read(&mut [])?;
                 return Ok(Some(Minor::Small(u64::from(first % 32))));
             }
-            Affix::One => Minor::One(u64::from(u8::from_be_bytes(self.affix()?))),
-            Affix::Two => Minor::Two(u64::from(u16::from_be_bytes(self.affix()?))),
-            Affix::Four => Minor::Four(u64::from(u32::from_be_bytes(self.affix()?))),
-            Affix::Eight => Minor::Eight(u64::from_be_bytes(self.affix()?)),
+            Affix::One => self.one()?,
+            Affix::Two => self.two()?,
+            Affix::Four => self.four()?,
+            Affix::Eight => self.eight()?,
             Affix::Open => {
                 self.read(&mut [])?;
                 return Ok(Some(Minor::Open));
@@ -272,6 +272,58 @@ impl<R: Read> Decoder<R> {
             Affix::Reserved => return Ok(None),
         };
         Ok(self.taken(minor, first))
+    }
+
+    /// The minor of an affix of one byte.
+    #[inline(always)]
+    fn one(&mut self) -> Result<Minor, Error<R::Error>>
+        requires { waiting_of self.old ≡ None }
+        ensures minor { (first : ℕ) → first % 32 ≡ 24 → MatchResult result
+            (λ minor. HoldsAffix R.Read first self.old minor self.new)
+            (λ error. ReadsMinor R.Read first self.old (Err error) self.new) }
+        ensures moves_on { MovesOn R.Read self.old self.new }
+    {
+        let bytes = self.affix()?;
+        Ok(Minor::One(u64::from(u8::from_be_bytes(bytes))))
+    }
+
+    /// The minor of an affix of two bytes.
+    #[inline(always)]
+    fn two(&mut self) -> Result<Minor, Error<R::Error>>
+        requires { waiting_of self.old ≡ None }
+        ensures minor { (first : ℕ) → first % 32 ≡ 25 → MatchResult result
+            (λ minor. HoldsAffix R.Read first self.old minor self.new)
+            (λ error. ReadsMinor R.Read first self.old (Err error) self.new) }
+        ensures moves_on { MovesOn R.Read self.old self.new }
+    {
+        let bytes = self.affix()?;
+        Ok(Minor::Two(u64::from(u16::from_be_bytes(bytes))))
+    }
+
+    /// The minor of an affix of four bytes.
+    #[inline(always)]
+    fn four(&mut self) -> Result<Minor, Error<R::Error>>
+        requires { waiting_of self.old ≡ None }
+        ensures minor { (first : ℕ) → first % 32 ≡ 26 → MatchResult result
+            (λ minor. HoldsAffix R.Read first self.old minor self.new)
+            (λ error. ReadsMinor R.Read first self.old (Err error) self.new) }
+        ensures moves_on { MovesOn R.Read self.old self.new }
+    {
+        let bytes = self.affix()?;
+        Ok(Minor::Four(u64::from(u32::from_be_bytes(bytes))))
+    }
+
+    /// The minor of an affix of eight bytes.
+    #[inline(always)]
+    fn eight(&mut self) -> Result<Minor, Error<R::Error>>
+        requires { waiting_of self.old ≡ None }
+        ensures minor { (first : ℕ) → first % 32 ≡ 27 → MatchResult result
+            (λ minor. HoldsAffix R.Read first self.old minor self.new)
+            (λ error. ReadsMinor R.Read first self.old (Err error) self.new) }
+        ensures moves_on { MovesOn R.Read self.old self.new }
+    {
+        let bytes = self.affix()?;
+        Ok(Minor::Eight(u64::from_be_bytes(bytes)))
     }
 
     /// The affix behind a first byte, or nothing where a strict decoder refuses it.
