@@ -3,7 +3,7 @@ use Rattle.std.proofs.Common.{◌≡◌, ℕ, ◌+◌, ◌-◌, ◌≤◌, ◌<�
 use Rattle.std.proofs.Common.{length-take-le, take, drop, slice_range, refl, sym, ap, ◌∙◌, arith, append_assoc}
 use Rattle.std.proofs.Common.{append-nil, drop-drop}
 use Rattle.std.proofs.lemmas.List.{drop-take, drop-append-le, take-take}
-use Rattle.std.proofs.lemmas.Slice.{take-put_mid, drop-put_mid}
+use Rattle.std.proofs.lemmas.Slice.{take-put_mid}
 use Rattle.std.proofs.Math.Seq.{take-append-add}
 use Rattle.std.specs.declared.option.Option.{Option}
 use Rattle.std.specs.Io.KnownBytes.{Appends, Consumes, Keeps, prepend_known, append_known}
