@@ -1,23 +1,8 @@
-use Rattle.std.proofs.Common.{◌≡◌, ℕ, ◌+◌, ◌-◌, ◌≤◌, List, ◌++◌, rules, arith, length, length-take-le, take, refl}
-use Rattle.std.proofs.Common.{sym, ap, ◌∙◌, subst}
-use Rattle.std.proofs.Math.Seq.{take-append-add}
-use Rattle.std.proofs.lemmas.List.{take-take}
-use Rattle.std.proofs.lemmas.Slice.{take-put_mid}
+use Rattle.std.proofs.Common.{◌-◌, length, rules, subst}
 use Rattle.std.specs.Io.KnownBytes.{Consumes}
 use Rattle.std.proofs.KnownBytes.{Consumes-trans}
-use borrow.Rule.Slice.PartMut.{put_mid}
+use Rattle.ciborium_ll_streams.proofs.BufferLaws.{filled_more, filled_part, moved_none}
 use Rattle.ciborium_ll_streams.proofs.streams.StdReaderRead.read_exact.Goals as goal
-
--- what was filled so far, and then the bytes of one more read
-filled_more : (a k n : ℕ) (xs ys : List ℕ) → a ≤ length xs → n ≤ length ys → take a xs ++ take n ys
-    ≡ take (a + n) (put_mid a k xs ys)
-filled_more a k n xs ys within fits =
-    let whole : take (a + length ys) (put_mid a k xs ys) ≡ take a xs ++ ys =
-    take-put_mid a k xs ys (a + length ys) refl within in
-    sym (take-append-add (take a xs) ys n)
-    ∙ ap (λ m. take (m + n) (take a xs ++ ys)) (length-take-le a xs within)
-    ∙ ap (take (a + n)) (sym whole)
-    ∙ take-take (a + n) (a + length ys) (put_mid a k xs ys) (omega arith)
 
 pub loop-filled-preserved : goal.loop-filled-preserved
 loop-filled-preserved g c =
@@ -31,3 +16,16 @@ loop-filled-preserved g c =
       bytes = subst (Consumes _ _) joined (Consumes-trans _ _ _ _ _ kept.bytes c.in-Ok.ensures.bytes.0);
       empty = search rules;
     }
+
+pub returns-in-Ok-eq0-clause-part : goal.returns-in-Ok-eq0-clause-part
+returns-in-Ok-eq0-clause-part g c =
+    let kept = c.loop-filled.invariant in
+    let none = moved_none _ _ c.in-Ok-eq0.field-0 c.read.new.buf c.in-Ok-eq0.field-0-test c.in-Ok-eq0.ensures.bytes.0 in
+    rw c.ended.ensures.fault (filled_part _ _ _ c.loop-filled.filled _ c.loop-filled.«data» c.read.new.buf
+    c.loop-filled-test.true c.read.auto.buf kept.bytes (rw c.ended.ensures.same none))
+
+pub returns-in-Err-clause-part : goal.returns-in-Err-clause-part
+returns-in-Err-clause-part g c =
+    let kept = c.loop-filled.invariant in
+    rw c.read_failed.ensures.fault (filled_part _ _ _ c.loop-filled.filled _ c.loop-filled.«data» c.read.new.buf
+    c.loop-filled-test.true c.read.auto.buf kept.bytes (rw c.read_failed.ensures.same c.in-Err.ensures.bytes))
