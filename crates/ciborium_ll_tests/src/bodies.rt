@@ -1,13 +1,17 @@
 use crate::elements::{Stop, stop_of};
-use ciborium_ll::io::{SliceReader, SliceWriter};
+use ciborium_ll::io::{Read, SliceReader, SliceWriter, Write};
 use ciborium_ll::{Chunked, Decoder, Header, Segments};
 use std::process::Abort;
 
 // Copies the next body of a string to a writer, through four bytes. What it does is not known outside.
-fn copies_next<P: Chunked>(
-    segments: &mut Segments<'_, SliceReader<'_>, P>,
-    writer: &mut SliceWriter<'_>,
-) -> Option<Stop> {
+fn copies_next<R: Read, W: Write, P: Chunked>(
+    segments: &mut Segments<'_, R, P>,
+    writer: &mut W,
+) -> Option<Stop>
+where
+    R::Error: Drop,
+    W::Error: Drop,
+{
     match segments.advance() {
         Ok(Some(body)) => Some(stop_of(&segments.copy(body, writer, &mut [0; 4]))),
         _ => None,
@@ -15,11 +19,15 @@ fn copies_next<P: Chunked>(
 }
 
 // Copies each body of a string, up to its end or up to one that stops: how the last one ended.
-fn copies_all<P: Chunked>(
-    segments: &mut Segments<'_, SliceReader<'_>, P>,
-    writer: &mut SliceWriter<'_>,
+fn copies_all<R: Read, W: Write, P: Chunked>(
+    segments: &mut Segments<'_, R, P>,
+    writer: &mut W,
     most: usize,
-) -> Option<Stop> {
+) -> Option<Stop>
+where
+    R::Error: Drop,
+    W::Error: Drop,
+{
     let mut last = None;
     for _ in 0..=most {
         match copies_next(segments, writer) {
@@ -105,7 +113,11 @@ static ROWS: [(&[u8], usize, Option<Stop>, &[u8], usize); 13] = [
 ];
 
 // Copies the bodies of the string in front.
-fn copied(decoder: &mut Decoder<SliceReader<'_>>, writer: &mut SliceWriter<'_>) -> Option<Stop> {
+fn copied<R: Read, W: Write>(decoder: &mut Decoder<R>, writer: &mut W) -> Option<Stop>
+where
+    R::Error: Drop,
+    W::Error: Drop,
+{
     match decoder.pull() {
         Ok(Header::Bytes(len)) => copies_all(&mut decoder.bytes(len), writer, 8),
         Ok(Header::Text(len)) => copies_all(&mut decoder.text(len), writer, 8),

@@ -241,16 +241,21 @@ fn writer_to<'a>(sink: PartWriter, lent: &'a mut [u8; 4]) -> BufferedWriter<'a, 
     BufferedWriter::new(sink, lent)
 }
 
+// Writes three bytes, flushes, writes one more and flushes. It tells of each step, and of what it comes to, whether it
+// went well.
+fn flushes_twice(alloc: Global) -> [bool; 4] {
+    let mut lent = [0; 4];
+    let mut writer = writer_to(PartWriter::new(alloc, 1), &mut lent);
+    let is_taken = takes(&mut writer, &[1, 2, 3]);
+    let is_passed_on = passes_on(&mut writer) && keeps(&writer, &[]);
+    let goes_on = takes(&mut writer, &[4]) && passes_on(&mut writer);
+    let is_right = came_to(&take_apart(writer), &[1, 2, 3, 4], &[], (4, 2));
+    [is_taken, is_passed_on, goes_on, is_right]
+}
+
 #[test]
 fn a_flush_passes_on_what_was_kept_back(rt: HostRuntime) {
-    let mut lent = [0; 4];
-    let mut writer = writer_to(PartWriter::new(rt.alloc(), 1), &mut lent);
-    assert!(rt; takes(&mut writer, &[1, 2, 3]));
-    assert!(rt; passes_on(&mut writer) && keeps(&writer, &[]));
-    assert!(rt; takes(&mut writer, &[4]));
-    assert!(rt; passes_on(&mut writer));
-    let parts = take_apart(writer);
-    assert!(rt; came_to(&parts, &[1, 2, 3, 4], &[], (4, 2)));
+    assert_eq!(rt; flushes_twice(rt.alloc()), [true; 4]);
 }
 
 // What a failed write could not pass on is kept back still.
@@ -299,21 +304,50 @@ fn elements() -> [u8; 640] {
     bytes
 }
 
+// Copies 120 elements, and passes them on. What that does is not known outside.
+fn copies_all<R: Read, W: Write>(decoder: &mut Decoder<R>, encoder: &mut Encoder<W>) -> bool
+where
+    R::Error: Drop,
+    W::Error: Drop,
+{
+    recode(decoder, encoder, 120, &mut [0; 4]).is_ok() && encoder.flush().is_ok()
+}
+
+// A decoder of bytes, with so many of 64 bytes lent.
+fn decoder_of<'a>(
+    bytes: &'a [u8],
+    lent: &'a mut [u8; 64],
+    room: usize,
+) -> Decoder<BufferedReader<'a, PartReader<'a>>> {
+    let source = PartReader::new(bytes, usize::MAX);
+    Decoder::from(BufferedReader::new(source, &mut lent[..room.min(64)]))
+}
+
+// An encoder into a vector, with so many of 64 bytes lent.
+fn encoder_to<'a>(
+    alloc: Global,
+    lent: &'a mut [u8; 64],
+    room: usize,
+) -> Encoder<BufferedWriter<'a, Vec<u8>>> {
+    Encoder::from(BufferedWriter::new(Vec::new(alloc), &mut lent[..room.min(64)]))
+}
+
+// Copies elements with so many bytes lent to each side, and compares what comes out.
+fn is_copied(alloc: Global, bytes: &[u8], ahead: usize, back: usize) -> bool {
+    let mut lent_ahead = [0; 64];
+    let mut lent_back = [0; 64];
+    let mut decoder = decoder_of(bytes, &mut lent_ahead, ahead);
+    let mut encoder = encoder_to(alloc, &mut lent_back, back);
+    let is_whole = copies_all(&mut decoder, &mut encoder);
+    let (taken, _, _) = encoder.into_inner().into_parts();
+    is_whole && taken.as_slice() == bytes
+}
+
 #[test]
 fn copies_through_any_room(rt: HostRuntime) {
     let bytes = elements();
     for (ahead, back) in [(0usize, 0usize), (1, 64), (7, 1), (8, 9), (64, 64)] {
-        let mut lent_ahead = [0; 64];
-        let mut lent_back = [0; 64];
-        let source = PartReader::new(&bytes, usize::MAX);
-        let reader = BufferedReader::new(source, &mut lent_ahead[..ahead.min(64)]);
-        let sink = Vec::new(rt.alloc());
-        let writer = BufferedWriter::new(sink, &mut lent_back[..back.min(64)]);
-        let mut decoder = Decoder::from(reader);
-        let mut encoder = Encoder::from(writer);
-        assert!(rt; recode(&mut decoder, &mut encoder, 120, &mut [0; 4]).is_ok());
-        assert!(rt; encoder.flush().is_ok());
-        let (taken, _, _) = encoder.into_inner().into_parts();
-        assert!(rt; taken.as_slice() == bytes.as_slice(), "at {ahead}, {back}");
+        let is_right = is_copied(rt.alloc(), &bytes, ahead, back);
+        assert!(rt; is_right, "at {ahead}, {back}");
     }
 }

@@ -1,6 +1,6 @@
 use crate::elements::{Stop, stop_of};
-use ciborium_ll::io::{SliceReader, SliceWriter};
-use ciborium_ll::{Decoder, Encoder, Float, Header, laws, simple, tag};
+use ciborium_ll::io::{Read, SliceReader, SliceWriter, Write};
+use ciborium_ll::{Decoder, Encoder, Error, Float, Header, laws, simple, tag};
 
 // Bytes, how many headers are copied, into how much space, what is written, why it stopped, and the offset behind that.
 type Row = (&'static [u8], usize, usize, &'static [u8], Stop, usize);
@@ -17,12 +17,21 @@ static ROWS: [Row; 5] = [
 ];
 
 // Copies headers. What that does is not known outside.
-fn copies_headers(
-    decoder: &mut Decoder<SliceReader>,
-    encoder: &mut Encoder<SliceWriter>,
+fn copies_headers<R: Read, W: Write>(
+    decoder: &mut Decoder<R>,
+    encoder: &mut Encoder<W>,
     count: usize,
-) -> Stop {
+) -> Stop
+where
+    R::Error: Drop,
+    W::Error: Drop,
+{
     stop_of(&laws::copy_headers(decoder, encoder, count))
+}
+
+// Pulls a header, gives it back, and pulls it again.
+fn pulls_again<R: Read>(decoder: &mut Decoder<R>) -> Result<Header, Error<R::Error>> {
+    laws::pull_again(decoder)
 }
 
 // Copies so many headers into this much space, and compares all that this comes to. What was not read is left.
@@ -54,7 +63,7 @@ fn headers_are_copied(rt: HostRuntime) {
 #[test]
 fn a_header_is_pulled_again(rt: HostRuntime) {
     let mut decoder = Decoder::from(SliceReader::new(&[0x18, 5, 0]));
-    let again = laws::pull_again(&mut decoder);
+    let again = pulls_again(&mut decoder);
     assert!(rt; matches!(again, Ok(Header::Positive(5))));
     assert!(rt; decoder.offset() == 2 && decoder.into_inner().left() == [0].as_slice());
 }

@@ -1,4 +1,4 @@
-use ciborium_ll::io::{EndOfFile, OutOfSpace, SliceReader, SliceWriter};
+use ciborium_ll::io::{Read, SliceReader, SliceWriter, Write};
 use ciborium_ll::recode::recode;
 use ciborium_ll::{Decoder, Encoder, Error, RecodeError};
 use std::process::Abort;
@@ -34,7 +34,7 @@ pub fn read_end<E>(outcome: &Result<(), Error<E>>) -> Stop {
 }
 
 // What the outcome of a copy says.
-pub fn stop_of(outcome: &Result<(), RecodeError<EndOfFile, OutOfSpace>>) -> Stop {
+pub fn stop_of<E, F>(outcome: &Result<(), RecodeError<E, F>>) -> Stop {
     match outcome {
         Ok(()) => Stop::Never,
         Err(RecodeError::Read(error)) => read_stop(error),
@@ -43,13 +43,17 @@ pub fn stop_of(outcome: &Result<(), RecodeError<EndOfFile, OutOfSpace>>) -> Stop
 }
 
 // Copies so many elements by a buffer of four bytes at least.
-pub fn recodes(
+pub fn recodes<R: Read, W: Write>(
     rt: &impl Abort,
-    decoder: &mut Decoder<SliceReader>,
-    encoder: &mut Encoder<SliceWriter>,
+    decoder: &mut Decoder<R>,
+    encoder: &mut Encoder<W>,
     count: usize,
     buffer: &mut [u8],
-) -> Stop {
+) -> Stop
+where
+    R::Error: Drop,
+    W::Error: Drop,
+{
     assert!(rt; buffer.len() >= 4);
     stop_of(&recode(decoder, encoder, count, buffer))
 }

@@ -29,12 +29,17 @@ fn copies_strictly(
 // Bytes, how many elements are copied, what is written, how the copy ends, and the offset behind it.
 type Row = (&'static [u8], usize, &'static [u8], Stop, usize);
 
+// How long so many elements are, each in its shortest spelling. What that means is not known outside.
+fn length_of(bytes: &[u8], count: usize) -> Option<usize> {
+    strict_len(bytes, count)
+}
+
 // Compares copies, and how long these elements are where each is in its shortest spelling.
 fn copy_rows(rt: &impl Abort, rows: &[Row]) {
     for &(bytes, count, written, end, offset) in rows {
         let is_copied = copies_strictly(rt, bytes, count, written, end, offset);
         let want = (end == Stop::Never).then_some(offset);
-        let is_long = strict_len(bytes, count) == want;
+        let is_long = length_of(bytes, count) == want;
         assert!(rt; is_copied && is_long, "at {bytes:?}");
     }
 }
@@ -87,21 +92,16 @@ fn strings_in_their_shortest_spelling(rt: HostRuntime) {
     copy_rows(&rt, &STRINGS);
 }
 
-// Compares how long so many elements are.
-fn is_strict_len(bytes: &[u8], count: usize, want: Option<usize>) -> bool {
-    strict_len(bytes, count) == want
-}
-
 #[test]
 fn a_body_of_many_chunks(rt: HostRuntime) {
     // A string of 250 bytes, and then 48 numbers of a byte each.
     let mut bytes = [0; 300];
     bytes[0] = 0x58;
     bytes[1] = 250;
-    assert!(rt; is_strict_len(&bytes, 1, Some(252)));
-    assert!(rt; is_strict_len(&bytes, 49, Some(300)));
-    assert!(rt; is_strict_len(&bytes, 50, None));
-    assert!(rt; is_strict_len(&bytes[..251], 1, None));
+    assert!(rt; length_of(&bytes, 1) == Some(252));
+    assert!(rt; length_of(&bytes, 49) == Some(300));
+    assert!(rt; length_of(&bytes, 50).is_none());
+    assert!(rt; length_of(&bytes[..251], 1).is_none());
 }
 
 // The numbers of bytes that an affix has, and what the first byte of a title says of each.
@@ -227,7 +227,7 @@ fn both_decoders(rt: &impl Abort, bytes: &[u8], first: u8, second: Option<u8>) {
     let is_small = first == 0xf8 && matches!(second, Some(24..=31));
     let is_plain = strict == (plain && is_plain_same && !is_small);
     let is_right = strict == is_strict(first, second) && is_plain && (!strict || is_same);
-    let is_long = strict_len(bytes, 1).is_some() == strict;
+    let is_long = length_of(bytes, 1).is_some() == strict;
     assert!(rt; is_right && is_long, "at {bytes:?}");
 }
 

@@ -1,3 +1,4 @@
+use crate::calls::next_of;
 use ciborium_ll::io::{SliceReader, SliceWriter};
 use ciborium_ll::{Decoder, Encoder, Error, Header};
 use ciborium_ll_fixtures::samples::{
@@ -18,7 +19,7 @@ pub enum Next {
 
 // Pulls a header.
 pub fn next_header(decoder: &mut Decoder<SliceReader>) -> Next {
-    match decoder.pull() {
+    match next_of(decoder) {
         Ok(header) => Next::Header(header),
         Err(Error::Io(_)) => Next::Short,
         Err(Error::Syntax(place)) => Next::Syntax(place),
