@@ -1,15 +1,14 @@
 -- Lemmas on the part of a slice that is held, and on what is told of it.
 use Rattle.std.proofs.Common.{◌≡◌, ℕ, ◌+◌, ◌-◌, ◌≤◌, ◌<◌, List, [], ◌++◌, None, Some, Result, Ok, Err, OnErr, length}
 use Rattle.std.proofs.Common.{length-take-le, take, drop, slice_range, refl, sym, ap, ◌∙◌, arith, append_assoc}
-use Rattle.std.proofs.Common.{append-nil, drop-drop, length-append, length-drop, subst}
+use Rattle.std.proofs.Common.{append-nil, drop-drop}
 use Rattle.std.proofs.lemmas.List.{drop-take, drop-append-le, take-take}
-use Rattle.std.proofs.lemmas.Slice.{take-put_mid, take-put_mid_below}
+use Rattle.std.proofs.lemmas.Slice.{take-put_mid}
 use Rattle.std.proofs.Math.Seq.{take-append-add}
 use Rattle.std.specs.declared.option.Option.{Option}
 use Rattle.std.specs.Io.KnownBytes.{Appends, Consumes, Keeps, prepend_known, append_known}
-use Rattle.std.proofs.KnownBytes.{Consumes-kept}
-use Rattle.ciborium_ll_io.specs.Transfer.{AppendsFront, AppendsPart, ConsumesPart}
-use borrow.Rule.Slice.PartMut.{post_of, put_mid}
+use Rattle.ciborium_ll_io.specs.Transfer.{AppendsFront, AppendsPart}
+use borrow.Rule.Slice.PartMut.{put_mid}
 use lib.Seq.{take-add}
 
 -- a part is its first n bytes, and then the others
@@ -57,33 +56,6 @@ filled_more a k n xs ys within fits =
     ∙ ap (λ m. take (m + n) (take a xs ++ ys)) (length-take-le a xs within)
     ∙ ap (take (a + n)) (sym whole)
     ∙ take-take (a + n) (a + length ys) (put_mid a k xs ys) (omega arith)
-
--- a read that moved nothing
-pub moved_none : (b d : Option (List ℕ)) (n : ℕ) (ys : List ℕ) → n ≡ 0 → Consumes b d (take n ys) → Keeps b d
-moved_none None d n ys none p = tt
-moved_none (Some y) None n ys none p = absurd p
-moved_none (Some y) (Some z) n ys none p = sym (p ∙ ap (λ m. take m ys ++ z) none)
-
--- what was filled before a read that moved nothing is a part of the bytes, and not all of them
-pub filled_part : (a b d : Option (List ℕ)) (from k : ℕ) (xs ys : List ℕ) → from < length xs
-    → length ys ≡ length (take (length xs - from) (drop from xs)) → Consumes a b (take from xs) → Keeps b d
-    → ConsumesPart a d (put_mid from k xs ys)
-filled_part a b d from k xs ys within rest kept keeps =
-    let inside : from ≤ length xs = omega (arith, within) in
-    let front = take-put_mid_below from k xs ys from (omega arith) inside in
-    let left = length-drop from xs in
-    let whole = length-take-le (length xs - from) (drop from xs) (omega (arith, left)) in
-    let longer : from < length (put_mid from k xs ys) =
-    omega (
-      arith,
-      within,
-      rest,
-      whole,
-      length-take-le from xs inside,
-      length-append (take from xs) (ys ++ post_of from k xs),
-      length-append ys (post_of from k xs),
-    ) in
-    (from, subst (Consumes a d) (sym front) (Consumes-kept a b d _ kept keeps), longer)
 
 -- with nothing held, the writer within takes bytes
 pub append_known-sent : (a b : Option (List ℕ)) (held bs : List ℕ) → held ≡ [] → Appends a b bs

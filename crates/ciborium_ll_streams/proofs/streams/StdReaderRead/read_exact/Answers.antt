@@ -1,7 +1,7 @@
 use Rattle.std.proofs.Common.{◌-◌, length, rules, subst}
 use Rattle.std.specs.Io.KnownBytes.{Consumes}
 use Rattle.std.proofs.KnownBytes.{Consumes-trans}
-use Rattle.ciborium_ll_streams.proofs.BufferLaws.{filled_more, filled_part, moved_none}
+use Rattle.ciborium_ll_streams.proofs.BufferLaws.{filled_more}
 use Rattle.ciborium_ll_streams.proofs.streams.StdReaderRead.read_exact.Goals as goal
 
 pub loop-filled-preserved : goal.loop-filled-preserved
@@ -16,16 +16,3 @@ loop-filled-preserved g c =
       bytes = subst (Consumes _ _) joined (Consumes-trans _ _ _ _ _ kept.bytes c.in-Ok.ensures.bytes.0);
       empty = search rules;
     }
-
-pub returns-in-Ok-eq0-clause-part : goal.returns-in-Ok-eq0-clause-part
-returns-in-Ok-eq0-clause-part g c =
-    let kept = c.loop-filled.invariant in
-    let none = moved_none _ _ c.in-Ok-eq0.field-0 c.read.new.buf c.in-Ok-eq0.field-0-test c.in-Ok-eq0.ensures.bytes.0 in
-    rw c.ended.ensures.fault (filled_part _ _ _ c.loop-filled.filled _ c.loop-filled.«data» c.read.new.buf
-    c.loop-filled-test.true c.read.auto.buf kept.bytes (rw c.ended.ensures.same none))
-
-pub returns-in-Err-clause-part : goal.returns-in-Err-clause-part
-returns-in-Err-clause-part g c =
-    let kept = c.loop-filled.invariant in
-    rw c.read_failed.ensures.fault (filled_part _ _ _ c.loop-filled.filled _ c.loop-filled.«data» c.read.new.buf
-    c.loop-filled-test.true c.read.auto.buf kept.bytes (rw c.read_failed.ensures.same c.in-Err.ensures.bytes))
