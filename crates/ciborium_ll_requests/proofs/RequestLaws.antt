@@ -1,7 +1,8 @@
 -- A request is spelled in ASCII, and cut where its words end.
+use Rattle.std.proofs.Common.{if◌then◌else◌, ◌*◌, ◌+◌, ◌∙◌, sym, ap, IfOk, IfSome, Result, Ok, Err}
 use Rattle.std.proofs.Common.{◌≡◌, ◌≢◌, ◌<◌, ◌==◌, ℕ, suc, zero, List, [], ◌∷◌, ◌++◌, length, get_or, Option, Some}
-use Rattle.std.proofs.Common.{None, MatchOption, IfNone, IsSomeAnd, sym, ap, ◌∙◌, Result, Ok, Err, Bool, true, not}
-use Rattle.std.proofs.Common.{nat_lt, codes, refl, arith, IsUtf8, Bor, false, ◌+◌, ◌*◌}
+use Rattle.std.proofs.Common.{None, MatchOption, IfNone, Result, Ok, Err, Bool, true, not}
+use Rattle.std.proofs.Common.{nat_lt, codes, refl, arith, IsUtf8, Bor}
 use Rattle.std.specs.List.{AllPass, list_all}
 use Rattle.std.specs.Str.{IsAscii}
 use Rattle.std.proofs.lemmas.Str.{IsAscii-append, IsUtf8-from_ascii}
@@ -12,7 +13,9 @@ use Rattle.hex.specs.Hex.{decode_of, is_hex_digit}
 use Rattle.hex.specs.declared.error.FromHexError.{FromHexError}
 use Rattle.hex.proofs.HexLemmas.{decode_of-ok}
 use Rattle.ciborium_ll_requests.specs.Number.{IsLimit, IsNumber, IsNumberUpTo, most_depth, most_number, most_size}
-use Rattle.ciborium_ll_requests.specs.Request.{Asks, Spells, SpellsLimited, SpellsNumbered, name_of, space}
+use Rattle.ciborium_ll_requests.specs.Request.{Asks, Spells, SpellsLimited, SpellsNumbered, command_of, space, name_of}
+use Rattle.ciborium_ll_requests.specs.declared.request.Command.{Command}
+use Rattle.ciborium_ll_requests.specs.declared.request.Command.TheVariants as command
 use Rattle.ciborium_ll_requests.specs.declared.request.Limited.{Limited}
 use Rattle.ciborium_ll_requests.specs.declared.request.Numbered.{Numbered}
 use Rattle.ciborium_ll_requests.specs.Word.{bytes_of_word, decoded}
@@ -84,20 +87,20 @@ IsAscii-words words (Recode asked) spelled = IsAscii-numbered most_number words 
 IsAscii-words words (Strict asked) spelled = IsAscii-numbered most_number words asked spelled
 IsAscii-words words (Skip asked) spelled = IsAscii-numbered most_depth words asked spelled
 
--- the name of a request
-IsAscii-name : (request : Request) → IsAscii (name_of request)
-IsAscii-name (Heads bytes) = IsAscii-from_test (codes "heads") refl
-IsAscii-name (Chunks asked) = IsAscii-from_test (codes "chunks") refl
-IsAscii-name (Bytes asked) = IsAscii-from_test (codes "bytes") refl
-IsAscii-name (Text asked) = IsAscii-from_test (codes "text") refl
-IsAscii-name (Recode asked) = IsAscii-from_test (codes "recode") refl
-IsAscii-name (Strict asked) = IsAscii-from_test (codes "strict") refl
-IsAscii-name (Skip asked) = IsAscii-from_test (codes "skip") refl
+-- the first word of a line
+IsAscii-first : (asks : Command) → IsAscii (name_of asks)
+IsAscii-first command.Heads = IsAscii-from_test (codes "heads") refl
+IsAscii-first command.Chunks = IsAscii-from_test (codes "chunks") refl
+IsAscii-first command.Bytes = IsAscii-from_test (codes "bytes") refl
+IsAscii-first command.Text = IsAscii-from_test (codes "text") refl
+IsAscii-first command.Recode = IsAscii-from_test (codes "recode") refl
+IsAscii-first command.Strict = IsAscii-from_test (codes "strict") refl
+IsAscii-first command.Skip = IsAscii-from_test (codes "skip") refl
 
 -- a request is UTF-8
 pub IsUtf8-request : (line : List ℕ) (request : Request) → Asks line request → IsUtf8 line
 IsUtf8-request line request (words, parts, spelled) =
-    rw parts (IsUtf8-from_ascii _ (IsAscii-two (name_of request) words (IsAscii-name request)
+    rw parts (IsUtf8-from_ascii _ (IsAscii-two (name_of (command_of request)) words (IsAscii-first (command_of request))
     (IsAscii-words words request spelled)))
 
 -- ---- where a line is cut
@@ -111,26 +114,81 @@ no_space_at [] h i within = absurd (omega (arith, within))
 no_space_at (byte ∷ rest) h zero within = λ same. absurd (grind (arith))
 no_space_at (byte ∷ rest) h (suc i) within = no_space_at rest (grind (arith)) i (omega (arith, within))
 
--- no name has a space
-name_has_no_space : (request : Request) → (i : ℕ) → i < length (name_of request) → get_or (name_of request) i 0 ≢ space
-name_has_no_space (Heads bytes) = no_space_at (codes "heads") refl
-name_has_no_space (Chunks asked) = no_space_at (codes "chunks") refl
-name_has_no_space (Bytes asked) = no_space_at (codes "bytes") refl
-name_has_no_space (Text asked) = no_space_at (codes "text") refl
-name_has_no_space (Recode asked) = no_space_at (codes "recode") refl
-name_has_no_space (Strict asked) = no_space_at (codes "strict") refl
-name_has_no_space (Skip asked) = no_space_at (codes "skip") refl
+-- no first word has a space
+first_has_no_space : (asks : Command) → (i : ℕ) → i < length (name_of asks) → get_or (name_of asks) i 0 ≢ space
+first_has_no_space command.Heads = no_space_at (codes "heads") refl
+first_has_no_space command.Chunks = no_space_at (codes "chunks") refl
+first_has_no_space command.Bytes = no_space_at (codes "bytes") refl
+first_has_no_space command.Text = no_space_at (codes "text") refl
+first_has_no_space command.Recode = no_space_at (codes "recode") refl
+first_has_no_space command.Strict = no_space_at (codes "strict") refl
+first_has_no_space command.Skip = no_space_at (codes "skip") refl
 
--- a request is cut behind its name
-pub cut_behind_name : (line : List ℕ) (r : Option (Bor (List ℕ) × Bor (List ℕ))) → IsSplitOnceResult space line r
+-- a request is cut behind its first word
+pub cut_behind_first : (line : List ℕ) (r : Option (Bor (List ℕ) × Bor (List ℕ))) → IsSplitOnceResult space line r
     → (request : Request) → Asks line request → MatchOption r ⊥
-    (λ x. (x.0.now ≡ name_of request) × Spells x.1.now request)
-cut_behind_name line None cut request (words, parts, spelled) =
-    split_after space line (name_of request) words None cut (omega arith) parts (name_has_no_space request)
-cut_behind_name line (Some x) cut request (words, parts, spelled) =
-    let same = split_after space line (name_of request) words (Some x) cut (omega arith) parts
-    (name_has_no_space request) in
+    (λ x. (x.0.now ≡ name_of (command_of request)) × Spells x.1.now request)
+cut_behind_first line None cut request (words, parts, spelled) =
+    split_after space line (name_of (command_of request)) words None cut (omega arith) parts
+    (first_has_no_space (command_of request))
+cut_behind_first line (Some x) cut request (words, parts, spelled) =
+    let same = split_after space line (name_of (command_of request)) words (Some x) cut (omega arith) parts
+    (first_has_no_space (command_of request)) in
     (same.0, rw same.1 spelled)
+
+-- first words differ in their first two bytes, which tell the command
+abbrev command_at : ℕ → Command
+command_at initials =
+    if initials == 26725 then command.Heads else
+    if initials == 25448 then command.Chunks else
+    if initials == 25209 then command.Bytes else
+    if initials == 29797 then command.Text else
+    if initials == 29285 then command.Recode else
+    if initials == 29556 then command.Strict else
+    command.Skip
+
+abbrev initials : List ℕ → ℕ
+initials [] = 0
+initials (first ∷ []) = first
+initials (first ∷ second ∷ bytes) = 256 * first + second
+
+command_at-first : (asks : Command) → command_at (initials (name_of asks)) ≡ asks
+command_at-first command.Heads = refl
+command_at-first command.Chunks = refl
+command_at-first command.Bytes = refl
+command_at-first command.Text = refl
+command_at-first command.Recode = refl
+command_at-first command.Strict = refl
+command_at-first command.Skip = refl
+
+-- so the first word is that of one command
+same_command : (one other : Command) → name_of one ≡ name_of other → one ≡ other
+same_command one other same =
+    sym (command_at-first one) ∙ (ap (λ word. command_at (initials word)) same ∙ command_at-first other)
+
+-- a line whose words spell no request of its command is none
+pub none_of_line : {E : Type 0} (line name words : List ℕ) (asks : Command)
+    (result : Result (Option Request) E)
+    → name ≡ name_of asks
+    → ((request : Request) → Asks line request → (name ≡ name_of (command_of request)) × Spells words request)
+    → IfOk result (λ found. IfNone found ((request : Request) → command_of request ≡ asks → Spells words request → ⊥))
+    → IfOk result (λ found. IfNone found ((request : Request) → Asks line request → ⊥))
+none_of_line line name words asks (Err e) is cut refused = _
+none_of_line line name words asks (Ok (Some found)) is cut refused = _
+none_of_line line name words asks (Ok None) is cut refused = λ request asked.
+    let parts = cut request asked in
+    refused request (same_command _ _ (sym parts.0 ∙ is)) parts.1
+
+-- a line whose words spell a request of its command is that
+pub some_of_line : {E : Type 0} (line name words : List ℕ) (asks : Command)
+    (result : Result (Option Request) E)
+    → name ≡ name_of asks → line ≡ name ++ (space ∷ words)
+    → IfOk result (λ found. IfSome found (λ request. (command_of request ≡ asks) × Spells words request))
+    → IfOk result (λ found. IfSome found (Asks line))
+some_of_line line name words asks (Err e) is parts spelled = _
+some_of_line line name words asks (Ok None) is parts spelled = _
+some_of_line line name words asks (Ok (Some request)) is parts spelled =
+    (words, parts ∙ ap (λ first. first ++ (space ∷ words)) (is ∙ ap name_of (sym spelled.0)), spelled.1)
 
 -- a number and bytes are cut behind the number
 pub cut_behind_number : (most : ℕ) (words : List ℕ) (r : Option (Bor (List ℕ) × Bor (List ℕ)))
@@ -154,132 +212,64 @@ cut_behind_limit words (Some x) cut asked (first, word, parts, limit, has) =
     (limit_has_no_space first asked.limit limit) in
     (rw same.0 limit, rw same.1 has)
 
--- ---- requests of one name
+-- ---- words that are refused are no request of the command
 
--- the first two bytes, by which all names differ
-abbrev initials : List ℕ → ℕ
-initials [] = 0
-initials (first ∷ []) = first
-initials (first ∷ second ∷ bytes) = 256 * first + second
+pub none_of_chunks : (asks : Command) → asks ≡ command.Chunks → (words : List ℕ) → ((asked : Numbered) → SpellsNumbered most_size words asked → ⊥)
+    → (request : Request) → command_of request ≡ asks → Spells words request → ⊥
+none_of_chunks asks is words refused (Heads bytes) same spelled = cc (is, same)
+none_of_chunks asks is words refused (Chunks asked) same spelled = refused asked spelled
+none_of_chunks asks is words refused (Bytes asked) same spelled = cc (is, same)
+none_of_chunks asks is words refused (Text asked) same spelled = cc (is, same)
+none_of_chunks asks is words refused (Recode asked) same spelled = cc (is, same)
+none_of_chunks asks is words refused (Strict asked) same spelled = cc (is, same)
+none_of_chunks asks is words refused (Skip asked) same spelled = cc (is, same)
 
--- no name is two that differ in them
-differs : (name one other : List ℕ) → name ≡ one → name ≡ other → (initials one == initials other) ≡ false → ⊥
-differs name one other is named apart =
-    let same : initials one ≡ initials other = ap initials (sym is ∙ named) in
-    absurd (grind (arith))
+pub none_of_bytes : (asks : Command) → asks ≡ command.Bytes → (words : List ℕ) → ((asked : Limited) → SpellsLimited words asked → ⊥)
+    → (request : Request) → command_of request ≡ asks → Spells words request → ⊥
+none_of_bytes asks is words refused (Heads bytes) same spelled = cc (is, same)
+none_of_bytes asks is words refused (Chunks asked) same spelled = cc (is, same)
+none_of_bytes asks is words refused (Bytes asked) same spelled = refused asked spelled
+none_of_bytes asks is words refused (Text asked) same spelled = cc (is, same)
+none_of_bytes asks is words refused (Recode asked) same spelled = cc (is, same)
+none_of_bytes asks is words refused (Strict asked) same spelled = cc (is, same)
+none_of_bytes asks is words refused (Skip asked) same spelled = cc (is, same)
 
--- words that are refused behind a name are no request of it, where no other request has the name
-none_named : {A : Type 0} (name words : List ℕ) (found : Option A) (result : Option Request) (Spelled : A → Type 0)
-    (P : A → Request → Type 0) → MatchOption found (result ≡ None) (λ x. IsSomeAnd result (P x))
-    → IfNone found ((asked : A) → Spelled asked → ⊥)
-    → (((asked : A) → Spelled asked → ⊥) → (request : Request) → name ≡ name_of request → Spells words request → ⊥)
-    → IfNone result ((request : Request) → name ≡ name_of request → Spells words request → ⊥)
-none_named name words found (Some request) Spelled P cases refused others = _
-none_named name words (Some asked) None Spelled P cases refused others = absurd cases
-none_named name words None None Spelled P cases refused others = others refused
+pub none_of_text : (asks : Command) → asks ≡ command.Text → (words : List ℕ) → ((asked : Limited) → SpellsLimited words asked → ⊥)
+    → (request : Request) → command_of request ≡ asks → Spells words request → ⊥
+none_of_text asks is words refused (Heads bytes) same spelled = cc (is, same)
+none_of_text asks is words refused (Chunks asked) same spelled = cc (is, same)
+none_of_text asks is words refused (Bytes asked) same spelled = cc (is, same)
+none_of_text asks is words refused (Text asked) same spelled = refused asked spelled
+none_of_text asks is words refused (Recode asked) same spelled = cc (is, same)
+none_of_text asks is words refused (Strict asked) same spelled = cc (is, same)
+none_of_text asks is words refused (Skip asked) same spelled = cc (is, same)
 
-refuses_chunks : (name words : List ℕ) → name ≡ codes "chunks"
-    → ((asked : Numbered) → SpellsNumbered most_size words asked → ⊥) → (request : Request) → name ≡ name_of request
-    → Spells words request → ⊥
-refuses_chunks name words is refused (Heads bytes) named spelled = differs name _ _ is named refl
-refuses_chunks name words is refused (Chunks asked) named spelled = refused asked spelled
-refuses_chunks name words is refused (Bytes asked) named spelled = differs name _ _ is named refl
-refuses_chunks name words is refused (Text asked) named spelled = differs name _ _ is named refl
-refuses_chunks name words is refused (Recode asked) named spelled = differs name _ _ is named refl
-refuses_chunks name words is refused (Strict asked) named spelled = differs name _ _ is named refl
-refuses_chunks name words is refused (Skip asked) named spelled = differs name _ _ is named refl
+pub none_of_recode : (asks : Command) → asks ≡ command.Recode → (words : List ℕ) → ((asked : Numbered) → SpellsNumbered most_number words asked → ⊥)
+    → (request : Request) → command_of request ≡ asks → Spells words request → ⊥
+none_of_recode asks is words refused (Heads bytes) same spelled = cc (is, same)
+none_of_recode asks is words refused (Chunks asked) same spelled = cc (is, same)
+none_of_recode asks is words refused (Bytes asked) same spelled = cc (is, same)
+none_of_recode asks is words refused (Text asked) same spelled = cc (is, same)
+none_of_recode asks is words refused (Recode asked) same spelled = refused asked spelled
+none_of_recode asks is words refused (Strict asked) same spelled = cc (is, same)
+none_of_recode asks is words refused (Skip asked) same spelled = cc (is, same)
 
-pub none_of_chunks : (name words : List ℕ) (found : Option Numbered) (result : Option Request)
-    (P : Numbered → Request → Type 0) → MatchOption found (result ≡ None) (λ x. IsSomeAnd result (P x))
-    → IfNone found ((asked : Numbered) → SpellsNumbered most_size words asked → ⊥) → name ≡ codes "chunks"
-    → IfNone result ((request : Request) → name ≡ name_of request → Spells words request → ⊥)
-none_of_chunks name words found result P cases refused is =
-    none_named name words found result (SpellsNumbered most_size words) P cases refused (refuses_chunks name words is)
+pub none_of_strict : (asks : Command) → asks ≡ command.Strict → (words : List ℕ) → ((asked : Numbered) → SpellsNumbered most_number words asked → ⊥)
+    → (request : Request) → command_of request ≡ asks → Spells words request → ⊥
+none_of_strict asks is words refused (Heads bytes) same spelled = cc (is, same)
+none_of_strict asks is words refused (Chunks asked) same spelled = cc (is, same)
+none_of_strict asks is words refused (Bytes asked) same spelled = cc (is, same)
+none_of_strict asks is words refused (Text asked) same spelled = cc (is, same)
+none_of_strict asks is words refused (Recode asked) same spelled = cc (is, same)
+none_of_strict asks is words refused (Strict asked) same spelled = refused asked spelled
+none_of_strict asks is words refused (Skip asked) same spelled = cc (is, same)
 
-refuses_bytes : (name words : List ℕ) → name ≡ codes "bytes" → ((asked : Limited) → SpellsLimited words asked → ⊥)
-    → (request : Request) → name ≡ name_of request → Spells words request → ⊥
-refuses_bytes name words is refused (Heads bytes) named spelled = differs name _ _ is named refl
-refuses_bytes name words is refused (Chunks asked) named spelled = differs name _ _ is named refl
-refuses_bytes name words is refused (Bytes asked) named spelled = refused asked spelled
-refuses_bytes name words is refused (Text asked) named spelled = differs name _ _ is named refl
-refuses_bytes name words is refused (Recode asked) named spelled = differs name _ _ is named refl
-refuses_bytes name words is refused (Strict asked) named spelled = differs name _ _ is named refl
-refuses_bytes name words is refused (Skip asked) named spelled = differs name _ _ is named refl
-
-pub none_of_bytes : (name words : List ℕ) (found : Option Limited) (result : Option Request)
-    (P : Limited → Request → Type 0) → MatchOption found (result ≡ None) (λ x. IsSomeAnd result (P x))
-    → IfNone found ((asked : Limited) → SpellsLimited words asked → ⊥) → name ≡ codes "bytes"
-    → IfNone result ((request : Request) → name ≡ name_of request → Spells words request → ⊥)
-none_of_bytes name words found result P cases refused is =
-    none_named name words found result (SpellsLimited words) P cases refused (refuses_bytes name words is)
-
-refuses_text : (name words : List ℕ) → name ≡ codes "text" → ((asked : Limited) → SpellsLimited words asked → ⊥)
-    → (request : Request) → name ≡ name_of request → Spells words request → ⊥
-refuses_text name words is refused (Heads bytes) named spelled = differs name _ _ is named refl
-refuses_text name words is refused (Chunks asked) named spelled = differs name _ _ is named refl
-refuses_text name words is refused (Bytes asked) named spelled = differs name _ _ is named refl
-refuses_text name words is refused (Text asked) named spelled = refused asked spelled
-refuses_text name words is refused (Recode asked) named spelled = differs name _ _ is named refl
-refuses_text name words is refused (Strict asked) named spelled = differs name _ _ is named refl
-refuses_text name words is refused (Skip asked) named spelled = differs name _ _ is named refl
-
-pub none_of_text : (name words : List ℕ) (found : Option Limited) (result : Option Request)
-    (P : Limited → Request → Type 0) → MatchOption found (result ≡ None) (λ x. IsSomeAnd result (P x))
-    → IfNone found ((asked : Limited) → SpellsLimited words asked → ⊥) → name ≡ codes "text"
-    → IfNone result ((request : Request) → name ≡ name_of request → Spells words request → ⊥)
-none_of_text name words found result P cases refused is =
-    none_named name words found result (SpellsLimited words) P cases refused (refuses_text name words is)
-
-refuses_recode : (name words : List ℕ) → name ≡ codes "recode"
-    → ((asked : Numbered) → SpellsNumbered most_number words asked → ⊥) → (request : Request) → name ≡ name_of request
-    → Spells words request → ⊥
-refuses_recode name words is refused (Heads bytes) named spelled = differs name _ _ is named refl
-refuses_recode name words is refused (Chunks asked) named spelled = differs name _ _ is named refl
-refuses_recode name words is refused (Bytes asked) named spelled = differs name _ _ is named refl
-refuses_recode name words is refused (Text asked) named spelled = differs name _ _ is named refl
-refuses_recode name words is refused (Recode asked) named spelled = refused asked spelled
-refuses_recode name words is refused (Strict asked) named spelled = differs name _ _ is named refl
-refuses_recode name words is refused (Skip asked) named spelled = differs name _ _ is named refl
-
-pub none_of_recode : (name words : List ℕ) (found : Option Numbered) (result : Option Request)
-    (P : Numbered → Request → Type 0) → MatchOption found (result ≡ None) (λ x. IsSomeAnd result (P x))
-    → IfNone found ((asked : Numbered) → SpellsNumbered most_number words asked → ⊥) → name ≡ codes "recode"
-    → IfNone result ((request : Request) → name ≡ name_of request → Spells words request → ⊥)
-none_of_recode name words found result P cases refused is =
-    none_named name words found result (SpellsNumbered most_number words) P cases refused (refuses_recode name words is)
-
-refuses_strict : (name words : List ℕ) → name ≡ codes "strict"
-    → ((asked : Numbered) → SpellsNumbered most_number words asked → ⊥) → (request : Request) → name ≡ name_of request
-    → Spells words request → ⊥
-refuses_strict name words is refused (Heads bytes) named spelled = differs name _ _ is named refl
-refuses_strict name words is refused (Chunks asked) named spelled = differs name _ _ is named refl
-refuses_strict name words is refused (Bytes asked) named spelled = differs name _ _ is named refl
-refuses_strict name words is refused (Text asked) named spelled = differs name _ _ is named refl
-refuses_strict name words is refused (Recode asked) named spelled = differs name _ _ is named refl
-refuses_strict name words is refused (Strict asked) named spelled = refused asked spelled
-refuses_strict name words is refused (Skip asked) named spelled = differs name _ _ is named refl
-
-pub none_of_strict : (name words : List ℕ) (found : Option Numbered) (result : Option Request)
-    (P : Numbered → Request → Type 0) → MatchOption found (result ≡ None) (λ x. IsSomeAnd result (P x))
-    → IfNone found ((asked : Numbered) → SpellsNumbered most_number words asked → ⊥) → name ≡ codes "strict"
-    → IfNone result ((request : Request) → name ≡ name_of request → Spells words request → ⊥)
-none_of_strict name words found result P cases refused is =
-    none_named name words found result (SpellsNumbered most_number words) P cases refused (refuses_strict name words is)
-
-refuses_skip : (name words : List ℕ) → name ≡ codes "skip"
-    → ((asked : Numbered) → SpellsNumbered most_depth words asked → ⊥) → (request : Request) → name ≡ name_of request
-    → Spells words request → ⊥
-refuses_skip name words is refused (Heads bytes) named spelled = differs name _ _ is named refl
-refuses_skip name words is refused (Chunks asked) named spelled = differs name _ _ is named refl
-refuses_skip name words is refused (Bytes asked) named spelled = differs name _ _ is named refl
-refuses_skip name words is refused (Text asked) named spelled = differs name _ _ is named refl
-refuses_skip name words is refused (Recode asked) named spelled = differs name _ _ is named refl
-refuses_skip name words is refused (Strict asked) named spelled = differs name _ _ is named refl
-refuses_skip name words is refused (Skip asked) named spelled = refused asked spelled
-
-pub none_of_skip : (name words : List ℕ) (found : Option Numbered) (result : Option Request)
-    (P : Numbered → Request → Type 0) → MatchOption found (result ≡ None) (λ x. IsSomeAnd result (P x))
-    → IfNone found ((asked : Numbered) → SpellsNumbered most_depth words asked → ⊥) → name ≡ codes "skip"
-    → IfNone result ((request : Request) → name ≡ name_of request → Spells words request → ⊥)
-none_of_skip name words found result P cases refused is =
-    none_named name words found result (SpellsNumbered most_depth words) P cases refused (refuses_skip name words is)
+pub none_of_skip : (asks : Command) → asks ≡ command.Skip → (words : List ℕ) → ((asked : Numbered) → SpellsNumbered most_depth words asked → ⊥)
+    → (request : Request) → command_of request ≡ asks → Spells words request → ⊥
+none_of_skip asks is words refused (Heads bytes) same spelled = cc (is, same)
+none_of_skip asks is words refused (Chunks asked) same spelled = cc (is, same)
+none_of_skip asks is words refused (Bytes asked) same spelled = cc (is, same)
+none_of_skip asks is words refused (Text asked) same spelled = cc (is, same)
+none_of_skip asks is words refused (Recode asked) same spelled = cc (is, same)
+none_of_skip asks is words refused (Strict asked) same spelled = cc (is, same)
+none_of_skip asks is words refused (Skip asked) same spelled = refused asked spelled

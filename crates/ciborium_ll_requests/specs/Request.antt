@@ -2,6 +2,8 @@
 use Rattle.std.specs.Prelude.{◌≡◌, ℕ, List, ◌++◌, ◌∷◌, codes, Some}
 use Rattle.ciborium_ll_requests.specs.Number.{IsLimit, IsNumberUpTo, most_depth, most_number, most_size}
 use Rattle.ciborium_ll_requests.specs.Word.{bytes_of_word}
+use Rattle.ciborium_ll_requests.specs.declared.request.Command.{Command}
+use Rattle.ciborium_ll_requests.specs.declared.request.Command.TheVariants as command
 use Rattle.ciborium_ll_requests.specs.declared.request.Limited.{Limited}
 use Rattle.ciborium_ll_requests.specs.declared.request.Request.{Request}
 use Rattle.ciborium_ll_requests.specs.declared.request.Request.TheVariants.{Bytes, Chunks, Heads, Recode, Skip}
@@ -22,15 +24,25 @@ abbrev pub SpellsLimited : List ℕ → Limited → Type 0
 SpellsLimited words asked = (first : List ℕ) × (word : List ℕ) × (words ≡ first ++ (space ∷ word))
     × IsLimit first asked.limit × (bytes_of_word word ≡ Some asked.bytes.items)
 
--- the first word of a request
-abbrev pub name_of : Request → List ℕ
-name_of (Heads bytes) = codes "heads"
-name_of (Chunks asked) = codes "chunks"
-name_of (Bytes asked) = codes "bytes"
-name_of (Text asked) = codes "text"
-name_of (Recode asked) = codes "recode"
-name_of (Strict asked) = codes "strict"
-name_of (Skip asked) = codes "skip"
+-- the first word of a line that asks for this
+abbrev pub name_of : Command → List ℕ
+name_of command.Heads = codes "heads"
+name_of command.Chunks = codes "chunks"
+name_of command.Bytes = codes "bytes"
+name_of command.Text = codes "text"
+name_of command.Recode = codes "recode"
+name_of command.Strict = codes "strict"
+name_of command.Skip = codes "skip"
+
+-- what a request asks for
+abbrev pub command_of : Request → Command
+command_of (Heads bytes) = command.Heads
+command_of (Chunks asked) = command.Chunks
+command_of (Bytes asked) = command.Bytes
+command_of (Text asked) = command.Text
+command_of (Recode asked) = command.Recode
+command_of (Strict asked) = command.Strict
+command_of (Skip asked) = command.Skip
 
 -- the words behind the first one
 abbrev pub Spells : List ℕ → Request → Type 0
@@ -44,4 +56,4 @@ Spells words (Skip asked) = SpellsNumbered most_depth words asked
 
 -- the line is this request, spelled out
 abbrev pub Asks : List ℕ → Request → Type 0
-Asks line request = (words : List ℕ) × (line ≡ name_of request ++ (space ∷ words)) × Spells words request
+Asks line request = (words : List ℕ) × (line ≡ name_of (command_of request) ++ (space ∷ words)) × Spells words request

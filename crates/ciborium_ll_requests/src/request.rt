@@ -73,6 +73,41 @@ impl Limited {
     }
 }
 
+/// What is asked for by the first word of a line.
+#[derive(Drop)]
+enum Command {
+    Heads,
+    Chunks,
+    Bytes,
+    Text,
+    Recode,
+    Strict,
+    Skip,
+}
+
+impl Command {
+    ghost use Rattle.std.specs.Prelude.{◌≡◌};
+    ghost use Rattle.ciborium_ll_requests.specs.Request.{name_of};
+    ghost use Rattle.ciborium_ll_requests.specs.declared.request.Command.{Command};
+
+    /// The one of this name.
+    fn named(name: &str) -> Option<Command>
+        ensures some { IfSome result (λ command. name.now ≡ name_of command) }
+        ensures none { IfNone result ((command : Command) → name.now ≡ name_of command → ⊥) }
+    {
+        match name {
+            "heads" => Some(Command::Heads),
+            "chunks" => Some(Command::Chunks),
+            "bytes" => Some(Command::Bytes),
+            "text" => Some(Command::Text),
+            "recode" => Some(Command::Recode),
+            "strict" => Some(Command::Strict),
+            "skip" => Some(Command::Skip),
+            _ => None,
+        }
+    }
+}
+
 /// What a line asks for.
 #[derive(Drop)]
 pub enum Request {
@@ -94,7 +129,8 @@ pub enum Request {
 
 impl Request {
     ghost use Rattle.std.specs.Prelude.{◌≡◌};
-    ghost use Rattle.ciborium_ll_requests.specs.Request.{Asks, Spells, name_of};
+    ghost use Rattle.ciborium_ll_requests.specs.Request.{Asks, Spells, command_of};
+    ghost use Rattle.ciborium_ll_requests.specs.declared.request.Command.{Command};
 
     /// Reads a line, given without its line feed. Exactly one space parts two words.
     ///
@@ -114,28 +150,52 @@ impl Request {
         ensures some { IfOk result (λ found. IfSome found (Asks text.now)) }
         ensures none { IfOk result (λ found. IfNone found ((request : Request) → Asks text.now request → ⊥)) }
     {
-        match text.split_once(' ') {
-            Some((name, words)) => Request::named(alloc, name, words),
+        let Some((name, words)) = text.split_once(' ') else {
+            return Ok(None);
+        };
+        match Command::named(name) {
+            Some(command) => Request::of_words(alloc, command, words),
             None => Ok(None),
         }
     }
 
-    /// Reads a request of this name.
-    fn named(alloc: Global, name: &str, words: &str) -> Result<Option<Request>, AllocError>
-        ensures some { IfOk result (λ found. IfSome found (λ request. (name.now ≡ name_of request)
+    /// Reads the words of a request.
+    fn of_words(alloc: Global, command: Command, words: &str) -> Result<Option<Request>, AllocError>
+        ensures some { IfOk result (λ found. IfSome found (λ request. (command_of request ≡ command)
             × Spells words.now request)) }
         ensures none { IfOk result (λ found. IfNone found ((request : Request)
-            → name.now ≡ name_of request → Spells words.now request → ⊥)) }
+            → command_of request ≡ command → Spells words.now request → ⊥)) }
     {
-        match name {
-            "heads" => Ok(bytes_of(alloc, words)?.map(Request::Heads)),
-            "chunks" => Ok(Numbered::parse(alloc, MOST_SIZE, words)?.map(Request::Chunks)),
-            "bytes" => Ok(Limited::parse(alloc, words)?.map(Request::Bytes)),
-            "text" => Ok(Limited::parse(alloc, words)?.map(Request::Text)),
-            "recode" => Ok(Numbered::parse(alloc, MOST_NUMBER, words)?.map(Request::Recode)),
-            "strict" => Ok(Numbered::parse(alloc, MOST_NUMBER, words)?.map(Request::Strict)),
-            "skip" => Ok(Numbered::parse(alloc, MOST_DEPTH, words)?.map(Request::Skip)),
-            _ => Ok(None),
-        }
+        let found = match command {
+            Command::Heads => match bytes_of(alloc, words)? {
+                Some(bytes) => Request::Heads(bytes),
+                None => return Ok(None),
+            },
+            Command::Chunks => match Numbered::parse(alloc, MOST_SIZE, words)? {
+                Some(asked) => Request::Chunks(asked),
+                None => return Ok(None),
+            },
+            Command::Bytes => match Limited::parse(alloc, words)? {
+                Some(asked) => Request::Bytes(asked),
+                None => return Ok(None),
+            },
+            Command::Text => match Limited::parse(alloc, words)? {
+                Some(asked) => Request::Text(asked),
+                None => return Ok(None),
+            },
+            Command::Recode => match Numbered::parse(alloc, MOST_NUMBER, words)? {
+                Some(asked) => Request::Recode(asked),
+                None => return Ok(None),
+            },
+            Command::Strict => match Numbered::parse(alloc, MOST_NUMBER, words)? {
+                Some(asked) => Request::Strict(asked),
+                None => return Ok(None),
+            },
+            Command::Skip => match Numbered::parse(alloc, MOST_DEPTH, words)? {
+                Some(asked) => Request::Skip(asked),
+                None => return Ok(None),
+            },
+        };
+        Ok(Some(found))
     }
 }

@@ -1,4 +1,6 @@
-use Rattle.std.proofs.Common.{None, Some, ◌∙◌, sym}
+use Rattle.std.proofs.Common.{None, Some, ◌∙◌, arith, sym}
+use Rattle.std.proofs.lemmas.Str.Pattern.{split_parts}
+use Rattle.ciborium_ll_requests.specs.Request.{space}
 use Rattle.ciborium_ll_requests.proofs.RequestLaws.{cut_behind_number}
 use Rattle.ciborium_ll_requests.proofs.request.Numbered.parse.Goals as goal
 
@@ -19,3 +21,14 @@ returns-in-None-clause-none c asked spelled =
     let none = rw c.in-None.is at c.in_ok-bytes.ensures.none in
     let same = sym none ∙ parts.1 in
     cc same
+
+pub returns-in-Some-2-clause-some : goal.returns-in-Some-2-clause-some
+returns-in-Some-2-clause-some c =
+    let parts = split_parts space c.args.words.now (Some (c.in-Some.first, c.in-Some.word)) c.in-Some.ensures.cases
+    (omega arith) in (
+      c.in-Some.first.now,
+      c.in-Some.word.now,
+      parts.0,
+      c.in-Some-number_up_to.ensures.some,
+      rw c.in-Some-2.is at c.in_ok-bytes.ensures.some,
+    )
