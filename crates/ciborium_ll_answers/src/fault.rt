@@ -5,7 +5,7 @@ ghost use Rattle.ciborium_ll_answers.specs.Fault.{fault_of, fault_of_copy};
 
 use crate::memory::OutOfMemory;
 use ciborium_ll_decoder::dec::Error;
-use ciborium_ll_recode::recode::RecodeError;
+use ciborium_ll_decoder::copy::RecodeError;
 use ciborium_ll_requests::input::LineError;
 use ciborium_ll_streams::{ReadFault, WriteFault};
 use std::alloc::AllocError;
