@@ -1,4 +1,2 @@
 pub mod Fault
-pub mod Raw
-pub mod Restoring
 pub mod Value

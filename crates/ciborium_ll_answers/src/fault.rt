@@ -4,8 +4,8 @@ ghost use Rattle.std.specs.Prelude.{◌≡◌};
 ghost use Rattle.ciborium_ll_answers.specs.Fault.{fault_of, fault_of_copy};
 
 use crate::memory::OutOfMemory;
+use ciborium_ll_decoder::copy::RecodeError;
 use ciborium_ll_decoder::dec::Error;
-use ciborium_ll_recode::recode::RecodeError;
 use ciborium_ll_requests::input::LineError;
 use ciborium_ll_streams::{ReadFault, WriteFault};
 use std::alloc::AllocError;
@@ -121,8 +121,7 @@ impl fmt::Display for ToolError {
     fn fmt<W: fmt::Write>(&self, f: &mut fmt::Formatter<W>) -> fmt::Result {
         match self {
             ToolError::Memory => f.write_str("there is no memory left"),
-            ToolError::Read(error) => write!(f, "{error}"),
-            ToolError::Write(error) => write!(f, "{error}"),
+            ToolError::Read(error) | ToolError::Write(error) => write!(f, "{error}"),
         }
     }
 }

@@ -3,7 +3,7 @@
 use ciborium_ll_decoder::dec::{Decoder, Error};
 use ciborium_ll_grammar::hdr::{Float, Header};
 use ciborium_ll_io::io::{EndOfFile, SliceReader};
-use ciborium_ll_requests::answer::{Last, Value, title_line};
+use ciborium_ll_requests::answer::{Last, Value, last_line, title_line};
 use std::fmt;
 use std::fmt::Write;
 
@@ -14,11 +14,11 @@ pub fn heads<T: Write>(bytes: &[u8], sink: &mut T) -> fmt::Result {
     for _ in 0..=bytes.len() {
         let offset = decoder.offset();
         match decoder.pull() {
-            Ok(header) => {
-                let (name, value) = named(header);
-                title_line(offset, name, value, sink)?;
-            }
-            Err(error) => return writeln!(sink, "{}", ended(error, offset, decoder.offset())),
+            Ok(header) => match title_line(offset, name_of(header), value_of(header), sink) {
+                Ok(()) => {}
+                Err(error) => return Err(error),
+            },
+            Err(error) => return last_line(ended(error, offset, decoder.offset()), sink),
         }
     }
     Ok(())
@@ -34,24 +34,40 @@ fn ended(error: Error<EndOfFile>, began: usize, offset: usize) -> Last {
     }
 }
 
-/// The name of a header, with a star where its length is indefinite, and what stands behind it.
-fn named(header: Header) -> (&'static str, Value) {
+/// The name of a header, with a star where its length is indefinite.
+fn name_of(header: Header) -> &'static str {
     match header {
-        Header::Positive(n) => ("positive", Value::Number(n)),
-        Header::Negative(n) => ("negative", Value::Number(n)),
-        Header::Float(Float::Half(bits)) => ("half", Value::Bits(u64::from(bits), 4)),
-        Header::Float(Float::Single(bits)) => ("single", Value::Bits(u64::from(bits), 8)),
-        Header::Float(Float::Double(bits)) => ("double", Value::Bits(bits, 16)),
-        Header::Simple(n) => ("simple", Value::Number(u64::from(n))),
-        Header::Tag(n) => ("tag", Value::Number(n)),
-        Header::Break => ("break", Value::Nothing),
-        Header::Bytes(Some(length)) => ("bytes", Value::Number(length as u64)),
-        Header::Bytes(None) => ("bytes *", Value::Nothing),
-        Header::Text(Some(length)) => ("text", Value::Number(length as u64)),
-        Header::Text(None) => ("text *", Value::Nothing),
-        Header::Array(Some(length)) => ("array", Value::Number(length as u64)),
-        Header::Array(None) => ("array *", Value::Nothing),
-        Header::Map(Some(length)) => ("map", Value::Number(length as u64)),
-        Header::Map(None) => ("map *", Value::Nothing),
+        Header::Positive(_) => "positive",
+        Header::Negative(_) => "negative",
+        Header::Float(Float::Half(_)) => "half",
+        Header::Float(Float::Single(_)) => "single",
+        Header::Float(Float::Double(_)) => "double",
+        Header::Simple(_) => "simple",
+        Header::Tag(_) => "tag",
+        Header::Break => "break",
+        Header::Bytes(Some(_)) => "bytes",
+        Header::Bytes(None) => "bytes *",
+        Header::Text(Some(_)) => "text",
+        Header::Text(None) => "text *",
+        Header::Array(Some(_)) => "array",
+        Header::Array(None) => "array *",
+        Header::Map(Some(_)) => "map",
+        Header::Map(None) => "map *",
+    }
+}
+
+/// What stands behind the name of a header: its number, the bits of a float, or nothing.
+fn value_of(header: Header) -> Value {
+    match header {
+        Header::Positive(n) | Header::Negative(n) | Header::Tag(n) => Value::Number(n),
+        Header::Float(Float::Half(bits)) => Value::Bits(u64::from(bits), 4),
+        Header::Float(Float::Single(bits)) => Value::Bits(u64::from(bits), 8),
+        Header::Float(Float::Double(bits)) => Value::Bits(bits, 16),
+        Header::Simple(n) => Value::Number(u64::from(n)),
+        Header::Bytes(Some(length))
+        | Header::Text(Some(length))
+        | Header::Array(Some(length))
+        | Header::Map(Some(length)) => Value::Number(length as u64),
+        _ => Value::Nothing,
     }
 }

@@ -1,6 +1,6 @@
 //! Strings that are read chunk by chunk.
 
-ghost use Rattle.std.specs.Prelude.{◌≡◌};
+ghost use Rattle.std.specs.Prelude.{◌≡◌, ◌<◌, ◌+◌, ◌*◌, cond, length, IfOk};
 ghost use Rattle.ciborium_ll_decoder.specs.Chunks.{segment_reference};
 ghost use Rattle.ciborium_ll_decoder.specs.Segments.{string_reference};
 
@@ -8,7 +8,7 @@ use ciborium_ll_decoder::dec::{Decoder, Error};
 use ciborium_ll_decoder::seg::{Bytes, Chunked, Segment, Segments, Text};
 use ciborium_ll_grammar::hdr::Header;
 use ciborium_ll_io::io::{Read, SliceReader};
-use ciborium_ll_requests::answer::{Last, chunk_line};
+use ciborium_ll_requests::answer::{Last, chunk_line, last_line, segment_line};
 use ciborium_ll_requests::request::Numbered;
 use std::alloc::Global;
 use std::fmt;
@@ -29,6 +29,8 @@ enum Stop {
     Stuck,
     /// The offset has no room. No line is long enough for it.
     Room,
+    /// A line can't be written.
+    Unwritten,
 }
 
 impl<E: Drop> From<Error<E>> for Stop {
@@ -43,8 +45,10 @@ impl<E: Drop> From<Error<E>> for Stop {
 
 /// Answers `chunks`: a line for each segment, chunk and end of a segment, and one for what ended the string.
 pub fn chunks<T: Write>(alloc: Global, asked: &Numbered, sink: &mut T) -> fmt::Result {
-    let mut buffer = vec![in alloc; 0u8; asked.number]?;
-    chunks_within(alloc, asked.bytes.as_slice(), buffer.as_mut_slice(), sink)
+    match vec![in alloc; 0u8; asked.number] {
+        Ok(mut buffer) => chunks_within(alloc, asked.bytes.as_slice(), buffer.as_mut_slice(), sink),
+        Err(_) => Err(fmt::Error),
+    }
 }
 
 /// The same, through this buffer.
@@ -55,19 +59,28 @@ fn chunks_within<T: Write>(
     sink: &mut T,
 ) -> fmt::Result {
     let mut decoder = Decoder::from(SliceReader::new(bytes));
-    let stop = string(alloc, &mut decoder, bytes.len(), buffer, sink)?;
-    writeln!(sink, "{}", stopped(stop, decoder.offset()))
+    let stop = string(alloc, &mut decoder, bytes.len(), buffer, sink);
+    stop_line(stop, decoder.offset(), sink)
 }
 
-/// What a stop at this offset is for the answer.
-fn stopped(stop: Stop, offset: usize) -> Last {
+/// Writes what a stop at this offset is for the answer.
+fn stop_line<T: Write>(stop: Stop, offset: usize, sink: &mut T) -> fmt::Result {
+    match stopped(stop, offset) {
+        Some(last) => last_line(last, sink),
+        None => Err(fmt::Error),
+    }
+}
+
+/// What a stop at this offset is for the answer, where one can be written.
+fn stopped(stop: Stop, offset: usize) -> Option<Last> {
     match stop {
-        Stop::Other => Last::Other,
-        Stop::Ended => Last::End(offset),
-        Stop::Syntax(place) => Last::Syntax(place),
-        Stop::Short => Last::Short(offset),
-        Stop::Stuck => Last::Stuck,
-        Stop::Room => Last::Room,
+        Stop::Other => Some(Last::Other),
+        Stop::Ended => Some(Last::End(offset)),
+        Stop::Syntax(place) => Some(Last::Syntax(place)),
+        Stop::Short => Some(Last::Short(offset)),
+        Stop::Stuck => Some(Last::Stuck),
+        Stop::Room => Some(Last::Room),
+        Stop::Unwritten => None,
     }
 }
 
@@ -78,7 +91,7 @@ fn string<R: Read, T: Write>(
     most: usize,
     buffer: &mut [u8],
     sink: &mut T,
-) -> Result<Stop, fmt::Error>
+) -> Stop
 where
     R::Error: Drop,
 {
@@ -89,8 +102,8 @@ where
         Ok(Header::Text(length)) => {
             segment_lines::<R, Text, T>(alloc, &mut decoder.text(length), most, buffer, sink)
         }
-        Ok(_) => Ok(Stop::Other),
-        Err(error) => Ok(Stop::from(error)),
+        Ok(_) => Stop::Other,
+        Err(error) => Stop::from(error),
     }
 }
 
@@ -101,23 +114,38 @@ fn segment_lines<R: Read, P: Chunked, T: Write>(
     most: usize,
     buffer: &mut [u8],
     sink: &mut T,
-) -> Result<Stop, fmt::Error>
+) -> Stop
 where
     R::Error: Drop,
     ensures { string_reference segments.new ≡ string_reference segments.old }
 {
     'segments: for _ in 0..=most {
-        let body = match segments.advance() {
-            Ok(Some(body)) => body,
-            Ok(None) => return Ok(Stop::Ended),
-            Err(error) => return Ok(Stop::from(error)),
-        };
-        let mut segment = segments.segment(body);
-        if let Some(stop) = chunk_lines(alloc, &mut segment, buffer, sink)? {
-            return Ok(stop);
+        if let Some(stop) = next_segment(alloc, segments, buffer, sink) {
+            return stop;
         }
     }
-    Ok(Stop::Room)
+    Stop::Room
+}
+
+/// Reads the next segment, to its end. It is `None` there.
+fn next_segment<R: Read, P: Chunked, T: Write>(
+    alloc: Global,
+    segments: &mut Segments<'_, R, P>,
+    buffer: &mut [u8],
+    sink: &mut T,
+) -> Option<Stop>
+where
+    R::Error: Drop,
+    ensures { string_reference segments.new ≡ string_reference segments.old }
+{
+    match segments.advance() {
+        Ok(Some(body)) => match segment_line(body.length, sink) {
+            Ok(()) => chunk_lines(alloc, &mut segments.segment(body), buffer, sink),
+            Err(_) => Some(Stop::Unwritten),
+        },
+        Ok(None) => Some(Stop::Ended),
+        Err(error) => Some(Stop::from(error)),
+    }
 }
 
 /// Reads a segment. It is `None` at the segment's end.
@@ -126,28 +154,42 @@ fn chunk_lines<R: Read, P: Chunked, T: Write>(
     segment: &mut Segment<'_, R, P>,
     buffer: &mut [u8],
     sink: &mut T,
-) -> Result<Option<Stop>, fmt::Error>
+) -> Option<Stop>
 where
     R::Error: Drop,
     ensures { segment_reference segment.new ≡ segment_reference segment.old }
 {
-    let left = segment.left();
-    writeln!(sink, "segment {left}")?;
     let mut was_empty = false;
     'chunks: loop {
         match P::chunk(segment, buffer) {
-            Ok(Some(chunk)) => {
-                if was_empty && chunk.is_empty() {
-                    return Ok(Some(Stop::Stuck));
-                }
-                was_empty = chunk.is_empty();
-                chunk_line(alloc, chunk, sink)?;
-            }
-            Ok(None) => {
-                sink.write_str("stop\n")?;
-                return Ok(None);
-            }
-            Err(error) => return Ok(Some(Stop::from(error))),
+            Ok(Some(chunk)) => match told(alloc, chunk, was_empty, sink) {
+                Ok(is_empty) => was_empty = is_empty,
+                Err(stop) => return Some(stop),
+            },
+            Ok(None) => return end_told(sink),
+            Err(error) => return Some(Stop::from(error)),
         }
+    }
+}
+
+/// Writes the line of a chunk, and tells whether it is empty. Of two empty ones in a row the second is a stop.
+fn told<T: Write>(alloc: Global, chunk: &[u8], was_empty: bool, sink: &mut T) -> Result<bool, Stop>
+    ensures { IfOk result (λ is_empty. cond is_empty 0 1 < 2 * length chunk.now + cond was_empty 0 1) }
+{
+    let is_empty = chunk.is_empty();
+    if was_empty && is_empty {
+        return Err(Stop::Stuck);
+    }
+    match chunk_line(alloc, chunk, sink) {
+        Ok(()) => Ok(is_empty),
+        Err(_) => Err(Stop::Unwritten),
+    }
+}
+
+/// Writes the line of a segment's end.
+fn end_told<T: Write>(sink: &mut T) -> Option<Stop> {
+    match sink.write_str("stop\n") {
+        Ok(()) => None,
+        Err(_) => Some(Stop::Unwritten),
     }
 }

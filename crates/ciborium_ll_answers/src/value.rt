@@ -14,17 +14,21 @@ use std::fmt::Write;
 
 /// Answers `bytes`: the spelling of a byte string under a limit.
 pub fn bytes<T: Write>(alloc: Global, asked: &Limited, sink: &mut T) -> fmt::Result {
-    let spelling = spelled_bytes(alloc, asked.bytes.as_slice(), asked.limit)?;
-    word_line(alloc, spelling.as_slice(), sink)
+    match spelled_bytes(alloc, asked.bytes.as_slice(), asked.limit) {
+        Ok(spelling) => word_line(alloc, spelling.as_slice(), sink),
+        Err(_) => Err(fmt::Error),
+    }
 }
 
 /// Answers `text`: the spelling of a text string under a limit, where the bytes are text.
 pub fn text<T: Write>(alloc: Global, asked: &Limited, sink: &mut T) -> fmt::Result {
-    let Ok(value) = std::str::from_utf8(asked.bytes.as_slice()) else {
-        return sink.write_str("error: text\n");
-    };
-    let spelling = spelled_text(alloc, value, asked.limit)?;
-    word_line(alloc, spelling.as_slice(), sink)
+    match std::str::from_utf8(asked.bytes.as_slice()) {
+        Ok(value) => match spelled_text(alloc, value, asked.limit) {
+            Ok(spelling) => word_line(alloc, spelling.as_slice(), sink),
+            Err(_) => Err(fmt::Error),
+        },
+        Err(_) => sink.write_str("error: text\n"),
+    }
 }
 
 /// The spelling of a byte string, in segments within the limit. The error says that there is no memory for it.
@@ -32,8 +36,10 @@ fn spelled_bytes(alloc: Global, value: &[u8], limit: Option<usize>) -> Result<Ve
     ensures { IfOk result (λ bytes. IsValueSpelling byte_strings limit value.now bytes.items) }
 {
     let mut encoder = Encoder::from(VecWriter::new(alloc));
-    encoder.bytes(value, limit)?;
-    Ok(encoder.into_inner().into_vec())
+    match encoder.bytes(value, limit) {
+        Ok(()) => Ok(encoder.into_inner().into_vec()),
+        Err(error) => Err(error),
+    }
 }
 
 /// The spelling of a text string, in segments within the limit. The error says that there is no memory for it.
@@ -41,6 +47,8 @@ fn spelled_text(alloc: Global, value: &str, limit: Option<usize>) -> Result<Vec<
     ensures { IfOk result (λ bytes. IsValueSpelling text_strings limit value.now bytes.items) }
 {
     let mut encoder = Encoder::from(VecWriter::new(alloc));
-    encoder.text(value, limit)?;
-    Ok(encoder.into_inner().into_vec())
+    match encoder.text(value, limit) {
+        Ok(()) => Ok(encoder.into_inner().into_vec()),
+        Err(error) => Err(error),
+    }
 }

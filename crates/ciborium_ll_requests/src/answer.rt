@@ -75,6 +75,16 @@ pub fn title_line<T: Write>(offset: usize, name: &str, value: Value, sink: &mut 
     }
 }
 
+/// Writes the line of what ended an answer.
+pub fn last_line<T: Write>(last: Last, sink: &mut T) -> fmt::Result {
+    writeln!(sink, "{last}")
+}
+
+/// Writes the line of a segment with so many bytes.
+pub fn segment_line<T: Write>(length: usize, sink: &mut T) -> fmt::Result {
+    writeln!(sink, "segment {length}")
+}
+
 /// Writes bytes as a line of one word.
 pub fn word_line<T: Write>(alloc: Global, bytes: &[u8], sink: &mut T) -> fmt::Result {
     write_word(alloc, bytes, sink)?;
@@ -96,7 +106,7 @@ pub fn copy_line<T: Write>(
     sink: &mut T,
 ) -> fmt::Result {
     match last {
-        Some(Last::Room) => writeln!(sink, "{}", Last::Room),
+        Some(Last::Room) => last_line(Last::Room, sink),
         Some(last) => {
             write_word(alloc, written, sink)?;
             writeln!(sink, " {last}")

@@ -3,7 +3,8 @@
 ghost use Rattle.ciborium_ll_service.specs.Depth.{IsWithinDepth};
 
 use crate::skip;
-use ciborium_ll_answers::{copy, head, string, value};
+use ciborium_ll_answers::{head, string, value};
+use ciborium_ll_copies::copy;
 use ciborium_ll_requests::request::Request;
 use std::alloc::Global;
 use std::fmt;
@@ -12,9 +13,10 @@ use std::fmt::Write;
 /// Answers a line. The error comes only where the sink refused text, or where there is no memory.
 #[tactic(auto, using(crate::proofs::DepthLaws::within_depth))]
 pub fn line<T: Write>(alloc: Global, line: &[u8], sink: &mut T) -> fmt::Result {
-    match Request::parse(alloc, line)? {
-        Some(request) => answer(alloc, &request, sink),
-        None => sink.write_str("error: line\n"),
+    match Request::parse(alloc, line) {
+        Ok(Some(request)) => answer(alloc, &request, sink),
+        Ok(None) => sink.write_str("error: line\n"),
+        Err(_) => Err(fmt::Error),
     }
 }
 

@@ -3,10 +3,10 @@
 ghost use Rattle.std.specs.Prelude.{◌≤◌};
 
 use cbor_skip::{SkipError, skip_item};
-use ciborium_ll_answers::copy::BUFFER_SIZE;
+use ciborium_ll_copies::copy::BUFFER_SIZE;
 use ciborium_ll_decoder::dec::{Decoder, Error};
 use ciborium_ll_io::io::{EndOfFile, SliceReader};
-use ciborium_ll_requests::answer::Last;
+use ciborium_ll_requests::answer::{Last, last_line};
 use ciborium_ll_requests::request::Numbered;
 use std::fmt;
 use std::fmt::Write;
@@ -18,7 +18,7 @@ pub fn item<T: Write>(asked: &Numbered, sink: &mut T) -> fmt::Result
     let mut buffer = [0; BUFFER_SIZE];
     let mut decoder = Decoder::from(SliceReader::new(asked.bytes.as_slice()));
     let outcome = skip_item(&mut decoder, asked.number, &mut buffer);
-    writeln!(sink, "{}", skipped(outcome, decoder.offset()))
+    last_line(skipped(outcome, decoder.offset()), sink)
 }
 
 /// What the outcome of a skip is for the answer, by the offset behind it.

@@ -5,7 +5,7 @@
 #![tactic(auto)]
 
 use ciborium_ll_answers::fault::{Fault, fault_of_raw, fault_of_run};
-use ciborium_ll_answers::raw::raw_buffered;
+use ciborium_ll_copies::raw::raw_buffered;
 use ciborium_ll_requests::arguments::chosen;
 use ciborium_ll_requests::choice::Chosen;
 use ciborium_ll_service::service::run;

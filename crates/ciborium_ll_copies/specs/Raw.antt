@@ -24,6 +24,13 @@ abbrev pub TellsFlushed : {T F : Type 0} → (T → Option (List ℕ)) → Resul
 TellsFlushed told (Ok done) value bytes = Tells told value bytes
 TellsFlushed told (Err fault) value bytes = TellsFront told value bytes
 
+-- how a copy ended with the flush behind it: with its own error, else with that of the flush
+abbrev pub flushed_outcome : {E F : Type 0} → Result (Unit {0}) (RecodeError E F) → Result (Unit {0}) F
+    → Result (Unit {0}) (RecodeError E F)
+flushed_outcome (Ok done) (Ok sent) = Ok done
+flushed_outcome (Ok done) (Err fault) = Err (r.Write fault)
+flushed_outcome (Err error) flushed = Err error
+
 -- nothing is said of the bytes
 abbrev pub Untold : {T : Type 0} → T → List ℕ → Type 0
 Untold value bytes = Unit {0}

@@ -19,8 +19,8 @@ use Rattle.ciborium_ll_recode.specs.Recoding.{CopiesElements}
 use Rattle.ciborium_ll_decoder.specs.BodyCopies.{sides}
 use Rattle.ciborium_ll_recode.specs.RecodingTold.{IsTold, RecodesAnyhow, StopsShort}
 use Rattle.ciborium_ll_decoder.proofs.BodyLaws.{view_none}
-use Rattle.ciborium_ll_answers.specs.Restoring.{Restores, RestoresCopy, RestoresFlush}
-use Rattle.ciborium_ll_answers.specs.Raw.{CopiesRaw, ReadsShort, TellsFlushed, WritesShort}
+use Rattle.ciborium_ll_copies.specs.Restoring.{Restores, RestoresCopy, RestoresFlush}
+use Rattle.ciborium_ll_copies.specs.Raw.{CopiesRaw, ReadsShort, TellsFlushed, WritesShort, flushed_outcome}
 
 -- known bytes that are kept are known still
 pub kept_known : (old new : Option (List ℕ)) (bytes : List ℕ) → Keeps old new → old ≡ Some bytes → new ≡ Some bytes
@@ -185,3 +185,12 @@ module _ {D S E F : Type 0} (source : Reader D E) (sink : Writer S F) where
         → CopiesRaw left got count due written outcome reader flushed
     raw_any (Ok done) copied told = raw_all copied told
     raw_any (Err error) copied told = raw_stopped error copied told
+
+    -- whatever the copy answered, and the flush behind it
+    pub raw_flushed : (outcome : Result (Unit {0}) (RecodeError E F)) (sent : Result (Unit {0}) F)
+        → CopiesElements source sink count 64 (sides old writer) outcome (sides new writer')
+        → RecodesAnyhow source sink false count 64 due written old outcome (sides new writer')
+        → CopiesRaw left got count due written (flushed_outcome outcome sent) reader flushed
+    raw_flushed (Ok done) (Ok sent) copied told = raw_all copied told
+    raw_flushed (Ok done) (Err fault) copied told = raw_unflushed told
+    raw_flushed (Err error) sent copied told = raw_stopped error copied told

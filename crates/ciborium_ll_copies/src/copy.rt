@@ -2,7 +2,7 @@
 
 use ciborium_ll_decoder::dec::{Decoder, Error};
 use ciborium_ll_encoder::enc::Encoder;
-use ciborium_ll_io::io::{SliceReader, SliceWriter};
+use ciborium_ll_io::io::{self, Read, SliceReader, SliceWriter};
 use ciborium_ll_recode::recode::{RecodeError, recode};
 use ciborium_ll_requests::answer::{Last, copy_line};
 use ciborium_ll_requests::request::Numbered;
@@ -33,26 +33,42 @@ fn copy<T: Write>(
     sink: &mut T,
 ) -> fmt::Result {
     // No element has a longer spelling than the one that it is read from.
-    let mut space = vec![in alloc; 0u8; asked.bytes.len()]?;
-    let mut encoder = Encoder::from(SliceWriter::new(space.as_mut_slice()));
-    let last = copied(&mut decoder, &mut encoder, asked.number);
-    let writer = encoder.into_inner();
-    let reader = decoder.into_inner();
-    copy_line(alloc, last, writer.written(), reader.left(), sink)
+    match vec![in alloc; 0u8; asked.bytes.len()] {
+        Ok(mut space) => {
+            let mut encoder = Encoder::from(SliceWriter::new(space.as_mut_slice()));
+            let last = copied(&mut decoder, &mut encoder, asked.number);
+            let writer = encoder.into_inner();
+            let reader = decoder.into_inner();
+            copy_line(alloc, last, writer.written(), reader.left(), sink)
+        }
+        Err(_) => Err(fmt::Error),
+    }
 }
 
 /// Copies so many elements, and says why the copy stopped before, if it did. Its contract says nothing of the copy:
-/// else whoever calls it proves each further step with all of that in view.
-fn copied(
-    decoder: &mut Decoder<SliceReader<'_>>,
-    encoder: &mut Encoder<SliceWriter<'_>>,
+/// else whoever calls it proves each further step with all of that in view. For the same reason what an error means is
+/// a function of its own.
+fn copied<R: Read, W: io::Write>(
+    decoder: &mut Decoder<R>,
+    encoder: &mut Encoder<W>,
     count: usize,
-) -> Option<Last> {
+) -> Option<Last>
+where
+    R::Error: Drop,
+    W::Error: Drop,
+{
     let mut buffer = [0; BUFFER_SIZE];
     match recode(decoder, encoder, count, &mut buffer) {
         Ok(()) => None,
-        Err(RecodeError::Read(Error::Syntax(place))) => Some(Last::Syntax(place)),
-        Err(RecodeError::Read(Error::Io(_))) => Some(Last::Short(decoder.offset())),
-        Err(_) => Some(Last::Room),
+        Err(error) => Some(stopped(error, decoder.offset())),
+    }
+}
+
+/// Why a copy stopped that ended at this offset.
+fn stopped<E: Drop, F: Drop>(error: RecodeError<E, F>, offset: usize) -> Last {
+    match error {
+        RecodeError::Read(Error::Syntax(place)) => Last::Syntax(place),
+        RecodeError::Read(Error::Io(_)) => Last::Short(offset),
+        _ => Last::Room,
     }
 }

@@ -1,8 +1,8 @@
 //! Elements copied from one stream of bytes to another.
 
 ghost use Rattle.std.specs.Prelude.{◌≡◌, ℕ, List, Some};
-ghost use Rattle.ciborium_ll_answers.specs.Raw.{CopiesRaw, Tells, TellsFlushed, Untold};
-ghost use Rattle.ciborium_ll_answers.specs.Restoring.{Restores, RestoresCopy, RestoresFlush};
+ghost use Rattle.ciborium_ll_copies.specs.Raw.{CopiesRaw, Tells, TellsFlushed, Untold, flushed_outcome};
+ghost use Rattle.ciborium_ll_copies.specs.Restoring.{Restores, RestoresCopy, RestoresFlush};
 
 use crate::copy::BUFFER_SIZE;
 use ciborium_ll_decoder::dec::{Decoder, Error};
@@ -38,12 +38,24 @@ pub fn raw<R: io::Read, W: io::Write>(
     let copied = recode(&mut decoder, &mut encoder, count, &mut buffer);
     let reader = decoder.into_inner().into_inner();
     let mut writer = encoder.into_inner();
-    let outcome = match (copied, writer.flush()) {
-        (Ok(()), Ok(())) => Ok(()),
-        (Ok(()), Err(fault)) => Err(RecodeError::Write(fault)),
-        (Err(error), _) => Err(error),
-    };
+    let outcome = outcome_of(copied, writer.flush());
     (reader, writer.into_inner(), outcome)
+}
+
+/// How a copy ended with the flush behind it: with its own error, else with that of the flush.
+fn outcome_of(
+    copied: Result<(), RecodeError<ReadFault, WriteFault>>,
+    flushed: Result<(), WriteFault>,
+) -> Result<(), RecodeError<ReadFault, WriteFault>>
+    ensures { result ≡ flushed_outcome copied flushed }
+{
+    match copied {
+        Ok(()) => match flushed {
+            Ok(()) => Ok(()),
+            Err(fault) => Err(RecodeError::Write(fault)),
+        },
+        Err(error) => Err(error),
+    }
 }
 
 /// How a buffered copy ended.
