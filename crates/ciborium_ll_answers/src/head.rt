@@ -14,10 +14,7 @@ pub fn heads<T: Write>(bytes: &[u8], sink: &mut T) -> fmt::Result {
     for _ in 0..=bytes.len() {
         let offset = decoder.offset();
         match decoder.pull() {
-            Ok(header) => match title_line(offset, name_of(header), value_of(header), sink) {
-                Ok(()) => {}
-                Err(error) => return Err(error),
-            },
+            Ok(header) => title_line(offset, name_of(header), value_of(header), sink)?,
             Err(error) => return last_line(ended(error, offset, decoder.offset()), sink),
         }
     }

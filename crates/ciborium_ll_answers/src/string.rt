@@ -45,10 +45,8 @@ impl<E: Drop> From<Error<E>> for Stop {
 
 /// Answers `chunks`: a line for each segment, chunk and end of a segment, and one for what ended the string.
 pub fn chunks<T: Write>(alloc: Global, asked: &Numbered, sink: &mut T) -> fmt::Result {
-    match vec![in alloc; 0u8; asked.number] {
-        Ok(mut buffer) => chunks_within(alloc, asked.bytes.as_slice(), buffer.as_mut_slice(), sink),
-        Err(_) => Err(fmt::Error),
-    }
+    let mut buffer = vec![in alloc; 0u8; asked.number]?;
+    chunks_within(alloc, asked.bytes.as_slice(), buffer.as_mut_slice(), sink)
 }
 
 /// The same, through this buffer.

@@ -14,21 +14,17 @@ use std::fmt::Write;
 
 /// Answers `bytes`: the spelling of a byte string under a limit.
 pub fn bytes<T: Write>(alloc: Global, asked: &Limited, sink: &mut T) -> fmt::Result {
-    match spelled_bytes(alloc, asked.bytes.as_slice(), asked.limit) {
-        Ok(spelling) => word_line(alloc, spelling.as_slice(), sink),
-        Err(_) => Err(fmt::Error),
-    }
+    let spelling = spelled_bytes(alloc, asked.bytes.as_slice(), asked.limit)?;
+    word_line(alloc, spelling.as_slice(), sink)
 }
 
 /// Answers `text`: the spelling of a text string under a limit, where the bytes are text.
 pub fn text<T: Write>(alloc: Global, asked: &Limited, sink: &mut T) -> fmt::Result {
-    match std::str::from_utf8(asked.bytes.as_slice()) {
-        Ok(value) => match spelled_text(alloc, value, asked.limit) {
-            Ok(spelling) => word_line(alloc, spelling.as_slice(), sink),
-            Err(_) => Err(fmt::Error),
-        },
-        Err(_) => sink.write_str("error: text\n"),
-    }
+    let Ok(value) = std::str::from_utf8(asked.bytes.as_slice()) else {
+        return sink.write_str("error: text\n");
+    };
+    let spelling = spelled_text(alloc, value, asked.limit)?;
+    word_line(alloc, spelling.as_slice(), sink)
 }
 
 /// The spelling of a byte string, in segments within the limit. The error says that there is no memory for it.
@@ -36,10 +32,8 @@ fn spelled_bytes(alloc: Global, value: &[u8], limit: Option<usize>) -> Result<Ve
     ensures { IfOk result (λ bytes. IsValueSpelling byte_strings limit value.now bytes.items) }
 {
     let mut encoder = Encoder::from(VecWriter::new(alloc));
-    match encoder.bytes(value, limit) {
-        Ok(()) => Ok(encoder.into_inner().into_vec()),
-        Err(error) => Err(error),
-    }
+    encoder.bytes(value, limit)?;
+    Ok(encoder.into_inner().into_vec())
 }
 
 /// The spelling of a text string, in segments within the limit. The error says that there is no memory for it.
@@ -47,8 +41,6 @@ fn spelled_text(alloc: Global, value: &str, limit: Option<usize>) -> Result<Vec<
     ensures { IfOk result (λ bytes. IsValueSpelling text_strings limit value.now bytes.items) }
 {
     let mut encoder = Encoder::from(VecWriter::new(alloc));
-    match encoder.text(value, limit) {
-        Ok(()) => Ok(encoder.into_inner().into_vec()),
-        Err(error) => Err(error),
-    }
+    encoder.text(value, limit)?;
+    Ok(encoder.into_inner().into_vec())
 }

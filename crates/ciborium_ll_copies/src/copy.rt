@@ -33,16 +33,12 @@ fn copy<T: Write>(
     sink: &mut T,
 ) -> fmt::Result {
     // No element has a longer spelling than the one that it is read from.
-    match vec![in alloc; 0u8; asked.bytes.len()] {
-        Ok(mut space) => {
-            let mut encoder = Encoder::from(SliceWriter::new(space.as_mut_slice()));
-            let last = copied(&mut decoder, &mut encoder, asked.number);
-            let writer = encoder.into_inner();
-            let reader = decoder.into_inner();
-            copy_line(alloc, last, writer.written(), reader.left(), sink)
-        }
-        Err(_) => Err(fmt::Error),
-    }
+    let mut space = vec![in alloc; 0u8; asked.bytes.len()]?;
+    let mut encoder = Encoder::from(SliceWriter::new(space.as_mut_slice()));
+    let last = copied(&mut decoder, &mut encoder, asked.number);
+    let writer = encoder.into_inner();
+    let reader = decoder.into_inner();
+    copy_line(alloc, last, writer.written(), reader.left(), sink)
 }
 
 /// Copies so many elements, and says why the copy stopped before, if it did. Its contract says nothing of the copy:

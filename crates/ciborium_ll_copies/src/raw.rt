@@ -49,13 +49,8 @@ fn outcome_of(
 ) -> Result<(), RecodeError<ReadFault, WriteFault>>
     ensures { result ≡ flushed_outcome copied flushed }
 {
-    match copied {
-        Ok(()) => match flushed {
-            Ok(()) => Ok(()),
-            Err(fault) => Err(RecodeError::Write(fault)),
-        },
-        Err(error) => Err(error),
-    }
+    copied?;
+    flushed.map_err(RecodeError::Write)
 }
 
 /// How a buffered copy ended.

@@ -13,10 +13,9 @@ use std::fmt::Write;
 /// Answers a line. The error comes only where the sink refused text, or where there is no memory.
 #[tactic(auto, using(crate::proofs::DepthLaws::within_depth))]
 pub fn line<T: Write>(alloc: Global, line: &[u8], sink: &mut T) -> fmt::Result {
-    match Request::parse(alloc, line) {
-        Ok(Some(request)) => answer(alloc, &request, sink),
-        Ok(None) => sink.write_str("error: line\n"),
-        Err(_) => Err(fmt::Error),
+    match Request::parse(alloc, line)? {
+        Some(request) => answer(alloc, &request, sink),
+        None => sink.write_str("error: line\n"),
     }
 }
 

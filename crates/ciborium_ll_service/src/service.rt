@@ -37,31 +37,15 @@ fn answer_lines<R: io::Read + Drop, W: io::Write>(
     reader: R,
     writer: &mut StdWriter<W>,
 ) -> Result<(), ToolError> {
-    match Lines::new(alloc, reader) {
-        Ok(mut lines) => answer_all(alloc, &mut lines, writer),
-        Err(_) => Err(ToolError::Memory),
-    }
-}
-
-/// Answers each of these lines, and flushes.
-fn answer_all<R: io::Read + Drop, W: io::Write>(
-    alloc: Global,
-    lines: &mut Lines<R>,
-    writer: &mut StdWriter<W>,
-) -> Result<(), ToolError> {
+    let mut lines = Lines::new(alloc, reader)?;
     let mut line = Vec::new(alloc);
     let mut answer = String::new(alloc);
     for _ in 0..u64::MAX {
-        match answer_next(alloc, lines, &mut line, &mut answer, writer) {
-            Ok(true) => {}
-            Ok(false) => break,
-            Err(error) => return Err(error),
+        if !answer_next(alloc, &mut lines, &mut line, &mut answer, writer)? {
+            break;
         }
     }
-    match writer.flush() {
-        Ok(()) => Ok(()),
-        Err(fault) => Err(ToolError::from(fault)),
-    }
+    Ok(writer.flush()?)
 }
 
 /// Answers the next line, and tells whether there was one. The line and its answer are read and made in this memory.
@@ -72,29 +56,11 @@ fn answer_next<R: io::Read + Drop, W: io::Write>(
     answer: &mut String,
     writer: &mut StdWriter<W>,
 ) -> Result<bool, ToolError> {
-    match lines.read_line(line) {
-        Ok(true) => match write_answer(alloc, line.as_slice(), answer, writer) {
-            Ok(()) => Ok(true),
-            Err(error) => Err(error),
-        },
-        Ok(false) => Ok(false),
-        Err(error) => Err(ToolError::from(error)),
+    if !lines.read_line(line)? {
+        return Ok(false);
     }
-}
-
-/// Answers this line. The answer is made in this memory, where only memory can fail.
-fn write_answer<W: io::Write>(
-    alloc: Global,
-    line: &[u8],
-    answer: &mut String,
-    writer: &mut StdWriter<W>,
-) -> Result<(), ToolError> {
     answer.clear();
-    match answer::line(alloc, line, answer) {
-        Ok(()) => match writer.write_all(answer.as_bytes()) {
-            Ok(()) => Ok(()),
-            Err(fault) => Err(ToolError::from(fault)),
-        },
-        Err(_) => Err(ToolError::Memory),
-    }
+    answer::line(alloc, line.as_slice(), answer)?;
+    writer.write_all(answer.as_bytes())?;
+    Ok(true)
 }
