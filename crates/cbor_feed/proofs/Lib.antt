@@ -7,6 +7,8 @@ pub mod LevelLaws
 pub mod LiveLaws
 pub mod LongerBegun
 pub mod OneSpot
+pub mod PlainLaws
+pub mod RunLaws
 pub mod SettledLaws
 pub mod ShortLeads
 pub mod SnapshotLaws

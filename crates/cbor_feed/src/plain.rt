@@ -1,0 +1,114 @@
+//! Items that their first byte tells, and of which all bytes are there.
+
+ghost use Rattle.std.specs.Prelude.{◌+◌, ◌-◌, ◌<◌, ◌≤◌, take, length};
+ghost use Rattle.cbor_feed.specs.Plain.{ArePlain, IsPlain, IsSpan};
+
+/// From this number on it is that of a longer title, of which the lower six bits are the length.
+const LONG: u8 = 64;
+
+/// From this one on that of a text.
+const TEXT: u8 = 128;
+
+/// What each first byte tells: four lines for each two major types. 0 is nothing.
+#[rattlefmt::skip]
+static SPANS: [u8; 256] = [
+    // unsigned integers
+    1, 1, 1, 1, 1, 1, 1, 1, 1, 1, 1, 1, 1, 1, 1, 1,
+    1, 1, 1, 1, 1, 1, 1, 1, 66, 67, 69, 73, 0, 0, 0, 0,
+    // negative integers
+    1, 1, 1, 1, 1, 1, 1, 1, 1, 1, 1, 1, 1, 1, 1, 1,
+    1, 1, 1, 1, 1, 1, 1, 1, 66, 67, 69, 73, 0, 0, 0, 0,
+    // byte strings
+    1, 2, 3, 4, 5, 6, 7, 8, 9, 10, 11, 12, 13, 14, 15, 16,
+    17, 18, 19, 20, 21, 22, 23, 24, 0, 0, 0, 0, 0, 0, 0, 0,
+    // text strings
+    129, 130, 131, 132, 133, 134, 135, 136, 137, 138, 139, 140, 141, 142, 143, 144,
+    145, 146, 147, 148, 149, 150, 151, 152, 0, 0, 0, 0, 0, 0, 0, 0,
+    // arrays
+    0, 0, 0, 0, 0, 0, 0, 0, 0, 0, 0, 0, 0, 0, 0, 0,
+    0, 0, 0, 0, 0, 0, 0, 0, 0, 0, 0, 0, 0, 0, 0, 0,
+    // maps
+    0, 0, 0, 0, 0, 0, 0, 0, 0, 0, 0, 0, 0, 0, 0, 0,
+    0, 0, 0, 0, 0, 0, 0, 0, 0, 0, 0, 0, 0, 0, 0, 0,
+    // tags
+    0, 0, 0, 0, 0, 0, 0, 0, 0, 0, 0, 0, 0, 0, 0, 0,
+    0, 0, 0, 0, 0, 0, 0, 0, 0, 0, 0, 0, 0, 0, 0, 0,
+    // simple values and floats
+    1, 1, 1, 1, 1, 1, 1, 1, 1, 1, 1, 1, 1, 1, 1, 1,
+    1, 1, 1, 1, 1, 1, 1, 1, 66, 67, 69, 73, 0, 0, 0, 0,
+];
+
+/// What a first byte tells.
+#[inline(always)]
+fn span_of(first: u8) -> u8
+    ensures { IsSpan first result }
+{
+    SPANS[first as usize]
+}
+
+/// How many bytes the item in front has, where an item is due and its first byte tells it, and all of it is there: of a
+/// number, a float or a simple value, of a byte string below 24 bytes, or of a text below that which is ASCII. Of any
+/// other one 0, and of a longer title where the shortest alone is taken.
+#[inline(always)]
+fn plain_len(bytes: &[u8], strict: bool) -> usize
+    requires some { 0 < length bytes.now }
+    ensures within { result ≤ length bytes.now }
+    ensures plain { 0 < result → IsPlain strict (take result bytes.now) }
+{
+    let span = span_of(bytes[0]);
+    let len = usize::from(span % LONG);
+    if len == 0 || len > bytes.len() {
+        return 0;
+    }
+    if span < LONG {
+        return len;
+    }
+    if span < TEXT {
+        return if strict { 0 } else { len };
+    }
+    if bytes[1..len].is_ascii() { len } else { 0 }
+}
+
+/// Plain items one behind the other.
+#[derive(Drop)]
+pub(crate) struct Run {
+    /// How many bytes they have.
+    pub(crate) len: usize,
+    /// How many items more there might have been.
+    pub(crate) left: usize,
+    /// The offset of the last one, or what was given for it.
+    pub(crate) place: usize,
+}
+
+/// Items in front of which [`plain_len`] tells the length, at most so many, where an item is due at this offset. It stays
+/// a function of its own, in which all that a title needs is in registers.
+#[inline(never)]
+pub(crate) fn plain_run(bytes: &[u8], most: usize, strict: bool, offset: usize, place: usize) -> Run
+    requires room { offset + length bytes.now ≤ usize.MAX }
+    ensures within { result.len ≤ length bytes.now }
+    ensures most { result.left ≤ most }
+    ensures some { result.left < most → 0 < result.len }
+    ensures plain { ArePlain strict offset place (most - result.left) result.place (take result.len bytes.now) }
+{
+    let mut at = 0;
+    let mut left = most;
+    let mut last = place;
+    'items: while left > 0 && at < bytes.len() {
+        let len = plain_len(&bytes[at..], strict);
+        if len == 0 {
+            return Run {
+                len: at,
+                left,
+                place: last,
+            };
+        }
+        last = offset + at;
+        at += len;
+        left -= 1;
+    }
+    Run {
+        len: at,
+        left,
+        place: last,
+    }
+}
