@@ -1,6 +1,7 @@
 pub mod BlockedLaws
 pub mod EnterLaws
 pub mod ExactLaws
+pub mod HighBits
 pub mod KeptLaws
 pub mod LeadLaws
 pub mod LevelLaws

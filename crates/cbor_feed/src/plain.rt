@@ -1,6 +1,7 @@
 //! Items that their first byte tells, and of which all bytes are there.
 
-ghost use Rattle.std.specs.Prelude.{◌+◌, ◌-◌, ◌<◌, ◌≤◌, take, length};
+ghost use Rattle.std.specs.Prelude.{ℕ, ◌≡◌, ◌+◌, ◌-◌, ◌<◌, ◌≤◌, take, length, slice_index, true};
+ghost use Rattle.std.specs.Str.{IsAscii};
 ghost use Rattle.cbor_feed.specs.Plain.{ArePlain, IsPlain, IsSpan};
 
 /// From this number on it is that of a longer title, of which the lower six bits are the length.
@@ -46,6 +47,59 @@ fn span_of(first: u8) -> u8
     SPANS[first as usize]
 }
 
+/// Of each number the highest bits of the first bytes of a word, the lowest first: of as many as it is above 16, up to
+/// all eight.
+#[rattlefmt::skip]
+static HIGH_BITS: [u64; 41] = [
+    0x0000_0000_0000_0000, 0x0000_0000_0000_0000, 0x0000_0000_0000_0000, 0x0000_0000_0000_0000,
+    0x0000_0000_0000_0000, 0x0000_0000_0000_0000, 0x0000_0000_0000_0000, 0x0000_0000_0000_0000,
+    0x0000_0000_0000_0000, 0x0000_0000_0000_0000, 0x0000_0000_0000_0000, 0x0000_0000_0000_0000,
+    0x0000_0000_0000_0000, 0x0000_0000_0000_0000, 0x0000_0000_0000_0000, 0x0000_0000_0000_0000,
+    0x0000_0000_0000_0000, 0x0000_0000_0000_0080, 0x0000_0000_0000_8080, 0x0000_0000_0080_8080,
+    0x0000_0000_8080_8080, 0x0000_0080_8080_8080, 0x0000_8080_8080_8080, 0x0080_8080_8080_8080,
+    0x8080_8080_8080_8080, 0x8080_8080_8080_8080, 0x8080_8080_8080_8080, 0x8080_8080_8080_8080,
+    0x8080_8080_8080_8080, 0x8080_8080_8080_8080, 0x8080_8080_8080_8080, 0x8080_8080_8080_8080,
+    0x8080_8080_8080_8080, 0x8080_8080_8080_8080, 0x8080_8080_8080_8080, 0x8080_8080_8080_8080,
+    0x8080_8080_8080_8080, 0x8080_8080_8080_8080, 0x8080_8080_8080_8080, 0x8080_8080_8080_8080,
+    0x8080_8080_8080_8080,
+];
+
+/// The highest bits of the eight bytes from there on: of the first ones, as many as the number is above 16.
+#[inline(always)]
+fn high_bits(bytes: &[u8], at: usize, number: usize) -> u64
+    requires there { at + 8 ≤ length bytes.now }
+    requires number { number ≤ 40 }
+    ensures { result ≡ 0 → (j : ℕ) → j < 8 → j + 16 < number → slice_index bytes.now (at + j) < 128 }
+{
+    let word = u64::from_le_bytes([
+        bytes[at],
+        bytes[at + 1],
+        bytes[at + 2],
+        bytes[at + 3],
+        bytes[at + 4],
+        bytes[at + 5],
+        bytes[at + 6],
+        bytes[at + 7],
+    ]);
+    word & HIGH_BITS[number]
+}
+
+/// Whether so many bytes in front, which are at most 24, are ASCII. Where 24 are there it takes no branch.
+#[inline(always)]
+fn is_ascii_front(bytes: &[u8], len: usize) -> bool
+    requires within { len ≤ length bytes.now }
+    requires few { len ≤ 24 }
+    ensures { result ≡ true → IsAscii (take len bytes.now) }
+{
+    if bytes.len() < 24 {
+        return bytes[..len].is_ascii();
+    }
+    let first = high_bits(bytes, 0, len + 16);
+    let second = high_bits(bytes, 8, len + 8);
+    let third = high_bits(bytes, 16, len);
+    first | second | third == 0
+}
+
 /// How many bytes the item in front has, where an item is due and its first byte tells it, and all of it is there: of a
 /// number, a float or a simple value, of a byte string below 24 bytes, or of a text below that which is ASCII. Of any
 /// other one 0, and of a longer title where the shortest alone is taken.
@@ -66,7 +120,11 @@ fn plain_len(bytes: &[u8], strict: bool) -> usize
     if span < TEXT {
         return if strict { 0 } else { len };
     }
-    if bytes[1..len].is_ascii() { len } else { 0 }
+    if is_ascii_front(&bytes[1..], len - 1) {
+        len
+    } else {
+        0
+    }
 }
 
 /// Plain items one behind the other.
