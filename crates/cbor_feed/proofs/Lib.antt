@@ -16,6 +16,7 @@ pub mod SnapshotLaws
 pub mod StackLaws
 pub mod StepLaws
 pub mod StringLaws
+pub mod StringRuns
 pub mod TellLaws
 pub mod TitleDueLaws
 pub mod TitleLeads

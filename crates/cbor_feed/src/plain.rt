@@ -1,6 +1,6 @@
 //! Items that their first byte tells, and of which all bytes are there.
 
-ghost use Rattle.std.specs.Prelude.{ℕ, ◌≡◌, ◌+◌, ◌-◌, ◌<◌, ◌≤◌, take, length, slice_index, true};
+ghost use Rattle.std.specs.Prelude.{Bool, ℕ, ◌≡◌, ◌+◌, ◌-◌, ◌<◌, ◌≤◌, take, length, slice_index, true};
 ghost use Rattle.std.specs.Str.{IsAscii};
 ghost use Rattle.cbor_feed.specs.Plain.{ArePlain, IsPlain, IsSpan};
 
@@ -100,6 +100,27 @@ fn is_ascii_front(bytes: &[u8], len: usize) -> bool
     first | second | third == 0
 }
 
+/// The same of a string whose length stands in one byte behind the first and is no smaller than that takes: 24 at least.
+#[inline(never)]
+fn string_len(bytes: &[u8]) -> usize
+    requires some { 0 < length bytes.now }
+    ensures within { result ≤ length bytes.now }
+    ensures plain { (strict : Bool) → 0 < result → IsPlain strict (take result bytes.now) }
+{
+    if bytes.len() < 2 || bytes[1] < 24 {
+        return 0;
+    }
+    let len = 2 + usize::from(bytes[1]);
+    if len > bytes.len() {
+        return 0;
+    }
+    match bytes[0] {
+        0x58 => len,
+        0x78 if bytes[2..len].is_ascii() => len,
+        _ => 0,
+    }
+}
+
 /// How many bytes the item in front has, where an item is due and its first byte tells it, and all of it is there: of a
 /// number, a float or a simple value, of a byte string below 24 bytes, or of a text below that which is ASCII. Of any
 /// other one 0, and of a longer title where the shortest alone is taken.
@@ -111,7 +132,10 @@ fn plain_len(bytes: &[u8], strict: bool) -> usize
 {
     let span = span_of(bytes[0]);
     let len = usize::from(span % LONG);
-    if len == 0 || len > bytes.len() {
+    if len == 0 {
+        return string_len(bytes);
+    }
+    if len > bytes.len() {
         return 0;
     }
     if span < LONG {
