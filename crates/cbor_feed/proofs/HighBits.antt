@@ -1,14 +1,16 @@
 -- The highest bits of the bytes of a word: where none of those that count is set, these bytes are ASCII.
-use Rattle.std.proofs.Common.{◌≡◌, ℕ, zero, suc, ◌+◌, ◌-◌, ◌*◌, ◌/◌, ◌%◌, ◌^◌, ◌<◌, ◌≤◌, Bool, true, false, List, [], ◌∷◌}
-use Rattle.std.proofs.Common.{◌&&◌, ◌||◌, eqb, ltb, leb, eqb-true, leb-true, get_or, length, take, slice_index, refl, sym, ap}
+use Rattle.std.proofs.Common.{◌≡◌, ℕ, zero, suc, ◌+◌, ◌-◌, ◌*◌, ◌/◌, ◌%◌, ◌^◌, ◌<◌, ◌≤◌, Bool, true, List, []}
+use Rattle.std.proofs.Common.{◌∷◌}
+use Rattle.std.proofs.Common.{◌&&◌, ◌||◌, eqb, leb, eqb-true, leb-true, get_or, length, take, slice_index, refl}
+use Rattle.std.proofs.Common.{sym, ap}
 use Rattle.std.proofs.Common.{subst, ◌∙◌, arith, inl, inr, min, bit_and, bit_or}
 use Rattle.std.proofs.lemmas.Bool.{agree_below_at, and_parts, or_cases}
 use Rattle.std.proofs.lemmas.List.{get_or-take, length-take-le}
 use Rattle.std.proofs.Math.ListN.{get_or-eq_default}
 use Rattle.std.proofs.lemmas.Bool.{cases_lt}
-use Rattle.std.proofs.lemmas.Nat.{and_le_l, and_le_r, le_bytes_8}
+use Rattle.std.proofs.lemmas.Nat.{and_le_l, and_le_r}
 use Rattle.std.proofs.lemmas.Nat.Bits.{bit_at_and, bit_at-zero}
-use Rattle.std.specs.Int.{bit_at, from_le_bytes, to_le_bytes, w64}
+use Rattle.std.specs.Int.{bit_at, to_le_bytes, w64}
 use Rattle.std.specs.Int.Bits.{or_add_and}
 use Rattle.std.specs.Str.{IsAscii}
 use Rattle.cbor_feed.specs.declared.plain.TheConstants.{HIGH_BITS}
@@ -44,8 +46,10 @@ clear_by word mask i none set =
 
 module _ (word mask number : ℕ) (bytes : List ℕ) (none : bit_and word mask ≡ 0) (is : mask ≡ get_or HIGH_BITS number 0)
     (less : number < 41) (same : to_le_bytes w64 word ≡ bytes) where
-  tests : (bit_test number 0 ≡ true) × (bit_test number 1 ≡ true) × (bit_test number 2 ≡ true) × (bit_test number 3 ≡ true)
-      × (bit_test number 4 ≡ true) × (bit_test number 5 ≡ true) × (bit_test number 6 ≡ true) × (bit_test number 7 ≡ true)
+  tests : (bit_test number 0 ≡ true) × (bit_test number 1 ≡ true) × (bit_test number 2 ≡ true) ×
+      (bit_test number 3 ≡ true)
+      × (bit_test number 4 ≡ true) × (bit_test number 5 ≡ true) × (bit_test number 6 ≡ true) ×
+      (bit_test number 7 ≡ true)
   tests =
       let a = and_parts (bit_test number 0) _ (bits_say number less) in
       let b = and_parts (bit_test number 1) _ a.1 in
@@ -57,7 +61,8 @@ module _ (word mask number : ℕ) (bytes : List ℕ) (none : bit_and word mask �
       (a.0, b.0, c.0, d.0, e.0, f.0, g.0, g.1)
 
   clear : (j : ℕ) → j + 16 < number → bit_test number j ≡ true → bit_at word (8 * j + 7) ≡ 0
-  clear j counts e = clear_by word mask (8 * j + 7) none (ap (λ (z : ℕ). bit_at z (8 * j + 7)) is ∙ set_by number j counts e)
+  clear j counts e = clear_by word mask (8 * j + 7) none (ap (λ (z : ℕ). bit_at z (8 * j + 7)) is
+      ∙ set_by number j counts e)
 
   read : (j : ℕ) → slice_index (to_le_bytes w64 word) j ≡ slice_index bytes j
   read j = ap (λ (z : List ℕ). slice_index z j) same
@@ -114,7 +119,8 @@ pub front_ascii : (xs : List ℕ) (len : ℕ) → len ≤ length xs → len ≤ 
 front_ascii xs len le few one two three = λ i.
     let long = length-take-le len xs le in
     elim (cases_lt i len) [
-      | inr above ↦ (let none = get_or-eq_default (take len xs) 0 {n = i} (omega (arith, long, above)) in omega (arith, none))
+      | inr above ↦ (let none = get_or-eq_default (take len xs) 0 {n = i} (omega (arith, long, above)) in omega
+          (arith, none))
       | inl here ↦ (let same = get_or-take len xs i 0 here in elim (cases_lt i 8) [
         | inl a ↦ (let at : 0 + i ≡ i = omega arith in
             let low = subst (λ (z : ℕ). slice_index xs z < 128) at (one i a (omega (arith, here))) in

@@ -1,30 +1,28 @@
 -- Plain items: what the table says of first bytes, and where such items lead.
-use Rattle.std.proofs.Common.{◌≡◌, ℕ, zero, suc, ◌+◌, ◌-◌, ◌*◌, ◌/◌, ◌%◌, ◌<◌, ◌≤◌, Bool, true, false, List}
+use Rattle.std.proofs.Common.{◌≡◌, ℕ, suc, ◌+◌, ◌-◌, ◌*◌, ◌/◌, ◌%◌, ◌<◌, ◌≤◌, Bool, true, false, List}
 use Rattle.std.proofs.Common.{[], ◌∷◌, ◌++◌}
-use Rattle.std.proofs.Common.{◌&&◌, ◌||◌, eqb, ltb, eqb-true, ltb-true, get_or, length, take, drop, slice_index, refl, sym, ap}
-use Rattle.std.proofs.Common.{subst, ◌∙◌, arith, Some, inl, inr, ◌⊎◌}
+use Rattle.std.proofs.Common.{◌&&◌, ◌||◌, eqb, ltb, eqb-true, ltb-true, get_or, length, take, drop, slice_index, refl}
+use Rattle.std.proofs.Common.{sym, ap}
+use Rattle.std.proofs.Common.{subst, ◌∙◌, arith, inl, inr}
 use Rattle.std.proofs.lemmas.Bool.{agree_below_at, and_parts, or_cases}
 use Rattle.std.proofs.lemmas.List.{length-take-le, take_rest}
 use Rattle.std.proofs.Math.Seq.{take-add}
 use Rattle.std.specs.Str.{IsAscii}
 use Rattle.ciborium_ll_text.proofs.Lists.{length_zero}
 use Rattle.ciborium_ll_text.proofs.StateLaws.{ascii_stays}
-use Rattle.ciborium_ll_grammar.specs.declared.hdr.Header.{Header}
 use Rattle.ciborium_ll_grammar.specs.declared.hdr.Header.TheVariants as h
 use Rattle.ciborium_ll_grammar.specs.declared.hdr.table.TitleKind.{TitleKind}
 use Rattle.ciborium_ll_grammar.specs.declared.hdr.table.TitleKind.TheVariants as k
 use Rattle.ciborium_ll_grammar.specs.Title.{IsTitle, Major, Unsigned, Negative, ByteString, TextString, Other, Small}
-use Rattle.ciborium_ll_grammar.specs.Title.{NamesNoTitle, affix_len, major_code, numbered, numbered_header, numbered_title}
+use Rattle.ciborium_ll_grammar.specs.Title.{NamesNoTitle, affix_len, major_code, numbered, numbered_header}
 use Rattle.ciborium_ll_grammar.specs.Items.{IsTakenTitle}
-use Rattle.ciborium_ll_grammar.specs.TitleRows.{IsTitleKind, NamesTitle}
+use Rattle.ciborium_ll_grammar.specs.TitleRows.{IsTitleKind}
 use Rattle.ciborium_ll_grammar.proofs.LongerLaws.{taken}
-use Rattle.cbor_feed.specs.declared.phase.Phase.TheVariants as p
-use Rattle.cbor_feed.specs.declared.phase.Within.TheVariants as w
 use Rattle.cbor_feed.specs.declared.plain.TheConstants.{SPANS}
 use Rattle.cbor_feed.specs.Blocked.{is_value}
 use Rattle.cbor_feed.specs.Plain.{ArePlain, IsPlain, IsSpan, IsValueMajor, more, passed}
 use Rattle.cbor_feed.specs.Spots.{Spot, item_done}
-use Rattle.cbor_feed.specs.Steps.{Leads, counted_by}
+use Rattle.cbor_feed.specs.Steps.{counted_by}
 use Rattle.cbor_feed.proofs.LeadLaws.{Below}
 use Rattle.cbor_feed.proofs.ShortLeads.{short_bytes, short_leads, short_text, value_leads}
 
@@ -137,15 +135,18 @@ small_value : (b : ℕ) (xs : List ℕ) (strict : Bool) → Below (b ∷ xs) →
     → IsPlain strict (take 1 (b ∷ xs))
 small_value b xs strict below small (inl none) = λ spot at clear due same.
     let e : b ≡ 32 * major_code Unsigned + b % 32 = omega arith in
-    short_leads (b ∷ xs) spot _ (h.Positive (b % 32)) below at clear due (omega arith) (one_title b (b % 32) Unsigned e small)
+    short_leads (b ∷ xs) spot _ (h.Positive (b % 32)) below at clear due (omega arith) (one_title b
+    (b % 32) Unsigned e small)
     (one_taken spot.strict b (b % 32) Unsigned e small) (ap item_done (unfronted spot 1 clear))
 small_value b xs strict below small (inr (inl one)) = λ spot at clear due same.
     let e : b ≡ 32 * major_code Negative + b % 32 = omega arith in
-    short_leads (b ∷ xs) spot _ (h.Negative (b % 32)) below at clear due (omega arith) (one_title b (b % 32) Negative e small)
+    short_leads (b ∷ xs) spot _ (h.Negative (b % 32)) below at clear due (omega arith) (one_title b
+    (b % 32) Negative e small)
     (one_taken spot.strict b (b % 32) Negative e small) (ap item_done (unfronted spot 1 clear))
 small_value b xs strict below small (inr (inr seven)) = λ spot at clear due same.
     let e : b ≡ 32 * major_code Other + b % 32 = omega arith in
-    short_leads (b ∷ xs) spot _ (h.Simple (b % 32)) below at clear due (omega arith) (one_title b (b % 32) Other e small)
+    short_leads (b ∷ xs) spot _ (h.Simple (b % 32)) below at clear due (omega arith) (one_title b
+    (b % 32) Other e small)
     (one_taken spot.strict b (b % 32) Other e small) (ap item_done (unfronted spot 1 clear))
 
 -- the title and so many bytes behind it
@@ -212,8 +213,10 @@ low_plain (b ∷ xs) span len strict below some (inr (inr (inl v))) low e least 
     let n : len ≡ 1 + b % 32 = omega (arith, v.0, v.1, e) in
     subst (λ (z : ℕ). IsPlain strict (take z (b ∷ xs))) (sym n)
     (small_bytes b xs strict below v.1 v.2 (omega (arith, n, le)))
-low_plain (b ∷ xs) span len strict below some (inr (inr (inr (inl v)))) low e least le = absurd (omega (arith, v.0, low))
-low_plain (b ∷ xs) span len strict below some (inr (inr (inr (inr v)))) low e least le = absurd (omega (arith, v.0, low))
+low_plain (b ∷ xs) span len strict below some (inr (inr (inr (inl v)))) low e least le = absurd (omega
+    (arith, v.0, low))
+low_plain (b ∷ xs) span len strict below some (inr (inr (inr (inr v)))) low e least le = absurd (omega
+    (arith, v.0, low))
 
 -- a longer title of a value
 pub long_plain : (xs : List ℕ) (span len : ℕ) → Below xs → 0 < length xs → IsSpan (slice_index xs 0) span → 64 ≤ span
@@ -233,7 +236,8 @@ pub text_plain : (xs : List ℕ) (span len : ℕ) (strict : Bool) → Below xs �
 text_plain [] span len strict below some is high e le ascii = absurd (omega arith)
 text_plain (b ∷ xs) span len strict below some (inl none) high e le ascii = absurd (omega (arith, none, high))
 text_plain (b ∷ xs) span len strict below some (inr (inl v)) high e le ascii = absurd (omega (arith, v.0, high))
-text_plain (b ∷ xs) span len strict below some (inr (inr (inl v))) high e le ascii = absurd (omega (arith, v.0, v.1, high))
+text_plain (b ∷ xs) span len strict below some (inr (inr (inl v))) high e le ascii = absurd (omega
+    (arith, v.0, v.1, high))
 text_plain (b ∷ xs) span len strict below some (inr (inr (inr (inl v)))) high e le ascii =
     absurd (omega (arith, v.0, v.3, high))
 text_plain (b ∷ xs) span len strict below some (inr (inr (inr (inr v)))) high e le ascii =

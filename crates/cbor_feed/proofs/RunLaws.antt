@@ -1,6 +1,6 @@
 -- Where plain items one behind the other lead, within a nest whose items are counted.
-use Rattle.std.proofs.Common.{◌≡◌, ◌==◌, ℕ, zero, suc, ◌+◌, ◌-◌, ◌*◌, ◌/◌, ◌%◌, ◌<◌, ◌≤◌, Bool, List, [], ◌∷◌, ◌++◌}
-use Rattle.std.proofs.Common.{if◌then◌else◌, length, refl, sym, ap, subst, ◌∙◌, arith, Option, Some, None, inl, inr}
+use Rattle.std.proofs.Common.{◌≡◌, ◌==◌, ℕ, zero, suc, ◌+◌, ◌-◌, ◌*◌, ◌/◌, ◌%◌, ◌<◌, ◌≤◌, List, [], ◌∷◌, ◌++◌}
+use Rattle.std.proofs.Common.{if◌then◌else◌, length, refl, sym, ap, subst, ◌∙◌, arith, Some, None, inl, inr}
 use Rattle.std.proofs.Common.{length-append, add-one}
 use Rattle.std.proofs.lemmas.Bool.{cases_lt}
 use Rattle.std.proofs.lemmas.Option.{same_Some}
@@ -37,7 +37,8 @@ next_pairs : (n : ℕ) → next (pairs_of (suc n)) ≡ Some (pairs_of n)
 next_pairs n =
     elim (cases_lt (n % 2) 1) [
       | inl even ↦
-          ap next (odd_pairs (suc n) (n / 2) (omega (arith, even))) ∙ ap Some (sym (even_pairs n (n / 2) (omega (arith, even))))
+          ap next (odd_pairs (suc n) (n / 2) (omega (arith, even))) ∙ ap Some (sym (even_pairs n (n / 2) (omega
+          (arith, even))))
       | inr odd ↦
           ap next (even_pairs (suc n) (suc (n / 2)) (omega (arith, odd)))
           ∙ ap Some (sym (odd_pairs n (n / 2) (omega (arith, odd))))
@@ -133,12 +134,18 @@ pub run_goes : (s new : Spot) (level : Level) (left last : ℕ) (bytes : List �
     → s.within ≡ w.Nothing → Some level ≡ innermost s.levels → counted_behind level ≡ Some left
     → (most behind : ℕ) → most ≡ left + 1 → 0 < behind → behind ≤ most
     → ArePlain s.strict s.offset s.place (most - behind) last bytes
-    → new ≡ record s { levels = lowered (behind - 1) level ∷ others s.levels; place = last; offset = s.offset + length bytes }
+    → new ≡ record s {
+      levels = lowered (behind - 1) level
+          ∷ others s.levels;
+      place = last;
+      offset = s.offset + length bytes;
+    }
     → Leads s bytes new
 run_goes s new level left last bytes at clear in_none is all most behind e some fits plain new_is =
     let counts : left ≡ (most - behind) + (behind - 1) = omega arith in
     let from : s ≡ due s (lowered ((most - behind) + (behind - 1)) level ∷ others s.levels) s.place s.offset =
-    written s _ at clear in_none (stack s level left is all ∙ ap (λ (z : ℕ). lowered z level ∷ others s.levels) counts) in
+    written s _ at clear in_none (stack s level left is all ∙ ap (λ (z : ℕ). lowered z level
+    ∷ others s.levels) counts) in
     let to : new ≡ due s (lowered (behind - 1) level ∷ others s.levels) last (s.offset + length bytes) =
     new_is ∙ written (record s {
       levels = lowered (behind - 1) level ∷ others s.levels;
@@ -146,7 +153,8 @@ run_goes s new level left last bytes at clear in_none is all most behind e some 
       offset = s.offset + length bytes;
     }) _ at clear in_none refl in
     subst (λ (z : Spot). Leads z bytes new) (sym from)
-    (subst (λ (z : Spot). Leads (due s (lowered ((most - behind) + (behind - 1)) level ∷ others s.levels) s.place s.offset)
+    (subst (λ (z : Spot). Leads (due s (lowered ((most - behind) + (behind - 1)) level
+    ∷ others s.levels) s.place s.offset)
     bytes z) (sym to)
     (run_leads s (others s.levels) level left (most - behind) (behind - 1) last bytes all plain))
 
@@ -162,10 +170,12 @@ pub run_ends : (s new : Spot) (level : Level) (left last : ℕ) (bytes : List �
     })
     → Leads s bytes new
 run_ends s new level left last bytes at clear in_none is all zero e plain new_is = absurd (omega arith)
-run_ends s new level left last bytes at clear in_none is all (suc count) e (more {last = place} {bytes = xs} {item = item} so_far one) new_is =
+run_ends s new level left last bytes at clear in_none is all (suc count) e
+    (more {last = place} {bytes = xs} {item = item} so_far one) new_is =
     let counts : left ≡ count + 0 = omega arith in
     let from : s ≡ due s (lowered (count + 0) level ∷ others s.levels) s.place s.offset =
-    written s _ at clear in_none (stack s level left is all ∙ ap (λ (z : ℕ). lowered z level ∷ others s.levels) counts) in
+    written s _ at clear in_none (stack s level left is all ∙ ap (λ (z : ℕ). lowered z level
+    ∷ others s.levels) counts) in
     let rest : List Level = others s.levels in
     let m : Spot = due s (lowered 0 level ∷ rest) place (s.offset + length xs) in
     let first = subst (λ (z : Spot). Leads z xs m) (sym from)
@@ -185,8 +195,10 @@ run_ends s new level left last bytes at clear in_none is all (suc count) e (more
     written v _ at clear in_none refl in
     let after : settled (suc s.depth) rest u ≡ item_done v =
     ap (λ (z : ℕ). settled (suc s.depth) rest (due u u.levels u.place z)) long
-    ∙ (sym (settled_alike rest (suc s.depth) (due u u.levels u.place (s.offset + length (xs ++ item))) (s.depth + 1) rest)
-    ∙ (ap (λ (z : ℕ). settled z rest (record (due u rest u.place (s.offset + length (xs ++ item))) { depth = s.depth + 1 }))
+    ∙ (sym (settled_alike rest (suc s.depth) (due u u.levels u.place (s.offset + length (xs ++ item)))
+    (s.depth + 1) rest)
+    ∙ (ap (λ (z : ℕ). settled z rest (record (due u rest u.place (s.offset + length
+    (xs ++ item))) { depth = s.depth + 1 }))
     (sym (add-one s.depth))
     ∙ ap (λ (z : Spot). settled (s.depth + 1) rest z) (sym before))) in
     leads_more s m new xs item first

@@ -1,5 +1,5 @@
 -- Where a string leads that is an item, of which one byte behind the first says how long it is.
-use Rattle.std.proofs.Common.{◌≡◌, ℕ, zero, suc, ◌+◌, ◌-◌, ◌*◌, ◌/◌, ◌%◌, ◌<◌, ◌≤◌, Bool, true, false, List, [], ◌∷◌, ◌++◌}
+use Rattle.std.proofs.Common.{◌≡◌, ℕ, zero, suc, ◌+◌, ◌-◌, ◌*◌, ◌/◌, ◌%◌, ◌<◌, ◌≤◌, Bool, true, false, List, [], ◌∷◌}
 use Rattle.std.proofs.Common.{length, take, drop, slice_index, refl, sym, ap, subst, ◌∙◌, arith, Some, None}
 use Rattle.std.proofs.Common.{◌^◌, inl, inr}
 use borrow.Author.Tests.{le-ltb, lt-ltb}
@@ -8,15 +8,14 @@ use Rattle.std.proofs.Math.Seq.{take-add}
 use Rattle.std.specs.Str.{IsAscii}
 use Rattle.ciborium_ll_text.specs.declared.state.State.TheVariants as s
 use Rattle.ciborium_ll_text.proofs.StateLaws.{ascii_stays}
-use Rattle.ciborium_ll_grammar.specs.declared.hdr.Header.{Header}
 use Rattle.ciborium_ll_grammar.specs.declared.hdr.Header.TheVariants as h
 use Rattle.ciborium_ll_grammar.specs.declared.hdr.table.TitleKind.TheVariants as k
-use Rattle.ciborium_ll_grammar.specs.Title.{ByteString, IsTitle, Major, NamesNoTitle, One, TextString, major_code, numbered}
+use Rattle.ciborium_ll_grammar.specs.Title.{ByteString, IsTitle, Major, NamesNoTitle, One, TextString, major_code}
+use Rattle.ciborium_ll_grammar.specs.Title.{numbered}
 use Rattle.ciborium_ll_grammar.specs.Title.{numbered_header, title_len}
 use Rattle.ciborium_ll_grammar.specs.Items.{IsTakenTitle}
 use Rattle.ciborium_ll_grammar.specs.Parts.{longer_parts}
 use Rattle.ciborium_ll_grammar.proofs.LongerLaws.{minor_as, taken}
-use Rattle.cbor_feed.specs.declared.phase.Phase.{Phase}
 use Rattle.cbor_feed.specs.declared.phase.Phase.TheVariants as p
 use Rattle.cbor_feed.specs.declared.phase.Within.{Within}
 use Rattle.cbor_feed.specs.declared.phase.Within.TheVariants as w
@@ -158,4 +157,5 @@ long_text (b ∷ []) len strict below some is least e le ascii = absurd (omega a
 long_text (b ∷ c ∷ xs) len strict below some is least e le ascii =
     let less : len - 2 ≡ c = omega (arith, e) in
     subst (λ (z : ℕ). IsPlain strict (take z (b ∷ c ∷ xs))) (sym e)
-    (string_text b c xs strict below is least (omega (arith, e, le)) (subst (λ (z : ℕ). IsAscii (take z xs)) less ascii))
+    (string_text b c xs strict below is least (omega (arith, e, le)) (subst (λ (z : ℕ). IsAscii
+    (take z xs)) less ascii))

@@ -22,9 +22,12 @@ IsPlain strict bytes = (spot : Spot) → spot.phase ≡ p.Title → length spot.
 abbrev pub IsValueMajor : ℕ → Type 0
 IsValueMajor major = (major ≡ 0) ⊎ ((major ≡ 1) ⊎ (major ≡ 7))
 
--- What the number that stands for a first byte says, by its major type and its minor (RFC 7049, 2.1): nothing; a value of
--- one byte; a byte string below 24 bytes, and how many bytes it has with its title; 64, and how many bytes a longer title
--- of a value has; or 128, and how many bytes a text below 24 bytes has with its title
+-- What the number in the table of a first byte says, by its major type and its minor (RFC 7049, 2.1): 0 is nothing, 1 a
+-- number or a simple value of one byte, or how many bytes a byte string below 24 bytes has with its title; 64 is added
+-- to
+-- how many bytes a longer title of a number, a float or a simple value has, and 128 to how many a text below 24 bytes
+-- has
+-- with its title
 abbrev pub IsSpan : ℕ → ℕ → Type 0
 IsSpan first span =
     (span ≡ 0)

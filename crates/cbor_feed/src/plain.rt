@@ -4,13 +4,14 @@ ghost use Rattle.std.specs.Prelude.{Bool, ℕ, ◌≡◌, ◌+◌, ◌-◌, ◌<
 ghost use Rattle.std.specs.Str.{IsAscii};
 ghost use Rattle.cbor_feed.specs.Plain.{ArePlain, IsPlain, IsSpan};
 
-/// From this number on it is that of a longer title, of which the lower six bits are the length.
+/// Added for a longer title of a number, a float or a simple value, which may not be the shortest.
 const LONG: u8 = 64;
 
-/// From this one on that of a text.
+/// Added for a text, which has to be looked at.
 const TEXT: u8 = 128;
 
-/// What each first byte tells: four lines for each two major types. 0 is nothing.
+/// What each first byte tells, two lines for each major type: how many bytes an item has with its title, with one of
+/// the numbers above added. 0 is nothing.
 #[rattlefmt::skip]
 static SPANS: [u8; 256] = [
     // unsigned integers
@@ -100,7 +101,8 @@ fn is_ascii_front(bytes: &[u8], len: usize) -> bool
     first | second | third == 0
 }
 
-/// The same of a string whose length stands in one byte behind the first and is no smaller than that takes: 24 at least.
+/// How many bytes the string in front has, where an item is due, its length stands in one byte behind the first and is
+/// at least 24, as a shortest title has it, and all of it is there; of a text, where that is ASCII. Of any other 0.
 #[inline(never)]
 fn string_len(bytes: &[u8]) -> usize
     requires some { 0 < length bytes.now }
@@ -121,9 +123,9 @@ fn string_len(bytes: &[u8]) -> usize
     }
 }
 
-/// How many bytes the item in front has, where an item is due and its first byte tells it, and all of it is there: of a
-/// number, a float or a simple value, of a byte string below 24 bytes, or of a text below that which is ASCII. Of any
-/// other one 0, and of a longer title where the shortest alone is taken.
+/// How many bytes the item in front has, where an item is due and all of it is there: of a number, a float or a simple
+/// value, of a byte string below 256 bytes, or of a text below that which is ASCII. Of any other one 0, and so of a
+/// longer title where the shortest alone is taken.
 #[inline(always)]
 fn plain_len(bytes: &[u8], strict: bool) -> usize
     requires some { 0 < length bytes.now }
@@ -162,8 +164,8 @@ pub(crate) struct Run {
     pub(crate) place: usize,
 }
 
-/// Items in front of which [`plain_len`] tells the length, at most so many, where an item is due at this offset. It stays
-/// a function of its own, in which all that a title needs is in registers.
+/// Items in front of which [`plain_len`] tells the length, at most so many, where an item is due at this offset. It
+/// stays a function of its own, in which all that a title needs is in registers.
 #[inline(never)]
 pub(crate) fn plain_run(bytes: &[u8], most: usize, strict: bool, offset: usize, place: usize) -> Run
     requires room { offset + length bytes.now ≤ usize.MAX }

@@ -21,8 +21,8 @@ impl Walk<'_> {
     ghost use Rattle.cbor_feed.specs.declared.phase.Within.TheVariants as w;
     ghost use Rattle.cbor_feed.specs.declared.phase.Phase.TheVariants as p;
 
-    /// The plain items in front, where items are counted in the innermost nest: as many as are there, up to the last one
-    /// of the nest. Says how many bytes, and whether another item is due.
+    /// The plain items in front, where items are counted in the innermost nest: as many as are there, up to the last
+    /// one of the nest. Says how many bytes, and whether another item is due.
     #[inline(always)]
     pub(super) fn plain_items(&mut self, bytes: &[u8]) -> (usize, bool)
         requires phase { self.old.phase ≡ p.Title }
@@ -56,8 +56,8 @@ impl Walk<'_> {
         (run.len, goes)
     }
 
-    /// All of a title of one byte, which means this header of a nest, where an item is due, and the plain items behind it.
-    /// Says how many bytes, and whether another item is due.
+    /// All of a title of one byte, which means this header of a nest, where an item is due, and the plain items behind
+    /// it. Says how many bytes, and whether another item is due.
     #[inline(always)]
     pub(super) fn nest_taken(&mut self, bytes: &[u8], header: Header) -> (usize, bool)
         requires phase { self.old.phase ≡ p.Title }
@@ -83,8 +83,8 @@ impl Walk<'_> {
         let (len, goes) = self.plain_items(&bytes[1..]);
         (1 + len, goes)
     }
-    /// Items where one is due: plain ones of the nest in which it is, and what [`Walk::item_run`] takes behind them. Says
-    /// how many bytes.
+    /// Items where one is due: plain ones of the nest in which it is, and what [`Walk::item_run`] takes behind them.
+    /// Says how many bytes.
     #[inline(always)]
     pub(super) fn items(&mut self, bytes: &[u8]) -> usize
         requires phase { self.old.phase ≡ p.Title }

@@ -1,6 +1,5 @@
-use Rattle.std.proofs.Common.{ℕ, ◌≡◌, ◌+◌, List, [], ◌∷◌, slice_index, arith, rules, refl}
+use Rattle.std.proofs.Common.{arith, refl}
 use Rattle.std.proofs.lemmas.Nat.{le_bytes_8}
-use Rattle.std.specs.Int.{to_le_bytes, w64}
 use Rattle.cbor_feed.proofs.HighBits.{eight, eight_bytes, low_in}
 use Rattle.cbor_feed.proofs.plain.high_bits.Goals as goal
 

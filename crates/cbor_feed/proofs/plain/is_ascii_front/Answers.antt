@@ -1,4 +1,4 @@
-use Rattle.std.proofs.Common.{◌≡◌, arith, rules, eqb-true, bit_or}
+use Rattle.std.proofs.Common.{eqb-true, bit_or}
 use Rattle.cbor_feed.proofs.HighBits.{front_ascii, none_set}
 use Rattle.cbor_feed.proofs.plain.is_ascii_front.Goals as goal
 

@@ -1,4 +1,4 @@
-use Rattle.std.proofs.Common.{◌≡◌, ◌<◌, ◌≤◌, ◌+◌, length, slice_index, rules, arith}
+use Rattle.std.proofs.Common.{◌≡◌, ◌<◌, ◌≤◌, ◌+◌, length, slice_index, rules}
 use Rattle.cbor_feed.proofs.StringRuns.{long_bytes, long_text}
 use Rattle.cbor_feed.proofs.plain.string_len.Goals as goal
 

@@ -1,4 +1,4 @@
-use Rattle.std.proofs.Common.{◌≡◌, ℕ, ◌+◌, List, take, drop, length, ap, subst, arith, rules}
+use Rattle.std.proofs.Common.{ℕ, List, take, subst, arith, rules}
 use Rattle.std.proofs.lemmas.List.{length-take-le, take_rest}
 use Rattle.cbor_feed.specs.Steps.{Leads}
 use Rattle.cbor_feed.specs.Walking.{spot_at}
@@ -17,7 +17,8 @@ plain_items-len-requires-clause-room c =
     let first = short_leads c.args.bytes.now (spot_at c.args.self.now) (spot_at c.enter_item.new.self) c.args.header
     (λ i less. search rules) c.requires.phase c.requires.fresh c.requires.due c.requires.some c.requires.title
     c.requires.taken c.enter_item.ensures.entered in
-    let counts = leads_counts (spot_at c.args.self.now) (spot_at c.enter_item.new.self) (take 1 c.args.bytes.now) first in
+    let counts = leads_counts (spot_at c.args.self.now) (spot_at c.enter_item.new.self)
+    (take 1 c.args.bytes.now) first in
     let one = length-take-le 1 c.args.bytes.now (omega (arith, c.requires.some)) in
     let rest = rest_long c.args.bytes.now 1 in
     omega (arith, counts, one, rest, c.requires.some, c.requires.room)

@@ -1,4 +1,5 @@
-use Rattle.std.proofs.Common.{◌≡◌, ℕ, ◌+◌, ◌-◌, ◌<◌, Some, List, [], ◌∷◌, take, length, sym, ap, subst, ◌∙◌, arith, rules}
+use Rattle.std.proofs.Common.{◌≡◌, ℕ, ◌+◌, ◌-◌, Some, List, [], ◌∷◌, take, sym, ap, subst, ◌∙◌, arith}
+use Rattle.std.proofs.Common.{rules}
 use Rattle.std.proofs.lemmas.List.{length-take-le}
 use Rattle.cbor_feed.specs.declared.level.Level.{Level}
 use Rattle.cbor_feed.specs.Plain.{counted_behind, lowered}
@@ -33,7 +34,8 @@ returns-then-run-gt0-clause-leads c =
     let levels : levels_at c.replace.new.self ≡ lowered (run.left - 1) level ∷ others s.levels =
     c.replace.ensures.put ∙ (ap (λ (z : Level). z ∷ others (levels_at c.innermost.new.self)) c.lowered.ensures
     ∙ ap (λ (z : List Level). lowered (run.left - 1) level ∷ others z) same) in
-    run_goes s (record s { levels = levels_at c.replace.new.self; place = run.place; offset = s.offset + run.len }) level
+    run_goes s
+    (record s { levels = levels_at c.replace.new.self; place = run.place; offset = s.offset + run.len }) level
     left run.place bytes c.requires.phase c.requires.fresh c.requires.due is all (left + 1) run.left (omega arith)
     c.if-run-gt0.true c.plain_run-run.ensures.most c.plain_run-run.ensures.plain
     (ap (λ (z : List Level). record s { levels = z; place = run.place; offset = s.offset + run.len }) levels
