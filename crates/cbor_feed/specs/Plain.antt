@@ -9,7 +9,7 @@ use Rattle.cbor_feed.specs.declared.level.Level.TheVariants as l
 use Rattle.cbor_feed.specs.Spots.{Spot, item_done}
 use Rattle.cbor_feed.specs.Steps.{Leads}
 
--- so many bytes came, and what began with them names where it began
+-- so many bytes came, and the title with which they began is the last one
 abbrev pub passed : ℕ → Spot → Spot
 passed len spot = record spot { front = []; place = spot.offset; offset = spot.offset + len }
 
@@ -22,12 +22,10 @@ IsPlain strict bytes = (spot : Spot) → spot.phase ≡ p.Title → length spot.
 abbrev pub IsValueMajor : ℕ → Type 0
 IsValueMajor major = (major ≡ 0) ⊎ ((major ≡ 1) ⊎ (major ≡ 7))
 
--- What the number in the table of a first byte says, by its major type and its minor (RFC 7049, 2.1): 0 is nothing, 1 a
--- number or a simple value of one byte, or how many bytes a byte string below 24 bytes has with its title; 64 is added
--- to
--- how many bytes a longer title of a number, a float or a simple value has, and 128 to how many a text below 24 bytes
--- has
--- with its title
+-- What the number in the table of a first byte says, by its major type and its minor (RFC 7049, 2.1). 0 is nothing,
+-- and 1 a number or a simple value of one byte. Of a byte string below 24 bytes it is how many bytes it has with its
+-- title. Of a longer title of a number, a float or a simple value it is how many bytes that has, and 64 more. Of a
+-- text below 24 bytes it is how many bytes it has with its title, and 128 more
 abbrev pub IsSpan : ℕ → ℕ → Type 0
 IsSpan first span =
     (span ≡ 0)
@@ -37,7 +35,8 @@ IsSpan first span =
     × (affix_len (first % 32) < 9) × IsValueMajor (first / 32)
     ⊎ (span ≡ 129 + first % 32) × (first % 32 < 24) × (first / 32 ≡ 3))))
 
--- So many plain items, joined. The first begins at the offset, and `last` is where the last one does, or what it was
+-- So many such items, joined. The first one begins at the offset, and of the last one the place is where it begins.
+-- Where there is none the place is the one that was given
 pub data ArePlain (strict : Bool) (offset first : ℕ) : ℕ → ℕ → List ℕ → Type 0 where
   none : ArePlain strict offset first zero first []
   more : {count last : ℕ} {bytes item : List ℕ} → ArePlain strict offset first count last bytes → IsPlain strict item
