@@ -15,7 +15,7 @@ settled_by : (o : Option Level) (f : Level) (fs : List Level) (d : ℕ) (s : Spo
 settled_by None f fs d s a b e same = rw (e, settled) same
 settled_by (Some g) f fs d s a b e same = rw (e, settled) refl
 
-settled_alike : (fs : List Level) (d : ℕ) (s : Spot) (a : ℕ) (b : List Level)
+pub settled_alike : (fs : List Level) (d : ℕ) (s : Spot) (a : ℕ) (b : List Level)
     → settled d fs (record s { depth = a; levels = b }) ≡ settled d fs s
 settled_alike [] d s a b = refl
 settled_alike (f ∷ fs) d s a b = settled_by (next f) f fs d s a b refl (settled_alike fs (suc d) s a b)

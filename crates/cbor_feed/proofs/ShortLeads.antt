@@ -74,7 +74,7 @@ counted_none spot none =
     ap (λ (z : ℕ). record spot { front = []; offset = z }) same
     ∙ ap (λ (z : List ℕ). record spot { front = z }) (sym none)
 
-both_lead : (xs : List ℕ) (len : ℕ) (spot m new : Spot) → Leads spot (take 1 xs) m
+pub both_lead : (xs : List ℕ) (len : ℕ) (spot m new : Spot) → Leads spot (take 1 xs) m
     → Leads m (take len (drop 1 xs)) new → Leads spot (take (1 + len) xs) new
 both_lead xs len spot m new first rest =
     subst (λ (z : List ℕ). Leads spot z new) (sym (take-add 1 len xs))

@@ -5,6 +5,7 @@ pub mod Longer
 pub mod Opens
 pub mod Piece
 pub mod Places
+pub mod Plain
 pub mod Snapshots
 pub mod Spots
 pub mod Stack

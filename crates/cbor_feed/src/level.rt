@@ -1,6 +1,7 @@
 //! What is due behind an item within the tags, arrays and maps that it stands in.
 
-ghost use Rattle.std.specs.Prelude.{◌≡◌, Some};
+ghost use Rattle.std.specs.Prelude.{◌≡◌, ◌<◌, Some, IfSome};
+ghost use Rattle.cbor_feed.specs.Plain.{counted_behind, lowered};
 ghost use Rattle.cbor_feed.specs.Levels.{closes, contents, next};
 ghost use Rattle.cbor_feed.specs.Snapshots.{level_in};
 
@@ -54,6 +55,32 @@ impl Level {
             Level::OpenItems => Some(Level::OpenItems),
             Level::OpenPairs => Some(Level::OpenValue),
             Level::OpenValue => Some(Level::OpenPairs),
+        }
+    }
+
+    /// How many items are due behind the one that is, where they are counted and twice as many could be.
+    #[inline(always)]
+    pub(crate) fn left(self) -> Option<usize>
+        ensures left { IfSome result (λ left. counted_behind self ≡ Some left) }
+        ensures few { IfSome result (λ left. left < usize.MAX) }
+    {
+        match self {
+            Level::Items(count) if count < usize::MAX / 4 => Some(count),
+            Level::Pairs(count) if count < usize::MAX / 4 => Some(2 * count),
+            Level::Value(count) if count < usize::MAX / 4 => Some(2 * count + 1),
+            _ => None,
+        }
+    }
+
+    /// The same nest with so many items behind the one that is due.
+    #[inline(always)]
+    pub(crate) fn lowered(self, left: usize) -> Level
+        ensures { result ≡ lowered left self }
+    {
+        match self {
+            Level::Items(_) => Level::Items(left),
+            _ if left % 2 == 0 => Level::Pairs(left / 2),
+            _ => Level::Value(left / 2),
         }
     }
 

@@ -134,7 +134,7 @@ impl Levels<'_> {
 
     /// Puts a level in the place of the innermost one.
     #[inline(always)]
-    fn replace(&mut self, level: Level)
+    pub(crate) fn replace(&mut self, level: Level)
         requires { 0 < self.old.len }
         ensures put { levels_at self.new ≡ level ∷ others (levels_at self.old) }
         ensures len { self.new.len ≡ self.old.len }

@@ -11,6 +11,7 @@ pub mod laws;
 mod level;
 mod levels;
 mod phase;
+mod plain;
 mod position;
 mod progress;
 mod snapshot;

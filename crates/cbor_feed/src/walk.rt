@@ -7,6 +7,9 @@ ghost use Rattle.ciborium_ll_grammar.specs.Title.{affix_len};
 ghost use Rattle.cbor_feed.specs.Opens.{open_count};
 ghost use Rattle.cbor_feed.specs.Blocked.{blocked, is_value};
 
+mod nests;
+
+use self::nests::is_long_nest;
 use crate::front::Front;
 use crate::level::Level;
 use crate::levels::Levels;
@@ -499,6 +502,7 @@ impl Walk<'_> {
         ensures lent { AreLent self.old.levels self.new.levels }
     {
         match header_of(&bytes[..1], self.strict) {
+            Some(header) if is_long_nest(header) => self.nest_taken(bytes, header),
             Some(header) => self.short_taken(bytes, header),
             None => {
                 let len = self.title_byte(bytes);
@@ -719,7 +723,7 @@ impl Walk<'_> {
         match self.phase {
             Phase::Title if self.front.len() > 0 => self.title_byte(bytes),
             Phase::Title => match self.within {
-                Within::Nothing => self.item_run(bytes),
+                Within::Nothing => self.items(bytes),
                 Within::Bytes(_) | Within::Text(_) => self.title_within(bytes),
             },
             Phase::Bytes(left) => self.bytes_run(left, bytes),

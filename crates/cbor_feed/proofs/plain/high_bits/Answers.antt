@@ -1,0 +1,12 @@
+use Rattle.std.proofs.Common.{arith, refl}
+use Rattle.std.proofs.lemmas.Nat.{le_bytes_8}
+use Rattle.cbor_feed.proofs.HighBits.{eight, eight_bytes, low_in}
+use Rattle.cbor_feed.proofs.plain.high_bits.Goals as goal
+
+pub returns : goal.returns
+returns c = λ none.
+    let xs = c.args.bytes.now in
+    let at = c.args.at in
+    low_in c.from_le_bytes-word.result _ c.args.number xs at none refl (omega (arith, c.requires.number))
+    (le_bytes_8 (eight xs at) c.from_le_bytes-word.result refl
+    (eight_bytes xs at (λ i. (c.type_inv.bytes i).fits)) c.from_le_bytes-word.ensures)

@@ -1,0 +1,59 @@
+-- Items that their first byte tells, and of which all bytes are there.
+use Rattle.std.specs.Prelude.{◌≡◌, ◌==◌, ℕ, zero, suc, ◌+◌, ◌*◌, ◌/◌, ◌%◌, ◌<◌, ◌⊎◌, Bool, List, [], ◌++◌, length}
+use Rattle.std.specs.Prelude.{if◌then◌else◌, Option, Some, None}
+use Rattle.ciborium_ll_grammar.specs.Title.{affix_len}
+use Rattle.cbor_feed.specs.declared.phase.Phase.TheVariants as p
+use Rattle.cbor_feed.specs.declared.phase.Within.TheVariants as w
+use Rattle.cbor_feed.specs.declared.level.Level.{Level}
+use Rattle.cbor_feed.specs.declared.level.Level.TheVariants as l
+use Rattle.cbor_feed.specs.Spots.{Spot, item_done}
+use Rattle.cbor_feed.specs.Steps.{Leads}
+
+-- so many bytes came, and the title with which they began is the last one
+abbrev pub passed : ℕ → Spot → Spot
+passed len spot = record spot { front = []; place = spot.offset; offset = spot.offset + len }
+
+-- where an item is due, these bytes are one, and lead behind it (RFC 7049, 2.1)
+abbrev pub IsPlain : Bool → List ℕ → Type 0
+IsPlain strict bytes = (spot : Spot) → spot.phase ≡ p.Title → length spot.front ≡ 0 → spot.within ≡ w.Nothing
+    → spot.strict ≡ strict → Leads spot bytes (item_done (passed (length bytes) spot))
+
+-- the major types of numbers, floats and simple values (RFC 7049, 2.1)
+abbrev pub IsValueMajor : ℕ → Type 0
+IsValueMajor major = (major ≡ 0) ⊎ ((major ≡ 1) ⊎ (major ≡ 7))
+
+-- What the number in the table of a first byte says, by its major type and its minor (RFC 7049, 2.1). 0 is nothing,
+-- and 1 a number or a simple value of one byte. Of a byte string below 24 bytes it is how many bytes it has with its
+-- title. Of a longer title of a number, a float or a simple value it is how many bytes that has, and 64 more. Of a
+-- text below 24 bytes it is how many bytes it has with its title, and 128 more
+abbrev pub IsSpan : ℕ → ℕ → Type 0
+IsSpan first span =
+    (span ≡ 0)
+    ⊎ ((span ≡ 1) × (first % 32 < 24) × IsValueMajor (first / 32)
+    ⊎ ((span ≡ 1 + first % 32) × (first % 32 < 24) × (first / 32 ≡ 2)
+    ⊎ ((span ≡ 65 + affix_len (first % 32)) × (0 < affix_len (first % 32)) × (first % 32 < 28)
+    × (affix_len (first % 32) < 9) × IsValueMajor (first / 32)
+    ⊎ (span ≡ 129 + first % 32) × (first % 32 < 24) × (first / 32 ≡ 3))))
+
+-- So many such items, joined. The first one begins at the offset, and of the last one the place is where it begins.
+-- Where there is none the place is the one that was given
+pub data ArePlain (strict : Bool) (offset first : ℕ) : ℕ → ℕ → List ℕ → Type 0 where
+  none : ArePlain strict offset first zero first []
+  more : {count last : ℕ} {bytes item : List ℕ} → ArePlain strict offset first count last bytes → IsPlain strict item
+      → ArePlain strict offset first (suc count) (offset + length bytes) (bytes ++ item)
+
+-- how many items are due in a nest behind the one that is, where they are counted (RFC 7049, 2.1)
+abbrev pub counted_behind : Level → Option ℕ
+counted_behind (l.Items count) = Some count
+counted_behind (l.Pairs count) = Some (2 * count)
+counted_behind (l.Value count) = Some (2 * count + 1)
+counted_behind level = None
+
+-- of pairs so many items
+abbrev pub pairs_of : ℕ → Level
+pairs_of left = if left % 2 == 0 then l.Pairs (left / 2) else l.Value (left / 2)
+
+-- the nest with so many items behind the one that is due
+abbrev pub lowered : ℕ → Level → Level
+lowered left (l.Items count) = l.Items left
+lowered left level = pairs_of left

@@ -1,0 +1,198 @@
+//! Items that their first byte tells, and of which all bytes are there.
+
+ghost use Rattle.std.specs.Prelude.{Bool, ℕ, ◌≡◌, ◌+◌, ◌-◌, ◌<◌, ◌≤◌, take, length, slice_index, true};
+ghost use Rattle.std.specs.Str.{IsAscii};
+ghost use Rattle.cbor_feed.specs.Plain.{ArePlain, IsPlain, IsSpan};
+
+/// Added for a longer title of a number, a float or a simple value, which may not be the shortest.
+const LONG: u8 = 64;
+
+/// Added for a text, which has to be looked at.
+const TEXT: u8 = 128;
+
+/// What each first byte tells, two lines for each major type: how many bytes an item has with its title, with one of
+/// the numbers above added. 0 is nothing.
+#[rattlefmt::skip]
+static SPANS: [u8; 256] = [
+    // unsigned integers
+    1, 1, 1, 1, 1, 1, 1, 1, 1, 1, 1, 1, 1, 1, 1, 1,
+    1, 1, 1, 1, 1, 1, 1, 1, 66, 67, 69, 73, 0, 0, 0, 0,
+    // negative integers
+    1, 1, 1, 1, 1, 1, 1, 1, 1, 1, 1, 1, 1, 1, 1, 1,
+    1, 1, 1, 1, 1, 1, 1, 1, 66, 67, 69, 73, 0, 0, 0, 0,
+    // byte strings
+    1, 2, 3, 4, 5, 6, 7, 8, 9, 10, 11, 12, 13, 14, 15, 16,
+    17, 18, 19, 20, 21, 22, 23, 24, 0, 0, 0, 0, 0, 0, 0, 0,
+    // text strings
+    129, 130, 131, 132, 133, 134, 135, 136, 137, 138, 139, 140, 141, 142, 143, 144,
+    145, 146, 147, 148, 149, 150, 151, 152, 0, 0, 0, 0, 0, 0, 0, 0,
+    // arrays
+    0, 0, 0, 0, 0, 0, 0, 0, 0, 0, 0, 0, 0, 0, 0, 0,
+    0, 0, 0, 0, 0, 0, 0, 0, 0, 0, 0, 0, 0, 0, 0, 0,
+    // maps
+    0, 0, 0, 0, 0, 0, 0, 0, 0, 0, 0, 0, 0, 0, 0, 0,
+    0, 0, 0, 0, 0, 0, 0, 0, 0, 0, 0, 0, 0, 0, 0, 0,
+    // tags
+    0, 0, 0, 0, 0, 0, 0, 0, 0, 0, 0, 0, 0, 0, 0, 0,
+    0, 0, 0, 0, 0, 0, 0, 0, 0, 0, 0, 0, 0, 0, 0, 0,
+    // simple values and floats
+    1, 1, 1, 1, 1, 1, 1, 1, 1, 1, 1, 1, 1, 1, 1, 1,
+    1, 1, 1, 1, 1, 1, 1, 1, 66, 67, 69, 73, 0, 0, 0, 0,
+];
+
+/// What a first byte tells.
+#[inline(always)]
+fn span_of(first: u8) -> u8
+    ensures { IsSpan first result }
+{
+    SPANS[first as usize]
+}
+
+/// Of each number the highest bits of the first bytes of a word, the lowest first: of as many as it is above 16, up to
+/// all eight.
+#[rattlefmt::skip]
+static HIGH_BITS: [u64; 41] = [
+    0x0000_0000_0000_0000, 0x0000_0000_0000_0000, 0x0000_0000_0000_0000, 0x0000_0000_0000_0000,
+    0x0000_0000_0000_0000, 0x0000_0000_0000_0000, 0x0000_0000_0000_0000, 0x0000_0000_0000_0000,
+    0x0000_0000_0000_0000, 0x0000_0000_0000_0000, 0x0000_0000_0000_0000, 0x0000_0000_0000_0000,
+    0x0000_0000_0000_0000, 0x0000_0000_0000_0000, 0x0000_0000_0000_0000, 0x0000_0000_0000_0000,
+    0x0000_0000_0000_0000, 0x0000_0000_0000_0080, 0x0000_0000_0000_8080, 0x0000_0000_0080_8080,
+    0x0000_0000_8080_8080, 0x0000_0080_8080_8080, 0x0000_8080_8080_8080, 0x0080_8080_8080_8080,
+    0x8080_8080_8080_8080, 0x8080_8080_8080_8080, 0x8080_8080_8080_8080, 0x8080_8080_8080_8080,
+    0x8080_8080_8080_8080, 0x8080_8080_8080_8080, 0x8080_8080_8080_8080, 0x8080_8080_8080_8080,
+    0x8080_8080_8080_8080, 0x8080_8080_8080_8080, 0x8080_8080_8080_8080, 0x8080_8080_8080_8080,
+    0x8080_8080_8080_8080, 0x8080_8080_8080_8080, 0x8080_8080_8080_8080, 0x8080_8080_8080_8080,
+    0x8080_8080_8080_8080,
+];
+
+/// The highest bits of the eight bytes from there on: of the first ones, as many as the number is above 16.
+#[inline(always)]
+fn high_bits(bytes: &[u8], at: usize, number: usize) -> u64
+    requires there { at + 8 ≤ length bytes.now }
+    requires number { number ≤ 40 }
+    ensures { result ≡ 0 → (j : ℕ) → j < 8 → j + 16 < number → slice_index bytes.now (at + j) < 128 }
+{
+    let word = u64::from_le_bytes([
+        bytes[at],
+        bytes[at + 1],
+        bytes[at + 2],
+        bytes[at + 3],
+        bytes[at + 4],
+        bytes[at + 5],
+        bytes[at + 6],
+        bytes[at + 7],
+    ]);
+    word & HIGH_BITS[number]
+}
+
+/// Whether so many bytes in front, which are at most 24, are ASCII. Where 24 are there it takes no branch.
+#[inline(always)]
+fn is_ascii_front(bytes: &[u8], len: usize) -> bool
+    requires within { len ≤ length bytes.now }
+    requires few { len ≤ 24 }
+    ensures { result ≡ true → IsAscii (take len bytes.now) }
+{
+    if bytes.len() < 24 {
+        return bytes[..len].is_ascii();
+    }
+    let first = high_bits(bytes, 0, len + 16);
+    let second = high_bits(bytes, 8, len + 8);
+    let third = high_bits(bytes, 16, len);
+    first | second | third == 0
+}
+
+/// How many bytes the string in front has, where an item is due, its length stands in one byte behind the first and is
+/// at least 24, as a shortest title has it, and all of it is there; of a text, where that is ASCII. Of any other 0.
+#[inline(never)]
+fn string_len(bytes: &[u8]) -> usize
+    requires some { 0 < length bytes.now }
+    ensures within { result ≤ length bytes.now }
+    ensures plain { (strict : Bool) → 0 < result → IsPlain strict (take result bytes.now) }
+{
+    if bytes.len() < 2 || bytes[1] < 24 {
+        return 0;
+    }
+    let len = 2 + usize::from(bytes[1]);
+    if len > bytes.len() {
+        return 0;
+    }
+    match bytes[0] {
+        0x58 => len,
+        0x78 if bytes[2..len].is_ascii() => len,
+        _ => 0,
+    }
+}
+
+/// How many bytes the item in front has, where an item is due and all of it is there: of a number, a float or a simple
+/// value, of a byte string below 256 bytes, or of a text below that which is ASCII. Of any other one 0, and so of a
+/// longer title where the shortest alone is taken.
+#[inline(always)]
+fn plain_len(bytes: &[u8], strict: bool) -> usize
+    requires some { 0 < length bytes.now }
+    ensures within { result ≤ length bytes.now }
+    ensures plain { 0 < result → IsPlain strict (take result bytes.now) }
+{
+    let span = span_of(bytes[0]);
+    let len = usize::from(span % LONG);
+    if len == 0 {
+        return string_len(bytes);
+    }
+    if len > bytes.len() {
+        return 0;
+    }
+    if span < LONG {
+        return len;
+    }
+    if span < TEXT {
+        return if strict { 0 } else { len };
+    }
+    if is_ascii_front(&bytes[1..], len - 1) {
+        len
+    } else {
+        0
+    }
+}
+
+/// Plain items one behind the other.
+#[derive(Drop)]
+pub(crate) struct Run {
+    /// How many bytes they have.
+    pub(crate) len: usize,
+    /// How many items more there might have been.
+    pub(crate) left: usize,
+    /// The offset of the last one, or what was given for it.
+    pub(crate) place: usize,
+}
+
+/// Items in front of which [`plain_len`] tells the length, at most so many, where an item is due at this offset. It
+/// stays a function of its own, in which all that a title needs is in registers.
+#[inline(never)]
+pub(crate) fn plain_run(bytes: &[u8], most: usize, strict: bool, offset: usize, place: usize) -> Run
+    requires room { offset + length bytes.now ≤ usize.MAX }
+    ensures within { result.len ≤ length bytes.now }
+    ensures most { result.left ≤ most }
+    ensures some { result.left < most → 0 < result.len }
+    ensures plain { ArePlain strict offset place (most - result.left) result.place (take result.len bytes.now) }
+{
+    let mut at = 0;
+    let mut left = most;
+    let mut last = place;
+    'items: while left > 0 && at < bytes.len() {
+        let len = plain_len(&bytes[at..], strict);
+        if len == 0 {
+            return Run {
+                len: at,
+                left,
+                place: last,
+            };
+        }
+        last = offset + at;
+        at += len;
+        left -= 1;
+    }
+    Run {
+        len: at,
+        left,
+        place: last,
+    }
+}
