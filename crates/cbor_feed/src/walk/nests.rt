@@ -83,6 +83,7 @@ impl Walk<'_> {
         let (len, goes) = self.plain_items(&bytes[1..]);
         (1 + len, goes)
     }
+
     /// Items where one is due: plain ones of the nest in which it is, and what [`Walk::item_run`] takes behind them.
     /// Says how many bytes.
     #[inline(always)]
