@@ -103,7 +103,7 @@ fn is_ascii_front(bytes: &[u8], len: usize) -> bool
 
 /// How many bytes the string in front has, where an item is due, its length stands in one byte behind the first and is
 /// at least 24, as a shortest title has it, and all of it is there; of a text, where that is ASCII. Of any other 0.
-#[inline(never)]
+#[inline(always)]
 fn string_len(bytes: &[u8]) -> usize
     requires some { 0 < length bytes.now }
     ensures within { result ≤ length bytes.now }

@@ -99,9 +99,9 @@ impl Walk<'_> {
         ensures lent { AreLent self.old.levels self.new.levels }
     {
         let (first, goes) = self.plain_items(bytes);
-        if !goes || first == bytes.len() {
+        if !goes || first > 0 {
             return first;
         }
-        first + self.item_run(&bytes[first..])
+        first + self.item_run(&bytes[first..]) // Of none in front, so that nothing of them is kept on the stack.
     }
 }
