@@ -216,6 +216,19 @@ run_room xs at most s m le room so_far =
     let rest = rest_long xs at in
     omega (arith, counts, long, rest, le, room)
 
+-- where none came, those behind are all
+pub none_before : (xs : List ℕ) (at n : ℕ) (s m new : Spot) → at ≡ 0 → Leads s (take at xs) m → Leads m (take n xs) new
+    → Leads s (take n xs) new
+none_before xs at n s m new none so_far run =
+    leads_more s m new [] (take n xs) (subst (λ (z : ℕ). Leads s (take z xs) m) none so_far) run
+
+-- and there is as much room
+pub none_room : (xs : List ℕ) (at most : ℕ) (s m : Spot) → at ≡ 0 → s.offset + length xs ≤ most
+    → Leads s (take at xs) m → m.offset + length xs ≤ most
+none_room xs at most s m none room so_far =
+    let counts = leads_counts s m [] (subst (λ (z : ℕ). Leads s (take z xs) m) none so_far) in
+    omega (arith, counts, room)
+
 -- of a list only so many counted
 pub run_front : (xs : List ℕ) (n most : ℕ) (s new : Spot) → n ≤ length (take most xs) → most ≤ length xs
     → Leads s (take n (take most xs)) new → Leads s (take n xs) new

@@ -98,10 +98,12 @@ impl Walk<'_> {
         ensures leads { Leads (spot_at self.old) (take result bytes.now) (spot_at self.new) }
         ensures lent { AreLent self.old.levels self.new.levels }
     {
-        let (first, goes) = self.plain_items(bytes);
-        if !goes || first > 0 {
-            return first;
+        // Behind plain items the next step goes on, so that nothing of them is kept on the stack here.
+        let (len, goes) = self.plain_items(bytes);
+        if len == 0 && goes {
+            self.item_run(bytes)
+        } else {
+            len
         }
-        first + self.item_run(&bytes[first..]) // Of none in front, so that nothing of them is kept on the stack.
     }
 }
