@@ -1,10 +1,11 @@
 -- Where several bytes of a body lead at once, which are put out as they are.
 use Rattle.std.proofs.Common.{◌≡◌, ℕ, zero, suc, ◌+◌, ◌-◌, ◌<◌, ◌≤◌, Bool, true, List, [], ◌∷◌, ◌++◌, length, take}
-use Rattle.std.proofs.Common.{get_or, refl, sym, ap, subst, ◌∙◌, arith, append_assoc, append-nil, le-leb, length-take-le}
-use Rattle.std.proofs.lemmas.List.{get_or-take}
+use Rattle.std.proofs.Common.{refl, sym, ap, subst, ◌∙◌, arith, append_assoc, append-nil, le-leb, length-take-le}
 use Rattle.ciborium_ll_text.specs.declared.state.State.{State}
 use Rattle.ciborium_ll_text.specs.declared.state.State.TheVariants as s
-use Rattle.ciborium_ll_text.specs.States.{after, after_byte}
+use Rattle.ciborium_ll_text.specs.States.{after, after_byte, may_end}
+use Rattle.ciborium_ll_text.proofs.EndLaws.{may_back}
+use Rattle.ciborium_ll_text.proofs.Lists.{Below, below_rest, below_take}
 use Rattle.ciborium_ll_text.proofs.StateLaws.{text_ends}
 use Rattle.cbor_copy.specs.declared.phase.Phase.{Phase}
 use Rattle.cbor_copy.specs.declared.phase.Phase.TheVariants as p
@@ -13,23 +14,8 @@ use Rattle.cbor_copy.specs.declared.phase.StringKind.TheVariants as k
 use Rattle.cbor_copy.specs.declared.phase.Within.{Within}
 use Rattle.cbor_copy.specs.declared.phase.Within.TheVariants as w
 use Rattle.cbor_copy.specs.Spots.{Spot, at_phase, putting, elements_due, string_done, body_phase, body_due, IsWhole}
-use Rattle.cbor_copy.specs.Steps.{IsFed, more, StepIn, byte_put, with_char, char_put, counted_by, text_left, may_end}
+use Rattle.cbor_copy.specs.Steps.{IsFed, more, StepIn, byte_put, with_char, char_put, counted_by, text_left}
 use Rattle.cbor_copy.proofs.EnterLaws.{body_put}
-use Rattle.cbor_copy.proofs.BodySteps.{one_more_due}
-
--- each is a byte
-abbrev pub Below : List ℕ → Type 0
-Below xs = (i : ℕ) → i < length xs → get_or xs i 0 < 256
-
-pub below_rest : (x : ℕ) (xs : List ℕ) → Below (x ∷ xs) → Below xs
-below_rest x xs below = λ i less. below (suc i) (omega (arith, less))
-
-pub below_take : (n : ℕ) (xs : List ℕ) → n ≤ length xs → Below xs → Below (take n xs)
-below_take n xs le below = λ i less.
-    let long = length-take-le n xs le in
-    let same = get_or-take n xs i 0 (omega (arith, less, long)) in
-    let b = below i (omega (arith, less, long, le)) in
-    omega (arith, same, b)
 
 -- ---- what was due, and what the last byte put out, does not count behind a body
 
@@ -86,15 +72,6 @@ bytes_come (x ∷ y ∷ ys) count left total n spot fed out below at clear all o
     (putting [] (body_due k.Bytes left (at_count n (putting [] new)))) z) (append_assoc out (x ∷ []) (y ∷ ys)) rest))
 
 -- ---- bytes of a text
-
--- what may end behind bytes may end in front of them
-may_back : (xs : List ℕ) (state : State) (left l : ℕ) → l ≡ length xs + left → after state xs ≡ s.Between
-    → may_end state l ≡ true
-may_back [] state left l e ends = rw ends (le-leb 0 l (omega arith))
-may_back (x ∷ xs) state left l e ends =
-    let so_far = may_back xs (after_byte state x) left (length xs + left) refl ends in
-    subst (λ (z : ℕ). may_end state z ≡ true) (let same : suc (length xs + left) ≡ l = omega (arith, e) in same)
-    (one_more_due state x (length xs + left) so_far)
 
 -- the spot behind a byte of a text that goes on so
 abbrev behind : ℕ → State → ℕ → Spot → Spot
@@ -157,7 +134,7 @@ chars_come (x ∷ y ∷ ys) count left total n state spot fed out below at all o
     let l : ℕ = length ys + left in
     let here : spot.phase ≡ p.Text (suc (suc l)) state = at ∙ ap (λ (z : ℕ). p.Text z state) (omega (arith, all)) in
     let goes : may_end (after_byte state x) (suc l) ≡ true =
-    may_back (y ∷ ys) (after_byte state x) left (suc l) (omega arith) ends in
+    may_back (y ∷ ys) (after_byte state x) left (suc l) (omega arith) (rw ends (le-leb 0 left (omega arith))) in
     let new : Spot = behind (suc l) (after_byte state x) x spot in
     let step = ap (λ (z : Bool). text_left z (suc l) (after_byte state x) (with_char x spot)) (sym goes) in
     let led = more x new (below 0 (omega arith)) is (subst (λ (z : Phase). StepIn z spot x new) (sym here) step) in

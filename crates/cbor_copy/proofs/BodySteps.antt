@@ -1,7 +1,7 @@
 -- What one byte more of a body leads to, in terms of the elements so far.
 use Rattle.std.proofs.Common.{◌≡◌, ℕ, zero, suc, ◌+◌, ◌<◌, ◌≤◌, Bool, true, false, List, [], ◌∷◌, ◌++◌, length}
-use Rattle.std.proofs.Common.{take, Some, ◌⊎◌, refl, sym, ap, subst, ◌∙◌, arith, inl, inr, append_assoc}
-use Rattle.std.proofs.Common.{append-nil, length-append, replicate, length-take-le, le-leb, leb-true}
+use Rattle.std.proofs.Common.{take, Some, refl, sym, ap, subst, ◌∙◌, arith, inl, inr, append_assoc}
+use Rattle.std.proofs.Common.{append-nil, length-append, replicate, length-take-le}
 use Rattle.std.proofs.lemmas.Bool.{cases_lt}
 use Rattle.std.proofs.lemmas.List.{length-replicate}
 use Rattle.std.proofs.Math.Seq.{take-append-add}
@@ -13,9 +13,10 @@ use Rattle.ciborium_ll_grammar.specs.Faults.{FirstFault, CutBody, DamagedText}
 use Rattle.ciborium_ll_grammar.proofs.AffixLaws.{AreBytes-zeros}
 use Rattle.ciborium_ll_text.specs.declared.state.State.{State}
 use Rattle.ciborium_ll_text.specs.declared.state.State.TheVariants as s
-use Rattle.ciborium_ll_text.specs.States.{after, after_byte}
+use Rattle.ciborium_ll_text.specs.States.{after, after_byte, may_end}
 use Rattle.ciborium_ll_text.specs.Text.{IsCharacters}
-use Rattle.ciborium_ll_text.proofs.StateLaws.{Next, inside, outside, next_view, after-append, text_ends, text_from}
+use Rattle.ciborium_ll_text.proofs.EndLaws.{text_may_end}
+use Rattle.ciborium_ll_text.proofs.StateLaws.{after-append, text_ends, text_from}
 use Rattle.ciborium_ll_text.proofs.TextLaws.{IsCharacters-append, IsCharacters-nil}
 use Rattle.cbor_copy.specs.declared.phase.Phase.TheVariants as p
 use Rattle.cbor_copy.specs.declared.phase.StringKind.{StringKind}
@@ -24,66 +25,11 @@ use Rattle.cbor_copy.specs.declared.phase.Within.{Within}
 use Rattle.cbor_copy.specs.declared.phase.Within.TheVariants as w
 use Rattle.cbor_copy.specs.Fronts.{has_left}
 use Rattle.cbor_copy.specs.Spots.{Spot, at_phase, body_due}
-use Rattle.cbor_copy.specs.Steps.{may_end, with_char, text_left, byte_put}
+use Rattle.cbor_copy.specs.Steps.{with_char, text_left, byte_put}
 use Rattle.cbor_copy.proofs.EnterLaws.{reaches, body_leads, body_put}
 use Rattle.cbor_copy.proofs.FrontLaws.{text_some}
 use Rattle.cbor_copy.proofs.Reached.{kind_of, At, OfKind, body_place, Bodying, Broken, Holds}
 use Rattle.cbor_copy.proofs.Reached.{HoldsIn, clear}
-
--- ---- what ends a text
-
--- a byte ends at most one that is due
-from_next : (lowest highest b : ℕ) (to x : State) → Next lowest highest to b x → (x ≡ to) ⊎ (x ≡ s.Damaged)
-from_next lowest highest b to x (inside i) = inl refl
-from_next lowest highest b to x outside = inr refl
-
-pub not_damaged : (state : State) (n : ℕ) → may_end state n ≡ true → state ≡ s.Damaged → ⊥
-not_damaged s.Damaged n may e = cc
-not_damaged s.Between n may e = cc
-not_damaged s.OneDue n may e = cc
-not_damaged s.TwoDue n may e = cc
-not_damaged s.ThreeDue n may e = cc
-not_damaged s.BehindE0 n may e = cc
-not_damaged s.BehindEd n may e = cc
-not_damaged s.BehindF0 n may e = cc
-not_damaged s.BehindF4 n may e = cc
-
--- by the state behind one byte
-by_next : (lowest highest b n k : ℕ) (to x : State) → Next lowest highest to b x → may_end x n ≡ true
-    → (may_end to n ≡ true → k ≤ n) → k ≤ n
-by_next lowest highest b n k to x view may f =
-    elim (from_next lowest highest b to x view) [
-      | inl same ↦ f (subst (λ (z : State). may_end z n ≡ true) same may)
-      | inr damaged ↦ absurd (not_damaged x n may damaged)
-    ]
-
-pub one_more_due : (state : State) (b n : ℕ) → may_end (after_byte state b) n ≡ true → may_end state (suc n) ≡ true
-one_more_due s.Between b n may = le-leb 0 (suc n) (omega arith)
-one_more_due s.OneDue b n may = le-leb 1 (suc n) (omega arith)
-one_more_due s.TwoDue b n may =
-    let l = by_next 0x80 0xbf b n 1 s.OneDue _ (next_view 0x80 0xbf s.OneDue b) may (λ e. leb-true 1 n e) in
-    le-leb 2 (suc n) (omega (arith, l))
-one_more_due s.ThreeDue b n may =
-    let l = by_next 0x80 0xbf b n 2 s.TwoDue _ (next_view 0x80 0xbf s.TwoDue b) may (λ e. leb-true 2 n e) in
-    le-leb 3 (suc n) (omega (arith, l))
-one_more_due s.BehindE0 b n may =
-    let l = by_next 0xa0 0xbf b n 1 s.OneDue _ (next_view 0xa0 0xbf s.OneDue b) may (λ e. leb-true 1 n e) in
-    le-leb 2 (suc n) (omega (arith, l))
-one_more_due s.BehindEd b n may =
-    let l = by_next 0x80 0x9f b n 1 s.OneDue _ (next_view 0x80 0x9f s.OneDue b) may (λ e. leb-true 1 n e) in
-    le-leb 2 (suc n) (omega (arith, l))
-one_more_due s.BehindF0 b n may =
-    let l = by_next 0x90 0xbf b n 2 s.TwoDue _ (next_view 0x90 0xbf s.TwoDue b) may (λ e. leb-true 2 n e) in
-    le-leb 3 (suc n) (omega (arith, l))
-one_more_due s.BehindF4 b n may =
-    let l = by_next 0x80 0x8f b n 2 s.TwoDue _ (next_view 0x80 0x8f s.TwoDue b) may (λ e. leb-true 2 n e) in
-    le-leb 3 (suc n) (omega (arith, l))
-one_more_due s.Damaged b n may = may
-
--- a text that ends may end
-text_may_end : (state : State) (bytes : List ℕ) → after state bytes ≡ s.Between → may_end state (length bytes) ≡ true
-text_may_end state [] e = rw e (le-leb 0 0 (omega arith))
-text_may_end state (b ∷ bytes) e = one_more_due state b (length bytes) (text_may_end (after_byte state b) bytes e)
 
 -- ---- the place of a body
 

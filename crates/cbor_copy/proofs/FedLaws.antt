@@ -2,7 +2,7 @@
 use Rattle.std.proofs.Common.{◌≡◌, ℕ, zero, suc, ◌+◌, ◌-◌, ◌<◌, ◌≤◌, List, [], ◌∷◌, ◌++◌, length, take, get_or, refl}
 use Rattle.std.proofs.Common.{sym, ap}
 use Rattle.std.proofs.Common.{subst, ◌∙◌, arith, append_assoc, append-nil, drop, drop-drop, length-append}
-use Rattle.std.proofs.Common.{length-take-le, length-drop, false}
+use Rattle.std.proofs.Common.{length-take-le, false}
 use Rattle.std.proofs.lemmas.List.{take_more, take_rest}
 use Rattle.std.proofs.Math.Seq.{take-add}
 use Rattle.ciborium_ll_text.proofs.Lists.{length_zero}
@@ -111,7 +111,3 @@ is_answer r.TooLong [] (p.Text left state) e = absurd cc
 is_answer r.TooLong [] p.Ended e = absurd cc
 is_answer r.TooLong [] (p.Faulted place) e = absurd cc
 is_answer progress pending phase e = e
-
--- how many bytes are left of a list
-pub rest_long : (xs : List ℕ) (at : ℕ) → length (take (length xs - at) (drop at xs)) ≡ length xs - at
-rest_long xs at = ap length (take_rest xs at) ∙ length-drop at xs

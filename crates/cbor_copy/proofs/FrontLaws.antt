@@ -2,11 +2,10 @@
 use Rattle.std.proofs.Common.{◌≡◌, ℕ, zero, suc, ◌+◌, ◌≤◌, true, refl, arith}
 use Rattle.ciborium_ll_text.specs.declared.state.State.{State}
 use Rattle.ciborium_ll_text.specs.declared.state.State.TheVariants as s
-use Rattle.ciborium_ll_text.specs.States.{after_byte, after_first}
+use Rattle.ciborium_ll_text.specs.States.{after_byte, after_first, may_end}
 use Rattle.ciborium_ll_text.proofs.StateLaws.{Next, inside, outside, next_view}
 use Rattle.cbor_copy.specs.declared.phase.Phase.TheVariants as p
 use Rattle.cbor_copy.specs.Fronts.{most_cut, has_left}
-use Rattle.cbor_copy.specs.Steps.{may_end}
 
 -- behind a first byte there is room for it
 first_room : (state : State) (left : ℕ) → may_end state left ≡ true → (state ≡ s.Between → ⊥) → 1 ≤ most_cut state

@@ -7,7 +7,7 @@ use Rattle.ciborium_ll_grammar.specs.Title.{IsTitle, shortest_title}
 use Rattle.ciborium_ll_grammar.proofs.TitleLaws.{shortest_no_longer}
 use Rattle.ciborium_ll_text.specs.declared.state.State.{State}
 use Rattle.ciborium_ll_text.specs.declared.state.State.TheVariants as s
-use Rattle.ciborium_ll_text.specs.States.{after_byte}
+use Rattle.ciborium_ll_text.specs.States.{after_byte, may_end}
 use Rattle.cbor_copy.specs.declared.phase.Phase.{Phase}
 use Rattle.cbor_copy.specs.declared.phase.Phase.TheVariants as p
 use Rattle.cbor_copy.specs.declared.phase.StringKind.{StringKind}
@@ -17,7 +17,7 @@ use Rattle.cbor_copy.specs.declared.phase.Within.TheVariants as w
 use Rattle.cbor_copy.specs.Fronts.{most_front, most_cut}
 use Rattle.cbor_copy.specs.Spots.{Spot, element_entered, within_entered, entered}
 use Rattle.cbor_copy.specs.Steps.{TitleStep, cut, early, whole, none, StepIn, Step, with_byte, with_char, char_put}
-use Rattle.cbor_copy.specs.Steps.{text_left, byte_put, may_end}
+use Rattle.cbor_copy.specs.Steps.{text_left, byte_put}
 use Rattle.cbor_copy.proofs.BlockedLaws.{affix_most}
 use Rattle.cbor_copy.proofs.EnterLaws.{due_put, body_put}
 use Rattle.cbor_copy.proofs.KeptLaws.{body_kept, entered_kept}

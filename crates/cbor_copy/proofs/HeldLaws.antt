@@ -2,13 +2,13 @@
 use Rattle.std.proofs.Common.{◌≡◌, ℕ, zero, suc, ◌<◌, List, [], ◌∷◌, ◌++◌, length, refl, sym, subst, arith}
 use Rattle.std.proofs.Common.{length-append}
 use Rattle.ciborium_ll_grammar.specs.Elements.{done}
-use Rattle.ciborium_ll_text.specs.States.{after_byte}
+use Rattle.ciborium_ll_text.specs.States.{after_byte, may_end}
 use Rattle.cbor_copy.specs.declared.phase.Phase.{Phase}
 use Rattle.cbor_copy.specs.declared.phase.Phase.TheVariants as p
 use Rattle.cbor_copy.specs.declared.phase.StringKind.{StringKind}
 use Rattle.cbor_copy.specs.declared.phase.Within.TheVariants as w
 use Rattle.cbor_copy.specs.Spots.{Spot, putting}
-use Rattle.cbor_copy.specs.Steps.{start, may_end, StepIn, IsFed, fresh, more}
+use Rattle.cbor_copy.specs.Steps.{start, StepIn, IsFed, fresh, more}
 use Rattle.cbor_copy.proofs.BodySteps.{byte_step, text_step}
 use Rattle.cbor_copy.proofs.EnterLaws.{due_leads}
 use Rattle.cbor_copy.proofs.KeptLaws.{step_counts}

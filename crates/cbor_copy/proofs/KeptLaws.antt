@@ -4,7 +4,7 @@ use Rattle.ciborium_ll_grammar.specs.declared.hdr.Header.{Header}
 use Rattle.ciborium_ll_grammar.specs.declared.hdr.Header.TheVariants as h
 use Rattle.ciborium_ll_text.specs.declared.state.State.{State}
 use Rattle.ciborium_ll_text.specs.declared.state.State.TheVariants as s
-use Rattle.ciborium_ll_text.specs.States.{after_byte}
+use Rattle.ciborium_ll_text.specs.States.{after_byte, may_end}
 use Rattle.cbor_copy.specs.declared.phase.Phase.{Phase}
 use Rattle.cbor_copy.specs.declared.phase.Phase.TheVariants as p
 use Rattle.cbor_copy.specs.declared.phase.StringKind.{StringKind}
@@ -14,7 +14,7 @@ use Rattle.cbor_copy.specs.declared.phase.Within.TheVariants as w
 use Rattle.cbor_copy.specs.Spots.{Spot, elements_due, string_done, body_due, entered}
 use Rattle.cbor_copy.specs.Steps.{with_byte, with_char, char_put, byte_put, text_left, TitleStep, cut, early, whole}
 use Rattle.cbor_copy.specs.Steps.{none}
-use Rattle.cbor_copy.specs.Steps.{may_end, StepIn}
+use Rattle.cbor_copy.specs.Steps.{StepIn}
 
 -- what is held back, and how many bytes came
 abbrev pub Kept : Spot → Spot → Type 0

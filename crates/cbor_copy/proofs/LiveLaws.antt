@@ -1,7 +1,7 @@
 -- Where there is no fault, some bytes make so many elements of all.
-use Rattle.std.proofs.Common.{◌≡◌, ℕ, zero, suc, ◌-◌, ◌%◌, ◌<◌, ◌≤◌, true, List, [], ◌∷◌, ◌++◌, length, Some}
+use Rattle.std.proofs.Common.{◌≡◌, ℕ, zero, suc, ◌-◌, ◌%◌, ◌<◌, true, List, [], ◌∷◌, ◌++◌, length, Some}
 use Rattle.std.proofs.Common.{refl, sym, ap, subst, ◌∙◌, arith, inl, inr, append_assoc, append-nil, length-append}
-use Rattle.std.proofs.Common.{replicate, leb-true}
+use Rattle.std.proofs.Common.{replicate}
 use Rattle.std.proofs.lemmas.List.{length-replicate}
 use Rattle.ciborium_ll_grammar.specs.declared.hdr.Header.{Header}
 use Rattle.ciborium_ll_grammar.specs.declared.hdr.Header.TheVariants as h
@@ -13,7 +13,8 @@ use Rattle.ciborium_ll_grammar.proofs.StepLaws.{close_inner, close_last, add_ele
 use Rattle.ciborium_ll_grammar.proofs.AffixLaws.{AreBytes-zeros, AreBytes-append}
 use Rattle.ciborium_ll_text.specs.declared.state.State.{State}
 use Rattle.ciborium_ll_text.specs.declared.state.State.TheVariants as s
-use Rattle.ciborium_ll_text.specs.States.{is_from, after_first, after_next, after}
+use Rattle.ciborium_ll_text.specs.States.{is_from, after_first, after_next, after, tail_due, may_end}
+use Rattle.ciborium_ll_text.proofs.EndLaws.{not_damaged, tail_fits}
 use Rattle.ciborium_ll_text.proofs.StateLaws.{after-append, text_from}
 use Rattle.ciborium_ll_text.proofs.TextLaws.{IsCharacters-append}
 use Rattle.cbor_copy.specs.declared.phase.Phase.{Phase}
@@ -22,11 +23,8 @@ use Rattle.cbor_copy.specs.declared.phase.StringKind.{StringKind}
 use Rattle.cbor_copy.specs.declared.phase.StringKind.TheVariants as k
 use Rattle.cbor_copy.specs.declared.phase.Within.{Within}
 use Rattle.cbor_copy.specs.declared.phase.Within.TheVariants as w
-use Rattle.cbor_copy.specs.Fronts.{tail_due}
 use Rattle.cbor_copy.specs.Spots.{Spot, entered}
-use Rattle.cbor_copy.specs.Steps.{may_end}
 use Rattle.cbor_copy.proofs.BlockedLaws.{affix_most}
-use Rattle.cbor_copy.proofs.BodySteps.{not_damaged}
 use Rattle.cbor_copy.proofs.EnterLaws.{whole_behind, piece_behind, title_leads}
 use Rattle.cbor_copy.proofs.KeptLaws.{entered_kept}
 use Rattle.cbor_copy.proofs.Reached.{kind_of, RunLeft, InOpen, At, Misplaced, OfKind, Titling, Bodying, HoldsIn}
@@ -187,17 +185,6 @@ zero_stays = refl
 zeros_stay : (n : ℕ) → after s.Between (replicate n 0) ≡ s.Between
 zeros_stay zero = refl
 zeros_stay (suc n) = ap (λ (z : State). after z (replicate n 0)) zero_stays ∙ zeros_stay n
-
-tail_fits : (state : State) (n : ℕ) → may_end state n ≡ true → tail_due state ≤ n
-tail_fits s.Between n may = omega arith
-tail_fits s.OneDue n may = leb-true 1 n may
-tail_fits s.TwoDue n may = leb-true 2 n may
-tail_fits s.ThreeDue n may = leb-true 3 n may
-tail_fits s.BehindE0 n may = leb-true 2 n may
-tail_fits s.BehindEd n may = leb-true 2 n may
-tail_fits s.BehindF0 n may = leb-true 3 n may
-tail_fits s.BehindF4 n may = leb-true 3 n may
-tail_fits s.Damaged n may = absurd cc
 
 -- so many bytes that end a text
 record End (state : State) (n : ℕ) : Type 0 where

@@ -7,7 +7,7 @@ use Rattle.ciborium_ll_grammar.specs.Elements.{AreWritable, Mark, Open, pieces, 
 use Rattle.ciborium_ll_grammar.specs.Faults.{Place, Due, In, Reaches, Answer, Syntax, with_front, FirstFault}
 use Rattle.ciborium_ll_grammar.proofs.OpenStrings.{IsInsideAt}
 use Rattle.ciborium_ll_text.specs.declared.state.State.TheVariants as s
-use Rattle.ciborium_ll_text.specs.States.{after}
+use Rattle.ciborium_ll_text.specs.States.{after, may_end}
 use Rattle.cbor_copy.specs.declared.phase.Phase.{Phase}
 use Rattle.cbor_copy.specs.declared.phase.Phase.TheVariants as p
 use Rattle.cbor_copy.specs.declared.phase.StringKind.{StringKind}
@@ -15,7 +15,6 @@ use Rattle.cbor_copy.specs.declared.phase.StringKind.TheVariants as k
 use Rattle.cbor_copy.specs.declared.phase.Within.{Within}
 use Rattle.cbor_copy.specs.declared.phase.Within.TheVariants as w
 use Rattle.cbor_copy.specs.Spots.{Spot}
-use Rattle.cbor_copy.specs.Steps.{may_end}
 
 abbrev pub kind_of : StringKind → Kind
 kind_of k.Bytes = Bytes

@@ -9,14 +9,14 @@ use Rattle.ciborium_ll_grammar.specs.TitleRows.{IsTitleKind}
 use Rattle.ciborium_ll_grammar.specs.declared.hdr.table.TitleKind.{TitleKind}
 use Rattle.ciborium_ll_grammar.proofs.AffixLaws.{title_or_refused, major_with, refused_affix}
 use Rattle.ciborium_ll_grammar.proofs.ElementLaws.{one_run}
-use Rattle.ciborium_ll_text.specs.States.{after_byte}
+use Rattle.ciborium_ll_text.specs.States.{after_byte, may_end}
 use Rattle.cbor_copy.specs.declared.phase.Phase.{Phase}
 use Rattle.cbor_copy.specs.declared.phase.Phase.TheVariants as p
 use Rattle.cbor_copy.specs.declared.phase.StringKind.TheVariants as k
 use Rattle.cbor_copy.specs.declared.phase.Within.{Within}
 use Rattle.cbor_copy.specs.Blocked.{is_blocked}
 use Rattle.cbor_copy.specs.Spots.{Spot, putting, body_due, refused}
-use Rattle.cbor_copy.specs.Steps.{with_byte, titled, TitleStep, whole, none, may_end, with_char, text_left}
+use Rattle.cbor_copy.specs.Steps.{with_byte, titled, TitleStep, whole, none, with_char, text_left}
 use Rattle.cbor_copy.specs.Steps.{byte_put, StepIn, IsFed, more as more_fed}
 use Rattle.cbor_copy.specs.Telling.{is_due, progress_in, TellsWhole, EndedIn}
 use Rattle.cbor_copy.proofs.BlockedLaws.{kind_of as title_kind, kind_names, blocked_early, blocked_none}

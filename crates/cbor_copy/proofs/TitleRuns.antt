@@ -5,6 +5,7 @@ use Rattle.ciborium_ll_grammar.specs.declared.hdr.Header.{Header}
 use Rattle.ciborium_ll_grammar.specs.declared.hdr.Header.TheVariants as h
 use Rattle.ciborium_ll_grammar.specs.Title.{IsTitle, IsCutTitle, affix_len}
 use Rattle.ciborium_ll_grammar.proofs.AffixLaws.{announced}
+use Rattle.ciborium_ll_text.proofs.Lists.{Below, below_rest, below_take}
 use Rattle.cbor_copy.specs.declared.phase.Phase.{Phase}
 use Rattle.cbor_copy.specs.declared.phase.Phase.TheVariants as p
 use Rattle.cbor_copy.specs.declared.phase.StringKind.TheVariants as k
@@ -13,7 +14,6 @@ use Rattle.cbor_copy.specs.declared.phase.Within.TheVariants as w
 use Rattle.cbor_copy.specs.Spots.{Spot, putting, entered}
 use Rattle.cbor_copy.specs.Steps.{IsFed, more, cut, whole, with_byte, titled, title_place, Faults}
 use Rattle.cbor_copy.proofs.BlockedLaws.{due_sound, body_sound}
-use Rattle.cbor_copy.proofs.BodyRuns.{Below, below_rest, below_take}
 use Rattle.cbor_copy.proofs.GrowLaws.{entered_put}
 use Rattle.cbor_copy.proofs.KeptLaws.{entered_kept}
 

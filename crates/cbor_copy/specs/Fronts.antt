@@ -3,22 +3,11 @@ use Rattle.std.specs.Prelude.{ℕ, zero, suc, ◌-◌, ◌%◌, Bool, true, fals
 use Rattle.ciborium_ll_grammar.specs.Title.{affix_len}
 use Rattle.ciborium_ll_text.specs.declared.state.State.{State}
 use Rattle.ciborium_ll_text.specs.declared.state.State.TheVariants as s
+use Rattle.ciborium_ll_text.specs.States.{tail_due}
 use Rattle.cbor_copy.specs.declared.phase.Phase.{Phase}
 use Rattle.cbor_copy.specs.declared.phase.Phase.TheVariants as p
 use Rattle.cbor_copy.specs.declared.phase.Within.{Within}
 use Rattle.cbor_copy.specs.declared.phase.Within.TheVariants as w
-
--- how many bytes at least end the character (Unicode, Table 3-7)
-abbrev pub tail_due : State → ℕ
-tail_due s.Between = 0
-tail_due s.OneDue = 1
-tail_due s.TwoDue = 2
-tail_due s.ThreeDue = 3
-tail_due s.BehindE0 = 2
-tail_due s.BehindEd = 2
-tail_due s.BehindF0 = 3
-tail_due s.BehindF4 = 3
-tail_due s.Damaged = 0
 
 -- how many bytes at most are held back of a character, by the bytes that end it: it has at most four (Unicode, Table
 -- 3-7)

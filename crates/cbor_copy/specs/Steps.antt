@@ -1,15 +1,14 @@
 -- How one byte more leads from a spot to the next, and where a list of bytes leads.
-use Rattle.std.specs.Prelude.{◌≡◌, ℕ, zero, suc, ◌+◌, ◌<◌, Bool, List, [], ◌∷◌, ◌++◌, nat_le, true, false}
+use Rattle.std.specs.Prelude.{◌≡◌, ℕ, zero, suc, ◌+◌, ◌<◌, Bool, List, [], ◌∷◌, ◌++◌, true, false}
 use Rattle.ciborium_ll_grammar.specs.declared.hdr.Header.{Header}
 use Rattle.ciborium_ll_grammar.specs.Title.{IsTitle, IsCutTitle, BeginsRefused}
 use Rattle.ciborium_ll_text.specs.declared.state.State.{State}
 use Rattle.ciborium_ll_text.specs.declared.state.State.TheVariants as s
-use Rattle.ciborium_ll_text.specs.States.{after_byte}
+use Rattle.ciborium_ll_text.specs.States.{after_byte, may_end}
 use Rattle.cbor_copy.specs.declared.phase.Phase.{Phase}
 use Rattle.cbor_copy.specs.declared.phase.Phase.TheVariants as p
 use Rattle.cbor_copy.specs.declared.phase.StringKind.TheVariants as k
 use Rattle.cbor_copy.specs.declared.phase.Within.TheVariants as w
-use Rattle.cbor_copy.specs.Fronts.{tail_due}
 use Rattle.cbor_copy.specs.Spots.{Spot, at_phase, putting, elements_due, body_due, entered, refused}
 
 -- nothing came, and so many elements are due
@@ -60,11 +59,6 @@ pub data TitleStep (spot : Spot) : Spot → Type 0 where
   whole : (header : Header) → IsTitle spot.front header → TitleStep spot (titled header spot)
   -- no title begins so
   none : BeginsRefused spot.front → TitleStep spot (refused (record spot { front = [] }))
-
--- so many bytes may end a text that has come to this state
-abbrev pub may_end : State → ℕ → Bool
-may_end s.Damaged left = false
-may_end state left = nat_le (tail_due state) left
 
 -- one byte more of a character
 abbrev pub with_char : ℕ → Spot → Spot

@@ -4,14 +4,14 @@ ghost use Rattle.std.specs.Prelude.{◌≡◌, ◌+◌, ◌<◌, ◌≤◌, [], 
 ghost use Rattle.cbor_copy.specs.Fronts.{has_left, most_front, open_count};
 ghost use Rattle.cbor_copy.specs.Blocked.{is_blocked};
 ghost use Rattle.cbor_copy.specs.Spots.{IsWhole};
-ghost use Rattle.cbor_copy.specs.Steps.{may_end};
+ghost use Rattle.ciborium_ll_text.specs.States.{may_end};
 
 use crate::few::Few;
 use crate::pending::Pending;
 use crate::phase::{Phase, StringKind, Within};
 use crate::progress::{Copied, End, Progress};
 use crate::snapshot::{Snapshot, is_state};
-use crate::title::{affix_len, header_of};
+use crate::title::header_of;
 use ciborium_ll_grammar::hdr::Header;
 use ciborium_ll_grammar::hdr::table::{TitleKind, row_of};
 use ciborium_ll_text::state::{State, text_front};
@@ -26,20 +26,6 @@ fn is_blocked(within: Within, kind: TitleKind) -> bool
             | (Within::Open(StringKind::Bytes, _), TitleKind::Bytes)
             | (Within::Open(StringKind::Text, _), TitleKind::Text)
     )
-}
-
-/// Whether so many bytes may end a text that has come to this state.
-#[inline(always)]
-fn may_end(state: State, left: usize) -> bool
-    ensures { result ≡ may_end state left }
-{
-    match state {
-        State::Between => true,
-        State::OneDue => left >= 1,
-        State::TwoDue | State::BehindE0 | State::BehindEd => left >= 2,
-        State::ThreeDue | State::BehindF0 | State::BehindF4 => left >= 3,
-        State::Damaged => false,
-    }
 }
 
 /// How many bytes in front of a part of a body are put out as they are: all, and of a text whole characters.
@@ -290,7 +276,7 @@ impl Copier {
         self.offset += 1;
         let bytes = self.front.bytes();
         let row = row_of(bytes[0]);
-        if bytes.len() <= affix_len(row.affix) {
+        if bytes.len() <= row.affix.len() {
             if is_blocked(self.within, row.kind) {
                 self.refuse();
             }
@@ -329,7 +315,7 @@ impl Copier {
         self.offset += 1;
         let state = state.step(byte);
         let left = left.saturating_sub(1);
-        if !may_end(state, left) {
+        if !state.may_end(left) {
             self.refuse();
         } else if let State::Between = state {
             self.pending.set(front);
@@ -394,7 +380,7 @@ impl Copier {
         let (Phase::Title, Within::Nothing, 0) = (self.phase, self.within, self.front.len()) else {
             return None;
         };
-        let len = 1 + affix_len(row_of(bytes[0]).affix);
+        let len = 1 + row_of(bytes[0]).affix.len();
         if len > bytes.len() || len > usize::MAX - self.offset {
             return None;
         }

@@ -7,7 +7,6 @@ ghost use Rattle.cbor_copy.specs.Snapshots.{IsState};
 
 use crate::few::LONGEST;
 use crate::phase::{Phase, Within};
-use crate::title::affix_len;
 use ciborium_ll_grammar::hdr::table::row_of;
 use ciborium_ll_text::state::State;
 
@@ -76,7 +75,7 @@ fn are_begun(bytes: &[u8]) -> bool
     ensures yes { result ≡ true → length bytes.now ≤ affix_len (slice_index bytes.now 0 % 32) }
     ensures no { result ≡ false → affix_len (slice_index bytes.now 0 % 32) < length bytes.now }
 {
-    bytes.is_empty() || bytes.len() <= affix_len(row_of(bytes[0]).affix)
+    bytes.is_empty() || bytes.len() <= row_of(bytes[0]).affix.len()
 }
 
 /// How many bytes at most are held back of a character.

@@ -1,77 +1,10 @@
 //! The header that a whole title means.
 
-ghost use Rattle.std.specs.Prelude.{ℕ, ◌≡◌, ◌+◌, ◌%◌, IfSome, IfNone, length, slice_index};
-ghost use Rattle.ciborium_ll_grammar.specs.Title.{BeginsRefused, IsReserved, IsTitle, affix_len};
-ghost use Rattle.ciborium_ll_grammar.specs.Parts.{IsMinor, minor_affix, minor_code};
-ghost use Rattle.ciborium_ll_grammar.specs.TitleRows.{IsAffix};
-ghost use Rattle.std.specs.Int.{to_be_bytes, w16, w32, w64};
+ghost use Rattle.std.specs.Prelude.{◌≡◌, ◌+◌, ◌%◌, IfSome, IfNone, length, slice_index};
+ghost use Rattle.ciborium_ll_grammar.specs.Title.{BeginsRefused, IsTitle, affix_len};
 
-use ciborium_ll_grammar::hdr::table::{Affix, row_of};
-use ciborium_ll_grammar::hdr::{Header, Minor, Title};
-
-/// How many bytes stand behind the first one.
-#[inline(always)]
-pub(crate) fn affix_len(affix: Affix) -> usize
-    ensures { (minor : ℕ) → IsAffix affix minor → result ≡ affix_len minor }
-{
-    match affix {
-        Affix::One => 1,
-        Affix::Two => 2,
-        Affix::Four => 4,
-        Affix::Eight => 8,
-        Affix::Within | Affix::Open | Affix::Reserved => 0,
-    }
-}
-
-/// The minor of a first byte, with the number that it holds or that the bytes behind it are. A reserved one is none.
-#[inline(always)]
-fn minor_of(affix: Affix, first: u8, bytes: &[u8]) -> Option<Minor>
-    requires affix { IsAffix affix (first % 32) }
-    requires long { length bytes.now ≡ affix_len (first % 32) }
-    ensures minor { IfSome result IsMinor }
-    ensures code { IfSome result (λ minor. minor_code minor ≡ first % 32) }
-    ensures affix { IfSome result (λ minor. minor_affix minor ≡ bytes.now) }
-    ensures none { IfNone result (IsReserved (first % 32)) }
-{
-    match affix {
-        Affix::Within => Some(Minor::Small(u64::from(first % 32))),
-        Affix::One => Some(Minor::One(u64::from(bytes[0]))),
-        Affix::Two => Some(Minor::Two(u64::from(two_bytes(bytes)))),
-        Affix::Four => Some(Minor::Four(u64::from(four_bytes(bytes)))),
-        Affix::Eight => Some(Minor::Eight(eight_bytes(bytes))),
-        Affix::Open => Some(Minor::Open),
-        Affix::Reserved => None,
-    }
-}
-
-/// The number of two bytes.
-#[inline(always)]
-fn two_bytes(bytes: &[u8]) -> u16
-    requires { length bytes.now ≡ 2 }
-    ensures { to_be_bytes w16 result ≡ bytes.now }
-{
-    u16::from_be_bytes([bytes[0], bytes[1]])
-}
-
-/// The number of four bytes.
-#[inline(always)]
-fn four_bytes(bytes: &[u8]) -> u32
-    requires { length bytes.now ≡ 4 }
-    ensures { to_be_bytes w32 result ≡ bytes.now }
-{
-    u32::from_be_bytes([bytes[0], bytes[1], bytes[2], bytes[3]])
-}
-
-/// The number of eight bytes.
-#[inline(always)]
-fn eight_bytes(bytes: &[u8]) -> u64
-    requires { length bytes.now ≡ 8 }
-    ensures { to_be_bytes w64 result ≡ bytes.now }
-{
-    u64::from_be_bytes([
-        bytes[0], bytes[1], bytes[2], bytes[3], bytes[4], bytes[5], bytes[6], bytes[7],
-    ])
-}
+use ciborium_ll_grammar::hdr::Header;
+use ciborium_ll_grammar::hdr::whole::title_of;
 
 /// The header of a title, or nothing where no title begins with its first byte. All bytes that this one announces are
 /// there.
@@ -81,14 +14,6 @@ pub(crate) fn header_of(bytes: &[u8]) -> Option<Header>
     ensures some { IfSome result (IsTitle bytes.now) }
     ensures none { IfNone result (BeginsRefused bytes.now) }
 {
-    let first = bytes[0];
-    let row = row_of(first);
-    let Some(minor) = minor_of(row.affix, first, &bytes[1..]) else {
-        return None;
-    };
-    let title = Title {
-        major: first / 32,
-        minor,
-    };
-    title.header(row.kind)
+    let (title, kind) = title_of(bytes)?;
+    title.header(kind)
 }

@@ -1,7 +1,7 @@
 //! One item of CBOR in diagnostic notation (RFC 8949, section 8). No call takes memory.
 #![tactic(auto)]
 
-ghost use Rattle.std.specs.Prelude.{◌≤◌};
+ghost use Rattle.std.specs.Prelude.{◌≡◌, ◌≤◌};
 ghost use Rattle.ciborium_ll.specs.Sides.{sides};
 ghost use Rattle.cbor_diag.specs.Showing.{ReadsShown, ShowsFirst};
 
@@ -17,7 +17,7 @@ use self::layout::Line;
 use self::nests::show_item;
 use cbor_skip::SkipError;
 use ciborium_ll::io::{Read, Write};
-use ciborium_ll::{Decoder, Header};
+use ciborium_ll::{Decoder, Error, Header};
 
 /// Why an item was not shown whole.
 #[derive(Debug, Drop)]
@@ -26,6 +26,17 @@ pub enum DiagError<E, F> {
     Read(SkipError<E>),
     /// The writer failed, and this is its error.
     Write(F),
+}
+
+impl<E, F> From<Error<E>> for DiagError<E, F> {
+    ghost use Rattle.cbor_skip.specs.declared.SkipError.TheVariants.{Read as FailedRead};
+    ghost use Rattle.cbor_diag.specs.declared.DiagError.TheVariants.{Read as Stopped};
+
+    ghost from_gives = { λ fault error. error ≡ Stopped (FailedRead fault) };
+
+    fn from(fault: Error<E>) -> DiagError<E, F> {
+        DiagError::Read(SkipError::Read(fault))
+    }
 }
 
 /// Shows the one item that is next in diagnostic notation (RFC 8949, section 8), as UTF-8, with tags, arrays and maps
@@ -64,10 +75,7 @@ pub fn diagnose<R: Read, W: Write>(
     ensures text { ShowsFirst R.Read W.Write (sides decoder.old writer.old) result (sides decoder.new writer.new) }
 {
     let place = decoder.offset();
-    let header = match decoder.pull() {
-        Ok(header) => header,
-        Err(error) => return Err(DiagError::Read(SkipError::Read(error))),
-    };
+    let header = decoder.pull()?;
     if let Header::Break = header {
         return Err(DiagError::Read(SkipError::Break(place)));
     }

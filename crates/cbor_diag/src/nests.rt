@@ -36,10 +36,7 @@ pub(crate) fn show_within<R: Read, W: Write>(
     let mut is_first = true;
     'items: while !remaining.is_done() {
         let place = decoder.offset();
-        let next = match decoder.pull() {
-            Ok(next) => next,
-            Err(error) => return Err(DiagError::Read(SkipError::Read(error))),
-        };
+        let next = decoder.pull()?;
         if let Header::Break = next {
             if remaining.closes() {
                 return Ok(is_first);

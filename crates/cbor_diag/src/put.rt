@@ -48,8 +48,5 @@ pub(crate) fn said<E, F>(answer: Result<(), F>) -> Result<(), DiagError<E, F>>
     ensures writing { IfErr result IsWriting }
     ensures same { result ≡ said_of answer }
 {
-    match answer {
-        Ok(()) => Ok(()),
-        Err(fault) => Err(DiagError::Write(fault)),
-    }
+    answer.map_err(|fault| DiagError::Write(fault))
 }

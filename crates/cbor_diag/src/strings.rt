@@ -86,10 +86,8 @@ fn show_segments<R: Read, W: Write, P: Chunked>(
 {
     let mut is_first = true;
     'segments: loop {
-        let body = match segments.advance() {
-            Ok(Some(body)) => body,
-            Ok(None) => return close(writer, quotes, is_open, is_first),
-            Err(error) => return Err(DiagError::Read(SkipError::Read(error))),
+        let Some(body) = segments.advance()? else {
+            return close(writer, quotes, is_open, is_first);
         };
         open(writer, is_open, is_first)?;
         show_body(segments, writer, body, quotes)?;

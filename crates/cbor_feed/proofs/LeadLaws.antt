@@ -1,13 +1,15 @@
 -- Where several bytes lead at once.
 use Rattle.std.proofs.Common.{◌≡◌, ℕ, zero, suc, ◌+◌, ◌-◌, ◌<◌, ◌≤◌, Bool, true, false, List, [], ◌∷◌, ◌++◌}
-use Rattle.std.proofs.Common.{length, take, drop, get_or, slice_index, refl, sym, ap, subst, ◌∙◌, arith}
-use Rattle.std.proofs.Common.{append_assoc, append-nil, length-append, length-drop, le-leb, Option, Some, None}
-use Rattle.std.proofs.lemmas.List.{get_or-take, length-take-le, take_at, take_rest, take-take}
+use Rattle.std.proofs.Common.{length, take, drop, slice_index, refl, sym, ap, subst, ◌∙◌, arith}
+use Rattle.std.proofs.Common.{append_assoc, append-nil, length-append, le-leb, Option, Some, None}
+use Rattle.std.proofs.lemmas.List.{length-take-le, take_at, take_rest, take-take}
 use Rattle.std.proofs.Math.Seq.{take-add}
 use Rattle.ciborium_ll_text.specs.declared.state.State.{State}
 use Rattle.ciborium_ll_text.specs.declared.state.State.TheVariants as s
-use Rattle.ciborium_ll_text.specs.States.{after, after_byte}
+use Rattle.ciborium_ll_text.specs.States.{after, after_byte, may_end}
 use Rattle.ciborium_ll_text.specs.Text.{IsFront}
+use Rattle.ciborium_ll_text.proofs.EndLaws.{may_back}
+use Rattle.ciborium_ll_text.proofs.Lists.{Below, below_rest, below_take, rest_long}
 use Rattle.ciborium_ll_text.proofs.StateLaws.{after-append, text_ends}
 use Rattle.cbor_feed.specs.declared.level.Level.{Level}
 use Rattle.cbor_feed.specs.declared.phase.Phase.{Phase}
@@ -16,27 +18,12 @@ use Rattle.cbor_feed.specs.declared.phase.Within.{Within}
 use Rattle.cbor_feed.specs.declared.phase.Within.TheVariants as w
 use Rattle.cbor_feed.specs.Levels.{next}
 use Rattle.cbor_feed.specs.Spots.{Spot, at_phase, settled, string_done, bytes_due}
-use Rattle.cbor_feed.specs.Steps.{IsFed, Leads, Step, StepIn, TitleStep, stay, go, more, counted, counted_by, may_end}
+use Rattle.cbor_feed.specs.Steps.{IsFed, Leads, Step, StepIn, TitleStep, stay, go, more, counted, counted_by}
 use Rattle.cbor_feed.specs.Steps.{text_left, with_byte}
 use Rattle.cbor_feed.specs.Telling.{is_due}
-use Rattle.cbor_feed.proofs.StepLaws.{one_more_due}
 use Rattle.cbor_feed.proofs.TellLaws.{step_counts}
 
 -- ---- bytes that lead somewhere
-
--- each is a byte
-abbrev pub Below : List ℕ → Type 0
-Below xs = (i : ℕ) → i < length xs → get_or xs i 0 < 256
-
-pub below_rest : (x : ℕ) (xs : List ℕ) → Below (x ∷ xs) → Below xs
-below_rest x xs below = λ i less. below (suc i) (omega (arith, less))
-
-pub below_take : (n : ℕ) (xs : List ℕ) → n ≤ length xs → Below xs → Below (take n xs)
-below_take n xs le below = λ i less.
-    let long = length-take-le n xs le in
-    let same = get_or-take n xs i 0 (omega (arith, less, long)) in
-    let b = below i (omega (arith, less, long, le)) in
-    omega (arith, same, b)
 
 -- they were fed behind those before
 pub leads_fed : (s : Bool) (d : ℕ) (fed xs : List ℕ) (spot new : Spot) → IsFed s d fed spot → Leads spot xs new
@@ -143,15 +130,6 @@ bytes_lead xs n left s new below at some le within e =
 
 -- ---- bytes of a text
 
--- what may end behind bytes may end in front of them
-may_back : (xs : List ℕ) (state : State) (left k : ℕ) → k ≡ length xs + left → may_end (after state xs) left ≡ true
-    → may_end state k ≡ true
-may_back [] state left k e may = subst (λ (z : ℕ). may_end state z ≡ true) (let same : left ≡ k = omega (arith, e) in same) may
-may_back (x ∷ xs) state left k e may =
-    let so_far = may_back xs (after_byte state x) left (length xs + left) refl may in
-    subst (λ (z : ℕ). may_end state z ≡ true) (let same : suc (length xs + left) ≡ k = omega (arith, e) in same)
-    (one_more_due state x (length xs + left) so_far)
-
 chars_lead : (xs : List ℕ) (left total n : ℕ) (state : State) (s : Spot) → Below xs → s.phase ≡ p.Text total state
     → total ≡ length xs + left → n ≡ s.offset + length xs → 0 < length xs → may_end (after state xs) left ≡ true
     → Leads s xs (text_left true left (after state xs) (at_count n s))
@@ -195,10 +173,6 @@ text_leads xs n left state behind s new below at some le within is may e =
     (subst (λ (z : State). may_end z (left - n) ≡ true) is may))
 
 -- ---- bytes of a list that come run by run
-
--- those that are left
-pub rest_long : (xs : List ℕ) (at : ℕ) → length (take (length xs - at) (drop at xs)) ≡ length xs - at
-rest_long xs at = ap length (take_rest xs at) ∙ length-drop at xs
 
 pub run_more : (xs : List ℕ) (at n : ℕ) (s m new : Spot) → Leads s (take at xs) m
     → Leads m (take n (take (length xs - at) (drop at xs))) new → Leads s (take (at + n) xs) new

@@ -1,8 +1,8 @@
 -- Where there is no fault, some bytes make an item of those so far.
-use Rattle.std.proofs.Common.{◌≡◌, ℕ, zero, suc, ◌-◌, ◌*◌, ◌<◌, ◌≤◌, ◌⊎◌, inl, inr, Bool, true, false, List}
+use Rattle.std.proofs.Common.{◌≡◌, ℕ, zero, suc, ◌-◌, ◌*◌, ◌<◌, ◌⊎◌, inl, inr, Bool, true, false, List}
 use Rattle.std.proofs.Common.{[]}
 use Rattle.std.proofs.Common.{◌∷◌, ◌++◌, length, Option, Some, None, refl, sym, ap, subst, ◌∙◌, arith, append_assoc}
-use Rattle.std.proofs.Common.{length-append, leb-true, le-leb}
+use Rattle.std.proofs.Common.{length-append, le-leb}
 use Rattle.std.proofs.Math.ListN.{replicate}
 use Rattle.std.proofs.lemmas.List.{length-replicate}
 use Rattle.ciborium_ll_grammar.specs.declared.hdr.Header.{Header}
@@ -13,7 +13,8 @@ use Rattle.ciborium_ll_grammar.specs.Strings.{Kind, Bytes, Text, none as no_stri
 use Rattle.ciborium_ll_grammar.proofs.AffixLaws.{AreBytes-append}
 use Rattle.ciborium_ll_text.specs.declared.state.State.{State}
 use Rattle.ciborium_ll_text.specs.declared.state.State.TheVariants as s
-use Rattle.ciborium_ll_text.specs.States.{is_from, after_first, after_next, after_byte, after}
+use Rattle.ciborium_ll_text.specs.States.{is_from, after_first, after_next, after_byte, after, tail_due, may_end}
+use Rattle.ciborium_ll_text.proofs.EndLaws.{not_damaged, tail_fits}
 use Rattle.ciborium_ll_text.proofs.StateLaws.{after-append}
 use Rattle.cbor_feed.specs.declared.level.Level.{Level}
 use Rattle.cbor_feed.specs.declared.level.Level.TheVariants as l
@@ -25,7 +26,7 @@ use Rattle.cbor_feed.specs.declared.phase.Within.TheVariants as w
 use Rattle.cbor_feed.specs.Levels.{closes, contents, next}
 use Rattle.cbor_feed.specs.Spots.{Spot, settled, string_done, bytes_due, text_due, nested, broken, body_placed}
 use Rattle.cbor_feed.specs.Spots.{item_entered, open_entered, string_closed, bytes_entered, text_entered, entered}
-use Rattle.cbor_feed.specs.Steps.{SomeTaken, with_byte, titled, TitleStep, cut, early, whole, none, tail_due, may_end}
+use Rattle.cbor_feed.specs.Steps.{SomeTaken, with_byte, titled, TitleStep, cut, early, whole, none}
 use Rattle.cbor_feed.specs.Steps.{text_left, counted, StepIn, IsFed, fresh, more}
 use Rattle.cbor_feed.proofs.Waiting.{Takes, Ends, EndsString, EndsStrings, BodyThen, AnyBody, TextBody, TitleDue}
 use Rattle.cbor_feed.proofs.Waiting.{StringDone, WaitsIn}
@@ -142,28 +143,6 @@ zero_stays = refl
 zeros_stay : (n : ℕ) → after s.Between (replicate n 0) ≡ s.Between
 zeros_stay zero = refl
 zeros_stay (suc n) = ap (λ (z : State). after z (replicate n 0)) zero_stays ∙ zeros_stay n
-
-not_damaged : (state : State) (n : ℕ) → may_end state n ≡ true → state ≡ s.Damaged → ⊥
-not_damaged s.Damaged n may e = cc
-not_damaged s.Between n may e = cc
-not_damaged s.OneDue n may e = cc
-not_damaged s.TwoDue n may e = cc
-not_damaged s.ThreeDue n may e = cc
-not_damaged s.BehindE0 n may e = cc
-not_damaged s.BehindEd n may e = cc
-not_damaged s.BehindF0 n may e = cc
-not_damaged s.BehindF4 n may e = cc
-
-tail_fits : (state : State) (n : ℕ) → may_end state n ≡ true → tail_due state ≤ n
-tail_fits s.Between n may = omega arith
-tail_fits s.OneDue n may = leb-true 1 n may
-tail_fits s.TwoDue n may = leb-true 2 n may
-tail_fits s.ThreeDue n may = leb-true 3 n may
-tail_fits s.BehindE0 n may = leb-true 2 n may
-tail_fits s.BehindEd n may = leb-true 2 n may
-tail_fits s.BehindF0 n may = leb-true 3 n may
-tail_fits s.BehindF4 n may = leb-true 3 n may
-tail_fits s.Damaged n may = absurd cc
 
 -- a body of so many bytes that ends so
 record Body (state : State) (n : ℕ) : Type 0 where

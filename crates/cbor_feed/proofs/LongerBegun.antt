@@ -2,10 +2,10 @@
 use Rattle.std.proofs.Common.{◌≡◌, ℕ, zero, suc, ◌+◌, ◌-◌, ◌<◌, ◌≤◌, ◌%◌, ◌^◌, inl, inr, Bool, true, false, cond}
 use Rattle.std.proofs.Common.{List, [], ◌∷◌, ◌++◌, length, get_or, refl, sym, ap, subst, ◌∙◌, arith}
 use Rattle.std.proofs.Common.{length-append, ◌==◌, nat_lt}
-use Rattle.std.proofs.Common.{◌*◌, ◌/◌, drop, take, slice_index, Option, Some, None, IfSome, IfNone}
+use Rattle.std.proofs.Common.{slice_index, Option, Some, None, IfSome, IfNone}
 use Rattle.std.proofs.Math.ListN.{replicate}
 use Rattle.std.proofs.lemmas.Bool.{cases_lt}
-use Rattle.std.proofs.lemmas.List.{length-replicate, get_or_append_left, take_all}
+use Rattle.std.proofs.lemmas.List.{length-replicate, get_or_append_left}
 use borrow.Author.Tests.{lt-ltb, le-ltb}
 use Rattle.ciborium_ll_grammar.specs.declared.hdr.Header.{Header}
 use Rattle.ciborium_ll_grammar.specs.declared.hdr.Minor.{Minor}
@@ -13,7 +13,7 @@ use Rattle.ciborium_ll_grammar.specs.Title.{Major, Unsigned, Negative, ByteStrin
 use Rattle.ciborium_ll_grammar.specs.Title.{major_code, first_byte, Size, Small, One, Two, Four, Eight, size_limit}
 use Rattle.ciborium_ll_grammar.specs.Title.{affix_len, numbered_title, numbered_header, IsTitle}
 use Rattle.ciborium_ll_grammar.specs.Title.{numbered, alone, IsStrictTitle, AreBytes, BeginsRefused, IsNeverOpen}
-use Rattle.ciborium_ll_grammar.specs.Parts.{IsMinor, minor_affix, minor_code, parts_bytes, longer_parts}
+use Rattle.ciborium_ll_grammar.specs.Parts.{IsMinor, minor_code, parts_bytes, longer_parts}
 use Rattle.ciborium_ll_grammar.specs.Items.{IsTakenTitle}
 use Rattle.ciborium_ll_grammar.proofs.TitleLaws.{one_title, title_refused}
 use Rattle.ciborium_ll_grammar.proofs.LongerLaws.{minor_as, taken, refused, parts_header, parts_taken, parts_refused}
@@ -345,15 +345,6 @@ any_some false (b ∷ a) any f some short =
     (o.byte ∷ o.more, o.header, o.title, tt)
 
 -- ---- a whole title
-
--- the bytes of its parts
-pub whole_parts : (minor : Minor) (xs : List ℕ) → 0 < length xs → minor_code minor ≡ slice_index xs 0 % 32
-    → minor_affix minor ≡ take (length xs - 1) (drop 1 xs) → parts_bytes (slice_index xs 0 / 32) minor ≡ xs
-whole_parts minor [] some code affix = absurd (omega (arith, some))
-whole_parts minor (x ∷ xs) some code affix =
-    let first : 32 * (x / 32) + minor_code minor ≡ x = omega (arith, code) in
-    let all : take (suc (length xs) - 1) xs ≡ xs = take_all (suc (length xs) - 1) xs (omega arith) in
-    ap (λ (z : ℕ). z ∷ minor_affix minor) first ∙ ap (λ (z : List ℕ). x ∷ z) (affix ∙ all)
 
 -- bytes with which no title begins
 pub refused_none : (s : Bool) (xs : List ℕ) → BeginsRefused xs → NoneTaken s xs

@@ -8,7 +8,7 @@ use Rattle.std.proofs.lemmas.Bool.{agree_below_at, and_parts, or_cases}
 use Rattle.std.proofs.lemmas.List.{length-take-le, take_rest}
 use Rattle.std.proofs.Math.Seq.{take-add}
 use Rattle.std.specs.Str.{IsAscii}
-use Rattle.ciborium_ll_text.proofs.Lists.{length_zero}
+use Rattle.ciborium_ll_text.proofs.Lists.{Below, length_zero}
 use Rattle.ciborium_ll_text.proofs.StateLaws.{ascii_stays}
 use Rattle.ciborium_ll_grammar.specs.declared.hdr.Header.TheVariants as h
 use Rattle.ciborium_ll_grammar.specs.declared.hdr.table.TitleKind.{TitleKind}
@@ -23,7 +23,6 @@ use Rattle.cbor_feed.specs.Blocked.{is_value}
 use Rattle.cbor_feed.specs.Plain.{ArePlain, IsPlain, IsSpan, IsValueMajor, more, passed}
 use Rattle.cbor_feed.specs.Spots.{Spot, item_done}
 use Rattle.cbor_feed.specs.Steps.{counted_by}
-use Rattle.cbor_feed.proofs.LeadLaws.{Below}
 use Rattle.cbor_feed.proofs.ShortLeads.{short_bytes, short_leads, short_text, value_leads}
 
 -- ---- the table

@@ -4,8 +4,8 @@ use Rattle.std.proofs.Common.{take, drop, slice_index, refl, sym, ap, subst, ◌
 use Rattle.std.proofs.lemmas.List.{length-take-le}
 use Rattle.std.proofs.Math.Seq.{take-add}
 use Rattle.ciborium_ll_text.specs.declared.state.State.TheVariants as s
-use Rattle.ciborium_ll_text.specs.States.{after}
-use Rattle.ciborium_ll_text.proofs.Lists.{length_zero}
+use Rattle.ciborium_ll_text.specs.States.{after, may_end}
+use Rattle.ciborium_ll_text.proofs.Lists.{Below, below_rest, below_take, length_zero}
 use Rattle.ciborium_ll_grammar.specs.declared.hdr.Header.{Header}
 use Rattle.ciborium_ll_grammar.specs.declared.hdr.Header.TheVariants as h
 use Rattle.ciborium_ll_grammar.specs.declared.hdr.table.TitleKind.{TitleKind}
@@ -21,9 +21,9 @@ use Rattle.cbor_feed.specs.declared.phase.Within.TheVariants as w
 use Rattle.cbor_feed.specs.Blocked.{is_value}
 use Rattle.cbor_feed.specs.Spots.{Spot, at_phase, body_placed, bytes_due, entered, item_done, item_entered, string_done}
 use Rattle.cbor_feed.specs.Spots.{text_due}
-use Rattle.cbor_feed.specs.Steps.{Leads, StepIn, stay, go, counted_by, may_end, text_left, with_byte}
+use Rattle.cbor_feed.specs.Steps.{Leads, StepIn, stay, go, counted_by, text_left, with_byte}
 use Rattle.cbor_feed.proofs.BlockedLaws.{step_whole, value_entered, value_free}
-use Rattle.cbor_feed.proofs.LeadLaws.{Below, below_rest, below_take, between_ends, bytes_lead, due_alike, leads_more}
+use Rattle.cbor_feed.proofs.LeadLaws.{between_ends, bytes_lead, due_alike, leads_more}
 use Rattle.cbor_feed.proofs.LeadLaws.{left_alike, text_leads}
 use Rattle.cbor_feed.proofs.TitleLeads.{title_leads}
 

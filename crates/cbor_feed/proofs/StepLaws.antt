@@ -1,7 +1,6 @@
 -- What a byte leaves due.
-use Rattle.std.proofs.Common.{◌≡◌, ℕ, zero, suc, ◌≤◌, ◌⊎◌, Bool, true, false, List, [], ◌∷◌, ◌++◌, length, Some}
-use Rattle.std.proofs.Common.{None, refl, sym, ap, subst, ◌∙◌, inl, inr, arith, append_assoc, append-nil, le-leb}
-use Rattle.std.proofs.Common.{leb-true}
+use Rattle.std.proofs.Common.{◌≡◌, ℕ, zero, suc, Bool, true, false, List, [], ◌∷◌, ◌++◌, length, Some}
+use Rattle.std.proofs.Common.{None, refl, sym, ap, subst, ◌∙◌, inl, inr, arith, append_assoc, append-nil}
 use Rattle.ciborium_ll_grammar.specs.declared.hdr.Header.{Header}
 use Rattle.ciborium_ll_grammar.specs.declared.hdr.Header.TheVariants as h
 use Rattle.ciborium_ll_grammar.specs.Title.{IsTitle, IsCutTitle}
@@ -13,9 +12,8 @@ use Rattle.ciborium_ll_grammar.specs.StrictElements.{AreFlat, none as no_flat, m
 use Rattle.ciborium_ll_grammar.proofs.AffixLaws.{title_not_cut}
 use Rattle.ciborium_ll_grammar.proofs.StringLaws.{break_title}
 use Rattle.ciborium_ll_text.specs.declared.state.State.{State}
-use Rattle.ciborium_ll_text.specs.declared.state.State.TheVariants as s
-use Rattle.ciborium_ll_text.specs.States.{after, after_byte}
-use Rattle.ciborium_ll_text.proofs.StateLaws.{Next, inside, outside, next_view}
+use Rattle.ciborium_ll_text.specs.States.{after_byte, may_end}
+use Rattle.ciborium_ll_text.proofs.EndLaws.{none_left, text_may_end}
 use Rattle.ciborium_ll_text.proofs.Lists.{front_of_front}
 use Rattle.std.proofs.lemmas.Bool.{cases_lt}
 use Rattle.cbor_feed.specs.declared.level.Level.{Level}
@@ -25,7 +23,7 @@ use Rattle.cbor_feed.specs.declared.phase.Within.{Within}
 use Rattle.cbor_feed.specs.declared.phase.Within.TheVariants as w
 use Rattle.cbor_feed.specs.declared.phase.Fault.{Fault}
 use Rattle.cbor_feed.specs.Spots.{Spot, bytes_due}
-use Rattle.cbor_feed.specs.Steps.{start, titled, with_byte, TitleStep, cut, early, whole, none, may_end}
+use Rattle.cbor_feed.specs.Steps.{start, titled, with_byte, TitleStep, cut, early, whole, none}
 use Rattle.cbor_feed.specs.Steps.{text_left, counted, StepIn, IsFed, fresh, more}
 use Rattle.cbor_feed.proofs.Waiting.{Ends, Breaks, EndsString, EndsStrings, BodyThen, AnyBody, TextBody, TitleDue}
 use Rattle.cbor_feed.proofs.Waiting.{StringDone}
@@ -208,71 +206,6 @@ body_same left Sound Then b y = (
 )
 
 -- ---- a byte of a text
-
--- a byte ends at most one that is due
-from_next : (lowest highest b : ℕ) (to x : State) → Next lowest highest to b x → (x ≡ to) ⊎ (x ≡ s.Damaged)
-from_next lowest highest b to x (inside i) = inl refl
-from_next lowest highest b to x outside = inr refl
-
-not_damaged : (state : State) (n : ℕ) → may_end state n ≡ true → state ≡ s.Damaged → ⊥
-not_damaged s.Damaged n may e = cc
-not_damaged s.Between n may e = cc
-not_damaged s.OneDue n may e = cc
-not_damaged s.TwoDue n may e = cc
-not_damaged s.ThreeDue n may e = cc
-not_damaged s.BehindE0 n may e = cc
-not_damaged s.BehindEd n may e = cc
-not_damaged s.BehindF0 n may e = cc
-not_damaged s.BehindF4 n may e = cc
-
--- by the state behind one byte
-by_next : (lowest highest b n k : ℕ) (to x : State) → Next lowest highest to b x → may_end x n ≡ true
-    → (may_end to n ≡ true → k ≤ n) → k ≤ n
-by_next lowest highest b n k to x view may f =
-    elim (from_next lowest highest b to x view) [
-      | inl same ↦ f (subst (λ (z : State). may_end z n ≡ true) same may)
-      | inr damaged ↦ absurd (not_damaged x n may damaged)
-    ]
-
--- a byte less is due
-pub one_more_due : (state : State) (b n : ℕ) → may_end (after_byte state b) n ≡ true → may_end state (suc n) ≡ true
-one_more_due s.Between b n may = le-leb 0 (suc n) (omega arith)
-one_more_due s.OneDue b n may = le-leb 1 (suc n) (omega arith)
-one_more_due s.TwoDue b n may =
-    let l = by_next 0x80 0xbf b n 1 s.OneDue _ (next_view 0x80 0xbf s.OneDue b) may (λ e. leb-true 1 n e) in
-    le-leb 2 (suc n) (omega (arith, l))
-one_more_due s.ThreeDue b n may =
-    let l = by_next 0x80 0xbf b n 2 s.TwoDue _ (next_view 0x80 0xbf s.TwoDue b) may (λ e. leb-true 2 n e) in
-    le-leb 3 (suc n) (omega (arith, l))
-one_more_due s.BehindE0 b n may =
-    let l = by_next 0xa0 0xbf b n 1 s.OneDue _ (next_view 0xa0 0xbf s.OneDue b) may (λ e. leb-true 1 n e) in
-    le-leb 2 (suc n) (omega (arith, l))
-one_more_due s.BehindEd b n may =
-    let l = by_next 0x80 0x9f b n 1 s.OneDue _ (next_view 0x80 0x9f s.OneDue b) may (λ e. leb-true 1 n e) in
-    le-leb 2 (suc n) (omega (arith, l))
-one_more_due s.BehindF0 b n may =
-    let l = by_next 0x90 0xbf b n 2 s.TwoDue _ (next_view 0x90 0xbf s.TwoDue b) may (λ e. leb-true 2 n e) in
-    le-leb 3 (suc n) (omega (arith, l))
-one_more_due s.BehindF4 b n may =
-    let l = by_next 0x80 0x8f b n 2 s.TwoDue _ (next_view 0x80 0x8f s.TwoDue b) may (λ e. leb-true 2 n e) in
-    le-leb 3 (suc n) (omega (arith, l))
-one_more_due s.Damaged b n may = may
-
--- a text that ends may end
-text_may_end : (state : State) (body : List ℕ) → after state body ≡ s.Between → may_end state (length body) ≡ true
-text_may_end state [] e = rw e (le-leb 0 0 (omega arith))
-text_may_end state (b ∷ body) e = one_more_due state b (length body) (text_may_end (after_byte state b) body e)
-
-none_left : (state : State) → may_end state 0 ≡ true → state ≡ s.Between
-none_left s.Between may = refl
-none_left s.OneDue may = absurd cc
-none_left s.TwoDue may = absurd cc
-none_left s.ThreeDue may = absurd cc
-none_left s.BehindE0 may = absurd cc
-none_left s.BehindEd may = absurd cc
-none_left s.BehindF0 may = absurd cc
-none_left s.BehindF4 may = absurd cc
-none_left s.Damaged may = absurd cc
 
 text_left_same : (m : Bool) (left : ℕ) (state : State) (spot : Spot) (y : List ℕ) → spot.front ≡ []
     → may_end state left ≡ m

@@ -7,6 +7,7 @@ use Rattle.std.proofs.lemmas.List.{length-take-le}
 use Rattle.std.proofs.Math.Seq.{take-add}
 use Rattle.std.specs.Str.{IsAscii}
 use Rattle.ciborium_ll_text.specs.declared.state.State.TheVariants as s
+use Rattle.ciborium_ll_text.specs.States.{may_end}
 use Rattle.ciborium_ll_text.proofs.StateLaws.{ascii_stays}
 use Rattle.ciborium_ll_grammar.specs.declared.hdr.Header.TheVariants as h
 use Rattle.ciborium_ll_grammar.specs.declared.hdr.table.TitleKind.TheVariants as k
@@ -16,14 +17,15 @@ use Rattle.ciborium_ll_grammar.specs.Title.{numbered_header, title_len}
 use Rattle.ciborium_ll_grammar.specs.Items.{IsTakenTitle}
 use Rattle.ciborium_ll_grammar.specs.Parts.{longer_parts}
 use Rattle.ciborium_ll_grammar.proofs.LongerLaws.{minor_as, taken}
+use Rattle.ciborium_ll_text.proofs.Lists.{Below, below_rest}
 use Rattle.cbor_feed.specs.declared.phase.Phase.TheVariants as p
 use Rattle.cbor_feed.specs.declared.phase.Within.{Within}
 use Rattle.cbor_feed.specs.declared.phase.Within.TheVariants as w
 use Rattle.cbor_feed.specs.Blocked.{blocked}
 use Rattle.cbor_feed.specs.Plain.{IsPlain, passed}
 use Rattle.cbor_feed.specs.Spots.{Spot, at_phase, body_placed, bytes_due, entered, item_done, string_done, text_due}
-use Rattle.cbor_feed.specs.Steps.{Leads, counted_by, may_end, text_left}
-use Rattle.cbor_feed.proofs.LeadLaws.{Below, below_rest, between_ends, bytes_lead, due_alike, leads_more, left_alike}
+use Rattle.cbor_feed.specs.Steps.{Leads, counted_by, text_left}
+use Rattle.cbor_feed.proofs.LeadLaws.{between_ends, bytes_lead, due_alike, leads_more, left_alike}
 use Rattle.cbor_feed.proofs.LeadLaws.{text_leads}
 use Rattle.cbor_feed.proofs.TitleLeads.{title_leads}
 

@@ -6,11 +6,11 @@ use Rattle.std.proofs.lemmas.List.{take_more}
 use Rattle.ciborium_ll_grammar.specs.Title.{affix_len}
 use Rattle.ciborium_ll_grammar.specs.Items.{IsItem}
 use Rattle.ciborium_ll_grammar.proofs.AffixLaws.{announced}
-use Rattle.ciborium_ll_text.specs.States.{after_byte}
+use Rattle.ciborium_ll_text.specs.States.{after_byte, may_end}
 use Rattle.cbor_feed.specs.declared.phase.Phase.{Phase}
 use Rattle.cbor_feed.specs.declared.phase.Phase.TheVariants as p
 use Rattle.cbor_feed.specs.Spots.{Spot}
-use Rattle.cbor_feed.specs.Steps.{start, with_byte, TitleStep, cut, early, whole, none, may_end}
+use Rattle.cbor_feed.specs.Steps.{start, with_byte, TitleStep, cut, early, whole, none}
 use Rattle.cbor_feed.specs.Steps.{counted}
 use Rattle.cbor_feed.specs.Steps.{StepIn, Step, IsFed, fresh, more}
 use Rattle.cbor_feed.specs.Telling.{has_left, title_due, progress_in, progress_of, Tells}

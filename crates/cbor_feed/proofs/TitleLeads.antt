@@ -3,7 +3,7 @@ use Rattle.std.proofs.Common.{◌≡◌, ℕ, ◌+◌, ◌/◌, ◌%◌, ◌<◌
 use Rattle.std.proofs.Common.{slice_index, refl, sym, ap, subst, ◌∙◌, arith, append_assoc, None}
 use Rattle.std.proofs.Common.{length-append}
 use Rattle.std.proofs.lemmas.List.{get_or-take, length-take-le}
-use Rattle.ciborium_ll_text.proofs.Lists.{length_zero}
+use Rattle.ciborium_ll_text.proofs.Lists.{Below, below_rest, below_take, length_zero}
 use Rattle.ciborium_ll_grammar.specs.declared.hdr.Header.{Header}
 use Rattle.ciborium_ll_grammar.specs.declared.hdr.table.TitleKind.{TitleKind}
 use Rattle.ciborium_ll_grammar.specs.Title.{IsTitle, affix_len}
@@ -16,7 +16,6 @@ use Rattle.cbor_feed.specs.Blocked.{blocked}
 use Rattle.cbor_feed.specs.Spots.{Spot, entered}
 use Rattle.cbor_feed.specs.Steps.{Leads, StepIn, stay, go, with_byte, SomeTaken}
 use Rattle.cbor_feed.proofs.BlockedLaws.{blocked_none, step_whole}
-use Rattle.cbor_feed.proofs.LeadLaws.{Below, below_rest, below_take}
 
 -- a title that is taken, and by the kind of its first byte may stand there
 record Standing (u : Spot) (kind : TitleKind) (header : Header) (t : List ℕ) (b : ℕ) : Type 0 where

@@ -1,11 +1,10 @@
 -- How one byte more leads from a spot to the next, and where a list of bytes leads.
-use Rattle.std.specs.Prelude.{◌≡◌, ℕ, zero, suc, ◌+◌, ◌<◌, Bool, List, [], ◌∷◌, ◌++◌, nat_le, true, false}
+use Rattle.std.specs.Prelude.{◌≡◌, ℕ, zero, suc, ◌+◌, ◌<◌, Bool, List, [], ◌∷◌, ◌++◌, true, false}
 use Rattle.ciborium_ll_grammar.specs.declared.hdr.Header.{Header}
 use Rattle.ciborium_ll_grammar.specs.Title.{IsTitle, IsCutTitle}
 use Rattle.ciborium_ll_grammar.specs.Items.{IsTakenTitle}
 use Rattle.ciborium_ll_text.specs.declared.state.State.{State}
-use Rattle.ciborium_ll_text.specs.declared.state.State.TheVariants as s
-use Rattle.ciborium_ll_text.specs.States.{after_byte}
+use Rattle.ciborium_ll_text.specs.States.{after_byte, may_end}
 use Rattle.cbor_feed.specs.declared.phase.Phase.{Phase}
 use Rattle.cbor_feed.specs.declared.phase.Phase.TheVariants as p
 use Rattle.cbor_feed.specs.declared.phase.Within.TheVariants as w
@@ -70,23 +69,6 @@ pub data TitleStep (spot : Spot) : Spot → Type 0 where
       → TitleStep spot (titled header spot)
   -- no title that is taken begins so
   none : NoneTaken spot.strict spot.front → TitleStep spot (refused (record spot { front = [] }))
-
--- how many bytes at least end the character (Unicode, Table 3-7)
-abbrev pub tail_due : State → ℕ
-tail_due s.Between = 0
-tail_due s.OneDue = 1
-tail_due s.TwoDue = 2
-tail_due s.ThreeDue = 3
-tail_due s.BehindE0 = 2
-tail_due s.BehindEd = 2
-tail_due s.BehindF0 = 3
-tail_due s.BehindF4 = 3
-tail_due s.Damaged = 0
-
--- so many bytes may end a text that has come to this state
-abbrev pub may_end : State → ℕ → Bool
-may_end s.Damaged left = false
-may_end state left = nat_le (tail_due state) left
 
 -- behind a byte of a text, of which so many bytes are left
 abbrev pub text_left : Bool → ℕ → State → Spot → Spot

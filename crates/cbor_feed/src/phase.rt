@@ -2,7 +2,6 @@
 
 ghost use Rattle.std.specs.Prelude.{◌≡◌, Some};
 ghost use Rattle.cbor_feed.specs.Snapshots.{phase_in, within_in};
-ghost use Rattle.cbor_feed.specs.Steps.{may_end};
 
 use ciborium_ll_text::state::State;
 
@@ -110,19 +109,5 @@ impl Within {
             2 => Some(Within::Text(more)),
             _ => None,
         }
-    }
-}
-
-/// Whether so many bytes may end a text that has come to this state.
-#[inline(always)]
-pub(crate) fn may_end(state: State, left: usize) -> bool
-    ensures { result ≡ may_end state left }
-{
-    match state {
-        State::Between => true,
-        State::OneDue => left >= 1,
-        State::TwoDue | State::BehindE0 | State::BehindEd => left >= 2,
-        State::ThreeDue | State::BehindF0 | State::BehindF4 => left >= 3,
-        State::Damaged => false,
     }
 }

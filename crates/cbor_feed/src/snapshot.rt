@@ -13,7 +13,6 @@ use crate::levels::MOST_LEVELS;
 use crate::phase::{Phase, Within};
 use crate::position::Position;
 use crate::progress::Feed;
-use crate::title::affix_len;
 use ciborium_ll_grammar::hdr::table::row_of;
 
 /// The state of a [`Checker`](crate::Checker) as plain numbers, in memory of the caller's own: of a program in C, or of
@@ -129,7 +128,7 @@ fn are_begun(bytes: &[u8]) -> bool
     ensures yes { result ≡ true → length bytes.now ≤ affix_len (slice_index bytes.now 0 % 32) }
     ensures no { result ≡ false → affix_len (slice_index bytes.now 0 % 32) < length bytes.now }
 {
-    bytes.is_empty() || bytes.len() <= affix_len(row_of(bytes[0]).affix)
+    bytes.is_empty() || bytes.len() <= row_of(bytes[0]).affix.len()
 }
 
 /// Whether the shortest spelling alone is taken, by its number.

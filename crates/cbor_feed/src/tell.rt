@@ -8,7 +8,6 @@ ghost use Rattle.cbor_feed.specs.Telling.{progress_of, title_due};
 use crate::front::Front;
 use crate::phase::Phase;
 use crate::progress::Progress;
-use crate::title::affix_len;
 use ciborium_ll_grammar::hdr::table::row_of;
 
 /// How many bytes a title lacks at least, of which these came.
@@ -20,7 +19,7 @@ fn title_due(front: &Front) -> usize
     if bytes.is_empty() {
         return 1;
     }
-    affix_len(row_of(bytes[0]).affix) - (bytes.len() - 1)
+    row_of(bytes[0]).affix.len() - (bytes.len() - 1)
 }
 
 /// How far the item has come, by what is due.

@@ -1,79 +1,16 @@
 //! The header that a whole title means, and what its first byte tells.
 
-ghost use Rattle.std.specs.Prelude.{ℕ, ◌≡◌, ◌<◌, ◌+◌, ◌%◌, ◌≤◌, true, false, IfSome, IfNone, length, slice_index};
-ghost use Rattle.ciborium_ll_grammar.specs.Title.{IsReserved, IsTitle, affix_len};
+ghost use Rattle.std.specs.Prelude.{◌≡◌, ◌<◌, ◌+◌, ◌%◌, ◌≤◌, true, false, IfSome, IfNone, length, slice_index};
+ghost use Rattle.ciborium_ll_grammar.specs.Title.{IsTitle, affix_len};
 ghost use Rattle.ciborium_ll_grammar.specs.Items.{IsTakenTitle};
 ghost use Rattle.cbor_feed.specs.Steps.{NoneTaken, SomeTaken};
 ghost use Rattle.cbor_feed.specs.Longer.{BeginsLonger, HasZero};
-ghost use Rattle.ciborium_ll_grammar.specs.Parts.{IsMinor, minor_affix, minor_code};
-ghost use Rattle.ciborium_ll_grammar.specs.TitleRows.{IsAffix};
 ghost use Rattle.cbor_feed.specs.Blocked.{blocked, is_value};
-ghost use Rattle.std.specs.Int.{to_be_bytes, w16, w32, w64};
 
 use crate::phase::{Fault, Within};
+use ciborium_ll_grammar::hdr::Header;
 use ciborium_ll_grammar::hdr::table::{Affix, TitleKind, row_of};
-use ciborium_ll_grammar::hdr::{Header, Minor, Title};
-
-/// How many bytes stand behind the first one, by the place of the number in [`Affix`]. A look-up takes no branch.
-const AFFIX_LENS: [usize; 7] = [0, 1, 2, 4, 8, 0, 0];
-
-/// How many bytes stand behind the first one.
-#[inline(always)]
-pub(crate) fn affix_len(affix: Affix) -> usize
-    ensures { (minor : ℕ) → IsAffix affix minor → result ≡ affix_len minor }
-{
-    AFFIX_LENS[affix as usize]
-}
-
-/// The minor of a first byte, with the number that it holds or that the bytes behind it are. A reserved one is none.
-#[inline(always)]
-fn minor_of(affix: Affix, first: u8, bytes: &[u8]) -> Option<Minor>
-    requires affix { IsAffix affix (first % 32) }
-    requires long { length bytes.now ≡ affix_len (first % 32) }
-    ensures minor { IfSome result IsMinor }
-    ensures code { IfSome result (λ minor. minor_code minor ≡ first % 32) }
-    ensures affix { IfSome result (λ minor. minor_affix minor ≡ bytes.now) }
-    ensures none { IfNone result (IsReserved (first % 32)) }
-{
-    match affix {
-        Affix::Within => Some(Minor::Small(u64::from(first % 32))),
-        Affix::One => Some(Minor::One(u64::from(bytes[0]))),
-        Affix::Two => Some(Minor::Two(u64::from(two_bytes(bytes)))),
-        Affix::Four => Some(Minor::Four(u64::from(four_bytes(bytes)))),
-        Affix::Eight => Some(Minor::Eight(eight_bytes(bytes))),
-        Affix::Open => Some(Minor::Open),
-        Affix::Reserved => None,
-    }
-}
-
-/// The number of two bytes.
-#[inline(always)]
-fn two_bytes(bytes: &[u8]) -> u16
-    requires { length bytes.now ≡ 2 }
-    ensures { to_be_bytes w16 result ≡ bytes.now }
-{
-    u16::from_be_bytes([bytes[0], bytes[1]])
-}
-
-/// The number of four bytes.
-#[inline(always)]
-fn four_bytes(bytes: &[u8]) -> u32
-    requires { length bytes.now ≡ 4 }
-    ensures { to_be_bytes w32 result ≡ bytes.now }
-{
-    u32::from_be_bytes([bytes[0], bytes[1], bytes[2], bytes[3]])
-}
-
-/// The number of eight bytes.
-#[inline(always)]
-fn eight_bytes(bytes: &[u8]) -> u64
-    requires { length bytes.now ≡ 8 }
-    ensures { to_be_bytes w64 result ≡ bytes.now }
-{
-    u64::from_be_bytes([
-        bytes[0], bytes[1], bytes[2], bytes[3], bytes[4], bytes[5], bytes[6], bytes[7],
-    ])
-}
+use ciborium_ll_grammar::hdr::whole::title_of;
 
 /// The header of a title, or nothing where no title that is taken begins so: with no meaning, or where only the
 /// shortest spelling is taken a longer one. All bytes that the first one announces are there.
@@ -84,19 +21,11 @@ pub(crate) fn header_of(bytes: &[u8], strict: bool) -> Option<Header>
     ensures taken { IfSome result (IsTakenTitle strict bytes.now) }
     ensures none { IfNone result (NoneTaken strict bytes.now) }
 {
-    let first = bytes[0];
-    let row = row_of(first);
-    let Some(minor) = minor_of(row.affix, first, &bytes[1..]) else {
-        return None;
-    };
-    if strict && minor.is_longer(first / 32) {
+    let (title, kind) = title_of(bytes)?;
+    if strict && title.minor.is_longer(title.major) {
         return None;
     }
-    let title = Title {
-        major: first / 32,
-        minor,
-    };
-    title.header(row.kind)
+    title.header(kind)
 }
 
 /// Whether a byte of 0 stands there.

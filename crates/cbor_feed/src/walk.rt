@@ -2,7 +2,7 @@
 
 ghost use Rattle.std.specs.Prelude.{◌≡◌, ◌+◌, ◌<◌, ◌≤◌, ◌%◌, length, slice_index, true, false};
 ghost use Rattle.cbor_feed.specs.Telling.{has_left};
-ghost use Rattle.cbor_feed.specs.Steps.{may_end};
+ghost use Rattle.ciborium_ll_text.specs.States.{may_end};
 ghost use Rattle.ciborium_ll_grammar.specs.Title.{affix_len};
 ghost use Rattle.cbor_feed.specs.Opens.{open_count};
 ghost use Rattle.cbor_feed.specs.Blocked.{blocked, is_value};
@@ -13,10 +13,10 @@ use self::nests::is_long_nest;
 use crate::front::Front;
 use crate::level::Level;
 use crate::levels::Levels;
-use crate::phase::{Fault, Phase, Within, may_end};
+use crate::phase::{Fault, Phase, Within};
 use crate::progress::{Feed, Progress};
 use crate::tell::answer;
-use crate::title::{affix_len, begins_none, blocked, header_of, is_value};
+use crate::title::{begins_none, blocked, header_of, is_value};
 use ciborium_ll_grammar::hdr::Header;
 use ciborium_ll_grammar::hdr::table::{Affix, TitleKind, row_of};
 use ciborium_ll_text::state::{State, text_front};
@@ -348,7 +348,7 @@ impl Walk<'_> {
         self.offset += 1;
         let bytes = self.front.bytes();
         let row = row_of(bytes[0]);
-        if bytes.len() <= affix_len(row.affix) {
+        if bytes.len() <= row.affix.len() {
             if begins_none(bytes, self.strict) {
                 self.front.clear();
                 self.refuse();
@@ -419,7 +419,7 @@ impl Walk<'_> {
         ensures lent { AreLent self.old.levels self.new.levels }
     {
         let row = row_of(bytes[0]);
-        let len = 1 + affix_len(row.affix);
+        let len = 1 + row.affix.len();
         if self.front.len() > 0 || bytes.len() < len {
             return self.title_byte(bytes);
         }
@@ -558,7 +558,7 @@ impl Walk<'_> {
         if let Affix::Within = row.affix {
             return self.short_run(bytes);
         }
-        let len = 1 + affix_len(row.affix);
+        let len = 1 + row.affix.len();
         if !self.strict && is_value(row.kind) && 1 < len && len <= bytes.len() {
             let goes = self.value_taken(bytes, len, row.kind);
             return (len, goes);
@@ -641,7 +641,7 @@ impl Walk<'_> {
         ensures spot { spot_at self.new ≡ text_left (may_end state left) left state (spot_at self.old) }
         ensures lent { AreLent self.old.levels self.new.levels }
     {
-        if !may_end(state, left) {
+        if !state.may_end(left) {
             self.refuse();
         } else if left == 0 {
             self.string_done();
@@ -689,7 +689,7 @@ impl Walk<'_> {
     {
         let len = left.min(bytes.len());
         let (front, behind) = text_front(&bytes[..len], 0, State::Between);
-        if may_end(behind, left - len) {
+        if behind.may_end(left - len) {
             self.text_taken(left, len, behind);
             return len;
         }

@@ -3,14 +3,14 @@ use Rattle.std.proofs.Common.{◌≡◌, ℕ, zero, suc, ◌+◌, ◌≤◌, Boo
 use Rattle.std.proofs.Common.{sym, ap, subst, ◌∙◌, arith}
 use Rattle.ciborium_ll_text.specs.declared.state.State.{State}
 use Rattle.ciborium_ll_text.specs.declared.state.State.TheVariants as st
-use Rattle.ciborium_ll_text.specs.States.{after, after_byte}
+use Rattle.ciborium_ll_text.specs.States.{after, after_byte, may_end}
+use Rattle.ciborium_ll_text.proofs.EndLaws.{none_left, text_may_end}
 use Rattle.cbor_feed.specs.declared.phase.Phase.TheVariants as p
 use Rattle.cbor_feed.specs.declared.phase.Fault.{Fault}
 use Rattle.cbor_feed.specs.declared.phase.Fault.TheVariants as f
 use Rattle.cbor_feed.specs.declared.phase.Within.{Within}
 use Rattle.cbor_feed.specs.Spots.{Spot, string_done, bytes_due, text_due}
-use Rattle.cbor_feed.specs.Steps.{may_end, text_left}
-use Rattle.cbor_feed.proofs.StepLaws.{one_more_due}
+use Rattle.cbor_feed.specs.Steps.{text_left}
 use Rattle.cbor_feed.proofs.LeadLaws.{due_alike, left_alike}
 use Rattle.cbor_feed_laws.proofs.Levels.{Level}
 use Rattle.cbor_feed_laws.proofs.Runs.{Runs, fault_of, next_of, with, at}
@@ -38,10 +38,6 @@ module _ (fault : Fault) (s : Bool) (i : Within) (d : ℕ) (gs : List Level) (a 
       subst (λ (z : ℕ). Runs fault (string_done i (at s i d gs a z)) rest) counts
       (bytes_run body rest o.rest (n + 1) (subst (λ (z : Spot). Runs fault z o.rest) same o.runs) tails)
 
-  may_end_here : (state : State) (body : List ℕ) → after state body ≡ st.Between → may_end state (length body) ≡ true
-  may_end_here state [] e = subst (λ (z : State). may_end z 0 ≡ true) (sym e) refl
-  may_end_here state (b ∷ body) e = one_more_due state b (length body) (may_end_here (after_byte state b) body e)
-
   -- the rest of a text in front
   text_rest : (body rest due : List ℕ) (state : State) (n : ℕ)
       → Runs fault (text_left true (length body) state (at s i d gs a n)) due → after state body ≡ st.Between
@@ -58,7 +54,7 @@ module _ (fault : Fault) (s : Bool) (i : Within) (d : ℕ) (gs : List Level) (a 
       let heads : o.byte ≡ b = cc in
       let tails : o.rest ≡ body ++ rest = cc in
       let to = after_byte state b in
-      let may : may_end to len ≡ true = may_end_here to body ends in
+      let may : may_end to len ≡ true = text_may_end to body ends in
       let new = with here s i d gs a (n + 1) in
       let step : o.next ≡ text_left (may_end to len) len to new =
       subst (λ (z : ℕ). o.next ≡ text_left (may_end (after_byte state z) len) len (after_byte state z) new) heads
@@ -83,17 +79,6 @@ module _ (fault : Fault) (s : Bool) (i : Within) (d : ℕ) (gs : List Level) (a 
       (subst (λ (z : Spot). Runs fault z due) (text_begins (length body) (at s i d gs a n)) runs) ends e
 
   -- ---- a text that is none
-
-  none_left : (state : State) → may_end state 0 ≡ true → state ≡ st.Between
-  none_left st.Between may = refl
-  none_left st.OneDue may = absurd cc
-  none_left st.TwoDue may = absurd cc
-  none_left st.ThreeDue may = absurd cc
-  none_left st.BehindE0 may = absurd cc
-  none_left st.BehindEd may = absurd cc
-  none_left st.BehindF0 may = absurd cc
-  none_left st.BehindF4 may = absurd cc
-  none_left st.Damaged may = absurd cc
 
   -- behind a byte: either a fault, or the text goes on
   text_on : (may : Bool) (left : ℕ) (to : State) (n : ℕ) (new : Spot) (rest : List ℕ)

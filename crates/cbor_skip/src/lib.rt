@@ -34,6 +34,16 @@ pub enum SkipError<E> {
     Deep(usize),
 }
 
+impl<E> From<Error<E>> for SkipError<E> {
+    ghost use Rattle.cbor_skip.specs.declared.SkipError.TheVariants.{Read as FailedRead};
+
+    ghost from_gives = { λ fault error. error ≡ FailedRead fault };
+
+    fn from(fault: Error<E>) -> SkipError<E> {
+        SkipError::Read(fault)
+    }
+}
+
 /// What a title began, which was read.
 enum Begun {
     /// An item without others in it, which was read to its end.
@@ -106,10 +116,10 @@ fn skip_items<R: Read>(
     'items: while left > 0 {
         let place = decoder.offset();
         left -= 1;
-        match skip_title(decoder, buffer) {
-            Ok(Begun::Item) => {}
-            Ok(Begun::Break) => return Err(SkipError::Break(place)),
-            Ok(Begun::Items(within)) => {
+        match skip_title(decoder, buffer)? {
+            Begun::Item => {}
+            Begun::Break => return Err(SkipError::Break(place)),
+            Begun::Items(within) => {
                 if levels == 0 {
                     return Err(SkipError::Deep(place));
                 }
@@ -121,13 +131,12 @@ fn skip_items<R: Read>(
                     skip_items(decoder, within, levels - 1, buffer)?;
                 }
             }
-            Ok(Begun::Nest(nest)) => {
+            Begun::Nest(nest) => {
                 if levels == 0 {
                     return Err(SkipError::Deep(place));
                 }
                 skip_within(decoder, nest, levels - 1, buffer)?;
             }
-            Err(error) => return Err(SkipError::Read(error)),
         }
     }
     Ok(())
@@ -150,29 +159,28 @@ fn skip_within<R: Read>(
     let mut remaining = Remaining::behind(header);
     'items: while !remaining.is_done() {
         let place = decoder.offset();
-        match skip_title(decoder, buffer) {
-            Ok(Begun::Item) => remaining = remaining.after_item(),
-            Ok(Begun::Break) => {
+        match skip_title(decoder, buffer)? {
+            Begun::Item => remaining = remaining.after_item(),
+            Begun::Break => {
                 if remaining.closes() {
                     return Ok(());
                 }
                 return Err(SkipError::Break(place));
             }
-            Ok(Begun::Items(count)) => {
+            Begun::Items(count) => {
                 if depth == 0 {
                     return Err(SkipError::Deep(place));
                 }
                 skip_items(decoder, count, depth - 1, buffer)?;
                 remaining = remaining.after_item();
             }
-            Ok(Begun::Nest(nest)) => {
+            Begun::Nest(nest) => {
                 if depth == 0 {
                     return Err(SkipError::Deep(place));
                 }
                 skip_within(decoder, nest, depth - 1, buffer)?;
                 remaining = remaining.after_item();
             }
-            Err(error) => return Err(SkipError::Read(error)),
         }
     }
     Ok(())

@@ -1,9 +1,10 @@
 -- What is left of a body, read chunk by chunk.
 use Rattle.std.proofs.Common.{◌≡◌, ℕ, Bool, ◌+◌, ◌≤◌, ◌⊎◌, true, false, List, [], ◌++◌, length, Option, Some, None}
 use Rattle.std.proofs.Common.{Result, Ok, Err}
-use Rattle.std.proofs.Common.{IsOk, refl, sym, ap, subst, ◌∙◌, inl, inr, arith, append_assoc, append-nil}
+use Rattle.std.proofs.Common.{refl, sym, ap, subst, ◌∙◌, inl, inr, arith, append_assoc, append-nil}
 use Rattle.std.proofs.Common.{length-append}
 use Rattle.std.specs.Borrow.{Bor}
+use Rattle.std.specs.Option.{is_some}
 use Rattle.ciborium_ll_io.specs.declared.io.Read.{Ghosts as Reader}
 use Rattle.ciborium_ll_decoder.specs.declared.dec.Decoder.{Decoder}
 use Rattle.ciborium_ll_decoder.specs.declared.dec.Error.{Error}
@@ -82,14 +83,12 @@ module _ {R E P : Type 0} {parser : Parser P} (source : Reader R E) where
           still = λ damaged. absurd (not_both new.damaged damaged gives.still_sound);
         }
 
-    -- the same of whatever a pull gave, if it didn't fail and gave no `None`
-    pub rest_pulled : (room : ℕ) (result : Result (Option (Bor (List ℕ))) (Error E)) (new : Segment R P parser)
-        → PullsChunk source room segment result new
-        → IsOk result → (result ≡ Ok None → ⊥) → (IsSteady source segment.decoder.now
-        → IsSteady source new.decoder.now) → RestSoFar first new
-    rest_pulled room (Ok (Some chunk)) new pulled ok some steady = rest_chunk room chunk.now new pulled steady
-    rest_pulled room (Ok None) new pulled ok some steady = absurd (some refl)
-    rest_pulled room (Err error) new pulled ok some steady = cc
+    -- the same of a pull that gave a chunk
+    pub rest_pulled : (room : ℕ) (chunk : Option (Bor (List ℕ))) (new : Segment R P parser)
+        → PullsChunk source room segment (Ok chunk) new → is_some chunk ≡ true
+        → (IsSteady source segment.decoder.now → IsSteady source new.decoder.now) → RestSoFar first new
+    rest_pulled room (Some chunk) new pulled some steady = rest_chunk room chunk.now new pulled steady
+    rest_pulled room None new pulled some steady = cc
 
     abbrev part : BeginsRest source parser.kind (kept_bytes first.kept) first.unread first.decoder.now
         segment.decoder.now

@@ -19,6 +19,16 @@ pub enum RecodeError<E, F> {
     Write(F),
 }
 
+impl<E, F> From<Error<E>> for RecodeError<E, F> {
+    ghost use Rattle.ciborium_ll_decoder.specs.declared.copy.RecodeError.TheVariants.{Read as FailedRead};
+
+    ghost from_gives = { λ fault error. error ≡ FailedRead fault };
+
+    fn from(fault: Error<E>) -> RecodeError<E, F> {
+        RecodeError::Read(fault)
+    }
+}
+
 impl<'r, R: Read, P: Chunked> Segments<'r, R, P> {
     /// Writes the body that [`Segments::advance`] gave last to a writer, without its title: each chunk as soon as it is
     /// handed out, by pulls through `buffer`.
@@ -86,10 +96,8 @@ fn copy_chunks<R: Read, W: Write, P: Chunked>(
     ensures target { W.target writer.new ≡ W.target writer.old }
 {
     'chunks: loop {
-        let chunk = match P::chunk(segment, buffer) {
-            Ok(Some(chunk)) => chunk,
-            Ok(None) => return Ok(()),
-            Err(error) => return Err(RecodeError::Read(error)),
+        let Some(chunk) = P::chunk(segment, buffer)? else {
+            return Ok(());
         };
         if let Err(fault) = writer.write_all(chunk) {
             return Err(RecodeError::Write(fault));

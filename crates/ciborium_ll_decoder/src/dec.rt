@@ -161,10 +161,8 @@ impl<R: Read> Decoder<R> {
             self.offset += header.title_len();
             return Ok(header);
         }
-        match self.title() {
-            Ok((header, _title)) => Ok(header),
-            Err(error) => Err(error),
-        }
+        let (header, _title) = self.title()?;
+        Ok(header)
     }
 
     /// Takes the next header, and a title of it in its parts: the one that was read, or of a waiting header the

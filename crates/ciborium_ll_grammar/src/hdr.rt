@@ -12,6 +12,7 @@ ghost use Rattle.ciborium_ll_grammar.specs.TitleRows.{IsTitleKind};
 
 mod start;
 pub mod table;
+pub mod whole;
 
 pub use self::start::Start;
 use crate::hdr::table::TitleKind;
@@ -262,15 +263,17 @@ impl Title {
         })
     }
 
-    /// What the title begins, which means this header. It is told by the parts alone, so a copy need not make the
+    /// What the title begins, whichever header it means. It is told by the parts alone, so a copy need not make the
     /// header.
     #[inline(always)]
-    pub fn element(self, header: Header) -> Element
-        requires parts { IsParts self }
-        requires title { IsTitle (title_bytes self) header }
-        ensures bytes { (length : Option ℕ) → result ≡ Element.Bytes length → header ≡ Header.Bytes length }
-        ensures text { (length : Option ℕ) → result ≡ Element.Text length → header ≡ Header.Text length }
-        ensures plain { result ≡ Element.Plain → IsPlain header }
+    pub fn element(self) -> Element
+        requires { IsParts self }
+        ensures bytes { (header : Header) (length : Option ℕ) → IsTitle (title_bytes self) header
+            → result ≡ Element.Bytes length → header ≡ Header.Bytes length }
+        ensures text { (header : Header) (length : Option ℕ) → IsTitle (title_bytes self) header
+            → result ≡ Element.Text length → header ≡ Header.Text length }
+        ensures plain { (header : Header) → IsTitle (title_bytes self) header
+            → result ≡ Element.Plain → IsPlain header }
     {
         match self.major {
             2 => Element::Bytes(self.minor.length()),
@@ -282,11 +285,11 @@ impl Title {
     /// The shortest title of the header that this one means. It is made of the parts alone, so a copy need not tell
     /// the kinds of headers apart. A float keeps its width.
     #[inline(always)]
-    pub fn shortest(self, header: Header) -> Title
-        requires parts { IsParts self }
-        requires title { IsTitle (title_bytes self) header }
+    pub fn shortest(self) -> Title
+        requires { IsParts self }
         ensures parts { IsParts result }
-        ensures bytes { title_bytes result ≡ shortest_title header }
+        ensures bytes { (header : Header) → IsTitle (title_bytes self) header
+            → title_bytes result ≡ shortest_title header }
     {
         let minor = if self.major == 7 {
             self.minor.shortest_other()

@@ -1,6 +1,7 @@
 -- The copy of one element, by its parts.
 use Rattle.std.proofs.Common.{◌≡◌, ℕ, suc, ◌+◌, ◌<◌, ◌≤◌, List, [], ◌∷◌, ◌++◌, None, Result, Ok, Err, refl, sym}
 use Rattle.std.proofs.Common.{subst, ◌∙◌, inl, inr, arith, append_assoc, append-nil}
+use Rattle.std.specs.Result.{IsErrAnd, MatchResult}
 use Rattle.std.proofs.KnownBytes.{Appends-nil}
 use Rattle.ciborium_ll_io.proofs.WriteLaws.{Shrinks-zero}
 use Rattle.ciborium_ll_io.specs.declared.io.Read.{Ghosts as Reader}
@@ -18,7 +19,7 @@ use Rattle.ciborium_ll_grammar.specs.Elements.{IsPlain, Mark, Plain, Open, Close
 use Rattle.ciborium_ll_grammar.specs.Elements.{IsRun, done}
 use Rattle.ciborium_ll_grammar.specs.Faults.{Due, In, Reaches, due, inside, opened}
 use Rattle.ciborium_ll_decoder.specs.Decoding.{Passes, Strictly, IsSteady, PullsHeader, PullsTitle}
-use Rattle.ciborium_ll_io.specs.Writes.{WritesAll, WritesFront}
+use Rattle.ciborium_ll_io.specs.Writes.{WritesAll, WritesBytes, WritesFront}
 use Rattle.ciborium_ll_recode.specs.Recoding.{WritesHeader, Copied, CopiesRun, CopiesAll, StopsAtTitle, StopsWriting}
 use Rattle.ciborium_ll_recode.specs.Recoding.{StopsCopy, IsBehind, GoesOn, IsWithin, ReadsString}
 use Rattle.ciborium_ll_decoder.specs.BodyCopies.{Sides, sides}
@@ -31,6 +32,16 @@ use Rattle.ciborium_ll_recode.proofs.RecodeLaws.{marks_then, mark_unwritten, ele
 use Rattle.ciborium_ll_recode.proofs.RunLaws.{run_settled}
 use Rattle.ciborium_ll_decoder.proofs.SegmentLaws.{sound_none}
 use Rattle.ciborium_ll_grammar.proofs.SpelledLaws.{spelled_none, spelled_then}
+
+-- a copy hands on what the write of a header's shortest title answered
+pub title_answered : {E W F : Type 0} (sink : Writer W F) (old : W) (wrote : Result (Unit {0}) F)
+    (answer : Result (Unit {0}) (RecodeError E F)) (bytes : List ℕ) (header : Header) (new : W)
+    → WritesBytes sink old wrote bytes new → bytes ≡ shortest_title header
+    → MatchResult wrote (λ done. answer ≡ Ok done) (λ fault. IsErrAnd answer (λ error. error ≡ r.Write fault))
+    → WritesHeader sink old answer header new
+title_answered sink old (Ok unit) answer bytes header new wrote same cases = rw cases (rw same at wrote)
+title_answered sink old (Err fault) (Err error) bytes header new wrote same cases = rw cases (rw same at wrote)
+title_answered sink old (Err fault) (Ok unit) bytes header new wrote same cases = absurd cases
 
 module _ {R E W F : Type 0} (source : Reader R E) (sink : Writer W F) where
   -- ---- the title of an element

@@ -32,10 +32,9 @@ fn write_header<E, W: Write>(
     ensures header { WritesHeader W.Write (writer_of encoder.old) result header (writer_of encoder.new) }
     ensures target { W.target (writer_of encoder.new) ≡ W.target (writer_of encoder.old) }
 {
-    match encoder.push(header) {
-        Ok(()) => Ok(()),
-        Err(fault) => Err(RecodeError::Write(fault)),
-    }
+    encoder
+        .push(header)
+        .map_err(|fault| RecodeError::Write(fault))
 }
 
 /// Copies a string of a definite length, behind its header.
@@ -96,10 +95,8 @@ fn copy_segments<R: Read, W: Write, P: Chunked>(
 {
     let mut segments = open_segments::<R, P>(decoder);
     'segments: loop {
-        let body = match segments.advance() {
-            Ok(Some(body)) => body,
-            Ok(None) => return Ok(()),
-            Err(error) => return Err(RecodeError::Read(error)),
+        let Some(body) = segments.advance()? else {
+            return Ok(());
         };
         write_header::<R::Error, W>(encoder, P::header(Some(body.length)))?;
         segments.copy(body, encoder, buffer)?;
@@ -139,18 +136,14 @@ pub fn copy_element<R: Read, W: Write>(
     ensures { CopiesOne R.Read W.Write (length buffer.old) (sides_of decoder.old encoder.old) result
         (sides_of decoder.new encoder.new) }
 {
-    let (header, title) = match pull_title(decoder) {
-        Ok(pulled) => pulled,
-        Err(error) => return Err(RecodeError::Read(error)),
-    };
-    match title.element(header) {
+    let (_header, title) = pull_title(decoder)?;
+    match title.element() {
         Element::Bytes(len) => copy_string::<R, W, Bytes>(decoder, encoder, len, buffer),
         Element::Text(len) => copy_string::<R, W, Text>(decoder, encoder, len, buffer),
         // What `push` of the header would write, without a look at which header it is.
-        Element::Plain => match push_title(encoder, title.shortest(header)) {
-            Ok(()) => Ok(()),
-            Err(fault) => Err(RecodeError::Write(fault)),
-        },
+        Element::Plain => {
+            push_title(encoder, title.shortest()).map_err(|fault| RecodeError::Write(fault))
+        }
     }
 }
 

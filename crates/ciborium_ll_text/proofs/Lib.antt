@@ -1,5 +1,6 @@
 pub mod BlockLaws
 pub mod CutLaws
+pub mod EndLaws
 pub mod FrontLaws
 pub mod FullCutLaws
 pub mod LastEndLaws

@@ -1,6 +1,7 @@
--- Fronts and rests of lists, and empty ones.
-use Rattle.std.proofs.Common.{◌≡◌, ℕ, ◌+◌, ◌-◌, ◌≤◌, min, List, [], ◌∷◌, ◌++◌, length, take, drop, refl, sym, ap, ◌∙◌}
-use Rattle.std.proofs.Common.{arith}
+-- Fronts and rests of lists, empty ones, and lists of bytes.
+use Rattle.std.proofs.Common.{◌≡◌, ℕ, suc, ◌+◌, ◌-◌, ◌<◌, ◌≤◌, min, List, [], ◌∷◌, ◌++◌, length, take, drop, get_or}
+use Rattle.std.proofs.Common.{refl, sym, ap, ◌∙◌, arith, length-drop}
+use Rattle.std.proofs.lemmas.List.{get_or-take, length-take-le, take_rest}
 use Rattle.std.proofs.Math.Seq.{take-append_seam, take-append-add}
 
 -- two fronts of a list that are as long as each other are the same, and so are the rests
@@ -49,3 +50,23 @@ pub front_behind : (len : ℕ) (rest read more : List ℕ) → rest ≡ read ++ 
 front_behind len rest read more e l =
     let sum : len ≡ length read + (len - length read) = omega (arith, l) in
     ap (take len) e ∙ ap (λ (n : ℕ). take n (read ++ more)) sum ∙ take-append-add read more (len - length read)
+
+-- how many are left behind some
+pub rest_long : (xs : List ℕ) (at : ℕ) → length (take (length xs - at) (drop at xs)) ≡ length xs - at
+rest_long xs at = ap length (take_rest xs at) ∙ length-drop at xs
+
+-- each is a byte
+abbrev pub Below : List ℕ → Type 0
+Below xs = (i : ℕ) → i < length xs → get_or xs i 0 < 256
+
+-- and so is each behind the first
+pub below_rest : (x : ℕ) (xs : List ℕ) → Below (x ∷ xs) → Below xs
+below_rest x xs below = λ i less. below (suc i) (omega (arith, less))
+
+-- and each of a front
+pub below_take : (n : ℕ) (xs : List ℕ) → n ≤ length xs → Below xs → Below (take n xs)
+below_take n xs le below = λ i less.
+    let long = length-take-le n xs le in
+    let same = get_or-take n xs i 0 (omega (arith, less, long)) in
+    let b = below i (omega (arith, less, long, le)) in
+    omega (arith, same, b)

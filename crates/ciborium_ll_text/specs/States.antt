@@ -1,6 +1,6 @@
 -- How far the bytes of a text have come: between two characters, inside one, or where no text goes on
 -- (Unicode, Table 3-7).
-use Rattle.std.specs.Prelude.{◌≡◌, ℕ, ◌<◌, ◌≤◌, Bool, ◌&&◌, nat_le, List, [], ◌∷◌, length, take, if◌then◌else◌}
+use Rattle.std.specs.Prelude.{◌≡◌, ℕ, ◌<◌, ◌≤◌, Bool, false, ◌&&◌, nat_le, List, [], ◌∷◌, length, take, if◌then◌else◌}
 use Rattle.ciborium_ll_text.specs.declared.state.State.{State}
 use Rattle.ciborium_ll_text.specs.declared.state.State.TheVariants as s
 
@@ -51,3 +51,20 @@ pub record IsLastEnd (bytes : List ℕ) (count : ℕ) : Type 0 where
   pub within : count ≤ length bytes
   pub ends : after s.Between (take count bytes) ≡ s.Between
   pub last : (more : ℕ) → count < more → more ≤ length bytes → after s.Between (take more bytes) ≡ s.Between → ⊥
+
+-- how many bytes at least end the character (Unicode, Table 3-7)
+abbrev pub tail_due : State → ℕ
+tail_due s.Between = 0
+tail_due s.OneDue = 1
+tail_due s.TwoDue = 2
+tail_due s.ThreeDue = 3
+tail_due s.BehindE0 = 2
+tail_due s.BehindEd = 2
+tail_due s.BehindF0 = 3
+tail_due s.BehindF4 = 3
+tail_due s.Damaged = 0
+
+-- so many bytes may end a text that has come to this state: they are enough for the character (Unicode, Table 3-7)
+abbrev pub may_end : State → ℕ → Bool
+may_end s.Damaged left = false
+may_end state left = nat_le (tail_due state) left

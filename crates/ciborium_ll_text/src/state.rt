@@ -1,7 +1,7 @@
 //! How far the bytes of a text have come (Unicode, Table 3-7), and the longest front of them that is text.
 
 ghost use Rattle.std.specs.Prelude.{◌≡◌, ◌≢◌, ◌≤◌, length, take, drop};
-ghost use Rattle.ciborium_ll_text.specs.States.{after, IsLastEnd};
+ghost use Rattle.ciborium_ll_text.specs.States.{after, may_end, IsLastEnd};
 ghost use Rattle.ciborium_ll_text.specs.Text.{IsCharacters, IsFront};
 ghost use Rattle.ciborium_ll_text.specs.Windows.{after_window};
 ghost use Rattle.ciborium_ll_text.specs.declared.state.State.TheVariants.{Between, Damaged};
@@ -33,6 +33,20 @@ pub enum State {
 }
 
 impl State {
+    /// Whether so many bytes may end a text that has come to this state.
+    #[inline(always)]
+    pub fn may_end(self, left: usize) -> bool
+        ensures { result ≡ may_end self left }
+    {
+        match self {
+            State::Between => true,
+            State::OneDue => left >= 1,
+            State::TwoDue | State::BehindE0 | State::BehindEd => left >= 2,
+            State::ThreeDue | State::BehindF0 | State::BehindF4 => left >= 3,
+            State::Damaged => false,
+        }
+    }
+
     /// The state behind more bytes.
     #[inline(always)]
     fn run(self, bytes: &[u8]) -> State

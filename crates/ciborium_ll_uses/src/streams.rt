@@ -52,8 +52,5 @@ fn flushed<E, W: Write>(writer: &mut W) -> Result<(), RecodeError<E, W::Error>>
         (λ error. (fault : W.Error) × (error ≡ RecodeError.Write fault)) }
     ensures kept { IsSome (W.room writer.old) → W.written writer.new ≡ W.written writer.old }
 {
-    match writer.flush() {
-        Ok(()) => Ok(()),
-        Err(fault) => Err(RecodeError::Write(fault)),
-    }
+    writer.flush().map_err(|fault| RecodeError::Write(fault))
 }

@@ -26,75 +26,81 @@ skip_items-returns-clause-skipped g t c =
 
 -- ---- so many items: the errors
 
-pub skip_items-returns-in-Err-clause-skipped : goal.skip_items-returns-in-Err-clause-skipped
-skip_items-returns-in-Err-clause-skipped g t c =
+pub skip_items-returns-in_err-skip_title-clause-skipped : goal.skip_items-returns-in_err-skip_title-clause-skipped
+skip_items-returns-in_err-skip_title-clause-skipped g t c =
     let some : suc (c.items.left - 1) ≡ c.items.left = omega (arith, c.items-test.true) in
-    let stops = title_stops g.R.Read c.offset-place.ensures.same c.items.auto.buffer c.in-Err.ensures.begun in
-    c.items.invariant.whole (Err (s.Read c.in-Err.error)) c.skip_title.new.decoder (stops_first g.R.Read some stops)
+    let error = c.in_err-skip_title.field-0.0 in
+    let from = err_from_is_err_and c.from_residual.result c.from_residual.ensures.1 in
+    let is_error = from.1 in
+    let is_same = from.2 in
+    let same : c.from_residual.result ≡ Err (s.Read error) = cc in
+    let stops = title_stops g.R.Read c.offset-place.ensures.same c.items.auto.buffer c.in_err-skip_title.ensures.begun in
+    rw same (c.items.invariant.whole (Err (s.Read error)) c.skip_title.new.decoder (stops_first g.R.Read some stops))
 
-pub skip_items-returns-in-Ok-Break-clause-skipped : goal.skip_items-returns-in-Ok-Break-clause-skipped
-skip_items-returns-in-Ok-Break-clause-skipped g t c =
+pub skip_items-returns-in-Break-clause-skipped : goal.skip_items-returns-in-Break-clause-skipped
+skip_items-returns-in-Break-clause-skipped g t c =
     let some : suc (c.items.left - 1) ≡ c.items.left = omega (arith, c.items-test.true) in
     c.items.invariant.whole (Err (s.Break c.offset-place.result)) c.skip_title.new.decoder
     (stops_first g.R.Read some (stops_here g.R.Read (record {
       not_closable = refl;
       place = c.offset-place.ensures.value;
-      pulled = rw (c.offset-place.ensures.same, c.in-Ok-Break.field-0-is) at c.in-Ok-Break.ensures.begun;
+      pulled = rw (c.offset-place.ensures.same, c.in-Break.is) at c.in_ok-skip_title.ensures.begun;
     })))
 
 pub skip_items-returns-then-levels-eq0-clause-skipped : goal.skip_items-returns-then-levels-eq0-clause-skipped
 skip_items-returns-then-levels-eq0-clause-skipped g t c =
     let some : suc (c.items.left - 1) ≡ c.items.left = omega (arith, c.items-test.true) in
-    let nest = rw (c.offset-place.ensures.same, c.in-Ok-Items.field-0-is) at c.in-Ok-Items.ensures.begun in
+    let nest = rw (c.offset-place.ensures.same, c.in-Items.is) at c.in_ok-skip_title.ensures.begun in
     c.items.invariant.whole (Err (s.Deep c.offset-place.result)) c.skip_title.new.decoder
     (stops_first g.R.Read some (stops_here g.R.Read (record {
       none_left = c.if-levels-eq0.true;
       place = c.offset-place.ensures.value;
       header = nest.0;
-      is_nest = counted_nest nest.0 c.in-Ok-Items.within nest.1;
+      is_nest = counted_nest nest.0 c.in-Items.within nest.1;
       pulled = nest.2;
     })))
 
 pub skip_items-returns-then-levels-eq0-2-clause-skipped : goal.skip_items-returns-then-levels-eq0-2-clause-skipped
 skip_items-returns-then-levels-eq0-2-clause-skipped g t c =
     let some : suc (c.items.left - 1) ≡ c.items.left = omega (arith, c.items-test.true) in
-    let nest = rw (c.offset-place.ensures.same, c.in-Ok-Nest.field-0-is) at c.in-Ok-Nest.ensures.begun in
+    let nest = rw (c.offset-place.ensures.same, c.in-Nest.is) at c.in_ok-skip_title.ensures.begun in
     c.items.invariant.whole (Err (s.Deep c.offset-place.result)) c.skip_title.new.decoder
     (stops_first g.R.Read some (stops_here g.R.Read (record {
       none_left = c.if-levels-eq0-2.true;
       place = c.offset-place.ensures.value;
-      header = c.in-Ok-Nest.nest;
+      header = c.in-Nest.nest;
       is_nest = nest.0;
       pulled = nest.1;
     })))
 
-pub skip_items-returns-in_err-skip_items-in-Ok-Items-clause-skipped :
-    goal.skip_items-returns-in_err-skip_items-in-Ok-Items-clause-skipped
-skip_items-returns-in_err-skip_items-in-Ok-Items-clause-skipped g t c =
+pub skip_items-returns-in_err-skip_items-in-Items-clause-skipped :
+    goal.skip_items-returns-in_err-skip_items-in-Items-clause-skipped
+skip_items-returns-in_err-skip_items-in-Items-clause-skipped g t c =
     let some : suc (c.items.left - 1) ≡ c.items.left = omega (arith, c.items-test.true) in
     let level : suc (c.items.levels - 1) ≡ c.items.levels = omega (arith, c.if-levels-eq0.false) in
-    let nest = rw (c.offset-place.ensures.same, c.in-Ok-Items.field-0-is) at c.in-Ok-Items.ensures.begun in
+    let nest = rw (c.offset-place.ensures.same, c.in-Items.is) at c.in_ok-skip_title.ensures.begun in
     let first = rw c.offset-place.ensures.same at c.skip_title.ensures.moves_on in
-    let error = c.in_err-skip_items-in-Ok-Items in
-    let from = err_from_is_err_and c.from_residual.result c.from_residual.ensures.1 in
+    let error = c.in_err-skip_items-in-Items in
+    let residual = c.from_residual-in_err-skip_items-in-Items in
+    let from = err_from_is_err_and residual.result residual.ensures.1 in
     let is_error = from.1 in
     let is_same = from.2 in
-    let same : c.from_residual.result ≡ Err error.field-0.0 = cc in
+    let same : residual.result ≡ Err error.field-0.0 = cc in
     let stopped = rw (c.skip_title.auto.buffer, c.items.auto.buffer) at error.ensures.skipped in
-    let within = counted_within g.R.Read nest.0 c.in-Ok-Items.within (c.items.levels - 1) (length c.args.buffer.now)
+    let within = counted_within g.R.Read nest.0 c.in-Items.within (c.items.levels - 1) (length c.args.buffer.now)
     c.skip_title.new.decoder nest.1 (Err error.field-0.0) c.skip_items.new.decoder stopped in
     rw same (c.items.invariant.whole (Err error.field-0.0) c.skip_items.new.decoder
     (stops_first g.R.Read some (stops_nest g.R.Read level nest.2 first.steady within)))
 
-pub skip_items-returns-in_err-skip_within-in-Ok-Nest-clause-skipped :
-    goal.skip_items-returns-in_err-skip_within-in-Ok-Nest-clause-skipped
-skip_items-returns-in_err-skip_within-in-Ok-Nest-clause-skipped g t c =
+pub skip_items-returns-in_err-skip_within-in-Nest-clause-skipped :
+    goal.skip_items-returns-in_err-skip_within-in-Nest-clause-skipped
+skip_items-returns-in_err-skip_within-in-Nest-clause-skipped g t c =
     let some : suc (c.items.left - 1) ≡ c.items.left = omega (arith, c.items-test.true) in
     let level : suc (c.items.levels - 1) ≡ c.items.levels = omega (arith, c.if-levels-eq0-2.false) in
-    let nest = rw (c.offset-place.ensures.same, c.in-Ok-Nest.field-0-is) at c.in-Ok-Nest.ensures.begun in
+    let nest = rw (c.offset-place.ensures.same, c.in-Nest.is) at c.in_ok-skip_title.ensures.begun in
     let first = rw c.offset-place.ensures.same at c.skip_title.ensures.moves_on in
-    let error = c.in_err-skip_within-in-Ok-Nest in
-    let residual = c.from_residual-in_err-skip_within-in-Ok-Nest in
+    let error = c.in_err-skip_within-in-Nest in
+    let residual = c.from_residual-in_err-skip_within-in-Nest in
     let from = err_from_is_err_and residual.result residual.ensures.1 in
     let is_error = from.1 in
     let is_same = from.2 in
@@ -105,10 +111,10 @@ skip_items-returns-in_err-skip_within-in-Ok-Nest-clause-skipped g t c =
 
 -- ---- so many items: one item more
 
-pub skip_items-items-preserved-in-Ok-Item : goal.skip_items-items-preserved-in-Ok-Item
-skip_items-items-preserved-in-Ok-Item g t c =
+pub skip_items-items-preserved-in-Item : goal.skip_items-items-preserved-in-Item
+skip_items-items-preserved-in-Item g t c =
     let some : suc (c.items.left - 1) ≡ c.items.left = omega (arith, c.items-test.true) in
-    let item = rw (c.offset-place.ensures.same, c.in-Ok-Item.field-0-is) at c.in-Ok-Item.ensures.begun in
+    let item = rw (c.offset-place.ensures.same, c.in-Item.is) at c.in_ok-skip_title.ensures.begun in
     let first = rw c.offset-place.ensures.same at c.skip_title.ensures.moves_on in
     record {
       deep = c.items.invariant.deep;
@@ -120,7 +126,7 @@ pub skip_items-items-preserved-then-left-eq0 : goal.skip_items-items-preserved-t
 skip_items-items-preserved-then-left-eq0 g t c =
     let last : 1 ≡ c.items.left = omega (arith, c.items-test.true, c.if-left-eq0.true) in
     let level : suc (c.items.levels - 1) ≡ c.items.levels = omega (arith, c.if-levels-eq0.false) in
-    let nest = rw (c.offset-place.ensures.same, c.in-Ok-Items.field-0-is) at c.in-Ok-Items.ensures.begun in
+    let nest = rw (c.offset-place.ensures.same, c.in-Items.is) at c.in_ok-skip_title.ensures.begun in
     let first = rw c.offset-place.ensures.same at c.skip_title.ensures.moves_on in
     record {
       deep = omega (arith, c.items.invariant.deep);
@@ -128,15 +134,15 @@ skip_items-items-preserved-then-left-eq0 g t c =
       moves_on = MovesOn-then g.R.Read _ _ _ c.items.invariant.moves_on first;
     }
 
-pub skip_items-items-preserved-in-Continue-1 : goal.skip_items-items-preserved-in-Continue-1
-skip_items-items-preserved-in-Continue-1 g t c =
+pub skip_items-items-preserved-in-Continue-branch-3 : goal.skip_items-items-preserved-in-Continue-branch-3
+skip_items-items-preserved-in-Continue-branch-3 g t c =
     let some : suc (c.items.left - 1) ≡ c.items.left = omega (arith, c.items-test.true) in
     let level : suc (c.items.levels - 1) ≡ c.items.levels = omega (arith, c.if-levels-eq0.false) in
-    let nest = rw (c.offset-place.ensures.same, c.in-Ok-Items.field-0-is) at c.in-Ok-Items.ensures.begun in
+    let nest = rw (c.offset-place.ensures.same, c.in-Items.is) at c.in_ok-skip_title.ensures.begun in
     let first = rw c.offset-place.ensures.same at c.skip_title.ensures.moves_on in
-    let within = counted_within g.R.Read nest.0 c.in-Ok-Items.within (c.items.levels - 1) 0
+    let within = counted_within g.R.Read nest.0 c.in-Items.within (c.items.levels - 1) 0
     c.skip_title.new.decoder nest.1 (Ok (tt {0})) c.skip_items.new.decoder
-    c.in_ok-skip_items-in-Ok-Items.ensures.skipped in
+    c.in_ok-skip_items-in-Items.ensures.skipped in
     let item = reads_nest g.R.Read level nest.2 first.steady within in
     let still = MovesOn-then g.R.Read _ _ _ first c.skip_items.ensures.moves_on in
     record {
@@ -149,9 +155,9 @@ pub skip_items-items-preserved : goal.skip_items-items-preserved
 skip_items-items-preserved g t c =
     let some : suc (c.items.left - 1) ≡ c.items.left = omega (arith, c.items-test.true) in
     let level : suc (c.items.levels - 1) ≡ c.items.levels = omega (arith, c.if-levels-eq0-2.false) in
-    let nest = rw (c.offset-place.ensures.same, c.in-Ok-Nest.field-0-is) at c.in-Ok-Nest.ensures.begun in
+    let nest = rw (c.offset-place.ensures.same, c.in-Nest.is) at c.in_ok-skip_title.ensures.begun in
     let first = rw c.offset-place.ensures.same at c.skip_title.ensures.moves_on in
-    let item = reads_nest g.R.Read level nest.1 first.steady c.in_ok-skip_within-in-Ok-Nest.ensures.skipped in
+    let item = reads_nest g.R.Read level nest.1 first.steady c.in_ok-skip_within-in-Nest.ensures.skipped in
     let still = MovesOn-then g.R.Read _ _ _ first c.skip_within.ensures.moves_on in
     record {
       deep = c.items.invariant.deep;
@@ -175,79 +181,85 @@ skip_within-returns-clause-skipped g t c =
 pub skip_within-returns-then-closes-clause-skipped : goal.skip_within-returns-then-closes-clause-skipped
 skip_within-returns-then-closes-clause-skipped g t c =
     let may : closes c.items.remaining ≡ true = search rules in
-    let pulled = rw (c.offset-place.ensures.same, c.in-Ok-Break.field-0-is) at c.in-Ok-Break.ensures.begun in
+    let pulled = rw (c.offset-place.ensures.same, c.in-Break.is) at c.in_ok-skip_title.ensures.begun in
     let steady = rw c.offset-place.ensures.same at c.skip_title.ensures.moves_on.steady in
     closed g.R.Read c.items.invariant.so_far may pulled steady
 
 -- ---- what remains: the errors
 
-pub skip_within-returns-in-Err-clause-skipped : goal.skip_within-returns-in-Err-clause-skipped
-skip_within-returns-in-Err-clause-skipped g t c =
+pub skip_within-returns-in_err-skip_title-clause-skipped : goal.skip_within-returns-in_err-skip_title-clause-skipped
+skip_within-returns-in_err-skip_title-clause-skipped g t c =
     let some : is_done c.items.remaining ≡ false = search rules in
-    stops_within g.R.Read c.items.invariant.so_far some c.items.auto.buffer
-    (title_stops g.R.Read c.offset-place.ensures.same refl c.in-Err.ensures.begun)
+    let error = c.in_err-skip_title.field-0.0 in
+    let from = err_from_is_err_and c.from_residual.result c.from_residual.ensures.1 in
+    let is_error = from.1 in
+    let is_same = from.2 in
+    let same : c.from_residual.result ≡ Err (s.Read error) = cc in
+    rw same (stops_within g.R.Read c.items.invariant.so_far some c.items.auto.buffer
+    (title_stops g.R.Read c.offset-place.ensures.same refl c.in_err-skip_title.ensures.begun))
 
-pub skip_within-returns-in-Ok-Break-clause-skipped : goal.skip_within-returns-in-Ok-Break-clause-skipped
-skip_within-returns-in-Ok-Break-clause-skipped g t c =
+pub skip_within-returns-in-Break-clause-skipped : goal.skip_within-returns-in-Break-clause-skipped
+skip_within-returns-in-Break-clause-skipped g t c =
     let may : closes c.items.remaining ≡ false = search rules in
     let some : is_done c.items.remaining ≡ false = search rules in
     stops_within g.R.Read {new = c.skip_title.new.decoder} c.items.invariant.so_far some c.items.auto.buffer (stops_here g.R.Read (record {
       not_closable = may;
       place = c.offset-place.ensures.value;
-      pulled = rw (c.offset-place.ensures.same, c.in-Ok-Break.field-0-is) at c.in-Ok-Break.ensures.begun;
+      pulled = rw (c.offset-place.ensures.same, c.in-Break.is) at c.in_ok-skip_title.ensures.begun;
     }))
 
 pub skip_within-returns-then-depth-eq0-clause-skipped : goal.skip_within-returns-then-depth-eq0-clause-skipped
 skip_within-returns-then-depth-eq0-clause-skipped g t c =
     let some : is_done c.items.remaining ≡ false = search rules in
-    let nest = rw (c.offset-place.ensures.same, c.in-Ok-Items.field-0-is) at c.in-Ok-Items.ensures.begun in
+    let nest = rw (c.offset-place.ensures.same, c.in-Items.is) at c.in_ok-skip_title.ensures.begun in
     stops_within g.R.Read {new = c.skip_title.new.decoder} c.items.invariant.so_far some c.items.auto.buffer (stops_here g.R.Read (record {
       none_left = c.if-depth-eq0.true;
       place = c.offset-place.ensures.value;
       header = nest.0;
-      is_nest = counted_nest nest.0 c.in-Ok-Items.count nest.1;
+      is_nest = counted_nest nest.0 c.in-Items.count nest.1;
       pulled = nest.2;
     }))
 
 pub skip_within-returns-then-depth-eq0-2-clause-skipped : goal.skip_within-returns-then-depth-eq0-2-clause-skipped
 skip_within-returns-then-depth-eq0-2-clause-skipped g t c =
     let some : is_done c.items.remaining ≡ false = search rules in
-    let nest = rw (c.offset-place.ensures.same, c.in-Ok-Nest.field-0-is) at c.in-Ok-Nest.ensures.begun in
+    let nest = rw (c.offset-place.ensures.same, c.in-Nest.is) at c.in_ok-skip_title.ensures.begun in
     stops_within g.R.Read {new = c.skip_title.new.decoder} c.items.invariant.so_far some c.items.auto.buffer (stops_here g.R.Read (record {
       none_left = c.if-depth-eq0-2.true;
       place = c.offset-place.ensures.value;
-      header = c.in-Ok-Nest.nest;
+      header = c.in-Nest.nest;
       is_nest = nest.0;
       pulled = nest.1;
     }))
 
-pub skip_within-returns-in_err-skip_items-in-Ok-Items-clause-skipped :
-    goal.skip_within-returns-in_err-skip_items-in-Ok-Items-clause-skipped
-skip_within-returns-in_err-skip_items-in-Ok-Items-clause-skipped g t c =
+pub skip_within-returns-in_err-skip_items-in-Items-clause-skipped :
+    goal.skip_within-returns-in_err-skip_items-in-Items-clause-skipped
+skip_within-returns-in_err-skip_items-in-Items-clause-skipped g t c =
     let some : is_done c.items.remaining ≡ false = search rules in
     let level : suc (c.args.depth - 1) ≡ c.args.depth = omega (arith, c.if-depth-eq0.false) in
-    let nest = rw (c.offset-place.ensures.same, c.in-Ok-Items.field-0-is) at c.in-Ok-Items.ensures.begun in
+    let nest = rw (c.offset-place.ensures.same, c.in-Items.is) at c.in_ok-skip_title.ensures.begun in
     let first = rw c.offset-place.ensures.same at c.skip_title.ensures.moves_on in
-    let error = c.in_err-skip_items-in-Ok-Items in
-    let from = err_from_is_err_and c.from_residual.result c.from_residual.ensures.1 in
+    let error = c.in_err-skip_items-in-Items in
+    let residual = c.from_residual-in_err-skip_items-in-Items in
+    let from = err_from_is_err_and residual.result residual.ensures.1 in
     let is_error = from.1 in
     let is_same = from.2 in
-    let same : c.from_residual.result ≡ Err error.field-0.0 = cc in
+    let same : residual.result ≡ Err error.field-0.0 = cc in
     let stopped = rw c.skip_title.auto.buffer at error.ensures.skipped in
-    let within = counted_within g.R.Read nest.0 c.in-Ok-Items.count (c.args.depth - 1) (length c.items.buffer)
+    let within = counted_within g.R.Read nest.0 c.in-Items.count (c.args.depth - 1) (length c.items.buffer)
     c.skip_title.new.decoder nest.1 (Err error.field-0.0) c.skip_items.new.decoder stopped in
     rw same (stops_within g.R.Read c.items.invariant.so_far some c.items.auto.buffer
     (stops_nest g.R.Read level nest.2 first.steady within))
 
-pub skip_within-returns-in_err-skip_within-in-Ok-Nest-clause-skipped :
-    goal.skip_within-returns-in_err-skip_within-in-Ok-Nest-clause-skipped
-skip_within-returns-in_err-skip_within-in-Ok-Nest-clause-skipped g t c =
+pub skip_within-returns-in_err-skip_within-in-Nest-clause-skipped :
+    goal.skip_within-returns-in_err-skip_within-in-Nest-clause-skipped
+skip_within-returns-in_err-skip_within-in-Nest-clause-skipped g t c =
     let some : is_done c.items.remaining ≡ false = search rules in
     let level : suc (c.args.depth - 1) ≡ c.args.depth = omega (arith, c.if-depth-eq0-2.false) in
-    let nest = rw (c.offset-place.ensures.same, c.in-Ok-Nest.field-0-is) at c.in-Ok-Nest.ensures.begun in
+    let nest = rw (c.offset-place.ensures.same, c.in-Nest.is) at c.in_ok-skip_title.ensures.begun in
     let first = rw c.offset-place.ensures.same at c.skip_title.ensures.moves_on in
-    let error = c.in_err-skip_within-in-Ok-Nest in
-    let residual = c.from_residual-in_err-skip_within-in-Ok-Nest in
+    let error = c.in_err-skip_within-in-Nest in
+    let residual = c.from_residual-in_err-skip_within-in-Nest in
     let from = err_from_is_err_and residual.result residual.ensures.1 in
     let is_error = from.1 in
     let is_same = from.2 in
@@ -258,9 +270,9 @@ skip_within-returns-in_err-skip_within-in-Ok-Nest-clause-skipped g t c =
 
 -- ---- what remains: one item more
 
-pub skip_within-items-preserved-in-Ok-Item : goal.skip_within-items-preserved-in-Ok-Item
-skip_within-items-preserved-in-Ok-Item g t c =
-    let item = rw (c.offset-place.ensures.same, c.in-Ok-Item.field-0-is) at c.in-Ok-Item.ensures.begun in
+pub skip_within-items-preserved-in-Item : goal.skip_within-items-preserved-in-Item
+skip_within-items-preserved-in-Item g t c =
+    let item = rw (c.offset-place.ensures.same, c.in-Item.is) at c.in_ok-skip_title.ensures.begun in
     let first = rw c.offset-place.ensures.same at c.skip_title.ensures.moves_on in
     record {
       so_far = one_more g.R.Read c.items.invariant.so_far (c.after_item-remaining.ensures c.args.header)
@@ -268,17 +280,17 @@ skip_within-items-preserved-in-Ok-Item g t c =
       moves_on = MovesOn-then g.R.Read _ _ _ c.items.invariant.moves_on first;
     }
 
-pub skip_within-items-preserved-in-Ok-Items : goal.skip_within-items-preserved-in-Ok-Items
-skip_within-items-preserved-in-Ok-Items g t c =
+pub skip_within-items-preserved-in-Items : goal.skip_within-items-preserved-in-Items
+skip_within-items-preserved-in-Items g t c =
     let level : suc (c.args.depth - 1) ≡ c.args.depth = omega (arith, c.if-depth-eq0.false) in
-    let nest = rw (c.offset-place.ensures.same, c.in-Ok-Items.field-0-is) at c.in-Ok-Items.ensures.begun in
+    let nest = rw (c.offset-place.ensures.same, c.in-Items.is) at c.in_ok-skip_title.ensures.begun in
     let first = rw c.offset-place.ensures.same at c.skip_title.ensures.moves_on in
-    let within = counted_within g.R.Read nest.0 c.in-Ok-Items.count (c.args.depth - 1) 0 c.skip_title.new.decoder
-    nest.1 (Ok (tt {0})) c.skip_items.new.decoder c.in_ok-skip_items-in-Ok-Items.ensures.skipped in
+    let within = counted_within g.R.Read nest.0 c.in-Items.count (c.args.depth - 1) 0 c.skip_title.new.decoder
+    nest.1 (Ok (tt {0})) c.skip_items.new.decoder c.in_ok-skip_items-in-Items.ensures.skipped in
     let item = reads_nest g.R.Read level nest.2 first.steady within in
     let still = MovesOn-then g.R.Read _ _ _ first c.skip_items.ensures.moves_on in
     record {
-      so_far = one_more g.R.Read c.items.invariant.so_far (c.after_item-remaining-in-Ok-Items.ensures c.args.header)
+      so_far = one_more g.R.Read c.items.invariant.so_far (c.after_item-remaining-in-Items.ensures c.args.header)
           item;
       moves_on = MovesOn-then g.R.Read _ _ _ c.items.invariant.moves_on still;
     }
@@ -286,12 +298,12 @@ skip_within-items-preserved-in-Ok-Items g t c =
 pub skip_within-items-preserved : goal.skip_within-items-preserved
 skip_within-items-preserved g t c =
     let level : suc (c.args.depth - 1) ≡ c.args.depth = omega (arith, c.if-depth-eq0-2.false) in
-    let nest = rw (c.offset-place.ensures.same, c.in-Ok-Nest.field-0-is) at c.in-Ok-Nest.ensures.begun in
+    let nest = rw (c.offset-place.ensures.same, c.in-Nest.is) at c.in_ok-skip_title.ensures.begun in
     let first = rw c.offset-place.ensures.same at c.skip_title.ensures.moves_on in
-    let item = reads_nest g.R.Read level nest.1 first.steady c.in_ok-skip_within-in-Ok-Nest.ensures.skipped in
+    let item = reads_nest g.R.Read level nest.1 first.steady c.in_ok-skip_within-in-Nest.ensures.skipped in
     let still = MovesOn-then g.R.Read _ _ _ first c.skip_within.ensures.moves_on in
     record {
-      so_far = one_more g.R.Read c.items.invariant.so_far (c.after_item-remaining-in-Ok-Nest.ensures c.args.header)
+      so_far = one_more g.R.Read c.items.invariant.so_far (c.after_item-remaining-in-Nest.ensures c.args.header)
           item;
       moves_on = MovesOn-then g.R.Read _ _ _ c.items.invariant.moves_on still;
     }

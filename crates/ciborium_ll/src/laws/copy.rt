@@ -35,10 +35,7 @@ pub fn copy_headers<R: Read, W: Write>(
         → (IsOk result ↔ TitlesInFront count due) }
 {
     'headers: for _copied in 0..count {
-        let header = match decoder.pull() {
-            Ok(header) => header,
-            Err(error) => return Err(RecodeError::Read(error)),
-        };
+        let header = decoder.pull()?;
         if let Err(fault) = encoder.push(header) {
             return Err(RecodeError::Write(fault));
         }

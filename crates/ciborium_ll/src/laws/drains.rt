@@ -47,15 +47,11 @@ fn drain<R: Read, W: Write, P: Chunked>(
     ensures target { W.target (writer_of sink.new) ≡ W.target (writer_of sink.old) }
 {
     'sizes: for (index, size) in sizes.iter().enumerate() {
-        let chunk = match P::chunk(segment, &mut buffer[..*size]) {
-            Ok(Some(chunk)) => chunk,
-            Ok(None) => {
-                return Ok(Drained {
-                    calls: index + 1,
-                    end: End::Ended,
-                });
-            }
-            Err(error) => return Err(RecodeError::Read(error)),
+        let Some(chunk) = P::chunk(segment, &mut buffer[..*size])? else {
+            return Ok(Drained {
+                calls: index + 1,
+                end: End::Ended,
+            });
         };
         if let Err(fault) = sink.write_all(chunk) {
             return Err(RecodeError::Write(fault));

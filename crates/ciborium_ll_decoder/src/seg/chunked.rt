@@ -96,20 +96,14 @@ impl<'r, R: Read, P: Chunked> Segment<'r, R, P> {
     }
 
     /// Reads what is left of the body.
-    #[tactic(auto, using(crate::proofs::FinishLaws::rest_pulled))]
     fn drain(&mut self, buffer: &mut [u8]) -> Result<(), Error<R::Error>>
         requires room { 4 ≤ length buffer.old }
         ensures finishes { Finishes R.Read (length buffer.old) self.old result (segment_decoder self.new) }
         ensures same_reference { segment_reference self.new ≡ segment_reference self.old }
         ensures moves_on { MovesOn R.Read (segment_decoder self.old) (segment_decoder self.new) }
     {
-        'chunks: loop {
-            match P::chunk(self, buffer) {
-                Ok(Some(_chunk)) => {}
-                Ok(None) => return Ok(()),
-                Err(error) => return Err(error),
-            }
-        }
+        'chunks: while P::chunk(self, buffer)?.is_some() {}
+        Ok(())
     }
 }
 

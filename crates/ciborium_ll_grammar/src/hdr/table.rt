@@ -1,6 +1,8 @@
 //! What each first byte says of its title (RFC 7049, 2.1 to 2.3), as a table.
 
-ghost use Rattle.ciborium_ll_grammar.specs.TitleRows.{IsRow};
+ghost use Rattle.std.specs.Prelude.{ℕ, ◌≡◌};
+ghost use Rattle.ciborium_ll_grammar.specs.Title.{affix_len};
+ghost use Rattle.ciborium_ll_grammar.specs.TitleRows.{IsAffix, IsRow};
 
 /// What a title means, but for its number: its major type (RFC 7049, 2.1).
 #[derive(Clone, Copy)]
@@ -42,6 +44,19 @@ pub enum Affix {
     Open,
     /// Nowhere: the minors 28 to 30 are reserved, and nothing is read behind them.
     Reserved,
+}
+
+/// How many bytes stand behind the first one, by the place of the number in [`Affix`]. A look-up takes no branch.
+const AFFIX_LENS: [usize; 7] = [0, 1, 2, 4, 8, 0, 0];
+
+impl Affix {
+    /// How many bytes stand behind the first one.
+    #[inline(always)]
+    pub fn len(self) -> usize
+        ensures { (minor : ℕ) → IsAffix self minor → result ≡ affix_len minor }
+    {
+        AFFIX_LENS[self as usize]
+    }
 }
 
 /// What a first byte says of its title.

@@ -6,6 +6,8 @@ use Rattle.ciborium_ll.specs.Items.{Completes, positive, negative, float, simple
 use Rattle.ciborium_ll.specs.Strings.{Bytes, Text}
 use Rattle.ciborium_ll.proofs.DecodingLaws.{MovesOn-none, MovesOn-then}
 use Rattle.cbor_skip.specs.declared.SkipError.{SkipError}
+use Rattle.cbor_skip.specs.declared.SkipError.TheVariants as s
+use Rattle.cbor_diag.specs.declared.DiagError.TheVariants as d
 use Rattle.cbor_skip.specs.Due.{IsNest}
 use Rattle.cbor_skip.specs.Remaining.{is_done, closes}
 use Rattle.cbor_skip.specs.Skipping.{SkipsWithin, strictness}
@@ -105,15 +107,20 @@ show_within-returns-clause-reads g t c =
 pub show_within-returns-then-closes-clause-reads : goal.show_within-returns-then-closes-clause-reads
 show_within-returns-then-closes-clause-reads g t c =
     let may : closes c.items.remaining ≡ true = search rules in
-    let pulled = rw (c.offset-place.ensures.same, c.in-Break.is) at c.in-Ok.ensures.header in
-    let steady = rw c.offset-place.ensures.same at c.in-Ok.ensures.moves_on.steady in
+    let pulled = rw (c.offset-place.ensures.same, c.in-Break.is) at c.in_ok-next.ensures.header in
+    let steady = rw c.offset-place.ensures.same at c.in_ok-next.ensures.moves_on.steady in
     closed g.R.Read c.items.invariant.so_far may pulled steady
 
-pub show_within-returns-in-Err-clause-reads : goal.show_within-returns-in-Err-clause-reads
-show_within-returns-in-Err-clause-reads g t c =
+pub show_within-returns-in_err-next-clause-reads : goal.show_within-returns-in_err-next-clause-reads
+show_within-returns-in_err-next-clause-reads g t c =
+    let error = c.in_err-next.field-0.0 in
+    let from = err_from_is_err_and c.from_residual.result c.from_residual.ensures.1 in
+    let is_error = from.1 in
+    let is_same = from.2 in
+    let same : c.from_residual.result ≡ Err (d.Read (s.Read error)) = cc in
     let some : is_done c.items.remaining ≡ false = search rules in
-    stops_within g.R.Read c.items.invariant.so_far some refl
-    (pull_stops g.R.Read c.offset-place.ensures.same c.in-Err.ensures.header)
+    rw same (stops_within g.R.Read c.items.invariant.so_far some refl
+    (pull_stops g.R.Read c.offset-place.ensures.same c.in_err-next.ensures.header))
 
 pub show_within-returns-in-Break-clause-reads : goal.show_within-returns-in-Break-clause-reads
 show_within-returns-in-Break-clause-reads g t c =
@@ -122,7 +129,7 @@ show_within-returns-in-Break-clause-reads g t c =
     stops_within g.R.Read c.items.invariant.so_far some refl (stops_here g.R.Read (record {
       not_closable = may;
       place = c.offset-place.ensures.value;
-      pulled = rw (c.offset-place.ensures.same, c.in-Break.is) at c.in-Ok.ensures.header;
+      pulled = rw (c.offset-place.ensures.same, c.in-Break.is) at c.in_ok-next.ensures.header;
     }))
 
 pub show_within-returns-in_err-show_item-clause-reads : goal.show_within-returns-in_err-show_item-clause-reads
@@ -134,8 +141,8 @@ show_within-returns-in_err-show_item-clause-reads g t c =
     let error = c.in_err-show_item.field-0.0 in
     let same : residual.result ≡ Err error = cc in
     let some : is_done c.items.remaining ≡ false = search rules in
-    let pulled = rw c.offset-place.ensures.same at c.in-Ok.ensures.header in
-    let steady = rw c.offset-place.ensures.same at c.in-Ok.ensures.moves_on.steady in
+    let pulled = rw c.offset-place.ensures.same at c.in_ok-next.ensures.header in
+    let steady = rw c.offset-place.ensures.same at c.in_ok-next.ensures.moves_on.steady in
     let now = c.items.decoder in
     let new = c.show_item.new.decoder in
     let outer = closes c.items.remaining in
@@ -149,8 +156,8 @@ show_within-returns-in_err-show_item-clause-reads g t c =
 
 pub show_within-items-preserved : goal.show_within-items-preserved
 show_within-items-preserved g t c =
-    let pulled = rw c.offset-place.ensures.same at c.in-Ok.ensures.header in
-    let first = rw c.offset-place.ensures.same at c.in-Ok.ensures.moves_on in
+    let pulled = rw c.offset-place.ensures.same at c.in_ok-next.ensures.header in
+    let first = rw c.offset-place.ensures.same at c.in_ok-next.ensures.moves_on in
     let item = c.in_ok-show_item.ensures.reads c.items.decoder false c.offset-place.ensures.value pulled first.steady in
     record {
       so_far = one_more g.R.Read c.items.invariant.so_far (c.after_item-remaining.ensures c.args.header) item;

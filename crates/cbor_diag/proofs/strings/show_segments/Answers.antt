@@ -1,6 +1,9 @@
-use Rattle.std.proofs.Common.{rules, refl, subst, sym, ◌≡◌, ◌∙◌, ◌<◌, ◌^◌, [], Bool, false, Some, Result, Err, arith}
+use Rattle.std.proofs.Common.{rules, refl, subst, sym, ◌≡◌, ◌∙◌, ◌<◌, ◌^◌, [], Bool, false, Some, None, Result, Err}
+use Rattle.std.proofs.Common.{arith}
 use Rattle.std.proofs.lemmas.Result.{err_from_is_err_and}
 use Rattle.ciborium_ll.specs.Types.Error.{Error}
+use Rattle.cbor_skip.specs.declared.SkipError.TheVariants as s
+use Rattle.cbor_diag.specs.declared.DiagError.TheVariants as d
 use Rattle.ciborium_ll.specs.Finishing.{EndsBody}
 use Rattle.ciborium_ll.specs.Skipping.{SkipsString}
 use Rattle.ciborium_ll.proofs.DecodingLaws.{MovesOn-then}
@@ -14,10 +17,10 @@ use Rattle.cbor_diag.proofs.strings.show_segments.Goals as goal
 
 pub segments-smaller : goal.segments-smaller
 segments-smaller g c =
-    let advances = rw c.in-Ok-Some.field-0-is at c.in-Ok-Some.ensures.advances in
+    let advances = rw c.in-Some.is at c.in_ok-body.ensures.advances in
     let rises = found_rises g.R.Read g.P.Parser.kind c.segments.segments.strict c.segments.segments.progress
     c.advance.new.self.progress
-    c.segments.segments.decoder.now c.advance.new.self.decoder.now c.in-Ok-Some.body advances in
+    c.segments.segments.decoder.now c.advance.new.self.decoder.now c.in-Some.body advances in
     let more = c.show_body.ensures.moves_on.rises in
     let risen : c.segments.segments.decoder.now.offset < c.show_body.new.segments.decoder.now.offset =
     omega (arith, rises, more) in
@@ -25,14 +28,14 @@ segments-smaller g c =
 
 pub segments-preserved : goal.segments-preserved
 segments-preserved g c =
-    let advances = rw c.in-Ok-Some.field-0-is at c.in-Ok-Some.ensures.advances in
+    let advances = rw c.in-Some.is at c.in_ok-body.ensures.advances in
     record {
       same = search rules;
       mode = c.show_body.ensures.mode ∙ (c.advance.ensures.mode ∙ c.segments.invariant.mode);
       so_far = λ opened len range settled back meant.
           skips_body g.R.Read g.P.Parser.kind c.segments.segments.strict len 64 opened c.segments.segments.decoder.now
           c.advance.new.self.decoder.now c.show_body.new.segments.decoder.now c.segments.segments.progress
-          c.show_body.new.segments.progress c.in-Ok-Some.body (c.segments.invariant.mode ∙ meant)
+          c.show_body.new.segments.progress c.in-Some.body (c.segments.invariant.mode ∙ meant)
           (c.segments.invariant.so_far opened len range settled back meant)
           c.advance.ensures.moves_on.steady c.show_body.ensures.moves_on.steady
           (rw (sym c.show_body.ensures.progress) at advances) c.in_ok-show_body.ensures.reads;
@@ -41,7 +44,7 @@ segments-preserved g c =
           c.segments.segments.decoder.now c.advance.new.self.decoder.now c.segments.writer c.segments.segments.strict
           c.segments.segments.progress c.show_body.new.segments.progress settled range
           (c.segments.invariant.text opened len range settled back form) c.advance.ensures.moves_on.steady
-          c.in-Ok-Some.body (rw (sym c.show_body.ensures.progress) at advances) c.open.new.writer
+          c.in-Some.body (rw (sym c.show_body.ensures.progress) at advances) c.open.new.writer
           (subst (λ (b : Bool). WritesAll g.W.Write c.segments.writer (lead_text b c.segments.is_first)
           c.open.new.writer) form c.in_ok-open.ensures.written) 64 false c.show_body.new.segments.decoder.now
           c.show_body.new.writer refl c.show_body.ensures.moves_on.steady c.in_ok-show_body.ensures.text;
@@ -49,9 +52,10 @@ segments-preserved g c =
           (MovesOn-then g.R.Read _ _ _ c.advance.ensures.moves_on c.show_body.ensures.moves_on);
     }
 
-pub returns-in-Ok-None-clause-reads : goal.returns-in-Ok-None-clause-reads
-returns-in-Ok-None-clause-reads g c = λ opened len range settled back meant.
-    let advances = rw c.in-Ok-None.field-0-is at c.in-Ok-None.ensures.advances in
+pub returns-in_default-clause-reads : goal.returns-in_default-clause-reads
+returns-in_default-clause-reads g c = λ opened len range settled back meant.
+    let none : c.in_ok-body.field-0 ≡ None = search rules in
+    let advances = rw none at c.in_ok-body.ensures.advances in
     let ended = c.advance.new.self.decoder.now in
     let Holds : Result (Unit {0}) (Error g.row.R-Error.Denot) → Type 0 =
     λ answer. SkipsString g.R.Read g.P.Parser.kind len 64 opened answer ended in
@@ -62,22 +66,28 @@ returns-in-Ok-None-clause-reads g c = λ opened len range settled back meant.
     (c.segments.invariant.so_far opened len range settled back meant) c.advance.ensures.moves_on.steady advances)
     c.close.ensures.writing
 
-pub returns-in-Err-clause-reads : goal.returns-in-Err-clause-reads
-returns-in-Err-clause-reads g c = λ opened len range settled back meant.
-    let less : c.advance.new.self.decoder.now.offset < 2 ^ 64 = search rules in
-    skips_error g.R.Read g.P.Parser.kind c.segments.segments.strict len 64 opened c.segments.segments.decoder.now
-    c.advance.new.self.decoder.now c.segments.segments.progress c.advance.new.self.progress c.in-Err.error
-    less (c.segments.invariant.mode ∙ meant)
-    (c.segments.invariant.so_far opened len range settled back meant) c.advance.ensures.moves_on.steady
-    c.in-Err.ensures.advances
-
-pub returns-in_err-open-clause-reads : goal.returns-in_err-open-clause-reads
-returns-in_err-open-clause-reads g c = λ opened len range settled back meant.
+pub returns-in_err-body-clause-reads : goal.returns-in_err-body-clause-reads
+returns-in_err-body-clause-reads g c = λ opened len range settled back meant.
+    let error = c.in_err-body.field-0.0 in
     let from = err_from_is_err_and c.from_residual.result c.from_residual.ensures.1 in
     let is_error = from.1 in
     let is_same = from.2 in
+    let same : c.from_residual.result ≡ Err (d.Read (s.Read error)) = cc in
+    let less : c.advance.new.self.decoder.now.offset < 2 ^ 64 = search rules in
+    rw same (skips_error g.R.Read g.P.Parser.kind c.segments.segments.strict len 64 opened c.segments.segments.decoder.now
+    c.advance.new.self.decoder.now c.segments.segments.progress c.advance.new.self.progress error
+    less (c.segments.invariant.mode ∙ meant)
+    (c.segments.invariant.so_far opened len range settled back meant) c.advance.ensures.moves_on.steady
+    c.in_err-body.ensures.advances)
+
+pub returns-in_err-open-clause-reads : goal.returns-in_err-open-clause-reads
+returns-in_err-open-clause-reads g c = λ opened len range settled back meant.
+    let residual = c.from_residual-in_err-open in
+    let from = err_from_is_err_and residual.result residual.ensures.1 in
+    let is_error = from.1 in
+    let is_same = from.2 in
     let error = c.in_err-open.field-0.0 in
-    let same : c.from_residual.result ≡ Err error = cc in
+    let same : residual.result ≡ Err error = cc in
     let ended = c.advance.new.self.decoder.now in
     let Holds : Result (Unit {0}) (Error g.row.R-Error.Denot) → Type 0 =
     λ answer. SkipsString g.R.Read g.P.Parser.kind len 64 opened answer ended in
@@ -91,10 +101,10 @@ returns-in_err-show_body-clause-reads g c = λ opened len range settled back mea
     let is_same = from.2 in
     let error = c.in_err-show_body.field-0.0 in
     let same : residual.result ≡ Err error = cc in
-    let advances = rw c.in-Ok-Some.field-0-is at c.in-Ok-Some.ensures.advances in
+    let advances = rw c.in-Some.is at c.in_ok-body.ensures.advances in
     let titled = c.advance.new.self.decoder.now in
     let ended = c.show_body.new.segments.decoder.now in
-    let body = c.in-Ok-Some.body in
+    let body = c.in-Some.body in
     let One : Result (Unit {0}) (Error g.row.R-Error.Denot) → Type 0 =
     λ answer. EndsBody g.R.Read g.P.Parser.kind [] body.length 64 body.place titled answer ended in
     let Other : Result (Unit {0}) (Error g.row.R-Error.Denot) → Type 0 =
@@ -106,9 +116,10 @@ returns-in_err-show_body-clause-reads g c = λ opened len range settled back mea
     (c.segments.invariant.so_far opened len range settled back meant) c.advance.ensures.moves_on.steady advances ends)
     c.in_err-show_body.ensures.reads)
 
-pub returns-in-Ok-None-clause-moves_on : goal.returns-in-Ok-None-clause-moves_on
-returns-in-Ok-None-clause-moves_on g c = λ opened len range settled back meant same.
-    let advances = rw c.in-Ok-None.field-0-is at c.in-Ok-None.ensures.advances in
+pub returns-in_default-clause-moves_on : goal.returns-in_default-clause-moves_on
+returns-in_default-clause-moves_on g c = λ opened len range settled back meant same.
+    let none : c.in_ok-body.field-0 ≡ None = search rules in
+    let advances = rw none at c.in_ok-body.ensures.advances in
     let ended = c.advance.new.self.decoder.now in
     let whole = skips_end g.R.Read g.P.Parser.kind c.segments.segments.strict len 64 opened
     c.segments.segments.decoder.now ended
@@ -118,9 +129,10 @@ returns-in-Ok-None-clause-moves_on g c = λ opened len range settled back meant 
     when_ok _ c.close.result (whole_moves g.R.Read g.P.Parser.kind len opened _ ended whole
     (MovesOn-then g.R.Read _ _ _ c.segments.invariant.moves_on c.advance.ensures.moves_on) same)
 
-pub returns-in-Ok-None-clause-text : goal.returns-in-Ok-None-clause-text
-returns-in-Ok-None-clause-text g c = λ opened len range settled back form.
-    let advances = rw c.in-Ok-None.field-0-is at c.in-Ok-None.ensures.advances in
+pub returns-in_default-clause-text : goal.returns-in_default-clause-text
+returns-in_default-clause-text g c = λ opened len range settled back form.
+    let none : c.in_ok-body.field-0 ≡ None = search rules in
+    let advances = rw none at c.in_ok-body.ensures.advances in
     text_closed g.R.Read g.W.Write g.P.Parser.kind c.args.quotes len opened c.args.writer.now c.segments.is_first
     c.segments.segments.decoder.now c.advance.new.self.decoder.now c.segments.writer c.segments.segments.strict
     c.segments.segments.progress c.advance.new.self.progress settled range
@@ -129,26 +141,32 @@ returns-in-Ok-None-clause-text g c = λ opened len range settled back form.
     (subst (λ (b : Bool). ShowsText g.W.Write (Some (end_text b c.args.quotes c.segments.is_first)) c.segments.writer
     c.close.result c.close.new.writer) form c.close.ensures.written)
 
-pub returns-in-Err-clause-text : goal.returns-in-Err-clause-text
-returns-in-Err-clause-text g c = λ opened len range settled back form.
-    text_fails g.R.Read g.W.Write g.P.Parser.kind c.args.quotes opened c.args.writer.now 64 c.segments.is_first
-    c.segments.segments.decoder.now c.advance.new.self.decoder.now c.segments.writer c.segments.segments.strict
-    c.segments.segments.progress c.advance.new.self.progress settled len c.in-Err.error range
-    (c.segments.invariant.text opened len range settled back form) c.in-Err.ensures.advances
-
-pub returns-in_err-open-clause-text : goal.returns-in_err-open-clause-text
-returns-in_err-open-clause-text g c = λ opened len range settled back form.
+pub returns-in_err-body-clause-text : goal.returns-in_err-body-clause-text
+returns-in_err-body-clause-text g c = λ opened len range settled back form.
+    let error = c.in_err-body.field-0.0 in
     let from = err_from_is_err_and c.from_residual.result c.from_residual.ensures.1 in
     let is_error = from.1 in
     let is_same = from.2 in
+    let same : c.from_residual.result ≡ Err (d.Read (s.Read error)) = cc in
+    rw same (text_fails g.R.Read g.W.Write g.P.Parser.kind c.args.quotes opened c.args.writer.now 64 c.segments.is_first
+    c.segments.segments.decoder.now c.advance.new.self.decoder.now c.segments.writer c.segments.segments.strict
+    c.segments.segments.progress c.advance.new.self.progress settled len error range
+    (c.segments.invariant.text opened len range settled back form) c.in_err-body.ensures.advances)
+
+pub returns-in_err-open-clause-text : goal.returns-in_err-open-clause-text
+returns-in_err-open-clause-text g c = λ opened len range settled back form.
+    let residual = c.from_residual-in_err-open in
+    let from = err_from_is_err_and residual.result residual.ensures.1 in
+    let is_error = from.1 in
+    let is_same = from.2 in
     let error = c.in_err-open.field-0.0 in
-    let same : c.from_residual.result ≡ Err error = cc in
-    let advances = rw c.in-Ok-Some.field-0-is at c.in-Ok-Some.ensures.advances in
+    let same : residual.result ≡ Err error = cc in
+    let advances = rw c.in-Some.is at c.in_ok-body.ensures.advances in
     rw same (text_unled g.R.Read g.W.Write g.P.Parser.kind c.args.quotes len opened c.args.writer.now
     c.segments.is_first c.segments.segments.decoder.now c.advance.new.self.decoder.now c.segments.writer
     c.segments.segments.strict c.segments.segments.progress c.advance.new.self.progress settled range
     (c.segments.invariant.text opened len range settled back form) c.advance.ensures.moves_on.steady
-    c.in-Ok-Some.body advances 64 error c.open.new.writer
+    c.in-Some.body advances 64 error c.open.new.writer
     (subst (λ (b : Bool). ShowsText g.W.Write (Some (lead_text b c.segments.is_first)) c.segments.writer (Err error)
     c.open.new.writer) form c.in_err-open.ensures.written))
 
@@ -160,11 +178,11 @@ returns-in_err-show_body-clause-text g c = λ opened len range settled back form
     let is_same = from.2 in
     let error = c.in_err-show_body.field-0.0 in
     let same : residual.result ≡ Err error = cc in
-    let advances = rw c.in-Ok-Some.field-0-is at c.in-Ok-Some.ensures.advances in
+    let advances = rw c.in-Some.is at c.in_ok-body.ensures.advances in
     rw same (text_stops g.R.Read g.W.Write g.P.Parser.kind c.args.quotes len opened c.args.writer.now
     c.segments.is_first c.segments.segments.decoder.now c.advance.new.self.decoder.now c.segments.writer
     c.segments.segments.strict c.segments.segments.progress c.advance.new.self.progress settled range
     (c.segments.invariant.text opened len range settled back form) c.advance.ensures.moves_on.steady
-    c.in-Ok-Some.body advances c.open.new.writer
+    c.in-Some.body advances c.open.new.writer
     (subst (λ (b : Bool). WritesAll g.W.Write c.segments.writer (lead_text b c.segments.is_first) c.open.new.writer)
     form c.in_ok-open.ensures.written) 64 error _ c.in_err-show_body.ensures.text)

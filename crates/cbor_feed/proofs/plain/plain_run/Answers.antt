@@ -1,6 +1,6 @@
 use Rattle.std.proofs.Common.{◌≡◌, ℕ, ◌-◌, ◌<◌, [], subst, arith}
+use Rattle.ciborium_ll_text.proofs.Lists.{rest_long}
 use Rattle.cbor_feed.specs.Plain.{ArePlain, none}
-use Rattle.cbor_feed.proofs.LeadLaws.{rest_long}
 use Rattle.cbor_feed.proofs.PlainLaws.{plain_more}
 use Rattle.cbor_feed.proofs.plain.plain_run.Goals as goal
 

@@ -1,4 +1,6 @@
-use Rattle.std.proofs.Common.{rules, refl, subst, ℕ, Err, length}
+use Rattle.std.proofs.Common.{rules, refl, subst, ◌≡◌, ℕ, None, Err, length}
+use Rattle.std.proofs.lemmas.Result.{err_from_is_err_and}
+use Rattle.ciborium_ll_decoder.specs.declared.copy.RecodeError.TheVariants as r
 use Rattle.ciborium_ll_decoder.specs.Chunks.{GivesChunk, PullsChunk}
 use Rattle.ciborium_ll_decoder.proofs.DecodingLaws.{MovesOn-none, MovesOn-then}
 use Rattle.ciborium_ll_decoder.proofs.BodyCopyLaws.{so_far_start, so_far_chunk, so_far_unwritten, so_far_whole}
@@ -16,8 +18,8 @@ chunks-init g c = record {
 pub chunks-preserved : goal.chunks-preserved
 chunks-preserved g c =
     let kept = c.chunks.invariant in
-    let pulled = c.in-Ok-Some.ensures in
-    let gives = rw c.in-Ok-Some.field-0-is at pulled.chunk in
+    let pulled = c.in_ok-chunk.ensures in
+    let gives = rw c.in-Some.is at pulled.chunk in
     record {
       same = search rules;
       so_far = so_far_chunk g.R.Read g.W.Write _ _ _ _ kept.so_far _ _ c.chunk.new.segment _ gives
@@ -27,25 +29,31 @@ chunks-preserved g c =
       target = search rules;
     }
 
-pub returns-in-Ok-None-clause-copied : goal.returns-in-Ok-None-clause-copied
-returns-in-Ok-None-clause-copied g c =
+pub returns-in_default-clause-copied : goal.returns-in_default-clause-copied
+returns-in_default-clause-copied g c =
+    let none : c.in_ok-chunk.field-0 ≡ None = search rules in
     so_far_whole g.R.Read g.W.Write c.args.body _ _ _ _ c.requires.whole c.chunks.invariant.so_far _
-    c.chunk.new.segment (rw c.in-Ok-None.field-0-is at c.in-Ok-None.ensures.chunk)
+    c.chunk.new.segment (rw none at c.in_ok-chunk.ensures.chunk)
+
+pub returns-in_err-chunk-clause-copied : goal.returns-in_err-chunk-clause-copied
+returns-in_err-chunk-clause-copied g c =
+    let from = err_from_is_err_and c.from_residual.result c.from_residual.ensures.1 in
+    let is_error = from.1 in
+    let is_same = from.2 in
+    let same : c.from_residual.result ≡ Err (r.Read c.in_err-chunk.field-0.0) = cc in
+    let pulled = c.in_err-chunk.ensures in
+    let chunk = subst (λ (room : ℕ). PullsChunk g.R.Read room c.chunks.segment (Err c.in_err-chunk.field-0.0)
+    c.chunk.new.segment) c.chunks.auto.buffer pulled.chunk in
+    rw same (so_far_error g.R.Read g.W.Write c.args.body _ c.chunks.segment _ _ c.requires.whole
+    c.chunks.invariant.so_far _ c.in_err-chunk.field-0.0 c.chunk.new.segment c.requires.room pulled.moves_on.steady
+    chunk)
 
 pub returns-in-Err-clause-copied : goal.returns-in-Err-clause-copied
 returns-in-Err-clause-copied g c =
-    let pulled = c.in-Err.ensures in
-    let chunk = subst (λ (room : ℕ). PullsChunk g.R.Read room c.chunks.segment (Err c.in-Err.error)
-    c.chunk.new.segment) c.chunks.auto.buffer pulled.chunk in
-    so_far_error g.R.Read g.W.Write c.args.body _ c.chunks.segment _ _ c.requires.whole c.chunks.invariant.so_far _
-    c.in-Err.error c.chunk.new.segment c.requires.room pulled.moves_on.steady chunk
-
-pub returns-in-Err-write_all-clause-copied : goal.returns-in-Err-write_all-clause-copied
-returns-in-Err-write_all-clause-copied g c =
-    let pulled = c.in-Ok-Some.ensures in
-    let gives = subst (λ (room : ℕ). GivesChunk g.R.Read room c.chunks.segment c.in-Ok-Some.chunk.now
-    c.chunk.new.segment) c.chunks.auto.buffer (rw c.in-Ok-Some.field-0-is at pulled.chunk) in
-    let wrote = c.in-Err-write_all.ensures in
+    let pulled = c.in_ok-chunk.ensures in
+    let gives = subst (λ (room : ℕ). GivesChunk g.R.Read room c.chunks.segment c.in-Some.chunk.now
+    c.chunk.new.segment) c.chunks.auto.buffer (rw c.in-Some.is at pulled.chunk) in
+    let wrote = c.in-Err.ensures in
     so_far_unwritten g.R.Read g.W.Write c.args.body _ _ _ _ c.requires.whole c.chunks.invariant.so_far
     (length c.args.buffer.now) _ c.chunk.new.segment _ gives c.requires.room pulled.moves_on.steady
     (record { front = wrote.front; full = wrote.full; failures = wrote.err })

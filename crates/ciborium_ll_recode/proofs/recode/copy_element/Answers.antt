@@ -1,48 +1,53 @@
-use Rattle.std.proofs.Common.{rules, refl, subst, ◌≡◌, ◌≤◌, Ok, Err, List, ℕ, length}
+use Rattle.std.proofs.Common.{rules, refl, subst, ◌≡◌, ◌≤◌, Err, length}
+use Rattle.std.proofs.lemmas.Result.{err_from_is_err_and}
 use Rattle.ciborium_ll_grammar.specs.declared.hdr.Header.{Header}
 use Rattle.ciborium_ll_grammar.specs.declared.hdr.Header.TheVariants as h
 use Rattle.ciborium_ll_decoder.specs.declared.copy.RecodeError.TheVariants as r
-use Rattle.ciborium_ll_grammar.specs.Title.{shortest_title, title_len}
-use Rattle.ciborium_ll_io.specs.Writes.{WritesAll, WritesFront}
-use Rattle.ciborium_ll_grammar.specs.Elements.{IsPlain}
+use Rattle.ciborium_ll_grammar.specs.Title.{title_len}
 use Rattle.ciborium_ll_decoder.specs.Decoding.{PullsTitle}
 use Rattle.ciborium_ll_decoder.specs.BodyCopies.{sides}
 use Rattle.ciborium_ll_recode.specs.Sides.{sides_of}
 use Rattle.ciborium_ll_decoder.proofs.DecodingLaws.{MovesOn-then}
-use Rattle.ciborium_ll_recode.proofs.CopyLaws.{pulled_covers, behind_pulled, title_taken, pull_stops, plain_goes_on}
+use Rattle.ciborium_ll_recode.proofs.CopyLaws.{pulled_covers, behind_pulled, title_answered, title_taken, pull_stops, plain_goes_on}
 use Rattle.ciborium_ll_recode.proofs.recode.copy_element.Goals as goal
 
-pub returns-in-Err : goal.returns-in-Err
-returns-in-Err g c = record {
-  copied = λ count before old behind.
-      pull_stops g.R.Read g.W.Write count before old (sides_of c.args.decoder.now c.args.encoder.now)
-      (length c.args.buffer.now) c.pull_title.new.decoder c.in-Err.error behind c.in-Err.ensures.header;
-  moves_on = c.pull_title.ensures.moves_on;
-  target = refl;
-}
+pub returns-in_err-_header : goal.returns-in_err-_header
+returns-in_err-_header g c =
+    let p = err_from_is_err_and c.from_residual.result c.from_residual.ensures.1 in
+    let q = p.1 in
+    let same_error = p.2 in
+    let same : c.from_residual.result ≡ Err (r.Read c.in_err-_header.field-0.0) = cc in
+    record {
+      copied = λ count before old behind.
+          rw same (pull_stops g.R.Read g.W.Write count before old (sides_of c.args.decoder.now c.args.encoder.now)
+          (length c.args.buffer.now) c.pull_title.new.decoder c.in_err-_header.field-0.0 behind
+          c.in_err-_header.ensures.header);
+      moves_on = c.pull_title.ensures.moves_on;
+      target = refl;
+    }
 
 pub copy_string-requires-clause-covered : goal.copy_string-requires-clause-covered
 copy_string-requires-clause-covered g c =
     let arm = c.in-Bytes in
-    let is : c.in-Ok.pulled.0 ≡ h.Bytes arm.len = c.element.ensures.bytes arm.len arm.is in
+    let is : c.in_ok-_header._header ≡ h.Bytes arm.len = c.element.ensures.bytes c.in_ok-_header._header arm.len c.in_ok-_header.ensures.title arm.is in
     subst (λ (x : Header). title_len x ≤ c.pull_title.new.decoder.offset) is
-    (pulled_covers g.R.Read g.W.Write c.args.decoder.now c.pull_title.new.decoder c.in-Ok.pulled.0
-    c.in-Ok.ensures.header)
+    (pulled_covers g.R.Read g.W.Write c.args.decoder.now c.pull_title.new.decoder c.in_ok-_header._header
+    c.in_ok-_header.ensures.header)
 
 pub copy_string-requires-in-Text-clause-covered : goal.copy_string-requires-in-Text-clause-covered
 copy_string-requires-in-Text-clause-covered g c =
     let arm = c.in-Text in
-    let is : c.in-Ok.pulled.0 ≡ h.Text arm.len = c.element.ensures.text arm.len arm.is in
+    let is : c.in_ok-_header._header ≡ h.Text arm.len = c.element.ensures.text c.in_ok-_header._header arm.len c.in_ok-_header.ensures.title arm.is in
     subst (λ (x : Header). title_len x ≤ c.pull_title.new.decoder.offset) is
-    (pulled_covers g.R.Read g.W.Write c.args.decoder.now c.pull_title.new.decoder c.in-Ok.pulled.0
-    c.in-Ok.ensures.header)
+    (pulled_covers g.R.Read g.W.Write c.args.decoder.now c.pull_title.new.decoder c.in_ok-_header._header
+    c.in_ok-_header.ensures.header)
 
 pub returns-in-Bytes : goal.returns-in-Bytes
 returns-in-Bytes g c =
     let arm = c.in-Bytes in
-    let is : c.in-Ok.pulled.0 ≡ h.Bytes arm.len = c.element.ensures.bytes arm.len arm.is in
+    let is : c.in_ok-_header._header ≡ h.Bytes arm.len = c.element.ensures.bytes c.in_ok-_header._header arm.len c.in_ok-_header.ensures.title arm.is in
     let pulled = subst (λ (x : Header). PullsTitle g.R.Read c.args.decoder.now x c.pull_title.new.decoder) is
-    c.in-Ok.ensures.header in
+    c.in_ok-_header.ensures.header in
     record {
       copied = λ count before old behind.
           c.copy_string.ensures.copied count before old pulled.title pulled.is_title
@@ -57,9 +62,9 @@ returns-in-Bytes g c =
 pub returns-in-Text : goal.returns-in-Text
 returns-in-Text g c =
     let arm = c.in-Text in
-    let is : c.in-Ok.pulled.0 ≡ h.Text arm.len = c.element.ensures.text arm.len arm.is in
+    let is : c.in_ok-_header._header ≡ h.Text arm.len = c.element.ensures.text c.in_ok-_header._header arm.len c.in_ok-_header.ensures.title arm.is in
     let pulled = subst (λ (x : Header). PullsTitle g.R.Read c.args.decoder.now x c.pull_title.new.decoder) is
-    c.in-Ok.ensures.header in
+    c.in_ok-_header.ensures.header in
     record {
       copied = λ count before old behind.
           c.copy_string-in-Text.ensures.copied count before old pulled.title pulled.is_title
@@ -71,49 +76,24 @@ returns-in-Text g c =
       target = c.copy_string-in-Text.ensures.target;
     }
 
-pub returns-in-Ok-push_title : goal.returns-in-Ok-push_title
-returns-in-Ok-push_title g c =
+pub returns-in-Plain : goal.returns-in-Plain
+returns-in-Plain g c =
+    let header = c.in_ok-_header._header in
+    let title = c.in_ok-_header.ensures.title in
+    let writer = c.args.encoder.now.writer in
     record {
       copied = λ count before old behind.
-          let pulled = c.in-Ok.ensures.header in
-          let plain : IsPlain c.in-Ok.pulled.0 = c.element.ensures.plain c.in-Plain.is in
-          -- whichever title was written, it has to be the header's shortest one
-          let wrote_as = λ (bytes : List ℕ) (wrote : WritesAll g.W.Write c.args.encoder.now.writer bytes
-          c.push_title.new.encoder.writer) (same : bytes ≡ shortest_title c.in-Ok.pulled.0).
-          subst (λ (z : List ℕ). WritesAll g.W.Write c.args.encoder.now.writer z c.push_title.new.encoder.writer) same
-          wrote in
-          let wrote = wrote_as _ c.in-Ok-push_title.ensures.title (search rules) in
-          plain_goes_on g.R.Read g.W.Write count before old (sides c.pull_title.new.decoder c.args.encoder.now.writer)
-          (length c.args.buffer.now) c.in-Ok.pulled.0 pulled.title (Ok c.in-Ok-push_title.field-0)
-          c.push_title.new.encoder.writer
-          plain pulled.is_title
+          let pulled = c.in_ok-_header.ensures.header in
+          plain_goes_on g.R.Read g.W.Write count before old (sides c.pull_title.new.decoder writer)
+          (length c.args.buffer.now) header pulled.title c.map_err.result c.push_title.new.encoder.writer
+          (c.element.ensures.plain header title c.in-Plain.is) pulled.is_title
           (title_taken g.R.Read g.W.Write count before old (sides_of c.args.decoder.now c.args.encoder.now)
-          c.pull_title.new.decoder c.in-Ok.pulled.0 behind pulled)
+          c.pull_title.new.decoder header behind pulled)
           (behind_pulled g.R.Read g.W.Write count before old (sides_of c.args.decoder.now c.args.encoder.now)
-          c.pull_title.new.decoder c.in-Ok.pulled.0 behind pulled c.pull_title.ensures.moves_on.steady) wrote;
-      moves_on = c.pull_title.ensures.moves_on;
-      target = c.push_title.ensures.target;
-    }
-
-pub returns-in-Err-push_title : goal.returns-in-Err-push_title
-returns-in-Err-push_title g c =
-    record {
-      copied = λ count before old behind.
-          let pulled = c.in-Ok.ensures.header in
-          let plain : IsPlain c.in-Ok.pulled.0 = c.element.ensures.plain c.in-Plain.is in
-          let wrote_as = λ (bytes : List ℕ) (wrote : WritesFront g.W.Write c.args.encoder.now.writer bytes
-          c.push_title.new.encoder.writer) (same : bytes ≡ shortest_title c.in-Ok.pulled.0).
-          subst (λ (z : List ℕ). WritesFront g.W.Write c.args.encoder.now.writer z c.push_title.new.encoder.writer) same
-          wrote in
-          let wrote = wrote_as _ c.in-Err-push_title.ensures.title (search rules) in
-          plain_goes_on g.R.Read g.W.Write count before old (sides c.pull_title.new.decoder c.args.encoder.now.writer)
-          (length c.args.buffer.now) c.in-Ok.pulled.0 pulled.title (Err (r.Write c.in-Err-push_title.fault))
-          c.push_title.new.encoder.writer
-          plain pulled.is_title
-          (title_taken g.R.Read g.W.Write count before old (sides_of c.args.decoder.now c.args.encoder.now)
-          c.pull_title.new.decoder c.in-Ok.pulled.0 behind pulled)
-          (behind_pulled g.R.Read g.W.Write count before old (sides_of c.args.decoder.now c.args.encoder.now)
-          c.pull_title.new.decoder c.in-Ok.pulled.0 behind pulled c.pull_title.ensures.moves_on.steady) wrote;
+          c.pull_title.new.decoder header behind pulled c.pull_title.ensures.moves_on.steady)
+          (title_answered g.W.Write writer c.push_title.result c.map_err.result _ header
+          c.push_title.new.encoder.writer c.push_title.ensures.title (c.shortest.ensures.bytes header title)
+          (search rules));
       moves_on = c.pull_title.ensures.moves_on;
       target = c.push_title.ensures.target;
     }

@@ -4,7 +4,7 @@ use Rattle.ciborium_ll_decoder.specs.declared.dec.Decoder.{Decoder}
 use Rattle.ciborium_ll_decoder.specs.declared.copy.RecodeError.TheVariants as r
 use Rattle.ciborium_ll_decoder.specs.Decoding.{MovesOn}
 use Rattle.ciborium_ll_decoder.specs.BodyCopies.{CopiesBody}
-use Rattle.ciborium_ll_recode.specs.Recoding.{ReadsString, StopsCopy, GoesOnWithin}
+use Rattle.ciborium_ll_recode.specs.Recoding.{ReadsString, GoesOnWithin}
 use Rattle.ciborium_ll_recode.specs.Sides.{sides_of}
 use Rattle.ciborium_ll_decoder.proofs.DecodingLaws.{MovesOn-none, MovesOn-then}
 use Rattle.ciborium_ll_recode.proofs.ThroughEncoder.{through_encoder}
@@ -26,13 +26,14 @@ segments-init g c = record {
   target = refl;
 }
 
-pub returns-in-Ok-None-clause-copied : goal.returns-in-Ok-None-clause-copied
-returns-in-Ok-None-clause-copied g c = λ count before old within.
+pub returns-in_default-clause-copied : goal.returns-in_default-clause-copied
+returns-in_default-clause-copied g c = λ count before old within.
     let k = g.P.Parser.kind in
     let opened = sides_of c.args.decoder.now c.args.encoder.now in
     let now = sides_of c.segments.segments.decoder.now c.segments.encoder in
     let so_far = c.segments.invariant.so_far in
-    let advances = rw c.in-Ok-None.field-0-is at c.in-Ok-None.ensures.advances in
+    let none : c.in_ok-body.field-0 ≡ None = search rules in
+    let advances = rw none at c.in_ok-body.ensures.advances in
     let all = advances_among g.R.Read k so_far.bodies opened.decoder now.decoder c.segments.segments.strict
     (Ok None) c.segments.segments.progress c.advance.new.self.progress c.advance.new.self.decoder.now
     c.segments.invariant.mode so_far.so_far advances c.advance.ensures.moves_on.steady in
@@ -41,19 +42,24 @@ returns-in-Ok-None-clause-copied g c = λ count before old within.
     subst (λ (d : Decoder g.row.R.Denot). ReadsString g.R.Read g.W.Write before k old
     (sides_of d c.segments.encoder)) (search rules) fin
 
-pub returns-in-Err-clause-copied : goal.returns-in-Err-clause-copied
-returns-in-Err-clause-copied g c = λ count before old within.
+pub returns-in_err-body-clause-copied : goal.returns-in_err-body-clause-copied
+returns-in_err-body-clause-copied g c = λ count before old within.
     let k = g.P.Parser.kind in
     let opened = sides_of c.args.decoder.now c.args.encoder.now in
     let now = sides_of c.segments.segments.decoder.now c.segments.encoder in
     let so_far = c.segments.invariant.so_far in
+    let error = c.in_err-body.field-0.0 in
+    let p = err_from_is_err_and c.from_residual.result c.from_residual.ensures.1 in
+    let q = p.1 in
+    let same_error = p.2 in
+    let same : c.from_residual.result ≡ Err (r.Read error) = cc in
     let all = advances_among g.R.Read k so_far.bodies opened.decoder now.decoder c.segments.segments.strict
-    (Err c.in-Err.error) c.segments.segments.progress c.advance.new.self.progress c.advance.new.self.decoder.now
-    c.segments.invariant.mode so_far.so_far c.in-Err.ensures.advances c.advance.ensures.moves_on.steady in
-    subst (λ (d : Decoder g.row.R.Denot). StopsCopy g.R.Read g.W.Write count (length c.args.buffer.now) old
-    (r.Read c.in-Err.error) (sides_of d c.segments.encoder)) (search rules)
-    (segments_stop g.R.Read g.W.Write k count before old opened within so_far.bodies now _ _ so_far.written
-    (length c.args.buffer.now) c.in-Err.error all)
+    (Err error) c.segments.segments.progress c.advance.new.self.progress c.advance.new.self.decoder.now
+    c.segments.invariant.mode so_far.so_far c.in_err-body.ensures.advances c.advance.ensures.moves_on.steady in
+    subst (λ (d : Decoder g.row.R.Denot). GoesOnWithin g.R.Read g.W.Write count before k (length c.args.buffer.now)
+    old c.from_residual.result (sides_of d c.segments.encoder)) {x = c.advance.new.self.decoder.now} (search rules)
+    (rw same (segments_stop g.R.Read g.W.Write k count before old opened within so_far.bodies now _ _ so_far.written
+    (length c.args.buffer.now) error all))
 
 pub returns-in_err-write_header-clause-copied : goal.returns-in_err-write_header-clause-copied
 returns-in_err-write_header-clause-copied g c = λ count before old within.
@@ -61,23 +67,23 @@ returns-in_err-write_header-clause-copied g c = λ count before old within.
     let opened = sides_of c.args.decoder.now c.args.encoder.now in
     let now = sides_of c.segments.segments.decoder.now c.segments.encoder in
     let so_far = c.segments.invariant.so_far in
-    let p = err_from_is_err_and c.from_residual.result c.from_residual.ensures.1 in
+    let p = err_from_is_err_and c.from_residual-in_err-write_header.result c.from_residual-in_err-write_header.ensures.1 in
     let q = p.1 in
     let r = p.2 in
-    let same : c.from_residual.result ≡ Err c.in_err-write_header.field-0.0 = cc in
-    let advances = rw c.in-Ok-Some.field-0-is at c.in-Ok-Some.ensures.advances in
+    let same : c.from_residual-in_err-write_header.result ≡ Err c.in_err-write_header.field-0.0 = cc in
+    let advances = rw c.in-Some.is at c.in_ok-body.ensures.advances in
     let all = advances_among g.R.Read k so_far.bodies opened.decoder now.decoder c.segments.segments.strict
-    (Ok (Some c.in-Ok-Some.body)) c.segments.segments.progress c.advance.new.self.progress
+    (Ok (Some c.in-Some.body)) c.segments.segments.progress c.advance.new.self.progress
     c.advance.new.self.decoder.now c.segments.invariant.mode so_far.so_far advances c.advance.ensures.moves_on.steady in
     let wrote = rw c.header.ensures at c.in_err-write_header.ensures.header in
     subst (λ (d : Decoder g.row.R.Denot). GoesOnWithin g.R.Read g.W.Write count before k (length c.args.buffer.now)
-    old c.from_residual.result (sides_of d c.write_header.new.encoder))
+    old c.from_residual-in_err-write_header.result (sides_of d c.write_header.new.encoder))
     {x = c.advance.new.self.decoder.now} (search rules)
     (rw same (header_error g.R.Read g.W.Write count (length c.args.buffer.now) old
     (sides_of c.advance.new.self.decoder.now c.segments.encoder) c.write_header.new.encoder.writer _
     c.in_err-write_header.field-0.0 wrote (λ fault stopped.
     segment_unwritten g.R.Read g.W.Write k count before old opened within so_far.bodies now
-    c.advance.new.self.decoder.now c.advance.new.self.progress so_far.written c.in-Ok-Some.body all
+    c.advance.new.self.decoder.now c.advance.new.self.progress so_far.written c.in-Some.body all
     (length c.args.buffer.now) c.write_header.new.encoder.writer fault
     stopped)))
 
@@ -87,12 +93,12 @@ segments-smaller g c =
     let opened = sides_of c.args.decoder.now c.args.encoder.now in
     let now = sides_of c.segments.segments.decoder.now c.segments.encoder in
     let so_far = c.segments.invariant.so_far in
-    let advances = rw c.in-Ok-Some.field-0-is at c.in-Ok-Some.ensures.advances in
+    let advances = rw c.in-Some.is at c.in_ok-body.ensures.advances in
     let all = advances_among g.R.Read k so_far.bodies opened.decoder now.decoder c.segments.segments.strict
-    (Ok (Some c.in-Ok-Some.body)) c.segments.segments.progress c.advance.new.self.progress
+    (Ok (Some c.in-Some.body)) c.segments.segments.progress c.advance.new.self.progress
     c.advance.new.self.decoder.now c.segments.invariant.mode so_far.so_far advances c.advance.ensures.moves_on.steady in
     let rises = announced_rises g.R.Read k so_far.bodies opened.decoder now.decoder c.advance.new.self.decoder.now
-    c.in-Ok-Some.body c.advance.new.self.progress all in
+    c.in-Some.body c.advance.new.self.progress all in
     let more = c.in_ok-copy.ensures.moves_on.rises in
     let risen : c.segments.segments.decoder.now.offset < c.copy.new.self.decoder.now.offset = omega (arith, rises, more)
     in
@@ -104,13 +110,13 @@ segments-preserved g c =
     let opened = sides_of c.args.decoder.now c.args.encoder.now in
     let now = sides_of c.segments.segments.decoder.now c.segments.encoder in
     let so_far = c.segments.invariant.so_far in
-    let advances = rw c.in-Ok-Some.field-0-is at c.in-Ok-Some.ensures.advances in
+    let advances = rw c.in-Some.is at c.in_ok-body.ensures.advances in
     let all = advances_among g.R.Read k so_far.bodies opened.decoder now.decoder c.segments.segments.strict
-    (Ok (Some c.in-Ok-Some.body)) c.segments.segments.progress c.advance.new.self.progress
+    (Ok (Some c.in-Some.body)) c.segments.segments.progress c.advance.new.self.progress
     c.advance.new.self.decoder.now c.segments.invariant.mode so_far.so_far advances c.advance.ensures.moves_on.steady in
     let titled = rw c.header.ensures at c.in_ok-write_header.ensures.header in
-    let whole = through_encoder g.R.Read g.W.Write k c.in-Ok-Some.body.length (length c.segments.buffer)
-    c.in-Ok-Some.body.place c.advance.new.self.decoder.now c.copy.new.self.decoder.now c.write_header.new.encoder
+    let whole = through_encoder g.R.Read g.W.Write k c.in-Some.body.length (length c.segments.buffer)
+    c.in-Some.body.place c.advance.new.self.decoder.now c.copy.new.self.decoder.now c.write_header.new.encoder
     c.copy.new.writer (Ok (tt {0})) c.in_ok-copy.ensures.copied in
     let advance = c.advance.ensures.moves_on in
     let copy = c.copy.ensures.moves_on in
@@ -119,7 +125,7 @@ segments-preserved g c =
       mode = c.copy.ensures.mode ∙ (c.advance.ensures.mode ∙ c.segments.invariant.mode);
       so_far = segment_copied g.R.Read g.W.Write k so_far.bodies opened now c.advance.new.self.decoder.now
           c.write_header.new.encoder.writer (sides_of c.copy.new.self.decoder.now c.copy.new.writer) _
-          c.in-Ok-Some.body c.copy.new.self.progress c.requires.none_waits
+          c.in-Some.body c.copy.new.self.progress c.requires.none_waits
           (rw (sym c.copy.ensures.progress) at all) so_far.written titled whole copy.steady;
       moves_on = MovesOn-then g.R.Read _ _ _ c.segments.invariant.moves_on (MovesOn-then g.R.Read _ _ _ advance copy);
       target = c.copy.ensures.target ∙ (c.write_header.ensures.target ∙ c.segments.invariant.target);
@@ -135,13 +141,13 @@ returns-in_err-copy-clause-copied g c = λ count before old within.
     let q = p.1 in
     let r = p.2 in
     let same : c.from_residual-in_err-copy.result ≡ Err c.in_err-copy.field-0.0 = cc in
-    let advances = rw c.in-Ok-Some.field-0-is at c.in-Ok-Some.ensures.advances in
+    let advances = rw c.in-Some.is at c.in_ok-body.ensures.advances in
     let all = advances_among g.R.Read k so_far.bodies opened.decoder now.decoder c.segments.segments.strict
-    (Ok (Some c.in-Ok-Some.body)) c.segments.segments.progress c.advance.new.self.progress
+    (Ok (Some c.in-Some.body)) c.segments.segments.progress c.advance.new.self.progress
     c.advance.new.self.decoder.now c.segments.invariant.mode so_far.so_far advances c.advance.ensures.moves_on.steady in
     let titled = rw c.header.ensures at c.in_ok-write_header.ensures.header in
     let error = c.in_err-copy.field-0.0 in
-    let body = c.in-Ok-Some.body in
+    let body = c.in-Some.body in
     let stops = subst (λ (room : ℕ). CopiesBody g.R.Read g.W.Write k body.length room body.place
     (sides_of c.advance.new.self.decoder.now c.write_header.new.encoder) (Err error)
     (sides_of c.copy.new.self.decoder.now c.copy.new.writer)) c.segments.auto.buffer
@@ -152,6 +158,6 @@ returns-in_err-copy-clause-copied g c = λ count before old within.
     old c.from_residual-in_err-copy.result (sides_of d c.copy.new.writer)) {x = c.copy.new.self.decoder.now}
     (search rules)
     (rw same (segment_stops g.R.Read g.W.Write k count before old opened within so_far.bodies now
-    c.advance.new.self.decoder.now c.advance.new.self.progress so_far.written c.in-Ok-Some.body all
+    c.advance.new.self.decoder.now c.advance.new.self.progress so_far.written c.in-Some.body all
     (length c.args.buffer.now) c.write_header.new.encoder.writer
     (sides_of c.copy.new.self.decoder.now c.copy.new.writer) error titled stops))

@@ -1,8 +1,9 @@
 use Rattle.std.proofs.Common.{◌≡◌, ◌∙◌, ℕ, [], ◌++◌, take, length, sym, ap, subst, rules, arith}
+use Rattle.ciborium_ll_text.proofs.Lists.{rest_long}
 use Rattle.cbor_copy.specs.Copying.{spot_of}
 use Rattle.cbor_copy.specs.Spots.{Spot, putting}
 use Rattle.cbor_copy.specs.Telling.{Tells, is_due}
-use Rattle.cbor_copy.proofs.FedLaws.{is_answer, fed_behind, drop_later, more_given, not_more, rest_long}
+use Rattle.cbor_copy.proofs.FedLaws.{is_answer, fed_behind, drop_later, more_given, not_more}
 use Rattle.cbor_copy.proofs.TellLaws.{tells, too_long}
 use Rattle.cbor_copy.proofs.copier.Copier.feed.Goals as goal
 

@@ -1,8 +1,7 @@
 use Rattle.std.proofs.Common.{◌≡◌, ◌≤◌, ◌∙◌, [], ◌∷◌, length, true, sym, ap, subst, ℕ, length-append, arith}
 use Rattle.ciborium_ll_text.specs.declared.state.State.{State}
-use Rattle.ciborium_ll_text.specs.States.{after_byte}
+use Rattle.ciborium_ll_text.specs.States.{after_byte, may_end}
 use Rattle.cbor_copy.specs.Fronts.{most_cut}
-use Rattle.cbor_copy.specs.Steps.{may_end}
 use Rattle.cbor_copy.proofs.FrontLaws.{text_room, text_some}
 use Rattle.cbor_copy.proofs.copier.Copier.text_step.Goals as goal
 

@@ -1,7 +1,8 @@
 use Rattle.std.proofs.Common.{refl, arith, rules}
+use Rattle.ciborium_ll_text.proofs.Lists.{rest_long}
 use Rattle.cbor_feed.specs.Walking.{spot_at}
 use Rattle.cbor_feed.specs.Steps.{stay}
-use Rattle.cbor_feed.proofs.LeadLaws.{rest_long, run_more, run_room}
+use Rattle.cbor_feed.proofs.LeadLaws.{run_more, run_room}
 use Rattle.cbor_feed.proofs.walk.Walk.item_run.Goals as goal
 
 pub items-init : goal.items-init

@@ -1,8 +1,9 @@
 use Rattle.std.proofs.Common.{ℕ, List, take, subst, arith, rules}
 use Rattle.std.proofs.lemmas.List.{length-take-le, take_rest}
+use Rattle.ciborium_ll_text.proofs.Lists.{rest_long}
 use Rattle.cbor_feed.specs.Steps.{Leads}
 use Rattle.cbor_feed.specs.Walking.{spot_at}
-use Rattle.cbor_feed.proofs.LeadLaws.{leads_counts, rest_long}
+use Rattle.cbor_feed.proofs.LeadLaws.{leads_counts}
 use Rattle.cbor_feed.proofs.ShortLeads.{both_lead, short_leads}
 use Rattle.cbor_feed.proofs.walk.Walk.nest_taken.Goals as goal
 

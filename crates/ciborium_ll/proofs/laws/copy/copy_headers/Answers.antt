@@ -1,4 +1,5 @@
-use Rattle.std.proofs.Common.{[], ◌∷◌, ◌++◌, Ok, Err, refl, arith, length-append, ◌∙◌}
+use Rattle.std.proofs.Common.{rules, [], ◌∷◌, ◌++◌, ◌≡◌, Ok, Err, refl, arith, length-append, ◌∙◌}
+use Rattle.std.proofs.lemmas.Result.{err_from_is_err_and}
 use Rattle.ciborium_ll_decoder.specs.declared.copy.RecodeError.TheVariants as r
 use Rattle.ciborium_ll.specs.Copying.{CopiesEach, StopsAtPull, StopsAtPush}
 use Rattle.ciborium_ll_recode.specs.Sides.{sides_of}
@@ -19,41 +20,46 @@ headers-init g c = (
 pub headers-preserved : goal.headers-preserved
 headers-preserved g c =
     let headers = c.headers.invariant.0 in
-    let pulled = c.in-Ok.ensures in (
-      headers ++ c.in-Ok.header ∷ [],
-      omega (arith, c.headers.invariant.1, length-append headers (c.in-Ok.header ∷ [])),
-      Copies-push g.R.Read g.W.Write headers c.in-Ok.header (sides_of c.args.decoder.now c.args.encoder.now)
+    let pulled = c.in_ok-header.ensures in (
+      headers ++ c.in_ok-header.header ∷ [],
+      omega (arith, c.headers.invariant.1, length-append headers (c.in_ok-header.header ∷ [])),
+      Copies-push g.R.Read g.W.Write headers c.in_ok-header.header (sides_of c.args.decoder.now c.args.encoder.now)
           (sides_of c.headers.decoder c.headers.encoder) (sides_of c.pull.new.self c.push.new.self)
-          c.headers.invariant.2 pulled.header pulled.moves_on.steady c.in_default.ensures.title,
+          c.headers.invariant.2 pulled.header pulled.moves_on.steady (search rules),
       MovesOn-then g.R.Read _ _ _ c.headers.invariant.3 pulled.moves_on,
-      c.in_default.ensures.target ∙ c.headers.invariant.4,
+      c.push.ensures.target ∙ c.headers.invariant.4,
     )
 
-pub returns-in-Err : goal.returns-in-Err
-returns-in-Err g c =
+pub returns-in_err-header : goal.returns-in_err-header
+returns-in_err-header g c =
+    let error = c.in_err-header.field-0.0 in
+    let from = err_from_is_err_and c.from_residual.result c.from_residual.ensures.1 in
+    let is_error = from.1 in
+    let is_same = from.2 in
+    let same : c.from_residual.result ≡ Err (r.Read error) = cc in
     let copied : StopsAtPull g.R.Read g.W.Write c.args.count (sides_of c.args.decoder.now c.args.encoder.now)
-    c.in-Err.error (sides_of c.pull.new.self c.headers.encoder) =
+    error (sides_of c.pull.new.self c.headers.encoder) =
     record {
       headers = c.headers.invariant.0;
       fewer = omega (arith, c.headers.invariant.1, c.headers-test.true);
       between = c.headers.decoder;
       copied = c.headers.invariant.2;
-      stopped = c.in-Err.ensures.header;
+      stopped = c.in_err-header.ensures.header;
     } in
-    record {
+    rw same (record {
       copied = record {
         copied = copied;
-        moves_on = MovesOn-then g.R.Read _ _ _ c.headers.invariant.3 c.in-Err.ensures.moves_on;
+        moves_on = MovesOn-then g.R.Read _ _ _ c.headers.invariant.3 c.in_err-header.ensures.moves_on;
         target = c.headers.invariant.4;
       };
-      told = λ due written ready. told g.R.Read g.W.Write c.args.count _ _ due written
-          (Err (r.Read c.in-Err.error)) ready copied;
-      exactly = λ due written ready. exactly g.R.Read g.W.Write c.args.count _ _ due written
-          (Err (r.Read c.in-Err.error)) ready copied;
-    }
+      told = λ due written ready. told g.R.Read g.W.Write c.args.count _ _ due written (Err (r.Read error)) ready
+          copied;
+      exactly = λ due written ready. exactly g.R.Read g.W.Write c.args.count _ _ due written (Err (r.Read error))
+          ready copied;
+    })
 
-pub returns-in-Err-push : goal.returns-in-Err-push
-returns-in-Err-push g c =
+pub returns-in-Err : goal.returns-in-Err
+returns-in-Err g c =
     let copied : StopsAtPush g.R.Read g.W.Write c.args.count (sides_of c.args.decoder.now c.args.encoder.now)
     (sides_of c.pull.new.self c.push.new.self) =
     record {
@@ -61,20 +67,20 @@ returns-in-Err-push g c =
       fewer = omega (arith, c.headers.invariant.1, c.headers-test.true);
       between = sides_of c.headers.decoder c.headers.encoder;
       copied = c.headers.invariant.2;
-      last = c.in-Ok.header;
-      pulled = c.in-Ok.ensures.header;
-      stopped = c.in-Err-push.ensures.title;
+      last = c.in_ok-header.header;
+      pulled = c.in_ok-header.ensures.header;
+      stopped = c.in-Err.ensures.title;
     } in
     record {
       copied = record {
         copied = copied;
-        moves_on = MovesOn-then g.R.Read _ _ _ c.headers.invariant.3 c.in-Ok.ensures.moves_on;
-        target = c.in-Err-push.ensures.target ∙ c.headers.invariant.4;
+        moves_on = MovesOn-then g.R.Read _ _ _ c.headers.invariant.3 c.in_ok-header.ensures.moves_on;
+        target = c.in-Err.ensures.target ∙ c.headers.invariant.4;
       };
       told = λ due written ready. told g.R.Read g.W.Write c.args.count _ _ due written
-          (Err (r.Write c.in-Err-push.fault)) ready copied;
+          (Err (r.Write c.in-Err.fault)) ready copied;
       exactly = λ due written ready. exactly g.R.Read g.W.Write c.args.count _ _ due written
-          (Err (r.Write c.in-Err-push.fault)) ready copied;
+          (Err (r.Write c.in-Err.fault)) ready copied;
     }
 
 pub returns : goal.returns

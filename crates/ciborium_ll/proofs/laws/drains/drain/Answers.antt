@@ -1,5 +1,8 @@
-use Rattle.std.proofs.Common.{rules, ◌≡◌, ℕ, length, take, get_or, refl, subst, sym, ◌∙◌, arith, Err, length-take-le}
+use Rattle.std.proofs.Common.{rules, ◌≡◌, ℕ, length, take, get_or, refl, subst, sym, ◌∙◌, arith, None, Err}
+use Rattle.std.proofs.Common.{length-take-le}
 use Rattle.std.proofs.lemmas.List.{take_more, take_all}
+use Rattle.std.proofs.lemmas.Result.{err_from_is_err_and}
+use Rattle.ciborium_ll_decoder.specs.declared.copy.RecodeError.TheVariants as r
 use Rattle.ciborium_ll_decoder.specs.Chunks.{GivesChunk, PullsChunk}
 use Rattle.ciborium_ll_decoder.proofs.DecodingLaws.{MovesOn-none, MovesOn-then}
 use Rattle.ciborium_ll.proofs.DrainLaws.{behind_at, drains_none, drains_more}
@@ -13,9 +16,10 @@ sizes-init g c = record {
   target = refl;
 }
 
-pub returns-in-Ok-None-clause-drains : goal.returns-in-Ok-None-clause-drains
-returns-in-Ok-None-clause-drains g c =
+pub returns-in_default-clause-drains : goal.returns-in_default-clause-drains
+returns-in_default-clause-drains g c =
     let sizes = c.args.sizes.now in
+    let none : c.in_ok-chunk.field-0 ≡ None = search rules in
     record {
       before = take c.sizes.index sizes;
       size = get_or sizes c.sizes.index 0;
@@ -23,8 +27,30 @@ returns-in-Ok-None-clause-drains g c =
       counted = omega (arith, length-take-le c.sizes.index sizes (omega (arith, c.sizes-test.true)));
       between = c.sizes.segment;
       some = c.sizes.invariant.some;
-      ends = rw c.in-Ok-None.field-0-is at c.in-Ok-None.ensures.chunk;
+      ends = rw none at c.in_ok-chunk.ensures.chunk;
     }
+
+pub returns-in_err-chunk-clause-drains : goal.returns-in_err-chunk-clause-drains
+returns-in_err-chunk-clause-drains g c =
+    let error = c.in_err-chunk.field-0.0 in
+    let from = err_from_is_err_and c.from_residual.result c.from_residual.ensures.1 in
+    let is_error = from.1 in
+    let is_same = from.2 in
+    let same : c.from_residual.result ≡ Err (r.Read error) = cc in
+    let sizes = c.args.sizes.now in
+    let size = get_or sizes c.sizes.index 0 in
+    let fits = c.requires.fit c.sizes.index 0 c.sizes-test.true in
+    let room : length (take size c.sizes.buffer) ≡ size = length-take-le size c.sizes.buffer
+    (omega (arith, fits, c.sizes.auto.buffer)) in
+    rw same (record {
+      before = take c.sizes.index sizes;
+      size = size;
+      is_behind = behind_at sizes c.sizes.index 0 c.sizes-test.true;
+      between = c.sizes.segment;
+      some = c.sizes.invariant.some;
+      fails = subst (λ (n : ℕ). PullsChunk g.R.Read n c.sizes.segment (Err error) c.chunk.new.segment) room
+          c.in_err-chunk.ensures.chunk;
+    })
 
 pub returns-in-Err-clause-drains : goal.returns-in-Err-clause-drains
 returns-in-Err-clause-drains g c =
@@ -33,25 +59,8 @@ returns-in-Err-clause-drains g c =
     let fits = c.requires.fit c.sizes.index 0 c.sizes-test.true in
     let room : length (take size c.sizes.buffer) ≡ size = length-take-le size c.sizes.buffer
     (omega (arith, fits, c.sizes.auto.buffer)) in
-    record {
-      before = take c.sizes.index sizes;
-      size = size;
-      is_behind = behind_at sizes c.sizes.index 0 c.sizes-test.true;
-      between = c.sizes.segment;
-      some = c.sizes.invariant.some;
-      fails = subst (λ (n : ℕ). PullsChunk g.R.Read n c.sizes.segment (Err c.in-Err.error) c.chunk.new.segment) room
-          c.in-Err.ensures.chunk;
-    }
-
-pub returns-in-Err-write_all-clause-drains : goal.returns-in-Err-write_all-clause-drains
-returns-in-Err-write_all-clause-drains g c =
-    let sizes = c.args.sizes.now in
-    let size = get_or sizes c.sizes.index 0 in
-    let fits = c.requires.fit c.sizes.index 0 c.sizes-test.true in
-    let room : length (take size c.sizes.buffer) ≡ size = length-take-le size c.sizes.buffer
-    (omega (arith, fits, c.sizes.auto.buffer)) in
-    let pulled = c.in-Ok-Some.ensures in
-    let wrote = c.in-Err-write_all.ensures in
+    let pulled = c.in_ok-chunk.ensures in
+    let wrote = c.in-Err.ensures in
     record {
       before = take c.sizes.index sizes;
       size = size;
@@ -59,9 +68,9 @@ returns-in-Err-write_all-clause-drains g c =
       between = c.sizes.segment;
       writer-between = c.sizes.sink.writer;
       some = c.sizes.invariant.some;
-      chunk = c.in-Ok-Some.chunk.now;
-      gives = subst (λ (n : ℕ). GivesChunk g.R.Read n c.sizes.segment c.in-Ok-Some.chunk.now c.chunk.new.segment)
-          room (rw c.in-Ok-Some.field-0-is at pulled.chunk);
+      chunk = c.in-Some.chunk.now;
+      gives = subst (λ (n : ℕ). GivesChunk g.R.Read n c.sizes.segment c.in-Some.chunk.now c.chunk.new.segment)
+          room (rw c.in-Some.is at pulled.chunk);
       stopped = record { front = wrote.front; full = wrote.full; failures = wrote.err };
     }
 
@@ -72,10 +81,10 @@ sizes-preserved g c =
     let fits = c.requires.fit c.sizes.index 0 c.sizes-test.true in
     let room : length (take size c.sizes.buffer) ≡ size = length-take-le size c.sizes.buffer
     (omega (arith, fits, c.sizes.auto.buffer)) in
-    let pulled = c.in-Ok-Some.ensures in
-    let gives = subst (λ (n : ℕ). GivesChunk g.R.Read n c.sizes.segment c.in-Ok-Some.chunk.now c.chunk.new.segment)
-    room (rw c.in-Ok-Some.field-0-is at pulled.chunk) in
-    let wrote = c.in_default.ensures in
+    let pulled = c.in_ok-chunk.ensures in
+    let gives = subst (λ (n : ℕ). GivesChunk g.R.Read n c.sizes.segment c.in-Some.chunk.now c.chunk.new.segment)
+    room (rw c.in-Some.is at pulled.chunk) in
+    let wrote = c.in_default-write_all.ensures in
     let more = drains_more g.R.Read g.W.Write (take c.sizes.index sizes) size _ _ c.sizes.segment _
     c.sizes.invariant.some _ c.chunk.new.segment gives _ pulled.moves_on.steady
     (record { appended = wrote.bytes; room = wrote.fills; failures = wrote.ok }) in

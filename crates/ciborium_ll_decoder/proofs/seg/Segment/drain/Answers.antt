@@ -1,6 +1,8 @@
-use Rattle.std.proofs.Common.{rules, refl, Err}
-use Rattle.ciborium_ll_decoder.proofs.DecodingLaws.{MovesOn-none}
-use Rattle.ciborium_ll_decoder.proofs.FinishLaws.{rest_start, rest_stopped}
+use Rattle.std.proofs.Common.{rules, refl, ◌≡◌, true, Err}
+use Rattle.std.proofs.lemmas.Result.{err_from_is_err_and}
+use Rattle.std.specs.Option.{is_some}
+use Rattle.ciborium_ll_decoder.proofs.DecodingLaws.{MovesOn-none, MovesOn-then}
+use Rattle.ciborium_ll_decoder.proofs.FinishLaws.{rest_start, rest_pulled, rest_stopped}
 use Rattle.ciborium_ll_decoder.proofs.seg.Segment.drain.Goals as goal
 
 pub chunks-init : goal.chunks-init
@@ -10,8 +12,24 @@ chunks-init g c = record {
   moves_on = MovesOn-none g.R.Read c.args.self.now.decoder.now;
 }
 
-pub returns-in-Err-clause-finishes : goal.returns-in-Err-clause-finishes
-returns-in-Err-clause-finishes g c =
-    rest_stopped g.R.Read _ c.chunks.self c.chunks.invariant.so_far _ _ c.chunk.result (Err c.in-Err.error)
-    c.in-Err.error c.chunk.new.segment
-    c.chunk.ensures.chunk (search rules) refl c.chunks.auto.buffer c.requires.room c.chunk.ensures.moves_on.steady
+pub chunks-preserved : goal.chunks-preserved
+chunks-preserved g c =
+    let kept = c.chunks.invariant in
+    let pulled = c.in_ok-chunk.ensures in
+    let some : is_some c.in_ok-chunk.field-0 ≡ true = search rules in
+    record {
+      same = search rules;
+      so_far = rest_pulled g.R.Read _ c.chunks.self kept.so_far _ c.in_ok-chunk.field-0 c.chunk.new.segment pulled.chunk
+          some pulled.moves_on.steady;
+      moves_on = MovesOn-then g.R.Read _ _ _ kept.moves_on pulled.moves_on;
+    }
+
+pub returns-in_err-chunk-clause-finishes : goal.returns-in_err-chunk-clause-finishes
+returns-in_err-chunk-clause-finishes g c =
+    let from = err_from_is_err_and c.from_residual.result c.from_residual.ensures.1 in
+    let is_error = from.1 in
+    let is_same = from.2 in
+    let same : c.from_residual.result ≡ Err c.in_err-chunk.field-0.0 = cc in
+    rest_stopped g.R.Read _ c.chunks.self c.chunks.invariant.so_far _ _ c.chunk.result c.from_residual.result
+    c.in_err-chunk.field-0.0 c.chunk.new.segment c.chunk.ensures.chunk c.in_err-chunk.was same c.chunks.auto.buffer
+    c.requires.room c.chunk.ensures.moves_on.steady

@@ -5,13 +5,11 @@ use Rattle.ciborium_ll_grammar.proofs.PartsLaws.{bytes_parts, text_parts}
 use Rattle.ciborium_ll_grammar.proofs.hdr.Title.element.Goals as goal
 
 pub returns-in-2-clause-bytes : goal.returns-in-2-clause-bytes
-returns-in-2-clause-bytes c = λ length e.
+returns-in-2-clause-bytes c = λ header length title e.
     let same : minor_number c.args.self.minor ≡ length = cc in
-    bytes_parts c.args.self.minor c.args.header c.requires.parts.minor (rw c.in-2.is at c.requires.title)
-    ∙ ap h.Bytes same
+    bytes_parts c.args.self.minor header c.requires.minor (rw c.in-2.is at title) ∙ ap h.Bytes same
 
 pub returns-in-3-clause-text : goal.returns-in-3-clause-text
-returns-in-3-clause-text c = λ length e.
+returns-in-3-clause-text c = λ header length title e.
     let same : minor_number c.args.self.minor ≡ length = cc in
-    text_parts c.args.self.minor c.args.header c.requires.parts.minor (rw c.in-3.is at c.requires.title)
-    ∙ ap h.Text same
+    text_parts c.args.self.minor header c.requires.minor (rw c.in-3.is at title) ∙ ap h.Text same
