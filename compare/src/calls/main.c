@@ -51,15 +51,23 @@ static uint64_t items(const uint8_t *bytes, size_t size) {
     return count;
 }
 
+/* Where the piece ends in which the offset is, of so many bytes in pieces of so many: where the last one did, or behind
+ * one piece more. */
+static size_t piece_end(size_t offset, size_t end, size_t size, size_t piece) {
+    if (offset < end)
+        return end;
+    return size - end < piece ? size : end + piece;
+}
+
 /* How many bytes the items have that end, where the bytes come in pieces of so many. */
 static uint64_t fed(const uint8_t *bytes, size_t size, size_t piece) {
-    size_t offset = 0, ended = 0;
+    size_t offset = 0, end = 0, ended = 0;
     cll_checker checker;
     cll_report report;
     cll_checker_init(&checker, 256);
     while (offset < size) {
-        size_t end = offset - offset % piece + piece;
-        uint32_t answer = cll_checker_feed(&checker, bytes + offset, (end < size ? end : size) - offset, &report);
+        end = piece_end(offset, end, size, piece);
+        uint32_t answer = cll_checker_feed(&checker, bytes + offset, end - offset, &report);
         offset += report.consumed;
         if (answer == CLL_SHORT)
             continue;
@@ -73,14 +81,14 @@ static uint64_t fed(const uint8_t *bytes, size_t size, size_t piece) {
 
 /* How many bytes a copier writes of what comes in pieces of so many. */
 static uint64_t copied_in_pieces(const uint8_t *bytes, size_t size, size_t piece, uint8_t *out) {
-    size_t offset = 0, written = 0;
+    size_t offset = 0, end = 0, written = 0;
     cll_copier copier;
     cll_report report;
     cll_copier_init(&copier, size);
     while (offset < size) {
-        size_t end = offset - offset % piece + piece;
-        uint32_t answer = cll_copier_feed(&copier, bytes + offset, (end < size ? end : size) - offset,
-                                          out + written, size - written, &report);
+        end = piece_end(offset, end, size, piece);
+        uint32_t answer =
+            cll_copier_feed(&copier, bytes + offset, end - offset, out + written, size - written, &report);
         offset += report.consumed;
         written += report.written;
         if (answer != CLL_SHORT)
@@ -91,14 +99,14 @@ static uint64_t copied_in_pieces(const uint8_t *bytes, size_t size, size_t piece
 
 /* The same of a copier for each item. */
 static uint64_t each_copied(const uint8_t *bytes, size_t size, size_t piece, uint8_t *out) {
-    size_t offset = 0, written = 0;
+    size_t offset = 0, end = 0, written = 0;
     cll_item_copier copier;
     cll_report report;
     cll_item_copier_init(&copier, 256);
     while (offset < size) {
-        size_t end = offset - offset % piece + piece;
-        uint32_t answer = cll_item_copier_feed(&copier, bytes + offset, (end < size ? end : size) - offset,
-                                               out + written, size - written, &report);
+        end = piece_end(offset, end, size, piece);
+        uint32_t answer =
+            cll_item_copier_feed(&copier, bytes + offset, end - offset, out + written, size - written, &report);
         offset += report.consumed;
         written += report.written;
         if (answer == CLL_SHORT)

@@ -25,8 +25,8 @@ bits_test number =
     bit_test number 0 && (bit_test number 1 && (bit_test number 2 && (bit_test number 3 && (bit_test number 4
     && (bit_test number 5 && (bit_test number 6 && bit_test number 7))))))
 
-bits_say : (number : ℕ) → number < 41 → bits_test number ≡ true
-bits_say number less = agree_below_at bits_test (λ (b : ℕ). true) 41 number refl less
+bits_say : (number : ℕ) → number < 33 → bits_test number ≡ true
+bits_say number less = agree_below_at bits_test (λ (b : ℕ). true) 33 number refl less
 
 set_by : (number j : ℕ) → j + 16 < number → bit_test number j ≡ true
     → bit_at (get_or HIGH_BITS number 0) (8 * j + 7) ≡ 1
@@ -45,7 +45,7 @@ clear_by word mask i none set =
     omega (arith, both, set)
 
 module _ (word mask number : ℕ) (bytes : List ℕ) (none : bit_and word mask ≡ 0) (is : mask ≡ get_or HIGH_BITS number 0)
-    (less : number < 41) (same : to_le_bytes w64 word ≡ bytes) where
+    (less : number < 33) (same : to_le_bytes w64 word ≡ bytes) where
   tests : (bit_test number 0 ≡ true) × (bit_test number 1 ≡ true) × (bit_test number 2 ≡ true) ×
       (bit_test number 3 ≡ true)
       × (bit_test number 4 ≡ true) × (bit_test number 5 ≡ true) × (bit_test number 6 ≡ true) ×
@@ -102,7 +102,7 @@ module _ (word mask number : ℕ) (bytes : List ℕ) (none : bit_and word mask �
       omega (arith, c, r)
   low (suc (suc (suc (suc (suc (suc (suc (suc j)))))))) lt counts = absurd (omega (arith, lt))
 
--- ---- three words
+-- ---- two words
 
 pub none_set : (a b : ℕ) → bit_or a b ≡ 0 → (a ≡ 0) × (b ≡ 0)
 none_set a b e =
@@ -112,11 +112,10 @@ none_set a b e =
     (omega (arith, e, sum, left, right), omega (arith, e, sum, left, right))
 
 -- so many bytes in front are ASCII
-pub front_ascii : (xs : List ℕ) (len : ℕ) → len ≤ length xs → len ≤ 24
+pub front_ascii : (xs : List ℕ) (len : ℕ) → len ≤ length xs → len ≤ 16
     → ((j : ℕ) → j < 8 → j + 16 < len + 16 → slice_index xs (0 + j) < 128)
-    → ((j : ℕ) → j < 8 → j + 16 < len + 8 → slice_index xs (8 + j) < 128)
-    → ((j : ℕ) → j < 8 → j + 16 < len → slice_index xs (16 + j) < 128) → IsAscii (take len xs)
-front_ascii xs len le few one two three = λ i.
+    → ((j : ℕ) → j < 8 → j + 16 < len + 8 → slice_index xs (8 + j) < 128) → IsAscii (take len xs)
+front_ascii xs len le few one two = λ i.
     let long = length-take-le len xs le in
     elim (cases_lt i len) [
       | inr above ↦ (let none = get_or-eq_default (take len xs) 0 {n = i} (omega (arith, long, above)) in omega
@@ -125,16 +124,10 @@ front_ascii xs len le few one two three = λ i.
         | inl a ↦ (let at : 0 + i ≡ i = omega arith in
             let low = subst (λ (z : ℕ). slice_index xs z < 128) at (one i a (omega (arith, here))) in
             omega (arith, same, low))
-        | inr b ↦ elim (cases_lt i 16) [
-          | inl c ↦ (let at : 8 + (i - 8) ≡ i = omega (arith, b) in
-              let low = subst (λ (z : ℕ). slice_index xs z < 128) at
-              (two (i - 8) (omega (arith, b, c)) (omega (arith, b, here))) in
-              omega (arith, same, low))
-          | inr d ↦ (let at : 16 + (i - 16) ≡ i = omega (arith, d) in
-              let low = subst (λ (z : ℕ). slice_index xs z < 128) at
-              (three (i - 16) (omega (arith, d, here, few)) (omega (arith, d, here))) in
-              omega (arith, same, low))
-        ]
+        | inr b ↦ (let at : 8 + (i - 8) ≡ i = omega (arith, b) in
+            let low = subst (λ (z : ℕ). slice_index xs z < 128) at
+            (two (i - 8) (omega (arith, b, here, few)) (omega (arith, b, here))) in
+            omega (arith, same, low))
       ])
     ]
 
@@ -165,7 +158,7 @@ eight_bytes xs at below i =
     ]
 
 pub low_in : (word mask number : ℕ) (xs : List ℕ) (at : ℕ) → bit_and word mask ≡ 0 → mask ≡ get_or HIGH_BITS number 0
-    → number < 41 → to_le_bytes w64 word ≡ eight xs at → (j : ℕ) → j < 8 → j + 16 < number
+    → number < 33 → to_le_bytes w64 word ≡ eight xs at → (j : ℕ) → j < 8 → j + 16 < number
     → slice_index xs (at + j) < 128
 low_in word mask number xs at none is less same j lt counts =
     subst (λ (z : ℕ). z < 128) (nth xs at j lt) (low word mask number (eight xs at) none is less same j lt counts)

@@ -4,7 +4,7 @@ use Rattle.std.proofs.Common.{[], ◌∷◌, ◌++◌}
 use Rattle.std.proofs.Common.{◌&&◌, ◌||◌, eqb, ltb, eqb-true, ltb-true, get_or, length, take, drop, slice_index, refl}
 use Rattle.std.proofs.Common.{sym, ap}
 use Rattle.std.proofs.Common.{subst, ◌∙◌, arith, inl, inr}
-use Rattle.std.proofs.lemmas.Bool.{agree_below_at, and_parts, or_cases}
+use Rattle.std.proofs.lemmas.Bool.{agree_below_at, and_parts, cases_lt, or_cases}
 use Rattle.std.proofs.lemmas.List.{length-take-le, take_rest}
 use Rattle.std.proofs.Math.Seq.{take-add}
 use Rattle.std.specs.Str.{IsAscii}
@@ -245,6 +245,21 @@ text_plain (b ∷ xs) span len strict below some (inr (inr (inr (inr v)))) high 
     subst (λ (z : ℕ). IsPlain strict (take z (b ∷ xs))) (sym n)
     (small_text b xs strict below v.1 v.2 (omega (arith, n, le))
     (subst (λ (z : ℕ). IsAscii (take z xs)) less ascii))
+
+-- whichever of them it is: of a longer title any spelling is taken, and of a text the body is ASCII
+pub span_plain : (xs : List ℕ) (span len : ℕ) (strict : Bool) → Below xs → 0 < length xs
+    → IsSpan (slice_index xs 0) span → len ≡ span % 64 → 0 < len → len ≤ length xs
+    → (64 ≤ span → span < 128 → strict ≡ false) → (128 ≤ span → IsAscii (take (len - 1) (drop 1 xs)))
+    → IsPlain strict (take len xs)
+span_plain xs span len strict below some is e least le any ascii =
+    elim (cases_lt span 64) [
+      | inl low ↦ low_plain xs span len strict below some is low e least le
+      | inr high ↦ elim (cases_lt span 128) [
+        | inl long ↦ subst (λ (z : Bool). IsPlain z (take len xs)) (sym (any high long))
+            (long_plain xs span len below some is high long e le)
+        | inr text ↦ text_plain xs span len strict below some is text e le (ascii text)
+      ]
+    ]
 
 -- ---- items one behind the other
 

@@ -51,15 +51,13 @@ fn span_of(first: u8) -> u8
 /// Of each number the highest bits of the first bytes of a word, the lowest first: of as many as it is above 16, up to
 /// all eight.
 #[rattlefmt::skip]
-static HIGH_BITS: [u64; 41] = [
+static HIGH_BITS: [u64; 33] = [
     0x0000_0000_0000_0000, 0x0000_0000_0000_0000, 0x0000_0000_0000_0000, 0x0000_0000_0000_0000,
     0x0000_0000_0000_0000, 0x0000_0000_0000_0000, 0x0000_0000_0000_0000, 0x0000_0000_0000_0000,
     0x0000_0000_0000_0000, 0x0000_0000_0000_0000, 0x0000_0000_0000_0000, 0x0000_0000_0000_0000,
     0x0000_0000_0000_0000, 0x0000_0000_0000_0000, 0x0000_0000_0000_0000, 0x0000_0000_0000_0000,
     0x0000_0000_0000_0000, 0x0000_0000_0000_0080, 0x0000_0000_0000_8080, 0x0000_0000_0080_8080,
     0x0000_0000_8080_8080, 0x0000_0080_8080_8080, 0x0000_8080_8080_8080, 0x0080_8080_8080_8080,
-    0x8080_8080_8080_8080, 0x8080_8080_8080_8080, 0x8080_8080_8080_8080, 0x8080_8080_8080_8080,
-    0x8080_8080_8080_8080, 0x8080_8080_8080_8080, 0x8080_8080_8080_8080, 0x8080_8080_8080_8080,
     0x8080_8080_8080_8080, 0x8080_8080_8080_8080, 0x8080_8080_8080_8080, 0x8080_8080_8080_8080,
     0x8080_8080_8080_8080, 0x8080_8080_8080_8080, 0x8080_8080_8080_8080, 0x8080_8080_8080_8080,
     0x8080_8080_8080_8080,
@@ -69,7 +67,7 @@ static HIGH_BITS: [u64; 41] = [
 #[inline(always)]
 fn high_bits(bytes: &[u8], at: usize, number: usize) -> u64
     requires there { at + 8 ≤ length bytes.now }
-    requires number { number ≤ 40 }
+    requires number { number ≤ 32 }
     ensures { result ≡ 0 → (j : ℕ) → j < 8 → j + 16 < number → slice_index bytes.now (at + j) < 128 }
 {
     let word = u64::from_le_bytes([
@@ -85,20 +83,33 @@ fn high_bits(bytes: &[u8], at: usize, number: usize) -> u64
     word & HIGH_BITS[number]
 }
 
-/// Whether so many bytes in front, which are at most 24, are ASCII. Where 24 are there it takes no branch.
+/// How many bytes two words have.
+const SHORT: usize = 16;
+
+/// Whether so many bytes in front are ASCII. Of up to 16, where as many are there, it takes no branch by their number.
 #[inline(always)]
 fn is_ascii_front(bytes: &[u8], len: usize) -> bool
-    requires within { len ≤ length bytes.now }
-    requires few { len ≤ 24 }
+    requires { len ≤ length bytes.now }
     ensures { result ≡ true → IsAscii (take len bytes.now) }
 {
-    if bytes.len() < 24 {
-        return bytes[..len].is_ascii();
+    if len <= SHORT && bytes.len() >= SHORT {
+        let first = high_bits(bytes, 0, len + 16);
+        let second = high_bits(bytes, 8, len + 8);
+        return first | second == 0;
     }
-    let first = high_bits(bytes, 0, len + 16);
-    let second = high_bits(bytes, 8, len + 8);
-    let third = high_bits(bytes, 16, len);
-    first | second | third == 0
+    if len <= 8 && bytes.len() >= 8 {
+        return high_bits(bytes, 0, len + 16) == 0;
+    }
+    bytes[..len].is_ascii()
+}
+
+/// Whether so many bytes are there, are at most as many as two words have, and are ASCII.
+#[inline(always)]
+pub(crate) fn is_short_ascii(bytes: &[u8], len: usize) -> bool
+    ensures there { result ≡ true → len ≤ length bytes.now }
+    ensures ascii { result ≡ true → IsAscii (take len bytes.now) }
+{
+    len <= SHORT && len <= bytes.len() && is_ascii_front(bytes, len)
 }
 
 /// How many bytes the string in front has, where an item is due, its length stands in one byte behind the first and is
@@ -140,13 +151,12 @@ fn plain_len(bytes: &[u8], strict: bool) -> usize
     if len > bytes.len() {
         return 0;
     }
-    if span < LONG {
-        return len;
+    if strict && LONG <= span && span < TEXT {
+        return 0;
     }
-    if span < TEXT {
-        return if strict { 0 } else { len };
-    }
-    if is_ascii_front(&bytes[1..], len - 1) {
+    // Which kind of item it is takes no branch: of one that is no text no byte is looked at.
+    let text_len = if span < TEXT { 0 } else { len - 1 };
+    if is_ascii_front(&bytes[1..], text_len) {
         len
     } else {
         0

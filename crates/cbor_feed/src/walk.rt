@@ -14,6 +14,7 @@ use crate::front::Front;
 use crate::level::Level;
 use crate::levels::Levels;
 use crate::phase::{Fault, Phase, Within};
+use crate::plain::is_short_ascii;
 use crate::progress::{Feed, Progress};
 use crate::tell::answer;
 use crate::title::{begins_none, blocked, header_of, is_value};
@@ -687,6 +688,10 @@ impl Walk<'_> {
         ensures leads { Leads (spot_at self.old) (take result bytes.now) (spot_at self.new) }
         ensures lent { AreLent self.old.levels self.new.levels }
     {
+        if is_short_ascii(bytes, left) {
+            self.text_taken(left, left, State::Between);
+            return left;
+        }
         let len = left.min(bytes.len());
         let (front, behind) = text_front(&bytes[..len], 0, State::Between);
         if behind.may_end(left - len) {

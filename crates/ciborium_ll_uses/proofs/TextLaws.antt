@@ -28,7 +28,7 @@ use Rattle.ciborium_ll.proofs.TextLaws.{IsCharacters-append, IsCharacters-nil}
 use Rattle.ciborium_ll.proofs.Utf8Laws.{to_std}
 use Rattle.ciborium_ll_uses.specs.declared.texts.TextError.{TextError}
 use Rattle.ciborium_ll_uses.specs.declared.texts.TextError.TheVariants as t
-use Rattle.ciborium_ll_uses.specs.Texts.{Gathers, none, more, GathersAll, GoesOn, LacksMemory, ReadsText}
+use Rattle.ciborium_ll_uses.specs.Texts.{Gathers, none, more, GathersAll, AdvancesBehind, LacksMemory, ReadsText}
 use Rattle.ciborium_ll_uses.specs.Texts.{SegmentsStop, StopsText}
 
 -- ---- bodies
@@ -92,7 +92,7 @@ module _ {R E : Type 0} (source : Reader R E) where
       → (so_far : GatheredSoFar progress old count text last now)
       → AdvancesTo source Text strict last now answer after new
       → opens_of after + offset_of now ≤ opens_of last + offset_of new → MovesOn source now new
-      → GoesOn source progress old so_far.bodies answer new
+      → AdvancesBehind source progress old so_far.bodies answer new
   goes_on strict progress old count text last after now new answer same so_far advances opens moves_on = record {
     last = last;
     now = now;
@@ -121,7 +121,7 @@ module _ {R E : Type 0} (source : Reader R E) where
       }
 
   module _ (limit : ℕ) (progress : Progress) (old : Decoder R) (bodies : List (List ℕ)) (body : Body)
-      (titled new : Decoder R) (announced : GoesOn source progress old bodies (Ok (Some body)) titled) where
+      (titled new : Decoder R) (announced : AdvancesBehind source progress old bodies (Ok (Some body)) titled) where
     -- the read of a body failed
     pub body_fails : (error other : Error E) (room : ℕ) → other ≡ error → room ≡ 64
         → EndsBody source Text [] body.length room body.place titled (Err error) new

@@ -163,7 +163,7 @@ module _ {R E : Type 0} (source : Ghosts R E) where
 
   module _ (IsDue : Header → Type 0) where
     -- the title of a byte string came that may stand here, and the read of its body failed
-    pub record StopsInBody (old : Decoder R) (error : Error E) (new : Decoder R) : Type 0 where
+    pub record StopsInBytes (old : Decoder R) (error : Error E) (new : Decoder R) : Type 0 where
       pub len : ℕ
       pub titled : Decoder R
       pub allowed : IsDue (h.Bytes (Some len))
@@ -181,7 +181,7 @@ module _ {R E : Type 0} (source : Ghosts R E) where
     -- why a part was not read where such a header is due: no title came, another one came, or the part is cut or
     -- broken behind its title
     abbrev pub StopsAt : Decoder R → CoseError E → Decoder R → Type 0
-    StopsAt old (c.Read error) new = PullsHeader source old (Err error) new ⊎ StopsInBody old error new
+    StopsAt old (c.Read error) new = PullsHeader source old (Err error) new ⊎ StopsInBytes old error new
     StopsAt old (c.Skip error) new = StopsInMap old error new
     StopsAt old (c.Unexpected at) new = PullsOther source (λ header. IsDue header → ⊥) old at new
 

@@ -55,7 +55,7 @@ module _ {R E : Type 0} (source : Ghosts R E) where
         → Gathers progress old (bodies ++ reads.read ∷ []) announced.after new
 
   -- behind these bodies `advance` gave this answer and left this decoder
-  pub record GoesOn (progress : Progress) (old : Decoder R) (bodies : List (List ℕ))
+  pub record AdvancesBehind (progress : Progress) (old : Decoder R) (bodies : List (List ℕ))
       (answer : Result (Option Body) (Error E)) (new : Decoder R) : Type 0 where
     pub last : Progress
     pub now : Decoder R
@@ -68,7 +68,7 @@ module _ {R E : Type 0} (source : Ghosts R E) where
       pub bodies : List (List ℕ)
       pub whole : text ≡ joined bodies
       pub few : length bodies ≤ most_segments limit
-      pub ends : GoesOn progress old bodies (Ok None) new
+      pub ends : AdvancesBehind progress old bodies (Ok None) new
 
   -- the header of a text came and waited again, and then this was done behind it
   pub record IsBehindHeader (Done : Decoder R → Decoder R → Type 0) (old new : Decoder R) : Type 0 where
@@ -88,13 +88,13 @@ module _ {R E : Type 0} (source : Ghosts R E) where
   -- `advance` failed behind bodies that were read
   pub record FailsAtTitle (progress : Progress) (old : Decoder R) (error : Error E) (new : Decoder R) : Type 0 where
     pub bodies : List (List ℕ)
-    pub fails : GoesOn progress old bodies (Err error) new
+    pub fails : AdvancesBehind progress old bodies (Err error) new
 
   -- a body was announced with which the text is longer than the limit, and nothing of it was read
   pub record MeetsLongBody (limit : ℕ) (progress : Progress) (old new : Decoder R) : Type 0 where
     pub bodies : List (List ℕ)
     pub body : Body
-    pub goes_on : GoesOn progress old bodies (Ok (Some body)) new
+    pub goes_on : AdvancesBehind progress old bodies (Ok (Some body)) new
     pub too_long : limit < length (joined bodies) + body.length
 
   -- more segments were read than the limit allows, and nothing behind the last one
@@ -117,21 +117,21 @@ module _ {R E : Type 0} (source : Ghosts R E) where
   BodyStops body old t.Memory new = LacksMemory body.length old new
 
   -- a body was announced, and was not read whole or not appended
-  pub record StopsInBody (progress : Progress) (old : Decoder R) (error : TextError E) (new : Decoder R) : Type 0 where
+  pub record StopsInSegment (progress : Progress) (old : Decoder R) (error : TextError E) (new : Decoder R) : Type 0 where
     pub bodies : List (List ℕ)
     pub body : Body
     pub titled : Decoder R
-    pub goes_on : GoesOn progress old bodies (Ok (Some body)) titled
+    pub goes_on : AdvancesBehind progress old bodies (Ok (Some body)) titled
     pub stops : BodyStops body titled error new
 
   -- why the segments of a text were not read whole (RFC 7049, 2.2.2)
   abbrev pub SegmentsStop : ℕ → Progress → Decoder R → TextError E → Decoder R → Type 0
   SegmentsStop limit progress old (t.Read error) new =
-      FailsAtTitle progress old error new ⊎ StopsInBody progress old (t.Read error) new
+      FailsAtTitle progress old error new ⊎ StopsInSegment progress old (t.Read error) new
   SegmentsStop limit progress old (t.NoText at) new = ⊥
   SegmentsStop limit progress old t.TooLong new =
       MeetsLongBody limit progress old new ⊎ MeetsTooMany limit progress old new
-  SegmentsStop limit progress old t.Memory new = StopsInBody progress old t.Memory new
+  SegmentsStop limit progress old t.Memory new = StopsInSegment progress old t.Memory new
 
   -- the header of a text came, and its segments were not read whole
   abbrev pub StopsInText : ℕ → Decoder R → TextError E → Decoder R → Type 0
