@@ -15,7 +15,7 @@ use Rattle.ciborium_ll_grammar.specs.Items.{Completes, byte_string, text_string,
 use Rattle.ciborium_ll_grammar.specs.Items.{open_array, open_pairs, AreItems, no_items, more_items, IsItem, IsTakenTitle}
 use Rattle.ciborium_ll_grammar.specs.Items.{AreTakenStrings}
 use Rattle.ciborium_ll_decoder.specs.Decoding.{Passes, PullsHeader, PullsTitle, IsSteady}
-use Rattle.ciborium_ll_strings.specs.Skipping.{IsTakenBehind, SkipsWhole}
+use Rattle.ciborium_ll_decoder.specs.Skipping.{IsTakenBehind, SkipsWhole}
 use Rattle.ciborium_ll_text.proofs.Lists.{same_front}
 use Rattle.ciborium_ll_grammar.proofs.TitleLaws.{IsTitle-shortest, title_in_range}
 use Rattle.ciborium_ll_grammar.proofs.StringLaws.{fronts}

@@ -21,7 +21,7 @@ use Rattle.ciborium_ll_grammar.specs.Items.{AreTakenStrings, IsTakenTitle}
 use Rattle.ciborium_ll_decoder.specs.Decoding.{view, next_read, Passes, PullsHeader, PullsTitle, IsSteady, RefusesTitle}
 use Rattle.ciborium_ll_decoder.specs.Decoding.{RefusesLonger}
 use Rattle.ciborium_ll_decoder.specs.Finishing.{EndsBody, RestFails, RestPasses, RestDamaged}
-use Rattle.ciborium_ll_strings.specs.Skipping.{SkipsString, SkipsInside, MeetsNoTitle, MeetsBody}
+use Rattle.ciborium_ll_decoder.specs.Skipping.{SkipsString, SkipsInside, MeetsNoTitle, MeetsBody}
 use Rattle.ciborium_ll_grammar.proofs.TitleLaws.{shortest_no_longer}
 use Rattle.ciborium_ll_text.proofs.TextLaws.{IsCharacters-nil}
 use Rattle.ciborium_ll_decoder.proofs.BodyLaws.{view_none}

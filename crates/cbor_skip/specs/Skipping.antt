@@ -8,7 +8,7 @@ use Rattle.ciborium_ll_decoder.specs.declared.dec.Error.{Error}
 use Rattle.ciborium_ll_grammar.specs.Strings.{Kind, kind_header}
 use Rattle.ciborium_ll_grammar.specs.Items.{Completes, AreItems, IsItem}
 use Rattle.ciborium_ll_decoder.specs.Decoding.{IsSteady, MovesOn, Passes, PullsHeader, PullsTitle}
-use Rattle.ciborium_ll_strings.specs.Skipping.{SkipsString}
+use Rattle.ciborium_ll_decoder.specs.Skipping.{SkipsString}
 use Rattle.cbor_skip.specs.declared.Begun.{Begun}
 use Rattle.cbor_skip.specs.declared.Begun.TheVariants as b
 use Rattle.cbor_skip.specs.declared.SkipError.{SkipError}

@@ -17,10 +17,10 @@ mod remaining;
 
 pub use self::remaining::Remaining;
 use ciborium_ll_decoder::dec::{Decoder, Error};
+use ciborium_ll_decoder::skip::{skip_bytes, skip_text};
 use ciborium_ll_decoder::title::pull_title;
 use ciborium_ll_grammar::hdr::{Header, Start};
 use ciborium_ll_io::io::Read;
-use ciborium_ll_strings::{skip_bytes, skip_text};
 
 /// Why no item was skipped.
 #[derive(Debug, Drop)]

@@ -23,4 +23,4 @@ pub use Rattle.ciborium_ll_decoder.proofs.BodyCopyLaws
 pub use Rattle.ciborium_ll_decoder.proofs.BodyLaws
 pub use Rattle.ciborium_ll_decoder.proofs.DecodingLaws
 pub use Rattle.ciborium_ll_decoder.proofs.NestLaws
-pub use Rattle.ciborium_ll_strings.proofs.SkipLaws
+pub use Rattle.ciborium_ll_decoder.proofs.SkipLaws

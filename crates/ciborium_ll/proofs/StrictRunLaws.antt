@@ -13,7 +13,7 @@ use Rattle.ciborium_ll_grammar.specs.StrictElements.{AreStrictElements, done, ne
 use Rattle.ciborium_ll_grammar.proofs.TitleLaws.{shortest_no_longer}
 use Rattle.ciborium_ll_grammar.proofs.TightLaws.{tight_run}
 use Rattle.ciborium_ll_grammar.proofs.ElementLaws.{spelling-append, open_spelled, element_again, one_element, one_run}
-use Rattle.ciborium_ll_strings.proofs.FlatStrings.{strict_title, flat}
+use Rattle.ciborium_ll_decoder.proofs.FlatStrings.{strict_title, flat}
 use Rattle.ciborium_ll_decoder.proofs.NestLaws.{alone_bytes, open_alone}
 use Rattle.ciborium_ll_grammar.proofs.SpelledLaws.{meant_append, open_meant, spelled_alone}
 use Rattle.ciborium_ll_grammar.proofs.FaultLaws.{meant_left, meant_right}

@@ -22,7 +22,7 @@ use Rattle.ciborium_ll_decoder.proofs.DecodingLaws.{Passes-none, Passes-pulled, 
 use Rattle.ciborium_ll_decoder.proofs.NestLaws.{FindsOnly, advance_definite, advance_opened, alone_bytes, nest_inside}
 use Rattle.ciborium_ll_decoder.proofs.BodyLaws.{sound_body}
 use Rattle.ciborium_ll_decoder.proofs.SegmentLaws.{some_open}
-use Rattle.ciborium_ll_strings.proofs.SkipLaws.{close_string}
+use Rattle.ciborium_ll_decoder.proofs.SkipLaws.{close_string}
 
 module _ {R E : Type 0} (source : Reader R E) (k : Kind) where
   -- the header waits in front of the first body

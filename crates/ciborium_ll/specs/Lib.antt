@@ -36,4 +36,4 @@ pub use Rattle.ciborium_ll_decoder.specs.Segments
 pub use Rattle.ciborium_ll_recode.specs.Recoding
 pub use Rattle.ciborium_ll_recode.specs.RecodingTold
 pub use Rattle.ciborium_ll_recode.specs.Sides
-pub use Rattle.ciborium_ll_strings.specs.Skipping
+pub use Rattle.ciborium_ll_decoder.specs.Skipping

@@ -17,12 +17,12 @@ pub use self::drains::{Drained, End, drain_bytes, drain_text, enough_sizes};
 pub use self::headers::{pull_again, same_header};
 pub use self::pieces::{Piece, copy_spelled, write_pieces};
 pub use self::strict::strict_run;
+pub use ciborium_ll_decoder::skip::{skip_bytes, skip_text};
 pub use ciborium_ll_grammar::laws::{
     cut_titles, fewest_segments, no_fault, one_element, one_fault, one_item, one_run, one_string,
     one_title, refused_first_bytes, run_or_fault, shortest_titles, spelled_run, title_header,
     title_length, written_values,
 };
-pub use ciborium_ll_strings::{skip_bytes, skip_text};
 pub use ciborium_ll_text::laws::{
     damage_by_state, full_cuts, joined_texts, no_rest_of_text, no_text_begins, one_front,
     rest_of_text, same_text, text_by_state, text_or_front,

@@ -4,9 +4,11 @@ pub mod BodyLaws
 pub mod ChunkLaws
 pub mod DecodingLaws
 pub mod FinishLaws
+pub mod FlatStrings
 pub mod LoanLaws
 pub mod NestLaws
 pub mod SegmentLaws
+pub mod SkipLaws
 pub mod StrictLaws
 pub mod ToldLaws
 pub mod WholeBodyLaws

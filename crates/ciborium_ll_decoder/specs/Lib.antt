@@ -7,3 +7,4 @@ pub mod Kept
 pub mod Lend
 pub mod Progress
 pub mod Segments
+pub mod Skipping

@@ -8,4 +8,5 @@ pub mod copy;
 pub mod dec;
 mod messages;
 pub mod seg;
+pub mod skip;
 pub mod title;

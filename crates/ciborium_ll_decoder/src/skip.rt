@@ -1,7 +1,4 @@
-//! Strings read to their end (RFC 7049, 2.1 and 2.2.2), over any reader.
-//!
-//! It is a part of `ciborium_ll`, whose module `laws` hands it on.
-#![tactic(auto)]
+//! Strings read to their end (RFC 7049, 2.1 and 2.2.2).
 
 ghost use Rattle.std.specs.Prelude.{◌≡◌, ◌≤◌, ℕ, Option, None, length};
 ghost use Rattle.ciborium_ll_decoder.specs.declared.dec.Decoder.{Decoder as AnyDecoder};
@@ -10,10 +7,10 @@ ghost use Rattle.ciborium_ll_grammar.specs.Title.{IsInRange, title_len};
 ghost use Rattle.ciborium_ll_grammar.specs.Strings.{Bytes as byte_strings, Text as text_strings, kind_header};
 ghost use Rattle.ciborium_ll_decoder.specs.Decoding.{MovesOn, TakesBack, offset_of, strict_of, waiting_of};
 ghost use Rattle.ciborium_ll_decoder.specs.Segments.{IsAtBeginning, string_decoder, string_reference, string_strict};
-ghost use Rattle.ciborium_ll_strings.specs.Skipping.{SkipsOver, SkipsString};
+ghost use Rattle.ciborium_ll_decoder.specs.Skipping.{SkipsOver, SkipsString};
 
-use ciborium_ll_decoder::dec::{Decoder, Error};
-use ciborium_ll_decoder::seg::{Bytes, Chunked, Segments, Text, finish_body};
+use crate::dec::{Decoder, Error};
+use crate::seg::{Bytes, Chunked, Segments, Text, finish_body};
 use ciborium_ll_io::io::Read;
 
 /// Reads a byte string to its end, behind its header with this length, which was just pulled.

@@ -1,8 +1,8 @@
 use Rattle.std.proofs.Common.{rules, sym, ◌≡◌, ◌∙◌, ◌<◌, ◌^◌, None, Err, length, arith}
 use Rattle.std.proofs.lemmas.Result.{err_from_is_err_and}
 use Rattle.ciborium_ll_decoder.proofs.DecodingLaws.{MovesOn-then}
-use Rattle.ciborium_ll_strings.proofs.SkipLaws.{skips_end, skips_error, skips_body, skips_stop, found_rises}
-use Rattle.ciborium_ll_strings.proofs.skip_segments.Goals as goal
+use Rattle.ciborium_ll_decoder.proofs.SkipLaws.{skips_end, skips_error, skips_body, skips_stop, found_rises}
+use Rattle.ciborium_ll_decoder.proofs.skip.skip_segments.Goals as goal
 
 pub returns-in_err-body-clause-skipped : goal.returns-in_err-body-clause-skipped
 returns-in_err-body-clause-skipped g c = λ opened len range settled back meant.

@@ -3,8 +3,8 @@ use Rattle.ciborium_ll_decoder.specs.declared.dec.Decoder.{Decoder}
 use Rattle.ciborium_ll_grammar.specs.Title.{IsInRange}
 use Rattle.ciborium_ll_grammar.specs.Strings.{kind_header}
 use Rattle.ciborium_ll_decoder.specs.Decoding.{MovesOn, TakesBack, waiting_of}
-use Rattle.ciborium_ll_strings.proofs.SkipLaws.{SkipsSoFar}
-use Rattle.ciborium_ll_strings.proofs.skip_segments.Given as goal
+use Rattle.ciborium_ll_decoder.proofs.SkipLaws.{SkipsSoFar}
+use Rattle.ciborium_ll_decoder.proofs.skip.skip_segments.Given as goal
 
 abbrev pub invariant-segments : goal.invariant-segments
 invariant-segments g l = record {

@@ -17,14 +17,14 @@ use Rattle.ciborium_ll_grammar.proofs.OpenStrings.{IsInsideAt, one_open, more_op
 use Rattle.ciborium_ll_decoder.specs.Decoding.{Passes, IsSteady, TakesBack}
 use Rattle.ciborium_ll_decoder.specs.Segments.{AdvancesFrom, AdvancesTo}
 use Rattle.ciborium_ll_decoder.specs.Finishing.{ReadsRest, BeginsRest, EndsBody}
-use Rattle.ciborium_ll_strings.specs.Skipping.{SkipsWhole, SkipsInside, MeetsBody, StopsInside, SkipsString}
+use Rattle.ciborium_ll_decoder.specs.Skipping.{SkipsWhole, SkipsInside, MeetsBody, StopsInside, SkipsString}
 use Rattle.ciborium_ll_grammar.specs.Elements.{spelling, pieces}
 use Rattle.ciborium_ll_grammar.specs.Items.{AreTakenStrings}
 use Rattle.ciborium_ll_grammar.specs.StrictElements.{AreFlat}
 use Rattle.ciborium_ll_grammar.proofs.ElementLaws.{respell_all}
 use Rattle.ciborium_ll_grammar.proofs.TitleLaws.{IsTitle-shortest}
 use Rattle.ciborium_ll_grammar.proofs.StepLaws.{counted, never}
-use Rattle.ciborium_ll_strings.proofs.FlatStrings.{flat}
+use Rattle.ciborium_ll_decoder.proofs.FlatStrings.{flat}
 use Rattle.ciborium_ll_decoder.proofs.BodyLaws.{sound_body}
 use Rattle.ciborium_ll_decoder.proofs.DecodingLaws.{Passes-none, Passes-then, Passes-pulled, passes_same}
 use Rattle.ciborium_ll_decoder.proofs.NestLaws.{alone_bytes, open_length, title_some, advance_definite, FindsOnly}

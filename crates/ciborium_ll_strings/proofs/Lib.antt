@@ -1,2 +1,0 @@
-pub mod FlatStrings
-pub mod SkipLaws
