@@ -83,9 +83,7 @@ where
             Ok(header) => header,
             Err(error) => return ended(&taken, error, place, level, rows),
         };
-        if let Err(error) = title(decoder, &mut walk, header, &taken, strict, place, rows) {
-            return Err(error);
-        }
+        title(decoder, &mut walk, header, &taken, strict, place, rows)?;
     }
 }
 
@@ -209,9 +207,7 @@ fn value<E, S: Rows>(
         header walk.new place result }
 {
     let level = walk.level();
-    if let Err(error) = shown(taken, Meaning::Header(header), place, level, rows) {
-        return Err(error);
-    }
+    shown(taken, Meaning::Header(header), place, level, rows)?;
     walk.item_done();
     Ok(())
 }
@@ -232,9 +228,7 @@ fn break_title<E, S: Rows>(
     let closed = walk.close();
     let level = walk.level();
     let meaning = Meaning::Header(Header::Break);
-    if let Err(error) = shown(taken, meaning, place, level, rows) {
-        return Err(error);
-    }
+    shown(taken, meaning, place, level, rows)?;
     if !closed {
         return Err(DumpError::Item(SkipError::Break(place)));
     }
@@ -258,9 +252,7 @@ fn nest<E, S: Rows>(
         header walk.new place result }
 {
     let level = walk.level();
-    if let Err(error) = shown(taken, Meaning::Header(header), place, level, rows) {
-        return Err(error);
-    }
+    shown(taken, Meaning::Header(header), place, level, rows)?;
     match walk.enter(header) {
         Entered::Deep => Err(DumpError::Item(SkipError::Deep(place))),
         Entered::Within => Ok(()),
@@ -295,12 +287,8 @@ where
 {
     let header = kind.header(len);
     let level = walk.level();
-    if let Err(error) = shown(taken, Meaning::Header(header), place, level, rows) {
-        return Err(error);
-    }
-    if let Err(error) = rest(decoder, kind, len, strict, level, rows) {
-        return Err(error);
-    }
+    shown(taken, Meaning::Header(header), place, level, rows)?;
+    rest(decoder, kind, len, strict, level, rows)?;
     walk.item_done();
     Ok(())
 }

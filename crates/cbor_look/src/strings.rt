@@ -73,9 +73,7 @@ where
         if let Err(error) = read_part(&mut taken, decoder, kind, left, place) {
             return Err(fault(&taken, error, offset, level, rows));
         }
-        if let Err(error) = shown(&taken, kind.meaning(), offset, level, rows) {
-            return Err(error);
-        }
+        shown(&taken, kind.meaning(), offset, level, rows)?;
         left -= taken.len();
     }
     Ok(())
@@ -170,25 +168,17 @@ where
         match part_of(header, kind, strict) {
             Part::Break => {
                 inner -= 1;
-                if let Err(error) = shown(&taken, meaning, place, inner, rows) {
-                    return Err(error);
-                }
+                shown(&taken, meaning, place, inner, rows)?;
                 if inner == level {
                     return Ok(());
                 }
             }
             Part::Piece(len) => {
-                if let Err(error) = shown(&taken, meaning, place, inner, rows) {
-                    return Err(error);
-                }
-                if let Err(error) = body(decoder, kind, len, place, inner + 1, rows) {
-                    return Err(error);
-                }
+                shown(&taken, meaning, place, inner, rows)?;
+                body(decoder, kind, len, place, inner + 1, rows)?;
             }
             Part::Open => {
-                if let Err(error) = shown(&taken, meaning, place, inner, rows) {
-                    return Err(error);
-                }
+                shown(&taken, meaning, place, inner, rows)?;
                 inner += 1;
             }
             Part::Other => return Err(fault(&taken, Error::Syntax(place), place, inner, rows)),

@@ -3,26 +3,29 @@ use Rattle.ciborium_ll.specs.Types.Header.TheVariants as h
 use Rattle.cbor_look.specs.Takings.{taken_bytes}
 use Rattle.cbor_look.specs.Walks.{IsBehindItem}
 use Rattle.cbor_look.proofs.TitleLaws.{break_line, break_bytes}
-use Rattle.cbor_look.proofs.StopLaws.{refused_alone}
+use Rattle.cbor_look.proofs.StopLaws.{exit_is, refused_alone}
 use Rattle.cbor_look.proofs.dump.break_title.Goals as goal
 
-pub returns-in-Err : goal.returns-in-Err
-returns-in-Err g c = record {
+pub returns-in_err-shown : goal.returns-in_err-shown
+returns-in_err-shown g c =
+    let error = c.in_err-shown.field-0.0 in
+    let same = exit_is c.from_residual.result error c.from_residual.ensures.1 in
+    rw same (record {
   draws = λ strict depth whole start before due p at all. record {
     lines = break_line strict depth whole start _ _ before _ c.level-level.result c.args.place c.close-closed.result
         c.close-closed.new.self (c.close-closed.ensures strict depth whole before due) p c.level-level.ensures.value at
-        (c.in-Err.ensures.draws all);
+        (c.in_err-shown.ensures.draws all);
     due = tt;
-    stops = refused_alone strict depth whole h.Break c.args.place before c.in-Err.error c.in-Err.ensures.refusal;
+    stops = refused_alone strict depth whole h.Break c.args.place before error c.in_err-shown.ensures.refusal;
   };
-}
+})
 
 pub returns-then-not-closed : goal.returns-then-not-closed
 returns-then-not-closed g c = record {
   draws = λ strict depth whole start before due p at all. record {
     lines = break_line strict depth whole start _ _ before _ c.level-level.result c.args.place c.close-closed.result
         c.close-closed.new.self (c.close-closed.ensures strict depth whole before due) p c.level-level.ensures.value at
-        ((rw c.in_default.is at c.shown.ensures.draws) tt);
+        (c.in_ok-shown.ensures.draws tt);
     due = tt;
     stops =
         let breaks = c.close-closed.ensures strict depth whole before due in (
@@ -41,7 +44,7 @@ returns g c = record {
       record {
         lines = break_line strict depth whole start _ _ before _ c.level-level.result c.args.place c.close-closed.result
             c.close-closed.new.self breaks p c.level-level.ensures.value at
-            ((rw c.in_default.is at c.shown.ensures.draws) tt);
+            (c.in_ok-shown.ensures.draws tt);
         due = c.item_done.ensures strict depth whole _
             (subst (λ (z : List ℕ). IsBehindItem strict depth whole c.close-closed.new.self (before ++ z))
             (sym (break_bytes title p)) (breaks.behind c.if-not-closed.false));

@@ -11,6 +11,7 @@ use Rattle.cbor_look.proofs.PullLaws.{passes_alike}
 use Rattle.cbor_look.proofs.CheckLaws.{comes_first, comes_next, comes_alike, comes_end, comes_title, answers_told}
 use Rattle.cbor_look.proofs.CheckLaws.{answers_exactly}
 use Rattle.cbor_look.proofs.TitleLaws.{nests_few, up_ended, up_title}
+use Rattle.cbor_look.proofs.StopLaws.{exit_is}
 use Rattle.cbor_look.proofs.dump.dump.Goals as goal
 
 pub titles-init : goal.titles-init
@@ -68,9 +69,11 @@ title-requires g c =
     let some = title_some row c.in-Ok.header titled in
     record { behind = omega (arith, moved, begun, used, few, some) }
 
-pub returns-in-Err-title : goal.returns-in-Err-title
-returns-in-Err-title g c =
-    let row = taken_bytes c.read_title.new.self in
+pub returns-in_err-title : goal.returns-in_err-title
+returns-in_err-title g c =
+    let error = c.in_err-title.field-0.0 in
+    let same = exit_is c.from_residual.result error c.from_residual.ensures.1 in
+    rw same (let row = taken_bytes c.read_title.new.self in
     let keeps = rw c.offset-place.ensures.same at c.read_title.ensures.keeps in
     let takes = taken_all g.R.Read _ row _ _ c.new-taken.ensures keeps in
     let moved = takes.offset in
@@ -80,24 +83,24 @@ returns-in-Err-title g c =
     let titled : IsTitle row c.in-Ok.header = rw c.in-Ok.is at c.read_title.ensures.title in
     let taken : IsTakenTitle c.args.strict row c.in-Ok.header = rw c.in-Ok.is at c.read_title.ensures.taken in
     let some = title_some row c.in-Ok.header titled in
-    let reads : IsAlike c.args.strict c.args.decoder.now → IsTaken c.in-Err-title.error
-    → ReadsAsCheck g.R.Read c.args.depth most_bytes c.args.decoder.now (Err c.in-Err-title.error)
+    let reads : IsAlike c.args.strict c.args.decoder.now → IsTaken error
+    → ReadsAsCheck g.R.Read c.args.depth most_bytes c.args.decoder.now (Err error)
     c.title.new.decoder = λ alike all.
     let come = up.came alike in
     let here = comes_alike g.R.Read c.args.strict c.args.depth c.titles.walk _ _ come in
     let went = (rw (c.offset-place.ensures.same, c.in-Ok.is) at c.read_title.ensures.passes) here.none_waits in
     let pulls = (rw (c.offset-place.ensures.same, c.in-Ok.is) at c.read_title.ensures.pulls) here place in
     let at = come.passed.offset in
-    let title = c.in-Err-title.ensures.shows c.args.depth 0 come.between.offset come.bytes come.due titled taken
+    let title = c.in_err-title.ensures.shows c.args.depth 0 come.between.offset come.bytes come.due titled taken
     (omega (arith, place, at)) (omega (arith, place, moved)) all in
     let behind = title.shows.takes.offset in
-    comes_title g.R.Read c.args.strict c.args.depth c.titles.walk _ _ come c.in-Err-title.error c.in-Ok.header
+    comes_title g.R.Read c.args.strict c.args.depth c.titles.walk _ _ come error c.in-Ok.header
     c.offset-place.result _ _ pulls.0 pulls.1 place (omega (arith, behind)) (omega (arith, moved, some))
     (title.stops (passes_alike g.R.Read c.args.strict _ _ row went here)) all
     in
     record {
       shows = λ all.
-          let title = c.in-Err-title.ensures.shows c.args.depth up.whole c.args.decoder.now.offset up.bytes up.due
+          let title = c.in_err-title.ensures.shows c.args.depth up.whole c.args.decoder.now.offset up.bytes up.due
           titled taken (omega (arith, place, begun)) (omega (arith, place, moved)) all in
           record {
             bytes = up.bytes ++ (row ++ title.bytes);
@@ -107,10 +110,10 @@ returns-in-Err-title g c =
           };
       reads = reads;
       told = λ due alike ready all. answers_told g.R.Read c.args.depth c.args.decoder.now due ready
-          (Err c.in-Err-title.error) _ (reads alike all);
+          (Err error) _ (reads alike all);
       exactly = λ due alike ready all. answers_exactly g.R.Read c.args.depth c.args.decoder.now due ready
-          (Err c.in-Err-title.error) _ (reads alike all);
-    }
+          (Err error) _ (reads alike all);
+    })
 
 pub titles-smaller : goal.titles-smaller
 titles-smaller g c =
@@ -124,7 +127,7 @@ titles-smaller g c =
     let titled : IsTitle row c.in-Ok.header = rw c.in-Ok.is at c.read_title.ensures.title in
     let taken : IsTakenTitle c.args.strict row c.in-Ok.header = rw c.in-Ok.is at c.read_title.ensures.taken in
     let some = title_some row c.in-Ok.header titled in
-    let title = (rw c.in_default.is at c.title.ensures.shows) c.args.depth up.whole c.args.decoder.now.offset up.bytes
+    let title = c.in_ok-title.ensures.shows c.args.depth up.whole c.args.decoder.now.offset up.bytes
     up.due titled taken (omega (arith, place, begun)) (omega (arith, place, moved)) tt in
     let behind = title.shows.takes.offset in
     omega (arith, moved, some, behind)
@@ -140,7 +143,7 @@ titles-preserved g c =
     let place = c.offset-place.ensures.value in
     let titled : IsTitle row c.in-Ok.header = rw c.in-Ok.is at c.read_title.ensures.title in
     let taken : IsTakenTitle c.args.strict row c.in-Ok.header = rw c.in-Ok.is at c.read_title.ensures.taken in
-    let title = (rw c.in_default.is at c.title.ensures.shows) c.args.depth up.whole c.args.decoder.now.offset up.bytes
+    let title = c.in_ok-title.ensures.shows c.args.depth up.whole c.args.decoder.now.offset up.bytes
     up.due titled taken (omega (arith, place, begun)) (omega (arith, place, moved)) tt in
     record {
       bytes = up.bytes ++ (row ++ title.bytes);
@@ -153,7 +156,7 @@ titles-preserved g c =
           let here = comes_alike g.R.Read c.args.strict c.args.depth c.titles.walk _ _ come in
           let went = (rw (c.offset-place.ensures.same, c.in-Ok.is) at c.read_title.ensures.passes) here.none_waits in
           let at = come.passed.offset in
-          let next = (rw c.in_default.is at c.title.ensures.shows) c.args.depth 0 come.between.offset come.bytes
+          let next = c.in_ok-title.ensures.shows c.args.depth 0 come.between.offset come.bytes
           come.due titled taken (omega (arith, place, at)) (omega (arith, place, moved)) tt in
           comes_next g.R.Read c.args.strict c.args.depth c.titles.walk _ _ _ _ _ come row next.bytes went
           (next.passed (passes_alike g.R.Read c.args.strict _ _ row went here)) next.due;

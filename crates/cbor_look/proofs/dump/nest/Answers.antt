@@ -1,20 +1,23 @@
 use Rattle.std.proofs.Common.{refl}
 use Rattle.cbor_look.proofs.TitleLaws.{walk_line, nest_level}
-use Rattle.cbor_look.proofs.StopLaws.{refused_alone}
+use Rattle.cbor_look.proofs.StopLaws.{exit_is, refused_alone}
 use Rattle.cbor_look.proofs.dump.nest.Goals as goal
 
-pub returns-in-Err : goal.returns-in-Err
-returns-in-Err g c = record {
+pub returns-in_err-shown : goal.returns-in_err-shown
+returns-in_err-shown g c =
+    let error = c.in_err-shown.field-0.0 in
+    let same = exit_is c.from_residual.result error c.from_residual.ensures.1 in
+    rw same (record {
   draws = λ strict depth whole start before due p taken at all. record {
     lines = walk_line strict depth whole start _ _ before _ c.args.header c.level-level.result c.args.place
         c.args.walk.now
         due p
-        (nest_level c.args.header due.nests 0 c.requires.nest) c.level-level.ensures.value at (c.in-Err.ensures.draws
+        (nest_level c.args.header due.nests 0 c.requires.nest) c.level-level.ensures.value at (c.in_err-shown.ensures.draws
         all);
     due = tt;
-    stops = refused_alone strict depth whole c.args.header c.args.place before c.in-Err.error c.in-Err.ensures.refusal;
+    stops = refused_alone strict depth whole c.args.header c.args.place before error c.in_err-shown.ensures.refusal;
   };
-}
+})
 
 pub returns-in-Deep : goal.returns-in-Deep
 returns-in-Deep g c = record {
@@ -23,7 +26,7 @@ returns-in-Deep g c = record {
         c.args.walk.now
         due p
         (nest_level c.args.header due.nests 0 c.requires.nest) c.level-level.ensures.value at
-        ((rw c.in_default.is at c.shown.ensures.draws) tt);
+        (c.in_ok-shown.ensures.draws tt);
     due = tt;
     stops = (c.in-Deep.ensures strict depth whole before _ due p taken, c.requires.nest, refl);
   };
@@ -36,7 +39,7 @@ returns-in-Within g c = record {
         c.args.walk.now
         due p
         (nest_level c.args.header due.nests 0 c.requires.nest) c.level-level.ensures.value at
-        ((rw c.in_default.is at c.shown.ensures.draws) tt);
+        (c.in_ok-shown.ensures.draws tt);
     due = c.in-Within.ensures strict depth whole before _ due p taken;
     stops = tt;
   };
@@ -49,7 +52,7 @@ returns-in-Empty g c = record {
         c.args.walk.now
         due p
         (nest_level c.args.header due.nests 0 c.requires.nest) c.level-level.ensures.value at
-        ((rw c.in_default.is at c.shown.ensures.draws) tt);
+        (c.in_ok-shown.ensures.draws tt);
     due = c.item_done.ensures strict depth whole _ (c.in-Empty.ensures strict depth whole before _ due p taken);
     stops = tt;
   };

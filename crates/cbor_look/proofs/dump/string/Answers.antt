@@ -3,16 +3,19 @@ use Rattle.cbor_look.specs.Takings.{taken_bytes}
 use Rattle.cbor_look.specs.StringRows.{kind_of}
 use Rattle.ciborium_ll.specs.Strings.{kind_header}
 use Rattle.cbor_look.proofs.TitleLaws.{walk_line, string_level, title_only, title_then, behind_item, string_item}
-use Rattle.cbor_look.proofs.StopLaws.{refused_title, rest_stops}
+use Rattle.cbor_look.proofs.StopLaws.{exit_is, refused_title, rest_stops}
 use Rattle.cbor_look.proofs.WalkLaws.{stands_any}
 use Rattle.cbor_look.proofs.dump.string.Goals as goal
 
-pub returns-in-Err : goal.returns-in-Err
-returns-in-Err g c = record {
+pub returns-in_err-shown : goal.returns-in_err-shown
+returns-in_err-shown g c =
+    let error = c.in_err-shown.field-0.0 in
+    let same = exit_is c.from_residual.result error c.from_residual.ensures.1 in
+    rw same (record {
   shows = λ depth whole start before due p taken place offset all.
       let row = taken_bytes c.args.taken.now in
       let k = kind_of c.args.kind in
-      let drawn = rw c.header-header.ensures at (c.in-Err.ensures.draws all) in
+      let drawn = rw c.header-header.ensures at (c.in_err-shown.ensures.draws all) in
       record {
         bytes = [];
         shows = title_only g.R.Read depth start _ _ before row _
@@ -21,26 +24,29 @@ returns-in-Err g c = record {
             c.args.walk.now due p (string_level k c.args.len due.nests 0) c.level-level.ensures.value place drawn);
         due = tt;
         passed = λ alike. tt;
-        stops = λ alike. refused_title g.R.Read c.args.strict depth whole _ c.args.place before _ _ c.in-Err.error
-            c.in-Err.ensures.refusal;
+        stops = λ alike. refused_title g.R.Read c.args.strict depth whole _ c.args.place before _ _ error
+            c.in_err-shown.ensures.refusal;
       };
-}
+})
 
 pub rest-requires-clause-behind : goal.rest-requires-clause-behind
 rest-requires-clause-behind g c =
     let value = c.level-level.ensures.value in let behind = c.requires.behind in omega (arith, value, behind)
 
-pub returns-in-Err-rest : goal.returns-in-Err-rest
-returns-in-Err-rest g c = record {
+pub returns-in_err-rest : goal.returns-in_err-rest
+returns-in_err-rest g c =
+    let error = c.in_err-rest.field-0.0 in
+    let same = exit_is c.from_residual-in_err-rest.result error c.from_residual-in_err-rest.ensures.1 in
+    rw same (record {
   shows = λ depth whole start before due p taken place offset all.
       let row = taken_bytes c.args.taken.now in
       let k = kind_of c.args.kind in
-      let drawn = rw c.header-header.ensures at ((rw c.in_default.is at c.shown.ensures.draws) tt) in
+      let drawn = rw c.header-header.ensures at (c.in_ok-shown.ensures.draws tt) in
       let used = due.keeps.used in
       let line = walk_line c.args.strict depth whole start _ _ before row
       (kind_header k c.args.len) c.level-level.result c.args.place
       c.args.walk.now due p (string_level k c.args.len due.nests 0) c.level-level.ensures.value place drawn in
-      let rest = c.in-Err-rest.ensures.shows depth start due.nests before row
+      let rest = c.in_err-rest.ensures.shows depth start due.nests before row
       (whole, stands_any c.args.strict depth whole due.nests before due.within) p
       (c.level-level.ensures.value ∙ used) (omega (arith, place, offset, length-append before row)) all in
       record {
@@ -49,21 +55,21 @@ returns-in-Err-rest g c = record {
         due = tt;
         passed = λ alike. tt;
         stops = λ alike. rest_stops g.R.Read c.args.strict depth whole k c.args.len c.args.place before _ _
-            c.in-Err-rest.error (record { nests = due.nests; within = due.within; is = refl }) (rest.stops alike);
+            error (record { nests = due.nests; within = due.within; is = refl }) (rest.stops alike);
       };
-}
+})
 
 pub returns : goal.returns
 returns g c = record {
   shows = λ depth whole start before due p taken place offset all.
       let row = taken_bytes c.args.taken.now in
       let k = kind_of c.args.kind in
-      let drawn = rw c.header-header.ensures at ((rw c.in_default.is at c.shown.ensures.draws) tt) in
+      let drawn = rw c.header-header.ensures at (c.in_ok-shown.ensures.draws tt) in
       let used = due.keeps.used in
       let line = walk_line c.args.strict depth whole start _ _ before row
       (kind_header k c.args.len) c.level-level.result c.args.place
       c.args.walk.now due p (string_level k c.args.len due.nests 0) c.level-level.ensures.value place drawn in
-      let rest = (rw c.in_default-rest.is at c.rest.ensures.shows) depth start due.nests before row
+      let rest = c.in_ok-rest.ensures.shows depth start due.nests before row
       (whole, stands_any c.args.strict depth whole due.nests before due.within) p
       (c.level-level.ensures.value ∙ used) (omega (arith, place, offset, length-append before row)) tt in
       record {

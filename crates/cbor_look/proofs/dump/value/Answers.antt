@@ -1,21 +1,24 @@
 use Rattle.std.proofs.Common.{arith}
 use Rattle.cbor_look.specs.Takings.{taken_bytes}
 use Rattle.cbor_look.proofs.TitleLaws.{walk_line, value_level, value_item, behind_item}
-use Rattle.cbor_look.proofs.StopLaws.{refused_alone}
+use Rattle.cbor_look.proofs.StopLaws.{exit_is, refused_alone}
 use Rattle.cbor_look.proofs.dump.value.Goals as goal
 
-pub returns-in-Err : goal.returns-in-Err
-returns-in-Err g c = record {
+pub returns-in_err-shown : goal.returns-in_err-shown
+returns-in_err-shown g c =
+    let error = c.in_err-shown.field-0.0 in
+    let same = exit_is c.from_residual.result error c.from_residual.ensures.1 in
+    rw same (record {
   draws = λ strict depth whole start before due p taken at all. record {
     lines = walk_line strict depth whole start _ _ before _ c.args.header c.level-level.result c.args.place
         c.args.walk.now
         due p
         (value_level c.args.header due.nests 0 c.requires.value) c.level-level.ensures.value at
-        (c.in-Err.ensures.draws all);
+        (c.in_err-shown.ensures.draws all);
     due = tt;
-    stops = refused_alone strict depth whole c.args.header c.args.place before c.in-Err.error c.in-Err.ensures.refusal;
+    stops = refused_alone strict depth whole c.args.header c.args.place before error c.in_err-shown.ensures.refusal;
   };
-}
+})
 
 pub returns : goal.returns
 returns g c = record {
@@ -24,7 +27,7 @@ returns g c = record {
         c.args.walk.now
         due p
         (value_level c.args.header due.nests 0 c.requires.value) c.level-level.ensures.value at
-        ((rw c.in_default.is at c.shown.ensures.draws) tt);
+        (c.in_ok-shown.ensures.draws tt);
     due = c.item_done.ensures strict depth whole _ (behind_item strict depth whole c.args.walk.now before (taken_bytes
         c.args.taken.now) due
         (omega arith) (value_item strict c.args.header (taken_bytes c.args.taken.now) c.requires.value p taken));

@@ -6,6 +6,7 @@ use Rattle.ciborium_ll.proofs.DecodingLaws.{Passes-none}
 use Rattle.cbor_look.proofs.StringLaws.{taken_all, part_fails, part_shown, writable_none, body_stops, refusal_stops}
 use Rattle.cbor_look.proofs.PullLaws.{passes_idle}
 use Rattle.cbor_look.proofs.PartLaws.{part_behind}
+use Rattle.cbor_look.proofs.StopLaws.{exit_is}
 use Rattle.cbor_look.proofs.strings.body.Goals as goal
 
 pub rows-init : goal.rows-init
@@ -51,8 +52,11 @@ returns-in-Err g c = record {
       omega (arith, moved, so_far);
 }
 
-pub returns-in-Err-shown : goal.returns-in-Err-shown
-returns-in-Err-shown g c = record {
+pub returns-in_err-shown : goal.returns-in_err-shown
+returns-in_err-shown g c =
+    let error = c.in_err-shown.field-0.0 in
+    let same = exit_is c.from_residual.result error c.from_residual.ensures.1 in
+    rw same (record {
   shows = λ depth start opens nests outer title strict due p level at all.
       let so_far = c.rows.invariant.so_far depth start opens nests outer title due p level at in
       let row = taken_bytes c.read_part.new.taken in
@@ -64,21 +68,21 @@ returns-in-Err-shown g c = record {
       c.args.level
       c.offset-offset.result _ _ _ row _ _ _ (record { due = due; is_title = p; below = level }) at so_far takes
       c.read_part.ensures.most c.offset-offset.ensures.value ok went
-      (rw c.meaning.ensures at (c.in-Err-shown.ensures.draws all)) in
+      (rw c.meaning.ensures at (c.in_err-shown.ensures.draws all)) in
       record {
         bytes = shown.front;
         shows = shown.shows;
         whole = tt;
         passed = λ alike. tt;
         stops = λ alike. refusal_stops g.R.Read (kind_of c.args.kind) (Some c.args.len) c.args.place _ _
-            c.in-Err-shown.error c.in-Err-shown.ensures.refusal;
+            error c.in_err-shown.ensures.refusal;
       };
   rises =
       let keeps = rw c.offset-offset.ensures.same at c.read_part.ensures.keeps in
       let moved = keeps.takes.offset in
       let so_far = c.rows.invariant.rises in
       omega (arith, moved, so_far);
-}
+})
 
 pub rows-preserved : goal.rows-preserved
 rows-preserved g c = record {
@@ -93,7 +97,7 @@ rows-preserved g c = record {
       c.args.level
       c.offset-offset.result _ _ _ row _ _ _ (record { due = due; is_title = p; below = level }) at so_far takes
       c.read_part.ensures.most c.offset-offset.ensures.value ok went
-      (rw c.meaning.ensures at ((rw c.in_default-shown.is at c.shown.ensures.draws) tt)) in
+      (rw c.meaning.ensures at (c.in_ok-shown.ensures.draws tt)) in
       rw c.len-left.ensures.value shown;
   rises =
       let keeps = rw c.offset-offset.ensures.same at c.read_part.ensures.keeps in

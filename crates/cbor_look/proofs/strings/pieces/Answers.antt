@@ -13,6 +13,7 @@ use Rattle.cbor_look.proofs.PieceLaws.{alike_here, passed_row, within_no_title, 
 use Rattle.cbor_look.proofs.PieceLaws.{within_first, within_fails, within_open, within_break, within_ends, within_title}
 use Rattle.cbor_look.proofs.PieceLaws.{within_piece, within_whole, piece_due, piece_offset}
 use Rattle.cbor_look.proofs.TitleLaws.{string_level}
+use Rattle.cbor_look.proofs.StopLaws.{exit_is}
 use Rattle.cbor_look.proofs.strings.pieces.Goals as goal
 
 pub parts-init : goal.parts-init
@@ -78,8 +79,11 @@ returns-in-Other g c = record {
       };
 }
 
-pub returns-in-Err-shown : goal.returns-in-Err-shown
-returns-in-Err-shown g c = record {
+pub returns-in_err-shown-in-Break : goal.returns-in_err-shown-in-Break
+returns-in_err-shown-in-Break g c =
+    let error = c.in_err-shown-in-Break.field-0.0 in
+    let same = exit_is c.from_residual.result error c.from_residual.ensures.1 in
+    rw same (record {
   shows = λ depth start nests items title stands p level at all.
       let so_far = c.parts.invariant.within depth start nests items title stands p level at in
       let row = taken_bytes c.read_title.new.self in
@@ -95,13 +99,13 @@ returns-in-Err-shown g c = record {
         shows = within_title g.R.Read c.args.strict depth start _ _ nests items title
             (kind_of c.args.kind) c.parts.inner _ _ stands
             so_far at _ row _ c.offset-place.result (c.parts.inner - 1) _ takes place title_row
-            (ap (λ (n : ℕ). n - 1) inner) (rw is at (c.in-Err-shown.ensures.draws all));
+            (ap (λ (n : ℕ). n - 1) inner) (rw is at (c.in_err-shown-in-Break.ensures.draws all));
         whole = tt;
         passed = λ alike. tt;
-        stops = λ alike. refusal_stops g.R.Read (kind_of c.args.kind) None 0 _ _ c.in-Err-shown.error
-            c.in-Err-shown.ensures.refusal;
+        stops = λ alike. refusal_stops g.R.Read (kind_of c.args.kind) None 0 _ _ error
+            c.in_err-shown-in-Break.ensures.refusal;
       };
-}
+})
 
 pub returns-then-inner-level : goal.returns-then-inner-level
 returns-then-inner-level g c = record {
@@ -117,7 +121,7 @@ returns-then-inner-level g c = record {
       let ends = within_ends g.R.Read c.args.strict depth start _ _ nests items title
       (kind_of c.args.kind) c.parts.inner _ _ stands
       so_far at _ row c.offset-place.result _ p takes place title_row
-      (c.if-inner-level.true ∙ level) (rw is at ((rw c.in_default.is at c.shown.ensures.draws) tt)) in
+      (c.if-inner-level.true ∙ level) (rw is at (c.in_ok-shown-in-Break.ensures.draws tt)) in
       let went = rw (c.offset-place.ensures.same, c.in-Ok.is) at c.read_title.ensures.passes in
       record {
         bytes = so_far.bytes ++ row;
@@ -145,7 +149,7 @@ parts-preserved-else-inner-level g c = record {
       within_break g.R.Read c.args.strict depth start _ _ nests items title
       (kind_of c.args.kind) c.parts.inner _ _ stands so_far at
       _ row c.offset-place.result _ takes went place title_row
-      (λ e. c.if-inner-level.false (e ∙ sym level)) (rw is at ((rw c.in_default.is at c.shown.ensures.draws) tt));
+      (λ e. c.if-inner-level.false (e ∙ sym level)) (rw is at (c.in_ok-shown-in-Break.ensures.draws tt));
   above =
       let inner = c.parts.invariant.above in
       let other : c.parts.inner - 1 ≡ c.args.level → ⊥ = c.if-inner-level.false in
@@ -161,8 +165,11 @@ parts-preserved-else-inner-level g c = record {
       omega (arith, inner, moved);
 }
 
-pub returns-in-Err-shown-2 : goal.returns-in-Err-shown-2
-returns-in-Err-shown-2 g c = record {
+pub returns-in_err-shown-in-Piece : goal.returns-in_err-shown-in-Piece
+returns-in_err-shown-in-Piece g c =
+    let error = c.in_err-shown-in-Piece.field-0.0 in
+    let same = exit_is c.from_residual-in_err-shown-in-Piece.result error c.from_residual-in_err-shown-in-Piece.ensures.1 in
+    rw same (record {
   shows = λ depth start nests items title stands p level at all.
       let so_far = c.parts.invariant.within depth start nests items title stands p level at in
       let row = taken_bytes c.read_title.new.self in
@@ -179,16 +186,19 @@ returns-in-Err-shown-2 g c = record {
             (kind_of c.args.kind) c.parts.inner _ _ stands
             so_far at _ row _ c.offset-place.result c.parts.inner _ takes place title_row
             (inner ∙ sym (string_level (kind_of c.args.kind) (Some c.in-Piece.len) nests (suc so_far.opens)))
-            (rw is at (c.in-Err-shown-2.ensures.draws all));
+            (rw is at (c.in_err-shown-in-Piece.ensures.draws all));
         whole = tt;
         passed = λ alike. tt;
-        stops = λ alike. refusal_stops g.R.Read (kind_of c.args.kind) None 0 _ _ c.in-Err-shown-2.error
-            c.in-Err-shown-2.ensures.refusal;
+        stops = λ alike. refusal_stops g.R.Read (kind_of c.args.kind) None 0 _ _ error
+            c.in_err-shown-in-Piece.ensures.refusal;
       };
-}
+})
 
-pub returns-in-Err-body : goal.returns-in-Err-body
-returns-in-Err-body g c = record {
+pub returns-in_err-body-in-Piece : goal.returns-in_err-body-in-Piece
+returns-in_err-body-in-Piece g c =
+    let error = c.in_err-body-in-Piece.field-0.0 in
+    let same = exit_is c.from_residual-in_err-body-in-Piece.result error c.from_residual-in_err-body-in-Piece.ensures.1 in
+    rw same (record {
   shows = λ depth start nests items title stands p level at all.
       let so_far = c.parts.invariant.within depth start nests items title stands p level at in
       let row = taken_bytes c.read_title.new.self in
@@ -202,7 +212,7 @@ returns-in-Err-body g c = record {
       let due = piece_due g.R.Read c.args.strict depth start _ _ nests items title
       (kind_of c.args.kind) c.parts.inner _ _ stands
       so_far at in
-      let rest = c.in-Err-body.ensures.shows depth start (suc so_far.opens) nests (items ++ so_far.parts) row
+      let rest = c.in_err-body-in-Piece.ensures.shows depth start (suc so_far.opens) nests (items ++ so_far.parts) row
       c.args.strict due
       title_row (omega (arith, inner)) (piece_offset g.R.Read c.args.strict depth start _ _ nests items title
       (kind_of c.args.kind)
@@ -212,7 +222,7 @@ returns-in-Err-body g c = record {
         shows = within_piece g.R.Read c.args.strict depth start _ _ nests items title
             (kind_of c.args.kind) c.parts.inner _ _ stands
             so_far at _ _ row rest.bytes c.in-Piece.len c.offset-place.result _ _ takes place
-            title_row (rw is at ((rw c.in_default-shown.is at c.shown-in-Piece.ensures.draws) tt)) rest.shows;
+            title_row (rw is at (c.in_ok-shown-in-Piece.ensures.draws tt)) rest.shows;
         whole = tt;
         passed = λ alike. tt;
         stops = λ alike.
@@ -226,13 +236,13 @@ returns-in-Err-body g c = record {
             within_body g.R.Read c.args.strict depth start _ _ nests items title
             (kind_of c.args.kind) c.parts.inner _ _ stands
             so_far at p c.in-Piece.len c.offset-place.result _ _ pulled pulls.1 place
-            c.in-Err-body.error
+            error
             (rest.stops (passes_alike g.R.Read c.args.strict _ _ row went here)) alike;
       };
-}
+})
 
-pub parts-smaller-in_default-body : goal.parts-smaller-in_default-body
-parts-smaller-in_default-body g c =
+pub parts-smaller-in-Continue-branch-3 : goal.parts-smaller-in-Continue-branch-3
+parts-smaller-in-Continue-branch-3 g c =
     let row = taken_bytes c.read_title.new.self in
     let keeps = rw c.offset-place.ensures.same at c.read_title.ensures.keeps in
     let takes = taken_all g.R.Read _ row _ _ c.new-taken.ensures keeps in
@@ -242,8 +252,8 @@ parts-smaller-in_default-body g c =
     let rises = c.body.ensures.rises in
     omega (arith, moved, some, rises)
 
-pub parts-preserved-in_default-body : goal.parts-preserved-in_default-body
-parts-preserved-in_default-body g c = record {
+pub parts-preserved-in-Continue-branch-3 : goal.parts-preserved-in-Continue-branch-3
+parts-preserved-in-Continue-branch-3 g c = record {
   within = λ depth start nests items title stands p level at.
       let so_far = c.parts.invariant.within depth start nests items title stands p level at in
       let row = taken_bytes c.read_title.new.self in
@@ -259,7 +269,7 @@ parts-preserved-in_default-body g c = record {
       let due = piece_due g.R.Read c.args.strict depth start _ _ nests items title
       (kind_of c.args.kind) c.parts.inner _ _ stands
       so_far at in
-      let rest = (rw c.in_default-body.is at c.body.ensures.shows) depth start (suc so_far.opens) nests
+      let rest = c.in_ok-body-in-Piece.ensures.shows depth start (suc so_far.opens) nests
       (items ++ so_far.parts) row c.read_title.new.decoder.strict due title_row (omega (arith, inner)) (piece_offset
       g.R.Read c.args.strict depth start _ _ nests
       items title (kind_of c.args.kind) c.parts.inner _ _ stands so_far at row _ takes) tt in
@@ -267,7 +277,7 @@ parts-preserved-in_default-body g c = record {
       let shows = within_piece g.R.Read c.args.strict depth start _ _ nests items title
       (kind_of c.args.kind) c.parts.inner _ _
       stands so_far at _ _ row rest.bytes c.in-Piece.len c.offset-place.result _ _ takes place
-      title_row (rw is at ((rw c.in_default-shown.is at c.shown-in-Piece.ensures.draws) tt)) rest.shows in
+      title_row (rw is at (c.in_ok-shown-in-Piece.ensures.draws tt)) rest.shows in
       within_whole g.R.Read c.args.strict depth start _ _ nests items title
       (kind_of c.args.kind) c.parts.inner _ _ stands so_far at
       _ row rest.bytes c.in-Piece.len _ title_row taken_row rest.whole.0 rest.whole.1
@@ -287,8 +297,11 @@ parts-preserved-in_default-body g c = record {
       omega (arith, inner, moved, rises);
 }
 
-pub returns-in-Err-shown-3 : goal.returns-in-Err-shown-3
-returns-in-Err-shown-3 g c = record {
+pub returns-in_err-shown-in-Open : goal.returns-in_err-shown-in-Open
+returns-in_err-shown-in-Open g c =
+    let error = c.in_err-shown-in-Open.field-0.0 in
+    let same = exit_is c.from_residual-in_err-shown-in-Open.result error c.from_residual-in_err-shown-in-Open.ensures.1 in
+    rw same (record {
   shows = λ depth start nests items title stands p level at all.
       let so_far = c.parts.invariant.within depth start nests items title stands p level at in
       let row = taken_bytes c.read_title.new.self in
@@ -305,13 +318,13 @@ returns-in-Err-shown-3 g c = record {
             (kind_of c.args.kind) c.parts.inner _ _ stands
             so_far at _ row _ c.offset-place.result c.parts.inner _ takes place title_row
             (inner ∙ sym (string_level (kind_of c.args.kind) None nests (suc so_far.opens)))
-            (rw is at (c.in-Err-shown-3.ensures.draws all));
+            (rw is at (c.in_err-shown-in-Open.ensures.draws all));
         whole = tt;
         passed = λ alike. tt;
-        stops = λ alike. refusal_stops g.R.Read (kind_of c.args.kind) None 0 _ _ c.in-Err-shown-3.error
-            c.in-Err-shown-3.ensures.refusal;
+        stops = λ alike. refusal_stops g.R.Read (kind_of c.args.kind) None 0 _ _ error
+            c.in_err-shown-in-Open.ensures.refusal;
       };
-}
+})
 
 pub parts-preserved : goal.parts-preserved
 parts-preserved g c = record {
@@ -328,7 +341,7 @@ parts-preserved g c = record {
       within_open g.R.Read c.args.strict depth start _ _ nests items title
       (kind_of c.args.kind) c.parts.inner _ _ stands so_far at
       _ row c.offset-place.result _ c.in-Open.ensures.1 takes went place title_row
-      (rw is at ((rw c.in_default-shown-2.is at c.shown-in-Open.ensures.draws) tt));
+      (rw is at (c.in_ok-shown-in-Open.ensures.draws tt));
   above = let inner = c.parts.invariant.above in omega (arith, inner);
   below =
       let row = taken_bytes c.read_title.new.self in
