@@ -1,9 +1,23 @@
 use Rattle.std.proofs.Common.{◌≡◌, ◌/◌, length, rules, sym, refl, subst, inl, inr, get_or, ◌<◌, ℕ}
+use Rattle.std.proofs.Common.{Err}
+use Rattle.std.proofs.lemmas.Result.{err_from_is_err_and}
 use Rattle.ciborium_ll_grammar.specs.Parts.{parts_bytes}
 use Rattle.ciborium_ll_grammar.specs.TitleRows.{IsTitleKind}
 use Rattle.ciborium_ll_grammar.proofs.LongerLaws.{parts_header, parts_taken, parts_refused}
-use Rattle.ciborium_ll_decoder.proofs.StrictLaws.{first_parts, first_refused, title_read}
+use Rattle.ciborium_ll_decoder.proofs.StrictLaws.{affix_stopped, first_parts, first_refused, open_refused, title_read}
 use Rattle.ciborium_ll_decoder.proofs.dec.Decoder.title.Goals as goal
+
+pub returns-in_err-minor-clause-header : goal.returns-in_err-minor-clause-header
+returns-in_err-minor-clause-header g c =
+    let answer = c.from_residual-in_err-minor in
+    let from = err_from_is_err_and answer.result answer.ensures.1 in
+    let is_error = from.1 in
+    let is_same = from.2 in
+    let same : answer.result ≡ Err c.in_err-minor.field-0.0 = cc in
+    let one : length c.read.new.data ≡ 1 = search rules in
+    affix_stopped g.R.Read _ answer.result c.in_err-minor.field-0.0 c.args.self.now c.read.new.self c.minor.new.self
+    c.read.new.data same c.requires.none_waits c.in_ok-read.ensures.bytes c.in_ok-read.ensures.moves_on.steady one
+    c.in_err-minor.ensures.minor
 
 pub returns-in_default-clause-header : goal.returns-in_default-clause-header
 returns-in_default-clause-header g c =
@@ -68,3 +82,11 @@ header-requires-clause-kind g c =
     let affix = rw c.in-Some.is at c.in_ok-minor.ensures.minor in
     subst (λ (z : ℕ). IsTitleKind c.row_of-row.result.kind (get_or c.read.new.data 0 0 / 32) z) affix.holds.code
     c.row_of-row.ensures.kind
+
+pub returns-in-None-clause-header : goal.returns-in-None-clause-header
+returns-in-None-clause-header g c =
+    let affix = rw c.in-Some.is at c.in_ok-minor.ensures.minor in
+    let one : length c.read.new.data ≡ 1 = search rules in
+    let never = c.in-None.ensures.none in
+    inl (open_refused g.R.Read c.args.self.now c.read.new.self c.minor.new.self c.read.new.data c.in-Some.minor
+    c.requires.none_waits c.in_ok-read.ensures.bytes affix.holds.all one affix.holds.code never.0 never.1)
