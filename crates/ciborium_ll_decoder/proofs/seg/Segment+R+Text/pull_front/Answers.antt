@@ -1,4 +1,4 @@
-use Rattle.std.proofs.Common.{ℕ, List, take, rules, arith, sym, ap, subst, inr, ◌∙◌, ◌≡◌, ◌<◌, [], ◌++◌, length, drop}
+use Rattle.std.proofs.Common.{ℕ, List, take, rules, arith, sym, ap, subst, inr, ◌∙◌, ◌≡◌, ◌<◌, ◌≤◌, [], ◌++◌, length, drop}
 use Rattle.std.proofs.Common.{length-append}
 use Rattle.std.proofs.lemmas.List.{take_rest}
 use Rattle.ciborium_ll_decoder.specs.declared.seg.Kept.{Kept}
@@ -10,6 +10,10 @@ use Rattle.std.proofs.lemmas.List.{take_at}
 use Rattle.ciborium_ll_text.specs.States.{IsLastEnd}
 use Rattle.ciborium_ll_text.proofs.LastEndLaws.{stuck_end}
 use Rattle.ciborium_ll_decoder.proofs.seg.Segment+R+Text.pull_front.Goals as goal
+
+-- a front of the bytes is no longer than they are
+front_within : (bytes front rest : List ℕ) → IsFront bytes front rest → length front ≤ length bytes
+front_within bytes front rest is = let parted = ap length is.parts in omega (arith, parted, length-append front rest)
 
 pub text_front-state-requires-clause-stuck : goal.text_front-state-requires-clause-stuck
 text_front-state-requires-clause-stuck g c =
@@ -112,3 +116,75 @@ returns-in-Some-clause-rest g c =
       same.unread,
     ))
     (sym whole ∙ c.text_front-state.ensures.front.parts ∙ ap (λ z. text ++ z) (sym behind))
+
+pub slice_bounds-keep-count : goal.slice_bounds-keep-count
+slice_bounds-keep-count g c = front_within _ _ _ c.text_front-state.ensures.front
+
+pub slice_bounds-keep-start : goal.slice_bounds-keep-start
+slice_bounds-keep-start g c = front_within _ _ _ c.text_front-state.ensures.front
+
+pub returns-in-Some-clause-chunk : goal.returns-in-Some-clause-chunk
+returns-in-Some-clause-chunk g c =
+    let fill = c.in_ok-fill.ensures.filled in
+    let text = c.text_front-state.result.0.now in
+    let kept = kept_bytes c.args.self.now.kept in
+    let whole = fill.whole in
+    let counted = ap length whole in
+    let same = c.fill.ensures.same in
+    let size : length c.fill.new.filled ≡ c.min-size.result = search rules in
+    let behind = c.in-Some.ensures.some ∙ take_rest c.fill.new.filled (length text) in
+    record {
+      read = fill.read;
+      reads = record {
+        some_unread = omega (arith, c.if-self-eq0.false);
+        sound = c.if-self.false;
+        count = omega (
+          arith,
+          counted,
+          size,
+          length-append kept fill.read,
+          c.min-size.ensures,
+          c.len-kept.ensures,
+          c.if-size-kept.false,
+        );
+        reads = fill.reads;
+        unread = omega (
+          arith,
+          counted,
+          size,
+          length-append kept fill.read,
+          c.min-size.ensures,
+          c.len-kept.ensures,
+          c.if-size-kept.false,
+          same.unread,
+        );
+        place = same.place;
+      };
+      split = subst (λ (z : List ℕ). IsFront z text (kept_bytes c.in-Some.rest)) whole
+          (subst (λ (z : List ℕ). IsFront c.fill.new.filled text z) (sym behind) c.text_front-state.ensures.front);
+      still_sound = same.damaged ∙ c.if-self.false;
+    }
+
+pub returns-in-Some-clause-left : goal.returns-in-Some-clause-left
+returns-in-Some-clause-left g c =
+    let fill = c.in_ok-fill.ensures.filled in
+    let text = c.text_front-state.result.0.now in
+    let kept = kept_bytes c.args.self.now.kept in
+    let counted = ap length fill.whole in
+    let same = c.fill.ensures.same in
+    let size : length c.fill.new.filled ≡ c.min-size.result = search rules in
+    let behind = c.in-Some.ensures.some ∙ take_rest c.fill.new.filled (length text) in
+    let parted = ap length c.text_front-state.ensures.front.parts in
+    omega (
+      arith,
+      counted,
+      size,
+      parted,
+      ap length behind,
+      length-append text (drop (length text) c.fill.new.filled),
+      length-append kept fill.read,
+      c.min-size.ensures,
+      c.len-kept.ensures,
+      c.if-size-kept.false,
+      same.unread,
+    )
