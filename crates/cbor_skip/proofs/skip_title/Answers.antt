@@ -1,5 +1,5 @@
 use Rattle.std.proofs.Common.{◌≡◌, ◌∙◌, Err, sym, inr, arith}
-use Rattle.std.proofs.lemmas.Result.{err_from_is_err_and}
+use Rattle.ciborium_ll_decoder.proofs.DecodingLaws.{exit_is}
 use Rattle.ciborium_ll_grammar.specs.declared.hdr.Header.TheVariants as h
 use Rattle.ciborium_ll_grammar.specs.Strings.{Bytes, Text}
 use Rattle.ciborium_ll_decoder.proofs.NestLaws.{title_some}
@@ -66,10 +66,7 @@ returns-in_err-skip_bytes-in-Bytes-clause-begun g c =
     let is : c.in_ok-header.header ≡ h.Bytes c.in-Bytes.len = bytes_start c.in_ok-header.header c.in-Bytes.len
     (sym c.start.ensures ∙ c.in-Bytes.is) in
     let residual = c.from_residual-in_err-skip_bytes-in-Bytes in
-    let from = err_from_is_err_and residual.result residual.ensures.1 in
-    let is_error = from.1 in
-    let is_same = from.2 in
-    let same : residual.result ≡ Err c.in_err-skip_bytes-in-Bytes.field-0.0 = cc in
+    let same = exit_is residual.result c.in_err-skip_bytes-in-Bytes.field-0.0 residual.ensures.1 in
     rw same (inr (record {
       kind = Bytes;
       len = c.in-Bytes.len;
@@ -84,10 +81,7 @@ returns-in_err-skip_text-in-Text-clause-begun g c =
     let is : c.in_ok-header.header ≡ h.Text c.in-Text.len = text_start c.in_ok-header.header c.in-Text.len
     (sym c.start.ensures ∙ c.in-Text.is) in
     let residual = c.from_residual-in_err-skip_text-in-Text in
-    let from = err_from_is_err_and residual.result residual.ensures.1 in
-    let is_error = from.1 in
-    let is_same = from.2 in
-    let same : residual.result ≡ Err c.in_err-skip_text-in-Text.field-0.0 = cc in
+    let same = exit_is residual.result c.in_err-skip_text-in-Text.field-0.0 residual.ensures.1 in
     rw same (inr (record {
       kind = Text;
       len = c.in-Text.len;

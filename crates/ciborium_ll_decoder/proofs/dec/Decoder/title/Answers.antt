@@ -1,6 +1,6 @@
 use Rattle.std.proofs.Common.{◌≡◌, ◌/◌, length, rules, sym, refl, subst, inl, inr, get_or, ◌<◌, ℕ}
 use Rattle.std.proofs.Common.{Err}
-use Rattle.std.proofs.lemmas.Result.{err_from_is_err_and}
+use Rattle.ciborium_ll_decoder.proofs.DecodingLaws.{exit_is}
 use Rattle.ciborium_ll_grammar.specs.Parts.{parts_bytes}
 use Rattle.ciborium_ll_grammar.specs.TitleRows.{IsTitleKind}
 use Rattle.ciborium_ll_grammar.proofs.LongerLaws.{parts_header, parts_taken, parts_refused}
@@ -10,10 +10,7 @@ use Rattle.ciborium_ll_decoder.proofs.dec.Decoder.title.Goals as goal
 pub returns-in_err-minor-clause-header : goal.returns-in_err-minor-clause-header
 returns-in_err-minor-clause-header g c =
     let answer = c.from_residual-in_err-minor in
-    let from = err_from_is_err_and answer.result answer.ensures.1 in
-    let is_error = from.1 in
-    let is_same = from.2 in
-    let same : answer.result ≡ Err c.in_err-minor.field-0.0 = cc in
+    let same = exit_is answer.result c.in_err-minor.field-0.0 answer.ensures.1 in
     let one : length c.read.new.data ≡ 1 = search rules in
     affix_stopped g.R.Read _ answer.result c.in_err-minor.field-0.0 c.args.self.now c.read.new.self c.minor.new.self
     c.read.new.data same c.requires.none_waits c.in_ok-read.ensures.bytes c.in_ok-read.ensures.moves_on.steady one
