@@ -1,7 +1,9 @@
 -- A title that a decoder read, by the bytes of its parts.
 use Rattle.std.proofs.Common.{◌≡◌, ℕ, ◌+◌, List, [], ◌∷◌, length, refl, sym, ap, subst}
 use Rattle.std.proofs.Common.{◌∙◌, inl, inr, arith, length-append, get_or, take, ◌*◌, ◌/◌, ◌%◌, ◌++◌, ◌<◌}
-use Rattle.std.proofs.Common.{Option, None, Some, IfSome, Result, Err, MatchResult}
+use Rattle.std.proofs.Common.{Option, None, Some, IfSome, Result, Ok, Err, MatchResult, Bool, true, false, IsTrue, rules}
+use Rattle.std.proofs.Common.{if◌then◌else◌, ◌&&◌}
+use Rattle.std.proofs.lemmas.Bool.Decides.{nat_tests}
 use Rattle.std.proofs.KnownBytes.{Consumes-trans}
 use Rattle.std.specs.Io.KnownBytes.{Consumes}
 use Rattle.ciborium_ll_io.specs.declared.io.Read.{Ghosts}
@@ -9,12 +11,12 @@ use Rattle.ciborium_ll_decoder.specs.declared.dec.Decoder.{Decoder}
 use Rattle.ciborium_ll_decoder.specs.declared.dec.Error.{Error}
 use Rattle.ciborium_ll_decoder.specs.declared.dec.Error.TheVariants as e
 use Rattle.ciborium_ll_decoder.specs.Decoding.{Begins, view, failures_of, IsSteady, PullsHeader, ReadsAll, ReadsMinor}
-use Rattle.ciborium_ll_decoder.specs.Decoding.{RefusesTitle}
+use Rattle.ciborium_ll_decoder.specs.Decoding.{HoldsAffix, MovesOn, ReadsBytes, RefusesTitle, strict_of}
 use Rattle.ciborium_ll_decoder.proofs.BodyLaws.{view_none}
 use Rattle.ciborium_ll_grammar.specs.declared.hdr.Minor.{Minor}
 use Rattle.ciborium_ll_grammar.specs.declared.hdr.Minor.TheVariants as m
 use Rattle.ciborium_ll_grammar.specs.Title.{affix_len, IsCutTitle, IsNeverOpen, IsReserved}
-use Rattle.ciborium_ll_grammar.specs.Parts.{minor_affix, minor_code, parts_bytes}
+use Rattle.ciborium_ll_grammar.specs.Parts.{longer_parts, minor_affix, minor_code, parts_bytes}
 
 -- ---- a title that was read
 
@@ -34,6 +36,14 @@ no_affix (m.Two n) e = absurd (omega (arith, e))
 no_affix (m.Four n) e = absurd (omega (arith, e))
 no_affix (m.Eight n) e = absurd (omega (arith, e))
 no_affix m.Open e = refl
+
+-- a number that stands within the first byte has no affix
+pub small_affix : (minor : ℕ) → minor < 24 → affix_len minor ≡ 0
+small_affix minor small = grind (arith, nat_tests)
+
+-- nor has the minor of an open
+pub open_affix : (minor : ℕ) → minor ≡ 31 → affix_len minor ≡ 0
+open_affix minor is = rw is refl
 
 -- what was consumed is a beginning of what was there
 begins_with : (old new : Option (List ℕ)) (read : List ℕ) → Consumes old new read → IfSome old (Begins read)
@@ -179,3 +189,38 @@ module _ {R E : Type 0} (source : Ghosts R E) where
       rw is (affix_unread old between new x error none first steady affix)
   affix_stopped P answer error old between new (x ∷ y ∷ more) is none first steady one affix =
       absurd (omega (arith, one))
+
+  -- ---- the affix of a first byte
+
+  taken_by : (first : ℕ) (old new : Decoder R) (minor : Minor) (answer : Option Minor) (strict longer : Bool)
+      → strict ≡ old.strict → longer ≡ longer_parts (first / 32) minor → HoldsAffix source first old minor new
+      → answer ≡ (if strict && longer then None else Some minor) → ReadsMinor source first old (Ok answer) new
+  taken_by first old new minor answer true true on long holds is =
+      rw is (inr (record { read = minor; holds = holds; strict = subst IsTrue on (search rules); longer = sym long }))
+  taken_by first old new minor answer true false on long holds is =
+      rw is (record { holds = holds; taken = λ _. sym long })
+  taken_by first old new minor answer false longer off long holds is =
+      rw is (record { holds = holds; taken = λ on. absurd (let never = rw (sym off) at on in cc) })
+
+  -- an affix that was read is taken, but by a strict decoder where a smaller form holds its number
+  pub affix_taken : (first : ℕ) (old new : Decoder R) (minor : Minor) (answer : Option Minor)
+      → HoldsAffix source first old minor new
+      → answer ≡ (if strict_of new && longer_parts (first / 32) minor then None else Some minor)
+      → ReadsMinor source first old (Ok answer) new
+  affix_taken first old new minor answer holds is =
+      taken_by first old new minor answer new.strict (longer_parts (first / 32) minor) holds.all.mode refl holds is
+
+  empty_unread : (first : ℕ) (old new : Decoder R) (bytes : List ℕ) (error : Error E) → affix_len (first % 32) ≡ 0
+      → old.waiting ≡ None → length bytes ≡ 0
+      → ReadsBytes source old (Err error) bytes new → ReadsMinor source first old (Err error) new
+  empty_unread first old new bytes (e.Io fault) none waits empty fails = rw none (rw empty at fails)
+  empty_unread first old new bytes e.TooLong none waits empty full = absurd (omega (arith, full.1, empty, old.covered))
+  empty_unread first old new bytes e.Waiting none waits empty is = absurd (let waiting = rw waits at is.0 in cc)
+  empty_unread first old new bytes (e.Syntax place) none waits empty never = absurd never
+
+  -- the read of no affix failed
+  pub none_unread : (first : ℕ) (old new : Decoder R) (bytes : List ℕ) (answer : Result (Option Minor) (Error E))
+      (error : Error E) → answer ≡ Err error → affix_len (first % 32) ≡ 0 → old.waiting ≡ None → length bytes ≡ 0
+      → ReadsBytes source old (Err error) bytes new → ReadsMinor source first old answer new
+  none_unread first old new bytes answer error is none waits empty fails =
+      rw is (empty_unread first old new bytes error none waits empty fails)

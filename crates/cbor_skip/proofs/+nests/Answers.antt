@@ -1,5 +1,6 @@
 use Rattle.std.proofs.Common.{◌≡◌, ◌-◌, suc, true, false, Ok, Err, refl, arith, rules, length}
-use Rattle.std.proofs.Common.{ℕ, ◌<◌}
+use Rattle.std.proofs.Common.{ℕ, ◌<◌, ◌≤◌, ◌^◌, ap}
+use Rattle.ciborium_ll_decoder.specs.declared.dec.Decoder.{Decoder}
 use Rattle.ciborium_ll_decoder.proofs.DecodingLaws.{exit_is, MovesOn-none, MovesOn-then}
 use Rattle.cbor_skip.specs.declared.SkipError.TheVariants as s
 use Rattle.cbor_skip.specs.Remaining.{is_done, closes}
@@ -16,6 +17,18 @@ one_before n some = omega arith
 -- a number that isn't 0
 not_none : (n : ℕ) → (n ≡ 0 → ⊥) → 0 < n
 not_none n some = omega (arith, some)
+
+-- the decoder is nearer to the last offset
+nearer : {R : Type 0} (before old new : Decoder R) → old ≡ before → old.offset < new.offset
+    → 2 ^ 64 - new.offset < 2 ^ 64 - before.offset
+nearer before old new same risen =
+    let from : old.offset ≡ before.offset = ap (λ d. d.offset) same in omega (arith, from, risen, new.covered)
+
+-- and so where more was read
+nearer_behind : {R : Type 0} (before old between new : Decoder R) → old ≡ before → old.offset < between.offset
+    → between.offset ≤ new.offset
+    → 2 ^ 64 - new.offset < 2 ^ 64 - before.offset
+nearer_behind before old between new same risen rises = nearer before old new same (omega (arith, risen, rises))
 
 -- ---- so many items: the ends
 
@@ -297,3 +310,115 @@ skip_within-items-preserved g t c =
           item;
       moves_on = MovesOn-then g.R.Read _ _ _ c.items.invariant.moves_on still;
     }
+
+-- ---- the decoder moves on
+
+pub skip_items-returns-in_err-skip_title-clause-moves_on : goal.skip_items-returns-in_err-skip_title-clause-moves_on
+skip_items-returns-in_err-skip_title-clause-moves_on g t c =
+    MovesOn-then g.R.Read _ _ _ c.items.invariant.moves_on
+    (rw c.offset-place.ensures.same at c.skip_title.ensures.moves_on)
+
+pub skip_items-returns-in-Break-clause-moves_on : goal.skip_items-returns-in-Break-clause-moves_on
+skip_items-returns-in-Break-clause-moves_on g t c =
+    MovesOn-then g.R.Read _ _ _ c.items.invariant.moves_on
+    (rw c.offset-place.ensures.same at c.skip_title.ensures.moves_on)
+
+pub skip_items-returns-then-levels-eq0-clause-moves_on : goal.skip_items-returns-then-levels-eq0-clause-moves_on
+skip_items-returns-then-levels-eq0-clause-moves_on g t c =
+    MovesOn-then g.R.Read _ _ _ c.items.invariant.moves_on
+    (rw c.offset-place.ensures.same at c.skip_title.ensures.moves_on)
+
+pub skip_items-returns-then-levels-eq0-2-clause-moves_on : goal.skip_items-returns-then-levels-eq0-2-clause-moves_on
+skip_items-returns-then-levels-eq0-2-clause-moves_on g t c =
+    MovesOn-then g.R.Read _ _ _ c.items.invariant.moves_on
+    (rw c.offset-place.ensures.same at c.skip_title.ensures.moves_on)
+
+pub skip_items-returns-in_err-skip_items-in-Items-clause-moves_on :
+    goal.skip_items-returns-in_err-skip_items-in-Items-clause-moves_on
+skip_items-returns-in_err-skip_items-in-Items-clause-moves_on g t c =
+    let first = rw c.offset-place.ensures.same at c.skip_title.ensures.moves_on in
+    MovesOn-then g.R.Read _ _ _ c.items.invariant.moves_on
+    (MovesOn-then g.R.Read _ _ _ first c.skip_items.ensures.moves_on)
+
+pub skip_items-returns-in_err-skip_within-in-Nest-clause-moves_on :
+    goal.skip_items-returns-in_err-skip_within-in-Nest-clause-moves_on
+skip_items-returns-in_err-skip_within-in-Nest-clause-moves_on g t c =
+    let first = rw c.offset-place.ensures.same at c.skip_title.ensures.moves_on in
+    MovesOn-then g.R.Read _ _ _ c.items.invariant.moves_on
+    (MovesOn-then g.R.Read _ _ _ first c.skip_within.ensures.moves_on)
+
+pub skip_within-returns-in_err-skip_title-clause-moves_on : goal.skip_within-returns-in_err-skip_title-clause-moves_on
+skip_within-returns-in_err-skip_title-clause-moves_on g t c =
+    MovesOn-then g.R.Read _ _ _ c.items.invariant.moves_on
+    (rw c.offset-place.ensures.same at c.skip_title.ensures.moves_on)
+
+pub skip_within-returns-then-closes-clause-moves_on : goal.skip_within-returns-then-closes-clause-moves_on
+skip_within-returns-then-closes-clause-moves_on g t c =
+    MovesOn-then g.R.Read _ _ _ c.items.invariant.moves_on
+    (rw c.offset-place.ensures.same at c.skip_title.ensures.moves_on)
+
+pub skip_within-returns-in-Break-clause-moves_on : goal.skip_within-returns-in-Break-clause-moves_on
+skip_within-returns-in-Break-clause-moves_on g t c =
+    MovesOn-then g.R.Read _ _ _ c.items.invariant.moves_on
+    (rw c.offset-place.ensures.same at c.skip_title.ensures.moves_on)
+
+pub skip_within-returns-then-depth-eq0-clause-moves_on : goal.skip_within-returns-then-depth-eq0-clause-moves_on
+skip_within-returns-then-depth-eq0-clause-moves_on g t c =
+    MovesOn-then g.R.Read _ _ _ c.items.invariant.moves_on
+    (rw c.offset-place.ensures.same at c.skip_title.ensures.moves_on)
+
+pub skip_within-returns-then-depth-eq0-2-clause-moves_on : goal.skip_within-returns-then-depth-eq0-2-clause-moves_on
+skip_within-returns-then-depth-eq0-2-clause-moves_on g t c =
+    MovesOn-then g.R.Read _ _ _ c.items.invariant.moves_on
+    (rw c.offset-place.ensures.same at c.skip_title.ensures.moves_on)
+
+pub skip_within-returns-in_err-skip_items-in-Items-clause-moves_on :
+    goal.skip_within-returns-in_err-skip_items-in-Items-clause-moves_on
+skip_within-returns-in_err-skip_items-in-Items-clause-moves_on g t c =
+    let first = rw c.offset-place.ensures.same at c.skip_title.ensures.moves_on in
+    MovesOn-then g.R.Read _ _ _ c.items.invariant.moves_on
+    (MovesOn-then g.R.Read _ _ _ first c.skip_items.ensures.moves_on)
+
+pub skip_within-returns-in_err-skip_within-in-Nest-clause-moves_on :
+    goal.skip_within-returns-in_err-skip_within-in-Nest-clause-moves_on
+skip_within-returns-in_err-skip_within-in-Nest-clause-moves_on g t c =
+    let first = rw c.offset-place.ensures.same at c.skip_title.ensures.moves_on in
+    MovesOn-then g.R.Read _ _ _ c.items.invariant.moves_on
+    (MovesOn-then g.R.Read _ _ _ first c.skip_within.ensures.moves_on)
+
+-- ---- and is nearer to the last offset
+
+pub skip_items-items-smaller-in-Item : goal.skip_items-items-smaller-in-Item
+skip_items-items-smaller-in-Item g t c =
+    nearer c.items.decoder _ c.skip_title.new.decoder c.offset-place.ensures.same
+    (c.in_ok-skip_title.ensures.rises (search rules))
+
+pub skip_items-items-smaller-then-left-eq0 : goal.skip_items-items-smaller-then-left-eq0
+skip_items-items-smaller-then-left-eq0 g t c =
+    nearer c.items.decoder _ c.skip_title.new.decoder c.offset-place.ensures.same
+    (c.in_ok-skip_title.ensures.rises (search rules))
+
+pub skip_items-items-smaller-in-Continue-branch-3 : goal.skip_items-items-smaller-in-Continue-branch-3
+skip_items-items-smaller-in-Continue-branch-3 g t c =
+    nearer_behind c.items.decoder _ c.skip_title.new.decoder c.skip_items.new.decoder
+    c.offset-place.ensures.same (c.in_ok-skip_title.ensures.rises (search rules)) c.skip_items.ensures.moves_on.rises
+
+pub skip_items-items-smaller : goal.skip_items-items-smaller
+skip_items-items-smaller g t c =
+    nearer_behind c.items.decoder _ c.skip_title.new.decoder c.skip_within.new.decoder
+    c.offset-place.ensures.same (c.in_ok-skip_title.ensures.rises (search rules)) c.skip_within.ensures.moves_on.rises
+
+pub skip_within-items-smaller-in-Item : goal.skip_within-items-smaller-in-Item
+skip_within-items-smaller-in-Item g t c =
+    nearer c.items.decoder _ c.skip_title.new.decoder c.offset-place.ensures.same
+    (c.in_ok-skip_title.ensures.rises (search rules))
+
+pub skip_within-items-smaller-in-Items : goal.skip_within-items-smaller-in-Items
+skip_within-items-smaller-in-Items g t c =
+    nearer_behind c.items.decoder _ c.skip_title.new.decoder c.skip_items.new.decoder
+    c.offset-place.ensures.same (c.in_ok-skip_title.ensures.rises (search rules)) c.skip_items.ensures.moves_on.rises
+
+pub skip_within-items-smaller : goal.skip_within-items-smaller
+skip_within-items-smaller g t c =
+    nearer_behind c.items.decoder _ c.skip_title.new.decoder c.skip_within.new.decoder
+    c.offset-place.ensures.same (c.in_ok-skip_title.ensures.rises (search rules)) c.skip_within.ensures.moves_on.rises
