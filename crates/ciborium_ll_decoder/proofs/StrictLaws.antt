@@ -2,7 +2,7 @@
 use Rattle.std.proofs.Common.{◌≡◌, ℕ, ◌+◌, List, [], ◌∷◌, length, refl, sym, ap, subst}
 use Rattle.std.proofs.Common.{◌∙◌, inl, inr, arith, length-append, get_or, take, ◌*◌, ◌/◌, ◌%◌, ◌++◌, ◌<◌}
 use Rattle.std.proofs.Common.{Option, None, Some, IfSome, Result, Ok, Err, MatchResult, Bool, true, false, IsTrue, rules}
-use Rattle.std.proofs.Common.{if◌then◌else◌, ◌&&◌}
+use Rattle.std.proofs.Common.{if◌then◌else◌, ◌&&◌, ◌-◌, ◌^◌}
 use Rattle.std.proofs.lemmas.Bool.Decides.{nat_tests}
 use Rattle.std.proofs.KnownBytes.{Consumes-trans}
 use Rattle.std.specs.Io.KnownBytes.{Consumes}
@@ -90,6 +90,11 @@ module _ {R E : Type 0} (source : Ghosts R E) where
         failures = affix.failures ∙ (first.failures ∙ same);
         mode = affix.mode ∙ (first.mode ∙ mode);
       }
+
+  -- where a first byte was read, the offset could rise
+  pub not_full : (old between : Decoder R) (read : List ℕ) → ReadsAll source old read between → length read ≡ 1
+      → old.offset ≡ 2 ^ 64 - 1 → ⊥
+  not_full old between read first one full = omega (arith, first.offset, one, full, between.covered)
 
   -- a first byte of a reserved minor was read
   pub first_refused : (old opened between new : Decoder R) (read : List ℕ) → old.waiting ≡ None → opened.reader

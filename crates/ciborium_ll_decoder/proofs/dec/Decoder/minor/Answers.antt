@@ -71,3 +71,12 @@ returns-clause-minor g c =
     ] in
     affix_taken g.R.Read c.args.first c.args.self.now c.match-affix.self c.match-affix.minor c.taken.result holds
     c.taken.ensures.taken
+
+pub returns-clause-moves_on : goal.returns-clause-moves_on
+returns-clause-moves_on g c =
+    elim c.match-affix.branch [
+      | in-One+in_ok-minor-in-One w ↦ rw w.self-is w.one.ensures.moves_on
+      | in-Two+in_ok-minor-in-Two w ↦ rw w.self-is w.two.ensures.moves_on
+      | in-Four+in_ok-minor-in-Four w ↦ rw w.self-is w.four.ensures.moves_on
+      | in-Eight+in_ok-minor-in-Eight w ↦ rw w.self-is w.eight.ensures.moves_on
+    ]
