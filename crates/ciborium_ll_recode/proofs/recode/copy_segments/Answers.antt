@@ -1,4 +1,4 @@
-use Rattle.std.proofs.Common.{refl, rules, sym, subst, ◌∙◌, ◌≡◌, ◌<◌, ℕ, Some, None, Ok, Err, length, arith}
+use Rattle.std.proofs.Common.{refl, rules, sym, subst, ◌∙◌, ◌≡◌, ◌<◌, ◌≤◌, ◌-◌, ◌^◌, ℕ, Some, None, Ok, Err, length, arith}
 use Rattle.ciborium_ll_decoder.specs.declared.dec.Decoder.{Decoder}
 use Rattle.ciborium_ll_decoder.specs.declared.copy.RecodeError.TheVariants as r
 use Rattle.ciborium_ll_decoder.specs.Decoding.{MovesOn}
@@ -12,6 +12,11 @@ use Rattle.ciborium_ll_decoder.proofs.SegmentLaws.{advances_among, announced_ris
 use Rattle.ciborium_ll_recode.proofs.SegmentCopyLaws.{copied_opened, segments_stop, segments_end, segment_unwritten}
 use Rattle.ciborium_ll_recode.proofs.SegmentCopyLaws.{segment_stops, segment_copied}
 use Rattle.ciborium_ll_recode.proofs.recode.copy_segments.Goals as goal
+
+-- the decoder is nearer to the last offset
+nearer : {R : Type 0} (old between new : Decoder R) → old.offset < between.offset → between.offset ≤ new.offset
+    → 2 ^ 64 - new.offset < 2 ^ 64 - old.offset
+nearer old between new risen rises = omega (arith, risen, rises, new.covered)
 
 pub segments-init : goal.segments-init
 segments-init g c = record {
@@ -92,10 +97,8 @@ segments-smaller g c =
     c.advance.new.self.decoder.now c.segments.invariant.mode so_far.so_far advances c.advance.ensures.moves_on.steady in
     let rises = announced_rises g.R.Read k so_far.bodies opened.decoder now.decoder c.advance.new.self.decoder.now
     c.in-Some.body c.advance.new.self.progress all in
-    let more = c.in_ok-copy.ensures.moves_on.rises in
-    let risen : c.segments.segments.decoder.now.offset < c.copy.new.self.decoder.now.offset = omega (arith, rises, more)
-    in
-    search rules
+    nearer now.decoder c.advance.new.self.decoder.now c.copy.new.self.decoder.now rises
+    c.in_ok-copy.ensures.moves_on.rises
 
 pub segments-preserved : goal.segments-preserved
 segments-preserved g c =
