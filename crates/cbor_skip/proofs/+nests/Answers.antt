@@ -1,7 +1,7 @@
 use Rattle.std.proofs.Common.{◌≡◌, ◌-◌, suc, true, false, Ok, Err, refl, arith, rules, length}
-use Rattle.std.proofs.Common.{ℕ, ◌<◌, ◌≤◌, ◌^◌, ap}
+use Rattle.std.proofs.Common.{ℕ, ◌<◌, ◌≤◌, ◌^◌, sym}
 use Rattle.ciborium_ll_decoder.specs.declared.dec.Decoder.{Decoder}
-use Rattle.ciborium_ll_decoder.proofs.DecodingLaws.{exit_is, MovesOn-none, MovesOn-then}
+use Rattle.ciborium_ll_decoder.proofs.DecodingLaws.{exit_is, nearer, MovesOn-none, MovesOn-then}
 use Rattle.cbor_skip.specs.declared.SkipError.TheVariants as s
 use Rattle.cbor_skip.specs.Remaining.{is_done, closes}
 use Rattle.cbor_skip.proofs.ItemRuns.{counted_nest, counted_within, item_decides, nest_decides, none_due}
@@ -19,16 +19,14 @@ not_none : (n : ℕ) → (n ≡ 0 → ⊥) → 0 < n
 not_none n some = omega (arith, some)
 
 -- the decoder is nearer to the last offset
-nearer : {R : Type 0} (before old new : Decoder R) → old ≡ before → old.offset < new.offset
+nearer_now : {R : Type 0} (before old new : Decoder R) → old ≡ before → old.offset < new.offset
     → 2 ^ 64 - new.offset < 2 ^ 64 - before.offset
-nearer before old new same risen =
-    let from : old.offset ≡ before.offset = ap (λ d. d.offset) same in omega (arith, from, risen, new.covered)
+nearer_now before old new same risen = rw (sym same) (nearer old new new risen (omega arith))
 
 -- and so where more was read
 nearer_behind : {R : Type 0} (before old between new : Decoder R) → old ≡ before → old.offset < between.offset
-    → between.offset ≤ new.offset
-    → 2 ^ 64 - new.offset < 2 ^ 64 - before.offset
-nearer_behind before old between new same risen rises = nearer before old new same (omega (arith, risen, rises))
+    → between.offset ≤ new.offset → 2 ^ 64 - new.offset < 2 ^ 64 - before.offset
+nearer_behind before old between new same risen rises = rw (sym same) (nearer old between new risen rises)
 
 -- ---- so many items: the ends
 
@@ -390,12 +388,12 @@ skip_within-returns-in_err-skip_within-in-Nest-clause-moves_on g t c =
 
 pub skip_items-items-smaller-in-Item : goal.skip_items-items-smaller-in-Item
 skip_items-items-smaller-in-Item g t c =
-    nearer c.items.decoder _ c.skip_title.new.decoder c.offset-place.ensures.same
+    nearer_now c.items.decoder _ c.skip_title.new.decoder c.offset-place.ensures.same
     (c.in_ok-skip_title.ensures.rises (search rules))
 
 pub skip_items-items-smaller-then-left-eq0 : goal.skip_items-items-smaller-then-left-eq0
 skip_items-items-smaller-then-left-eq0 g t c =
-    nearer c.items.decoder _ c.skip_title.new.decoder c.offset-place.ensures.same
+    nearer_now c.items.decoder _ c.skip_title.new.decoder c.offset-place.ensures.same
     (c.in_ok-skip_title.ensures.rises (search rules))
 
 pub skip_items-items-smaller-in-Continue-branch-3 : goal.skip_items-items-smaller-in-Continue-branch-3
@@ -410,7 +408,7 @@ skip_items-items-smaller g t c =
 
 pub skip_within-items-smaller-in-Item : goal.skip_within-items-smaller-in-Item
 skip_within-items-smaller-in-Item g t c =
-    nearer c.items.decoder _ c.skip_title.new.decoder c.offset-place.ensures.same
+    nearer_now c.items.decoder _ c.skip_title.new.decoder c.offset-place.ensures.same
     (c.in_ok-skip_title.ensures.rises (search rules))
 
 pub skip_within-items-smaller-in-Items : goal.skip_within-items-smaller-in-Items

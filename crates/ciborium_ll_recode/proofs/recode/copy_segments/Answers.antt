@@ -1,22 +1,17 @@
-use Rattle.std.proofs.Common.{refl, rules, sym, subst, ◌∙◌, ◌≡◌, ◌<◌, ◌≤◌, ◌-◌, ◌^◌, ℕ, Some, None, Ok, Err, length, arith}
+use Rattle.std.proofs.Common.{refl, rules, sym, subst, ◌∙◌, ◌≡◌, ℕ, Some, None, Ok, Err, length, arith}
 use Rattle.ciborium_ll_decoder.specs.declared.dec.Decoder.{Decoder}
 use Rattle.ciborium_ll_decoder.specs.declared.copy.RecodeError.TheVariants as r
 use Rattle.ciborium_ll_decoder.specs.Decoding.{MovesOn}
 use Rattle.ciborium_ll_decoder.specs.BodyCopies.{CopiesBody}
 use Rattle.ciborium_ll_recode.specs.Recoding.{ReadsString, GoesOnWithin}
 use Rattle.ciborium_ll_recode.specs.Sides.{sides_of}
-use Rattle.ciborium_ll_decoder.proofs.DecodingLaws.{exit_is, MovesOn-none, MovesOn-then}
+use Rattle.ciborium_ll_decoder.proofs.DecodingLaws.{exit_is, nearer, MovesOn-none, MovesOn-then}
 use Rattle.ciborium_ll_recode.proofs.ThroughEncoder.{through_encoder}
 use Rattle.ciborium_ll_recode.proofs.RecodeLaws.{header_error}
 use Rattle.ciborium_ll_decoder.proofs.SegmentLaws.{advances_among, announced_rises}
 use Rattle.ciborium_ll_recode.proofs.SegmentCopyLaws.{copied_opened, segments_stop, segments_end, segment_unwritten}
 use Rattle.ciborium_ll_recode.proofs.SegmentCopyLaws.{segment_stops, segment_copied}
 use Rattle.ciborium_ll_recode.proofs.recode.copy_segments.Goals as goal
-
--- the decoder is nearer to the last offset
-nearer : {R : Type 0} (old between new : Decoder R) → old.offset < between.offset → between.offset ≤ new.offset
-    → 2 ^ 64 - new.offset < 2 ^ 64 - old.offset
-nearer old between new risen rises = omega (arith, risen, rises, new.covered)
 
 pub segments-init : goal.segments-init
 segments-init g c = record {

@@ -1,10 +1,11 @@
-use Rattle.std.proofs.Common.{ℕ, List, take, rules, arith, sym, ap, subst, inr, ◌∙◌, ◌≡◌, ◌<◌, ◌≤◌, [], ◌++◌, length, drop}
+use Rattle.std.proofs.Common.{ℕ, List, take, rules, arith, sym, ap, subst, inr, ◌∙◌, ◌≡◌, ◌<◌, ◌≤◌, ◌-◌, [], ◌++◌, length, drop}
 use Rattle.std.proofs.Common.{length-append}
 use Rattle.std.proofs.lemmas.List.{take_rest}
 use Rattle.ciborium_ll_decoder.specs.declared.seg.Kept.{Kept}
 use Rattle.ciborium_ll_decoder.specs.Kept.{kept_bytes}
 use Rattle.ciborium_ll_text.specs.Text.{IsStuck, IsFront}
-use Rattle.ciborium_ll_decoder.proofs.ChunkLaws.{ReadsOn-none, rest_consumed}
+use Rattle.ciborium_ll_decoder.proofs.DecodingLaws.{exit_is}
+use Rattle.ciborium_ll_decoder.proofs.ChunkLaws.{fill_stopped, none_stopped, ReadsOn-behind, ReadsOn-none, left_behind, rest_consumed, unread_behind}
 use Rattle.ciborium_ll_text.proofs.FrontLaws.{IsFront-stuck, IsStuck-rest}
 use Rattle.std.proofs.lemmas.List.{take_at}
 use Rattle.ciborium_ll_text.specs.States.{IsLastEnd}
@@ -47,48 +48,24 @@ pub returns-in-None-clause-chunk : goal.returns-in-None-clause-chunk
 returns-in-None-clause-chunk g c =
     let fill = c.in_ok-fill.ensures.filled in
     let text = c.text_front-state.result.0.now in
-    let whole = fill.whole in
-    let counted = ap length whole in
     let damage = c.damage-in-None.ensures in
     let same = c.fill.ensures.same in
-    let size : length c.fill.new.filled ≡ c.min-size.result = search rules in
     let behind : 3 < length (drop (length text) c.fill.new.filled) =
     rw (take_rest c.fill.new.filled (length text)) at c.in-None.ensures.none in
+    let fewer = ap (λ (n : ℕ). n - (c.min-size.result - c.len-kept.result)) same.unread in
     rw damage.error (record {
       place = same.place;
       same_place = damage.place ∙ same.place;
       damaged = damage.damaged;
       cause = inr (inr (record {
         read = fill.read;
-        reads = record {
-          some_unread = omega (arith, c.if-self-eq0.false);
-          sound = c.if-self.false;
-          count = omega (
-            arith,
-            counted,
-            size,
-            length-append (kept_bytes c.args.self.now.kept) fill.read,
-            c.min-size.ensures,
-            c.len-kept.ensures,
-            c.if-size-kept.false,
-          );
-          reads = rw damage.same fill.reads;
-          unread = omega (
-            arith,
-            counted,
-            size,
-            length-append (kept_bytes c.args.self.now.kept) fill.read,
-            c.min-size.ensures,
-            c.len-kept.ensures,
-            c.if-size-kept.false,
-            damage.unread,
-            same.unread,
-          );
-          place = damage.place ∙ same.place;
-        };
+        reads = ReadsOn-behind g.R.Read (length c.args.buffer.now) c.min-size.result c.len-kept.result c.args.self.now _
+            c.fill.new.filled fill.read c.if-self-eq0.false c.if-self.false c.len-kept.ensures c.min-size.ensures
+            c.if-size-kept.false (search rules) fill.whole (rw damage.same fill.reads) (damage.unread ∙ fewer) 
+            (damage.place ∙ same.place);
         front = text;
         left = drop (length text) c.fill.new.filled;
-        split = rw (← whole) c.text_front-state.ensures.front;
+        split = rw (← fill.whole) c.text_front-state.ensures.front;
         too_much = behind;
       }));
       none_kept = inr damage.kept;
@@ -98,24 +75,14 @@ pub returns-in-Some-clause-rest : goal.returns-in-Some-clause-rest
 returns-in-Some-clause-rest g c =
     let fill = c.in_ok-fill.ensures.filled in
     let text = c.text_front-state.result.0.now in
-    let kept = kept_bytes c.args.self.now.kept in
-    let whole = fill.whole in
-    let counted = ap length whole in
     let same = c.fill.ensures.same in
-    let size : length c.fill.new.filled ≡ c.min-size.result = search rules in
     let behind = c.in-Some.ensures.some ∙ take_rest c.fill.new.filled (length text) in
-    rest_consumed _ _ c.args.self.now.unread _ kept (kept_bytes c.in-Some.rest) fill.read text fill.reads.bytes
-    (omega (
-      arith,
-      counted,
-      size,
-      length-append kept fill.read,
-      c.min-size.ensures,
-      c.len-kept.ensures,
-      c.if-size-kept.false,
-      same.unread,
-    ))
-    (sym whole ∙ c.text_front-state.ensures.front.parts ∙ ap (λ z. text ++ z) (sym behind))
+    let fewer = ap (λ (n : ℕ). n - (c.min-size.result - c.len-kept.result)) same.unread in
+    rest_consumed _ _ c.args.self.now.unread _ (kept_bytes c.args.self.now.kept) (kept_bytes c.in-Some.rest) fill.read
+    text fill.reads.bytes
+    (unread_behind (length c.args.buffer.now) c.min-size.result c.len-kept.result c.args.self.now.unread _ _ _
+    fill.read c.len-kept.ensures c.min-size.ensures c.if-size-kept.false (search rules) fill.whole fewer)
+    (sym fill.whole ∙ c.text_front-state.ensures.front.parts ∙ ap (λ z. text ++ z) (sym behind))
 
 pub slice_bounds-keep-count : goal.slice_bounds-keep-count
 slice_bounds-keep-count g c = front_within _ _ _ c.text_front-state.ensures.front
@@ -127,40 +94,15 @@ pub returns-in-Some-clause-chunk : goal.returns-in-Some-clause-chunk
 returns-in-Some-clause-chunk g c =
     let fill = c.in_ok-fill.ensures.filled in
     let text = c.text_front-state.result.0.now in
-    let kept = kept_bytes c.args.self.now.kept in
-    let whole = fill.whole in
-    let counted = ap length whole in
     let same = c.fill.ensures.same in
-    let size : length c.fill.new.filled ≡ c.min-size.result = search rules in
     let behind = c.in-Some.ensures.some ∙ take_rest c.fill.new.filled (length text) in
+    let fewer = ap (λ (n : ℕ). n - (c.min-size.result - c.len-kept.result)) same.unread in
     record {
       read = fill.read;
-      reads = record {
-        some_unread = omega (arith, c.if-self-eq0.false);
-        sound = c.if-self.false;
-        count = omega (
-          arith,
-          counted,
-          size,
-          length-append kept fill.read,
-          c.min-size.ensures,
-          c.len-kept.ensures,
-          c.if-size-kept.false,
-        );
-        reads = fill.reads;
-        unread = omega (
-          arith,
-          counted,
-          size,
-          length-append kept fill.read,
-          c.min-size.ensures,
-          c.len-kept.ensures,
-          c.if-size-kept.false,
-          same.unread,
-        );
-        place = same.place;
-      };
-      split = subst (λ (z : List ℕ). IsFront z text (kept_bytes c.in-Some.rest)) whole
+      reads = ReadsOn-behind g.R.Read (length c.args.buffer.now) c.min-size.result c.len-kept.result c.args.self.now _
+          c.fill.new.filled fill.read c.if-self-eq0.false c.if-self.false c.len-kept.ensures c.min-size.ensures
+          c.if-size-kept.false (search rules) fill.whole fill.reads fewer same.place;
+      split = subst (λ (z : List ℕ). IsFront z text (kept_bytes c.in-Some.rest)) fill.whole
           (subst (λ (z : List ℕ). IsFront c.fill.new.filled text z) (sym behind) c.text_front-state.ensures.front);
       still_sound = same.damaged ∙ c.if-self.false;
     }
@@ -169,22 +111,26 @@ pub returns-in-Some-clause-left : goal.returns-in-Some-clause-left
 returns-in-Some-clause-left g c =
     let fill = c.in_ok-fill.ensures.filled in
     let text = c.text_front-state.result.0.now in
-    let kept = kept_bytes c.args.self.now.kept in
-    let counted = ap length fill.whole in
-    let same = c.fill.ensures.same in
-    let size : length c.fill.new.filled ≡ c.min-size.result = search rules in
     let behind = c.in-Some.ensures.some ∙ take_rest c.fill.new.filled (length text) in
-    let parted = ap length c.text_front-state.ensures.front.parts in
-    omega (
-      arith,
-      counted,
-      size,
-      parted,
-      ap length behind,
-      length-append text (drop (length text) c.fill.new.filled),
-      length-append kept fill.read,
-      c.min-size.ensures,
-      c.len-kept.ensures,
-      c.if-size-kept.false,
-      same.unread,
-    )
+    let fewer = ap (λ (n : ℕ). n - (c.min-size.result - c.len-kept.result)) c.fill.ensures.same.unread in
+    left_behind c.args.self.now.unread _ (kept_bytes c.args.self.now.kept) (kept_bytes c.in-Some.rest) fill.read text
+    (unread_behind (length c.args.buffer.now) c.min-size.result c.len-kept.result c.args.self.now.unread _ _ _
+    fill.read c.len-kept.ensures c.min-size.ensures c.if-size-kept.false (search rules) fill.whole fewer)
+    (sym fill.whole ∙ c.text_front-state.ensures.front.parts ∙ ap (λ z. text ++ z) (sym behind))
+
+-- ---- reads that fail
+
+pub returns-in_err-read_nothing-clause-chunk : goal.returns-in_err-read_nothing-clause-chunk
+returns-in_err-read_nothing-clause-chunk g c =
+    none_stopped g.R.Read (length c.args.buffer.now) c.min-size.result c.len-kept.result c.args.self.now
+    c.read_nothing.new.self _ _ (exit_is c.from_residual.result c.in_err-read_nothing.field-0.0 c.from_residual.ensures.1)
+    c.if-self-eq0.false c.if-self.false c.len-kept.ensures c.min-size.ensures c.if-size-kept.true
+    c.read_nothing.ensures.same c.in_err-read_nothing.ensures.read
+
+pub returns-in_err-fill-clause-chunk : goal.returns-in_err-fill-clause-chunk
+returns-in_err-fill-clause-chunk g c =
+    let answer = c.from_residual-in_err-fill in
+    fill_stopped g.R.Read (length c.args.buffer.now) c.min-size.result c.len-kept.result c.args.self.now
+    c.fill.new.self c.fill.new.filled _ _ (exit_is answer.result c.in_err-fill.field-0.0 answer.ensures.1)
+    c.if-self-eq0.false c.if-self.false c.len-kept.ensures c.min-size.ensures c.if-size-kept.false (search rules)
+    c.fill.ensures.same c.in_err-fill.ensures.filled
