@@ -8,7 +8,8 @@ use Rattle.ciborium_ll_decoder.proofs.DecodingLaws.{exit_is}
 use Rattle.ciborium_ll_decoder.proofs.ChunkLaws.{fill_stopped, none_stopped, ReadsOn-behind, ReadsOn-none, left_behind, rest_consumed, unread_behind}
 use Rattle.ciborium_ll_text.proofs.FrontLaws.{IsFront-stuck, IsStuck-rest}
 use Rattle.std.proofs.lemmas.List.{take_at}
-use Rattle.ciborium_ll_text.specs.States.{IsLastEnd}
+use Rattle.ciborium_ll_text.specs.States.{after, IsLastEnd}
+use Rattle.ciborium_ll_text.specs.declared.state.State.TheVariants.{Between}
 use Rattle.ciborium_ll_text.proofs.LastEndLaws.{stuck_end}
 use Rattle.ciborium_ll_decoder.proofs.seg.Segment+R+Text.pull_front.Goals as goal
 
@@ -43,6 +44,11 @@ pub invariant_of-self-clause-stuck : goal.invariant_of-self-clause-stuck
 invariant_of-self-clause-stuck g c =
     let kept = c.in-Some.ensures.some ∙ take_rest c.fill.new.filled (length c.text_front-state.result.0.now) in
     subst IsStuck (sym kept) (IsStuck-rest _ _ _ c.text_front-state.ensures.front)
+
+pub invariant_of-self-clause-told : goal.invariant_of-self-clause-told
+invariant_of-self-clause-told g c =
+    let kept = c.in-Some.ensures.some ∙ take_rest c.fill.new.filled (length c.text_front-state.result.0.now) in
+    c.text_front-state.ensures.state ∙ ap (after Between) (sym kept)
 
 pub returns-in-None-clause-chunk : goal.returns-in-None-clause-chunk
 returns-in-None-clause-chunk g c =
