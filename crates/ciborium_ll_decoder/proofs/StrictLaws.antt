@@ -11,7 +11,7 @@ use Rattle.ciborium_ll_decoder.specs.declared.dec.Decoder.{Decoder}
 use Rattle.ciborium_ll_decoder.specs.declared.dec.Error.{Error}
 use Rattle.ciborium_ll_decoder.specs.declared.dec.Error.TheVariants as e
 use Rattle.ciborium_ll_decoder.specs.Decoding.{Begins, view, failures_of, IsSteady, PullsHeader, ReadsAll, ReadsMinor}
-use Rattle.ciborium_ll_decoder.specs.Decoding.{HoldsAffix, MovesOn, ReadsBytes, RefusesTitle, strict_of}
+use Rattle.ciborium_ll_decoder.specs.Decoding.{HoldsAffix, ReadsBytes, RefusesTitle, strict_of}
 use Rattle.ciborium_ll_decoder.proofs.BodyLaws.{view_none}
 use Rattle.ciborium_ll_grammar.specs.declared.hdr.Minor.{Minor}
 use Rattle.ciborium_ll_grammar.specs.declared.hdr.Minor.TheVariants as m
@@ -127,7 +127,7 @@ module _ {R E : Type 0} (source : Ghosts R E) where
   open_refused old between new [] b none first affix one code is never = absurd (omega (arith, one))
   open_refused old between new (x ∷ []) b none first affix one code is never =
       let read = title_read old old between new (x ∷ []) (x ∷ []) b none refl refl refl first affix
-          (ap (λ (z : List ℕ). x ∷ z) (sym (no_affix b is))) in
+      (ap (λ (z : List ℕ). x ∷ z) (sym (no_affix b is))) in
       record {
         byte = x;
         refused = inr (code ∙ is, never);
@@ -157,13 +157,14 @@ module _ {R E : Type 0} (source : Ghosts R E) where
         none_waits = affix.none_waits;
         failures = affix.failures ∙ ap (λ (n : ℕ). n + 1) first.failures;
         steady = λ s.
-          let cut = affix.steady (steady s) in
-          let kept = subst (λ (k : Option (List ℕ)). Consumes (source.ahead old.reader) k (x ∷ [])) (sym cut.0)
-              first.bytes in
-          (subst (λ (k : Option (List ℕ)). Consumes k (view source new) (x ∷ [])) before
-              (subst (λ (k : Option (List ℕ)). Consumes (source.ahead old.reader) k (x ∷ [])) after kept),
-          subst (λ (k : Option (List ℕ)). IfSome k (λ due. IsCutTitle due × (x ∷ [] ≡ take 1 due))) before
-              (cut_affix _ _ x first.bytes cut.1));
+            let cut = affix.steady (steady s) in
+            let kept = subst (λ (k : Option (List ℕ)). Consumes (source.ahead old.reader) k (x ∷ [])) (sym cut.0)
+            first.bytes in (
+              subst (λ (k : Option (List ℕ)). Consumes k (view source new) (x ∷ [])) before
+                  (subst (λ (k : Option (List ℕ)). Consumes (source.ahead old.reader) k (x ∷ [])) after kept),
+              subst (λ (k : Option (List ℕ)). IfSome k (λ due. IsCutTitle due × (x ∷ [] ≡ take 1 due))) before
+                  (cut_affix _ _ x first.bytes cut.1),
+            );
       }
   affix_unread old between new x e.TooLong none first steady affix =
       let before = sym (view_none old.waiting (source.ahead old.reader) none) in

@@ -1,4 +1,4 @@
-use Rattle.std.proofs.Common.{rules, sym, ◌≡◌, ◌∙◌, ◌<◌, ◌^◌, None, Err, length, arith}
+use Rattle.std.proofs.Common.{rules, sym, ◌≡◌, ◌∙◌, ◌<◌, ◌^◌, None, length}
 use Rattle.ciborium_ll_decoder.proofs.DecodingLaws.{exit_is, nearer, MovesOn-then}
 use Rattle.ciborium_ll_strings.proofs.SkipLaws.{skips_end, skips_error, skips_body, skips_stop, found_rises}
 use Rattle.ciborium_ll_strings.proofs.skip_segments.Goals as goal

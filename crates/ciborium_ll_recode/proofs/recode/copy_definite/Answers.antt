@@ -1,4 +1,4 @@
-use Rattle.std.proofs.Common.{rules, ap, subst, ◌∙◌, ◌≡◌, ◌+◌, ℕ, Err, Some, length, arith}
+use Rattle.std.proofs.Common.{rules, ap, subst, ◌∙◌, ◌≡◌, ◌+◌, ℕ, Some, length, arith}
 use Rattle.ciborium_ll_decoder.proofs.DecodingLaws.{exit_is}
 use Rattle.ciborium_ll_decoder.specs.declared.dec.Decoder.{Decoder}
 use Rattle.ciborium_ll_decoder.specs.BodyCopies.{CopiesBody}

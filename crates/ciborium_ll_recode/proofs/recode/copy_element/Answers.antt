@@ -1,4 +1,4 @@
-use Rattle.std.proofs.Common.{rules, refl, subst, ◌≡◌, ◌≤◌, Err, length}
+use Rattle.std.proofs.Common.{rules, refl, subst, ◌≡◌, ◌≤◌, length}
 use Rattle.ciborium_ll_grammar.specs.declared.hdr.Header.{Header}
 use Rattle.ciborium_ll_grammar.specs.declared.hdr.Header.TheVariants as h
 use Rattle.ciborium_ll_decoder.specs.declared.copy.RecodeError.TheVariants as r

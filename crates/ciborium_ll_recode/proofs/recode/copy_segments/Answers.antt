@@ -1,4 +1,4 @@
-use Rattle.std.proofs.Common.{refl, rules, sym, subst, ◌∙◌, ◌≡◌, ℕ, Some, None, Ok, Err, length, arith}
+use Rattle.std.proofs.Common.{refl, rules, sym, subst, ◌∙◌, ◌≡◌, ℕ, Some, None, Ok, Err, length}
 use Rattle.ciborium_ll_decoder.specs.declared.dec.Decoder.{Decoder}
 use Rattle.ciborium_ll_decoder.specs.declared.copy.RecodeError.TheVariants as r
 use Rattle.ciborium_ll_decoder.specs.Decoding.{MovesOn}

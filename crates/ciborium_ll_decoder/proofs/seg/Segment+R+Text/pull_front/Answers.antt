@@ -67,7 +67,7 @@ returns-in-None-clause-chunk g c =
         read = fill.read;
         reads = ReadsOn-behind g.R.Read (length c.args.buffer.now) c.min-size.result c.len-kept.result c.args.self.now _
             c.fill.new.filled fill.read c.if-self-eq0.false c.if-self.false c.len-kept.ensures c.min-size.ensures
-            c.if-size-kept.false (search rules) fill.whole (rw damage.same fill.reads) (damage.unread ∙ fewer) 
+            c.if-size-kept.false (search rules) fill.whole (rw damage.same fill.reads) (damage.unread ∙ fewer)
             (damage.place ∙ same.place);
         front = text;
         left = drop (length text) c.fill.new.filled;

@@ -1,4 +1,4 @@
-use Rattle.std.proofs.Common.{rules, refl, ◌≡◌, true, Err}
+use Rattle.std.proofs.Common.{rules, refl, ◌≡◌, true}
 use Rattle.std.specs.Option.{is_some}
 use Rattle.ciborium_ll_decoder.proofs.DecodingLaws.{exit_is, MovesOn-none, MovesOn-then}
 use Rattle.ciborium_ll_decoder.proofs.FinishLaws.{rest_start, rest_pulled, rest_stopped}

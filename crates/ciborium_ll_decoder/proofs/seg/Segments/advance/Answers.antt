@@ -1,4 +1,4 @@
-use Rattle.std.proofs.Common.{rules, arith, refl, subst, ◌≡◌, ◌∙◌, Bool, Some, Ok, Err}
+use Rattle.std.proofs.Common.{rules, arith, refl, subst, ◌∙◌, Bool, Some, Ok, Err}
 use Rattle.ciborium_ll_decoder.specs.Segments.{EndsAdvance}
 use Rattle.ciborium_ll_decoder.proofs.DecodingLaws.{exit_is, MovesOn-none, MovesOn-then}
 use Rattle.ciborium_ll_decoder.proofs.AdvanceLaws.{Reached-start, Reached-step, Reached-ends}
