@@ -1,5 +1,5 @@
 -- How a title ends a dump, or the string that it begins.
-use Rattle.std.proofs.Common.{◌≡◌, ℕ, ◌-◌, Bool, List, Option, Some, None, Result, Ok, Err, IsErrAnd, ap}
+use Rattle.std.proofs.Common.{ℕ, ◌-◌, Bool, List, Option, Some, None, Err}
 use Rattle.ciborium_ll.specs.Types.Read.{Ghosts}
 use Rattle.ciborium_ll.specs.Types.Header.{Header}
 use Rattle.ciborium_ll.specs.Types.Decoder.{Decoder}
@@ -11,12 +11,6 @@ use Rattle.cbor_look.specs.declared.dump.DumpError.TheVariants as d
 use Rattle.cbor_look.specs.Dumps.{IsRefusal}
 use Rattle.cbor_look.specs.StringRows.{StopsRest}
 use Rattle.cbor_look.specs.TitleRows.{IsStringDue, StopsAlone, StopsTitle}
-
--- the exit of a `?` answers the error that it was given
-pub exit_is : {T E : Type 0} (answer : Result T E) (error : E) → IsErrAnd answer (λ given. given ≡ error)
-    → answer ≡ Err error
-exit_is (Ok x) error is = absurd is
-exit_is (Err given) error is = ap Err is
 
 -- a row was refused
 pub refused_alone : {E W : Type 0} (strict : Bool) (depth whole : ℕ) (header : Header) (place : ℕ) (before : List ℕ)

@@ -1,6 +1,6 @@
 -- What the relations of the decoder's calls have in common.
 use Rattle.std.proofs.Common.{◌≡◌, ℕ, false, ◌⊎◌, List, [], ◌++◌, length, Option, Some, None, IfSome, IsTrue}
-use Rattle.std.proofs.Common.{Result, Ok, Err}
+use Rattle.std.proofs.Common.{Result, Ok, Err, IsErrAnd, ◌<◌, ◌≤◌, ◌-◌, ◌^◌}
 use Rattle.std.proofs.Common.{refl, sym, ap, subst, ◌∙◌, inl, inr, arith, append_assoc, append-nil, length-append}
 use Rattle.std.proofs.KnownBytes.{Consumes-nil, Consumes-trans}
 use Rattle.std.specs.Io.KnownBytes.{Consumes, prepend_known}
@@ -13,6 +13,17 @@ use Rattle.ciborium_ll_text.proofs.Lists.{length_zero}
 use Rattle.ciborium_ll_grammar.specs.Title.{shortest_title, title_len}
 use Rattle.ciborium_ll_decoder.specs.Decoding.{Begins, behind_waiting, view, IsSteady, MovesOn, Passes, PullsTitle}
 use Rattle.ciborium_ll_decoder.specs.Decoding.{PullsHeader, RefusesTitle, TakesBack, PullsAgain}
+
+-- the exit of a `?` answers the error that it was given. A caller that names this lemma is spared a search
+pub exit_is : {T E : Type 0} (answer : Result T E) (error : E) → IsErrAnd answer (λ given. given ≡ error)
+    → answer ≡ Err error
+exit_is (Ok x) error is = absurd is
+exit_is (Err given) error is = ap Err is
+
+-- a decoder that read on is nearer to the last offset
+pub nearer : {R : Type 0} (old between new : Decoder R) → old.offset < between.offset → between.offset ≤ new.offset
+    → 2 ^ 64 - new.offset < 2 ^ 64 - old.offset
+nearer old between new risen rises = omega (arith, risen, rises, new.covered)
 
 -- bytes put in front are the next ones
 pub Consumes-prepended : (known : Option (List ℕ)) (front : List ℕ) → Consumes (prepend_known front known) known front

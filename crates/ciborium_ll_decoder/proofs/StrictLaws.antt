@@ -1,15 +1,22 @@
 -- A title that a decoder read, by the bytes of its parts.
 use Rattle.std.proofs.Common.{◌≡◌, ℕ, ◌+◌, List, [], ◌∷◌, length, refl, sym, ap, subst}
-use Rattle.std.proofs.Common.{◌∙◌, inl, arith, length-append, get_or, ◌*◌, ◌/◌, ◌%◌, ◌++◌, Option, None}
+use Rattle.std.proofs.Common.{◌∙◌, inl, inr, arith, length-append, get_or, take, ◌*◌, ◌/◌, ◌%◌, ◌++◌, ◌<◌}
+use Rattle.std.proofs.Common.{Option, None, Some, IfSome, Result, Ok, Err, MatchResult, Bool, true, false, IsTrue, rules}
+use Rattle.std.proofs.Common.{if◌then◌else◌, ◌&&◌, ◌-◌, ◌^◌}
+use Rattle.std.proofs.lemmas.Bool.Decides.{nat_tests}
 use Rattle.std.proofs.KnownBytes.{Consumes-trans}
 use Rattle.std.specs.Io.KnownBytes.{Consumes}
 use Rattle.ciborium_ll_io.specs.declared.io.Read.{Ghosts}
 use Rattle.ciborium_ll_decoder.specs.declared.dec.Decoder.{Decoder}
-use Rattle.ciborium_ll_decoder.specs.Decoding.{view, failures_of, ReadsAll, RefusesTitle}
+use Rattle.ciborium_ll_decoder.specs.declared.dec.Error.{Error}
+use Rattle.ciborium_ll_decoder.specs.declared.dec.Error.TheVariants as e
+use Rattle.ciborium_ll_decoder.specs.Decoding.{Begins, view, failures_of, IsSteady, PullsHeader, ReadsAll, ReadsMinor}
+use Rattle.ciborium_ll_decoder.specs.Decoding.{HoldsAffix, ReadsBytes, RefusesTitle, strict_of}
 use Rattle.ciborium_ll_decoder.proofs.BodyLaws.{view_none}
 use Rattle.ciborium_ll_grammar.specs.declared.hdr.Minor.{Minor}
-use Rattle.ciborium_ll_grammar.specs.Title.{IsReserved}
-use Rattle.ciborium_ll_grammar.specs.Parts.{minor_affix, minor_code, parts_bytes}
+use Rattle.ciborium_ll_grammar.specs.declared.hdr.Minor.TheVariants as m
+use Rattle.ciborium_ll_grammar.specs.Title.{affix_len, IsCutTitle, IsNeverOpen, IsReserved}
+use Rattle.ciborium_ll_grammar.specs.Parts.{longer_parts, minor_affix, minor_code, parts_bytes}
 
 -- ---- a title that was read
 
@@ -20,6 +27,38 @@ first_parts [] b l e = absurd (omega (arith, l))
 first_parts (x ∷ []) b l e = let byte : 32 * (x / 32) + minor_code b ≡ x = omega (arith, e) in
     ap (λ (z : ℕ). z ∷ minor_affix b) byte
 first_parts (x ∷ y ∷ read) b l e = absurd (omega (arith, l))
+
+-- a minor of the code 31 has no affix
+no_affix : (b : Minor) → minor_code b ≡ 31 → minor_affix b ≡ []
+no_affix (m.Small n) e = refl
+no_affix (m.One n) e = absurd (omega (arith, e))
+no_affix (m.Two n) e = absurd (omega (arith, e))
+no_affix (m.Four n) e = absurd (omega (arith, e))
+no_affix (m.Eight n) e = absurd (omega (arith, e))
+no_affix m.Open e = refl
+
+-- a number that stands within the first byte has no affix
+pub small_affix : (minor : ℕ) → minor < 24 → affix_len minor ≡ 0
+small_affix minor small = grind (arith, nat_tests)
+
+-- nor has the minor of an open
+pub open_affix : (minor : ℕ) → minor ≡ 31 → affix_len minor ≡ 0
+open_affix minor is = rw is refl
+
+-- what was consumed is a beginning of what was there
+begins_with : (old new : Option (List ℕ)) (read : List ℕ) → Consumes old new read → IfSome old (Begins read)
+begins_with None new read taken = tt
+begins_with (Some old) None read taken = absurd taken
+begins_with (Some old) (Some new) read taken = (new, taken)
+
+-- a first byte with less behind it than its affix has
+cut_affix : (old new : Option (List ℕ)) (first : ℕ) → Consumes old new (first ∷ [])
+    → IfSome new (λ bytes. length bytes < affix_len (first % 32))
+    → IfSome old (λ due. IsCutTitle due × (first ∷ [] ≡ take 1 due))
+cut_affix None new first taken few = tt
+cut_affix (Some old) None first taken few = absurd taken
+cut_affix (Some old) (Some new) first taken few =
+    subst (λ (due : List ℕ). IsCutTitle due × (first ∷ [] ≡ take 1 due)) (sym taken) (few, refl)
 
 module _ {R E : Type 0} (source : Ghosts R E) where
   -- what was read, while no header waited
@@ -52,6 +91,11 @@ module _ {R E : Type 0} (source : Ghosts R E) where
         mode = affix.mode ∙ (first.mode ∙ mode);
       }
 
+  -- where a first byte was read, the offset could rise
+  pub not_full : (old between : Decoder R) (read : List ℕ) → ReadsAll source old read between → length read ≡ 1
+      → old.offset ≡ 2 ^ 64 - 1 → ⊥
+  not_full old between read first one full = omega (arith, first.offset, one, full, between.covered)
+
   -- a first byte of a reserved minor was read
   pub first_refused : (old opened between new : Decoder R) (read : List ℕ) → old.waiting ≡ None → opened.reader
       ≡ old.reader → opened.offset ≡ old.offset → ReadsAll source opened read between
@@ -74,3 +118,115 @@ module _ {R E : Type 0} (source : Ghosts R E) where
       })
   first_refused old opened between new (x ∷ y ∷ more) none reader offset first one same reserved =
       absurd (omega (arith, one))
+
+  -- a first byte of a minor of the code 31 was read, and its major type has no indefinite form
+  pub open_refused : (old between new : Decoder R) (read : List ℕ) (b : Minor) → old.waiting ≡ None
+      → ReadsAll source old read between → ReadsAll source between (minor_affix b) new → length read ≡ 1
+      → get_or read 0 0 % 32 ≡ minor_code b → minor_code b ≡ 31 → IsNeverOpen (get_or read 0 0 / 32)
+      → RefusesTitle source old old.offset new
+  open_refused old between new [] b none first affix one code is never = absurd (omega (arith, one))
+  open_refused old between new (x ∷ []) b none first affix one code is never =
+      let read = title_read old old between new (x ∷ []) (x ∷ []) b none refl refl refl first affix
+      (ap (λ (z : List ℕ). x ∷ z) (sym (no_affix b is))) in
+      record {
+        byte = x;
+        refused = inr (code ∙ is, never);
+        place = refl;
+        bytes = read.bytes;
+        offset = read.offset;
+        none_waited = none;
+        none_waits = read.none_waits;
+        failures = read.failures;
+      }
+  open_refused old between new (x ∷ y ∷ more) b none first affix one code is never = absurd (omega (arith, one))
+
+  -- the affix of a first byte was not read
+  affix_unread : (old between new : Decoder R) (x : ℕ) (error : Error E) → old.waiting ≡ None
+      → ReadsAll source old (x ∷ []) between → (IsSteady source old → IsSteady source between)
+      → ReadsMinor source x between (Err error) new → PullsHeader source old (Err error) new
+  affix_unread old between new x (e.Io fault) none first steady affix =
+      let before = sym (view_none old.waiting (source.ahead old.reader) none) in
+      let after = sym (view_none new.waiting (source.ahead new.reader) affix.none_waits) in
+      record {
+        read = x ∷ [];
+        within_first = omega arith;
+        began = subst (λ (k : Option (List ℕ)). IfSome k (Begins (x ∷ []))) before (begins_with _ _ _ first.bytes);
+        offset = affix.offset ∙ first.offset;
+        fitted = omega (arith, affix.offset, affix.fitted);
+        none_waited = none;
+        none_waits = affix.none_waits;
+        failures = affix.failures ∙ ap (λ (n : ℕ). n + 1) first.failures;
+        steady = λ s.
+            let cut = affix.steady (steady s) in
+            let kept = subst (λ (k : Option (List ℕ)). Consumes (source.ahead old.reader) k (x ∷ [])) (sym cut.0)
+            first.bytes in (
+              subst (λ (k : Option (List ℕ)). Consumes k (view source new) (x ∷ [])) before
+                  (subst (λ (k : Option (List ℕ)). Consumes (source.ahead old.reader) k (x ∷ [])) after kept),
+              subst (λ (k : Option (List ℕ)). IfSome k (λ due. IsCutTitle due × (x ∷ [] ≡ take 1 due))) before
+                  (cut_affix _ _ x first.bytes cut.1),
+            );
+      }
+  affix_unread old between new x e.TooLong none first steady affix =
+      let before = sym (view_none old.waiting (source.ahead old.reader) none) in
+      let after = sym (view_none between.waiting (source.ahead between.reader) first.none_waits) in
+      rw affix.1 (record {
+        read = x ∷ [];
+        within_first = omega arith;
+        bytes = subst (λ (k : Option (List ℕ)). Consumes k (view source between) (x ∷ [])) before
+            (subst (λ (k : Option (List ℕ)). Consumes (source.ahead old.reader) k (x ∷ [])) after first.bytes);
+        offset = first.offset;
+        full = affix.0;
+        untouched = λ e. absurd cc;
+        none_waited = none;
+        none_waits = first.none_waits;
+        failures = first.failures;
+      })
+  affix_unread old between new x e.Waiting none first steady affix = absurd affix
+  affix_unread old between new x (e.Syntax place) none first steady affix = absurd affix
+
+  -- the answer to a title of which the affix was not read
+  pub affix_stopped : {A : Type 0} (P : A → Type 0) (answer : Result A (Error E)) (error : Error E)
+      (old between new : Decoder R) (read : List ℕ) → answer ≡ Err error → old.waiting ≡ None
+      → ReadsAll source old read between → (IsSteady source old → IsSteady source between) → length read ≡ 1
+      → ReadsMinor source (get_or read 0 0) between (Err error) new
+      → MatchResult answer P (λ error. PullsHeader source old (Err error) new)
+  affix_stopped P answer error old between new [] is none first steady one affix = absurd (omega (arith, one))
+  affix_stopped P answer error old between new (x ∷ []) is none first steady one affix =
+      rw is (affix_unread old between new x error none first steady affix)
+  affix_stopped P answer error old between new (x ∷ y ∷ more) is none first steady one affix =
+      absurd (omega (arith, one))
+
+  -- ---- the affix of a first byte
+
+  taken_by : (first : ℕ) (old new : Decoder R) (minor : Minor) (answer : Option Minor) (strict longer : Bool)
+      → strict ≡ old.strict → longer ≡ longer_parts (first / 32) minor → HoldsAffix source first old minor new
+      → answer ≡ (if strict && longer then None else Some minor) → ReadsMinor source first old (Ok answer) new
+  taken_by first old new minor answer true true on long holds is =
+      rw is (inr (record { read = minor; holds = holds; strict = subst IsTrue on (search rules); longer = sym long }))
+  taken_by first old new minor answer true false on long holds is =
+      rw is (record { holds = holds; taken = λ _. sym long })
+  taken_by first old new minor answer false longer off long holds is =
+      rw is (record { holds = holds; taken = λ on. absurd (let never = rw (sym off) at on in cc) })
+
+  -- an affix that was read is taken, but by a strict decoder where a smaller form holds its number
+  pub affix_taken : (first : ℕ) (old new : Decoder R) (minor : Minor) (answer : Option Minor)
+      → HoldsAffix source first old minor new
+      → answer ≡ (if strict_of new && longer_parts (first / 32) minor then None else Some minor)
+      → ReadsMinor source first old (Ok answer) new
+  affix_taken first old new minor answer holds is =
+      taken_by first old new minor answer new.strict (longer_parts (first / 32) minor) holds.all.mode refl holds is
+
+  empty_unread : (first : ℕ) (old new : Decoder R) (bytes : List ℕ) (error : Error E) → affix_len (first % 32) ≡ 0
+      → old.waiting ≡ None → length bytes ≡ 0
+      → ReadsBytes source old (Err error) bytes new → ReadsMinor source first old (Err error) new
+  empty_unread first old new bytes (e.Io fault) none waits empty fails = rw none (rw empty at fails)
+  empty_unread first old new bytes e.TooLong none waits empty full = absurd (omega (arith, full.1, empty, old.covered))
+  empty_unread first old new bytes e.Waiting none waits empty is = absurd (let waiting = rw waits at is.0 in cc)
+  empty_unread first old new bytes (e.Syntax place) none waits empty never = absurd never
+
+  -- the read of no affix failed
+  pub none_unread : (first : ℕ) (old new : Decoder R) (bytes : List ℕ) (answer : Result (Option Minor) (Error E))
+      (error : Error E) → answer ≡ Err error → affix_len (first % 32) ≡ 0 → old.waiting ≡ None → length bytes ≡ 0
+      → ReadsBytes source old (Err error) bytes new → ReadsMinor source first old answer new
+  none_unread first old new bytes answer error is none waits empty fails =
+      rw is (empty_unread first old new bytes error none waits empty fails)

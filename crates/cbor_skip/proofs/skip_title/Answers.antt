@@ -1,5 +1,9 @@
-use Rattle.std.proofs.Common.{◌≡◌, ◌∙◌, Err, sym, inr, arith}
-use Rattle.std.proofs.lemmas.Result.{err_from_is_err_and}
+use Rattle.std.proofs.Common.{◌≡◌, ◌∙◌, ◌<◌, ◌≤◌, ℕ, sym, inl, inr, arith}
+use Rattle.ciborium_ll_io.specs.declared.io.Read.{Ghosts}
+use Rattle.ciborium_ll_grammar.specs.declared.hdr.Header.{Header}
+use Rattle.ciborium_ll_decoder.specs.declared.dec.Decoder.{Decoder}
+use Rattle.ciborium_ll_decoder.specs.Decoding.{PullsTitle}
+use Rattle.ciborium_ll_decoder.proofs.DecodingLaws.{exit_is, MovesOn-then}
 use Rattle.ciborium_ll_grammar.specs.declared.hdr.Header.TheVariants as h
 use Rattle.ciborium_ll_grammar.specs.Strings.{Bytes, Text}
 use Rattle.ciborium_ll_decoder.proofs.NestLaws.{title_some}
@@ -8,6 +12,15 @@ use Rattle.cbor_skip.specs.Skipping.{strictness}
 use Rattle.cbor_skip.proofs.ItemSteps.{reads_plain, reads_string}
 use Rattle.cbor_skip.proofs.StartSteps.{bytes_start, text_start, value_start}
 use Rattle.cbor_skip.proofs.skip_title.Goals as goal
+
+-- a title that was pulled has some bytes
+pull_rises : {R E : Type 0} (source : Ghosts R E) {old new : Decoder R} {header : Header}
+    → PullsTitle source old header new → old.offset < new.offset
+pull_rises source pulled = omega (arith, title_some pulled.title _ pulled.is_title, pulled.offset)
+
+-- and more may be read behind them
+rises_behind : {old between new : ℕ} → old < between → between ≤ new → old < new
+rises_behind risen rises = omega (arith, risen, rises)
 
 pub skip_bytes-requires-clause-covered : goal.skip_bytes-requires-clause-covered
 skip_bytes-requires-clause-covered g c =
@@ -29,9 +42,18 @@ returns-in-Value-clause-begun g c = λ depth.
     reads_plain g.R.Read c.in_ok-header.ensures.header c.pull_title.ensures.moves_on.steady plain
 
 pub returns-in-Break-clause-rises : goal.returns-in-Break-clause-rises
-returns-in-Break-clause-rises g c = λ ok.
-    let pulled = c.in_ok-header.ensures.header in
-    omega (arith, title_some pulled.title _ pulled.is_title, pulled.offset)
+returns-in-Break-clause-rises g c = λ ok. pull_rises g.R.Read c.in_ok-header.ensures.header
+
+pub returns-in-Value-clause-rises : goal.returns-in-Value-clause-rises
+returns-in-Value-clause-rises g c = λ ok. pull_rises g.R.Read c.in_ok-header.ensures.header
+
+pub returns-in-Nest-clause-rises : goal.returns-in-Nest-clause-rises
+returns-in-Nest-clause-rises g c = λ ok. pull_rises g.R.Read c.in_ok-header.ensures.header
+
+pub returns-in_err-header-clause-begun : goal.returns-in_err-header-clause-begun
+returns-in_err-header-clause-begun g c =
+    rw (exit_is c.from_residual.result c.in_err-header.field-0.0 c.from_residual.ensures.1)
+    (inl c.in_err-header.ensures.header)
 
 -- ---- strings
 
@@ -51,25 +73,18 @@ returns-in_ok-skip_text-in-Text-clause-begun g c = λ depth.
 
 pub returns-in_ok-skip_bytes-in-Bytes-clause-rises : goal.returns-in_ok-skip_bytes-in-Bytes-clause-rises
 returns-in_ok-skip_bytes-in-Bytes-clause-rises g c = λ ok.
-    let pulled = c.in_ok-header.ensures.header in
-    let risen = c.skip_bytes.ensures.moves_on.rises in
-    omega (arith, title_some pulled.title _ pulled.is_title, pulled.offset, risen)
+    rises_behind (pull_rises g.R.Read c.in_ok-header.ensures.header) c.skip_bytes.ensures.moves_on.rises
 
 pub returns-in_ok-skip_text-in-Text-clause-rises : goal.returns-in_ok-skip_text-in-Text-clause-rises
 returns-in_ok-skip_text-in-Text-clause-rises g c = λ ok.
-    let pulled = c.in_ok-header.ensures.header in
-    let risen = c.skip_text.ensures.moves_on.rises in
-    omega (arith, title_some pulled.title _ pulled.is_title, pulled.offset, risen)
+    rises_behind (pull_rises g.R.Read c.in_ok-header.ensures.header) c.skip_text.ensures.moves_on.rises
 
 pub returns-in_err-skip_bytes-in-Bytes-clause-begun : goal.returns-in_err-skip_bytes-in-Bytes-clause-begun
 returns-in_err-skip_bytes-in-Bytes-clause-begun g c =
     let is : c.in_ok-header.header ≡ h.Bytes c.in-Bytes.len = bytes_start c.in_ok-header.header c.in-Bytes.len
     (sym c.start.ensures ∙ c.in-Bytes.is) in
     let residual = c.from_residual-in_err-skip_bytes-in-Bytes in
-    let from = err_from_is_err_and residual.result residual.ensures.1 in
-    let is_error = from.1 in
-    let is_same = from.2 in
-    let same : residual.result ≡ Err c.in_err-skip_bytes-in-Bytes.field-0.0 = cc in
+    let same = exit_is residual.result c.in_err-skip_bytes-in-Bytes.field-0.0 residual.ensures.1 in
     rw same (inr (record {
       kind = Bytes;
       len = c.in-Bytes.len;
@@ -84,10 +99,7 @@ returns-in_err-skip_text-in-Text-clause-begun g c =
     let is : c.in_ok-header.header ≡ h.Text c.in-Text.len = text_start c.in_ok-header.header c.in-Text.len
     (sym c.start.ensures ∙ c.in-Text.is) in
     let residual = c.from_residual-in_err-skip_text-in-Text in
-    let from = err_from_is_err_and residual.result residual.ensures.1 in
-    let is_error = from.1 in
-    let is_same = from.2 in
-    let same : residual.result ≡ Err c.in_err-skip_text-in-Text.field-0.0 = cc in
+    let same = exit_is residual.result c.in_err-skip_text-in-Text.field-0.0 residual.ensures.1 in
     rw same (inr (record {
       kind = Text;
       len = c.in-Text.len;
@@ -96,3 +108,19 @@ returns-in_err-skip_text-in-Text-clause-begun g c =
       steady = c.pull_title.ensures.moves_on.steady;
       fails = c.in_err-skip_text-in-Text.ensures.skipped;
     }))
+
+pub returns-in_ok-skip_bytes-in-Bytes-clause-moves_on : goal.returns-in_ok-skip_bytes-in-Bytes-clause-moves_on
+returns-in_ok-skip_bytes-in-Bytes-clause-moves_on g c =
+    MovesOn-then g.R.Read _ _ _ c.pull_title.ensures.moves_on c.skip_bytes.ensures.moves_on
+
+pub returns-in_err-skip_bytes-in-Bytes-clause-moves_on : goal.returns-in_err-skip_bytes-in-Bytes-clause-moves_on
+returns-in_err-skip_bytes-in-Bytes-clause-moves_on g c =
+    MovesOn-then g.R.Read _ _ _ c.pull_title.ensures.moves_on c.skip_bytes.ensures.moves_on
+
+pub returns-in_ok-skip_text-in-Text-clause-moves_on : goal.returns-in_ok-skip_text-in-Text-clause-moves_on
+returns-in_ok-skip_text-in-Text-clause-moves_on g c =
+    MovesOn-then g.R.Read _ _ _ c.pull_title.ensures.moves_on c.skip_text.ensures.moves_on
+
+pub returns-in_err-skip_text-in-Text-clause-moves_on : goal.returns-in_err-skip_text-in-Text-clause-moves_on
+returns-in_err-skip_text-in-Text-clause-moves_on g c =
+    MovesOn-then g.R.Read _ _ _ c.pull_title.ensures.moves_on c.skip_text.ensures.moves_on

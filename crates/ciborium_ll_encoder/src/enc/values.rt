@@ -55,7 +55,6 @@ impl<W: Write> Encoder<W> {
     /// encoder.text(entry.key, None)?;
     /// encoder.text(entry.value, None)
     /// ```
-    #[tactic(auto, using(crate::proofs::Writes::texts))]
     pub fn text(&mut self, value: &str, segment: Option<usize>) -> Result<(), W::Error>
         ensures written { WritesString W.Write Text segment value.now (writer_of self.old) result
             (writer_of self.new) }
@@ -71,7 +70,6 @@ impl<W: Write> Encoder<W> {
     }
 
     /// Writes a text that is longer than the limit.
-    #[tactic(auto, using(crate::proofs::Writes::texts))]
     fn long_text(&mut self, value: &str, limit: usize) -> Result<(), W::Error>
         requires four { 4 ≤ limit }
         requires longer { limit < length value.now }
@@ -85,7 +83,6 @@ impl<W: Write> Encoder<W> {
     }
 
     /// Writes a body behind its title.
-    #[tactic(auto, using(crate::proofs::Writes::behind_bytes))]
     fn string(&mut self, title: Header, body: &[u8]) -> Result<(), W::Error>
         ensures bytes { WritesBytes W.Write (writer_of self.old) result (shortest_title title ++ body.now)
             (writer_of self.new) }

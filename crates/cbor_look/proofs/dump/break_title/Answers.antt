@@ -1,9 +1,10 @@
 use Rattle.std.proofs.Common.{◌++◌, List, ℕ, subst, sym, refl, ◌∙◌}
 use Rattle.ciborium_ll.specs.Types.Header.TheVariants as h
+use Rattle.ciborium_ll.proofs.DecodingLaws.{exit_is}
 use Rattle.cbor_look.specs.Takings.{taken_bytes}
 use Rattle.cbor_look.specs.Walks.{IsBehindItem}
 use Rattle.cbor_look.proofs.TitleLaws.{break_line, break_bytes}
-use Rattle.cbor_look.proofs.StopLaws.{exit_is, refused_alone}
+use Rattle.cbor_look.proofs.StopLaws.{refused_alone}
 use Rattle.cbor_look.proofs.dump.break_title.Goals as goal
 
 pub returns-in_err-shown : goal.returns-in_err-shown

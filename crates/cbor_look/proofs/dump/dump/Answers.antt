@@ -1,4 +1,5 @@
 use Rattle.std.proofs.Common.{[], ◌++◌, length, Err, arith}
+use Rattle.ciborium_ll.proofs.DecodingLaws.{exit_is}
 use Rattle.cbor_look.specs.Checking.{ReadsAsCheck}
 use Rattle.cbor_look.specs.Dumps.{AreTaken, IsTaken}
 use Rattle.ciborium_ll.specs.Items.{IsTakenTitle}
@@ -11,7 +12,6 @@ use Rattle.cbor_look.proofs.PullLaws.{passes_alike}
 use Rattle.cbor_look.proofs.CheckLaws.{comes_first, comes_next, comes_alike, comes_end, comes_title, answers_told}
 use Rattle.cbor_look.proofs.CheckLaws.{answers_exactly}
 use Rattle.cbor_look.proofs.TitleLaws.{nests_few, up_ended, up_title}
-use Rattle.cbor_look.proofs.StopLaws.{exit_is}
 use Rattle.cbor_look.proofs.dump.dump.Goals as goal
 
 pub titles-init : goal.titles-init

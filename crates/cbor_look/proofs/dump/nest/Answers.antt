@@ -1,6 +1,7 @@
 use Rattle.std.proofs.Common.{refl}
+use Rattle.ciborium_ll.proofs.DecodingLaws.{exit_is}
 use Rattle.cbor_look.proofs.TitleLaws.{walk_line, nest_level}
-use Rattle.cbor_look.proofs.StopLaws.{exit_is, refused_alone}
+use Rattle.cbor_look.proofs.StopLaws.{refused_alone}
 use Rattle.cbor_look.proofs.dump.nest.Goals as goal
 
 pub returns-in_err-shown : goal.returns-in_err-shown

@@ -1,9 +1,10 @@
 use Rattle.std.proofs.Common.{[], ◌++◌, arith, length-append, ◌∙◌, refl}
+use Rattle.ciborium_ll.proofs.DecodingLaws.{exit_is}
 use Rattle.cbor_look.specs.Takings.{taken_bytes}
 use Rattle.cbor_look.specs.StringRows.{kind_of}
 use Rattle.ciborium_ll.specs.Strings.{kind_header}
 use Rattle.cbor_look.proofs.TitleLaws.{walk_line, string_level, title_only, title_then, behind_item, string_item}
-use Rattle.cbor_look.proofs.StopLaws.{exit_is, refused_title, rest_stops}
+use Rattle.cbor_look.proofs.StopLaws.{refused_title, rest_stops}
 use Rattle.cbor_look.proofs.WalkLaws.{stands_any}
 use Rattle.cbor_look.proofs.dump.string.Goals as goal
 

@@ -1,7 +1,8 @@
 use Rattle.std.proofs.Common.{arith}
+use Rattle.ciborium_ll.proofs.DecodingLaws.{exit_is}
 use Rattle.cbor_look.specs.Takings.{taken_bytes}
 use Rattle.cbor_look.proofs.TitleLaws.{walk_line, value_level, value_item, behind_item}
-use Rattle.cbor_look.proofs.StopLaws.{exit_is, refused_alone}
+use Rattle.cbor_look.proofs.StopLaws.{refused_alone}
 use Rattle.cbor_look.proofs.dump.value.Goals as goal
 
 pub returns-in_err-shown : goal.returns-in_err-shown

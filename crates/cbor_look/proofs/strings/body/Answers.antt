@@ -2,11 +2,10 @@ use Rattle.std.proofs.Common.{[], ◌++◌, Some, arith}
 use Rattle.cbor_look.specs.Takings.{taken_bytes}
 use Rattle.cbor_look.specs.StringRows.{kind_of}
 use Rattle.cbor_look.proofs.DumpLaws.{shows_none}
-use Rattle.ciborium_ll.proofs.DecodingLaws.{Passes-none}
+use Rattle.ciborium_ll.proofs.DecodingLaws.{exit_is, Passes-none}
 use Rattle.cbor_look.proofs.StringLaws.{taken_all, part_fails, part_shown, writable_none, body_stops, refusal_stops}
 use Rattle.cbor_look.proofs.PullLaws.{passes_idle}
 use Rattle.cbor_look.proofs.PartLaws.{part_behind}
-use Rattle.cbor_look.proofs.StopLaws.{exit_is}
 use Rattle.cbor_look.proofs.strings.body.Goals as goal
 
 pub rows-init : goal.rows-init

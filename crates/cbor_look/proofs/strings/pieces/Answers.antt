@@ -1,6 +1,6 @@
 use Rattle.std.proofs.Common.{◌≡◌, ℕ, ◌++◌, subst, sym, ap, suc, ◌-◌, Some, None, ◌∙◌, refl, arith}
 use Rattle.ciborium_ll.specs.Decoding.{PullsTitle}
-use Rattle.ciborium_ll.proofs.DecodingLaws.{Passes-then}
+use Rattle.ciborium_ll.proofs.DecodingLaws.{exit_is, Passes-then}
 use Rattle.ciborium_ll.specs.Types.Header.{Header}
 use Rattle.ciborium_ll.specs.Items.{IsTakenTitle}
 use Rattle.ciborium_ll.specs.Title.{IsTitle}
@@ -13,7 +13,6 @@ use Rattle.cbor_look.proofs.PieceLaws.{alike_here, passed_row, within_no_title, 
 use Rattle.cbor_look.proofs.PieceLaws.{within_first, within_fails, within_open, within_break, within_ends, within_title}
 use Rattle.cbor_look.proofs.PieceLaws.{within_piece, within_whole, piece_due, piece_offset}
 use Rattle.cbor_look.proofs.TitleLaws.{string_level}
-use Rattle.cbor_look.proofs.StopLaws.{exit_is}
 use Rattle.cbor_look.proofs.strings.pieces.Goals as goal
 
 pub parts-init : goal.parts-init

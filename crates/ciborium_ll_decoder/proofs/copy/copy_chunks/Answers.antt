@@ -1,8 +1,7 @@
 use Rattle.std.proofs.Common.{rules, refl, subst, ◌≡◌, ℕ, None, Err, length}
-use Rattle.std.proofs.lemmas.Result.{err_from_is_err_and}
 use Rattle.ciborium_ll_decoder.specs.declared.copy.RecodeError.TheVariants as r
 use Rattle.ciborium_ll_decoder.specs.Chunks.{GivesChunk, PullsChunk}
-use Rattle.ciborium_ll_decoder.proofs.DecodingLaws.{MovesOn-none, MovesOn-then}
+use Rattle.ciborium_ll_decoder.proofs.DecodingLaws.{exit_is, MovesOn-none, MovesOn-then}
 use Rattle.ciborium_ll_decoder.proofs.BodyCopyLaws.{so_far_start, so_far_chunk, so_far_unwritten, so_far_whole}
 use Rattle.ciborium_ll_decoder.proofs.BodyCopyLaws.{so_far_error}
 use Rattle.ciborium_ll_decoder.proofs.copy.copy_chunks.Goals as goal
@@ -37,10 +36,7 @@ returns-in_default-clause-copied g c =
 
 pub returns-in_err-chunk-clause-copied : goal.returns-in_err-chunk-clause-copied
 returns-in_err-chunk-clause-copied g c =
-    let from = err_from_is_err_and c.from_residual.result c.from_residual.ensures.1 in
-    let is_error = from.1 in
-    let is_same = from.2 in
-    let same : c.from_residual.result ≡ Err (r.Read c.in_err-chunk.field-0.0) = cc in
+    let same = exit_is c.from_residual.result (r.Read c.in_err-chunk.field-0.0) c.from_residual.ensures.1 in
     let pulled = c.in_err-chunk.ensures in
     let chunk = subst (λ (room : ℕ). PullsChunk g.R.Read room c.chunks.segment (Err c.in_err-chunk.field-0.0)
     c.chunk.new.segment) c.chunks.auto.buffer pulled.chunk in

@@ -1,16 +1,12 @@
-use Rattle.std.proofs.Common.{rules, sym, ◌≡◌, ◌∙◌, ◌<◌, ◌^◌, None, Err, length, arith}
-use Rattle.std.proofs.lemmas.Result.{err_from_is_err_and}
-use Rattle.ciborium_ll_decoder.proofs.DecodingLaws.{MovesOn-then}
+use Rattle.std.proofs.Common.{rules, sym, ◌≡◌, ◌∙◌, ◌<◌, ◌^◌, None, length}
+use Rattle.ciborium_ll_decoder.proofs.DecodingLaws.{exit_is, nearer, MovesOn-then}
 use Rattle.ciborium_ll_decoder.proofs.SkipLaws.{skips_end, skips_error, skips_body, skips_stop, found_rises}
 use Rattle.ciborium_ll_decoder.proofs.skip.skip_segments.Goals as goal
 
 pub returns-in_err-body-clause-skipped : goal.returns-in_err-body-clause-skipped
 returns-in_err-body-clause-skipped g c = λ opened len range settled back meant.
-    let p = err_from_is_err_and c.from_residual.result c.from_residual.ensures.1 in
-    let q = p.1 in
-    let r = p.2 in
     let error = c.in_err-body.field-0.0 in
-    let same : c.from_residual.result ≡ Err error = cc in
+    let same = exit_is c.from_residual.result error c.from_residual.ensures.1 in
     let advances = rw c.in_err-body.was at c.advance.ensures.advances in
     let less : c.advance.new.self.decoder.now.offset < 2 ^ 64 = search rules in
     rw same (skips_error g.R.Read g.P.Parser.kind c.segments.segments.strict len (length c.args.buffer.now) opened
@@ -26,10 +22,8 @@ segments-smaller g c =
     let rises = found_rises g.R.Read g.P.Parser.kind c.segments.segments.strict c.segments.segments.progress
     c.advance.new.self.progress
     c.segments.segments.decoder.now c.advance.new.self.decoder.now c.in-Some.body advances in
-    let more = c.finish.ensures.moves_on.rises in
-    let risen : c.segments.segments.decoder.now.offset < c.finish.new.self.decoder.now.offset =
-    omega (arith, rises, more) in
-    search rules
+    nearer c.segments.segments.decoder.now c.advance.new.self.decoder.now c.finish.new.self.decoder.now rises
+    c.finish.ensures.moves_on.rises
 
 pub segments-preserved : goal.segments-preserved
 segments-preserved g c =
@@ -53,11 +47,8 @@ segments-preserved g c =
 
 pub returns-in_err-finish-clause-skipped : goal.returns-in_err-finish-clause-skipped
 returns-in_err-finish-clause-skipped g c = λ opened len range settled back meant.
-    let p = err_from_is_err_and c.from_residual-in_err-finish.result c.from_residual-in_err-finish.ensures.1 in
-    let q = p.1 in
-    let r = p.2 in
     let error = c.in_err-finish.field-0.0 in
-    let same : c.from_residual-in_err-finish.result ≡ Err error = cc in
+    let same = exit_is c.from_residual-in_err-finish.result error c.from_residual-in_err-finish.ensures.1 in
     let some = c.in-Some.is in
     let advances = rw (c.in_ok-body.was, some) at c.advance.ensures.advances in
     let stops = rw c.in_err-finish.was at c.finish.ensures.finishes in

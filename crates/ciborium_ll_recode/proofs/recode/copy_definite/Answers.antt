@@ -1,5 +1,5 @@
-use Rattle.std.proofs.Common.{rules, ap, subst, ◌∙◌, ◌≡◌, ◌+◌, ℕ, Err, Some, length, arith}
-use Rattle.std.proofs.lemmas.Result.{err_from_is_err_and}
+use Rattle.std.proofs.Common.{rules, ap, subst, ◌∙◌, ◌≡◌, ◌+◌, ℕ, Some, length, arith}
+use Rattle.ciborium_ll_decoder.proofs.DecodingLaws.{exit_is}
 use Rattle.ciborium_ll_decoder.specs.declared.dec.Decoder.{Decoder}
 use Rattle.ciborium_ll_decoder.specs.BodyCopies.{CopiesBody}
 use Rattle.ciborium_ll_recode.specs.Recoding.{GoesOn}
@@ -12,10 +12,7 @@ use Rattle.ciborium_ll_recode.proofs.recode.copy_definite.Goals as goal
 
 pub returns-in_err-write_header-clause-copied : goal.returns-in_err-write_header-clause-copied
 returns-in_err-write_header-clause-copied g c = λ count before old title t taken behind.
-    let p = err_from_is_err_and c.from_residual.result c.from_residual.ensures.1 in
-    let q = p.1 in
-    let r = p.2 in
-    let same : c.from_residual.result ≡ Err c.in_err-write_header.field-0.0 = cc in
+    let same = exit_is c.from_residual.result c.in_err-write_header.field-0.0 c.from_residual.ensures.1 in
     let wrote = c.in_err-write_header.ensures.header in
     rw same (header_error g.R.Read g.W.Write count (length c.args.buffer.now) old
     (sides_of c.args.decoder.now c.args.encoder.now) _ _

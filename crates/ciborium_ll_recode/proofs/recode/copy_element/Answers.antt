@@ -1,5 +1,4 @@
-use Rattle.std.proofs.Common.{rules, refl, subst, ◌≡◌, ◌≤◌, Err, length}
-use Rattle.std.proofs.lemmas.Result.{err_from_is_err_and}
+use Rattle.std.proofs.Common.{rules, refl, subst, ◌≡◌, ◌≤◌, length}
 use Rattle.ciborium_ll_grammar.specs.declared.hdr.Header.{Header}
 use Rattle.ciborium_ll_grammar.specs.declared.hdr.Header.TheVariants as h
 use Rattle.ciborium_ll_decoder.specs.declared.copy.RecodeError.TheVariants as r
@@ -7,16 +6,13 @@ use Rattle.ciborium_ll_grammar.specs.Title.{title_len}
 use Rattle.ciborium_ll_decoder.specs.Decoding.{PullsTitle}
 use Rattle.ciborium_ll_decoder.specs.BodyCopies.{sides}
 use Rattle.ciborium_ll_recode.specs.Sides.{sides_of}
-use Rattle.ciborium_ll_decoder.proofs.DecodingLaws.{MovesOn-then}
+use Rattle.ciborium_ll_decoder.proofs.DecodingLaws.{exit_is, MovesOn-then}
 use Rattle.ciborium_ll_recode.proofs.CopyLaws.{pulled_covers, behind_pulled, title_answered, title_taken, pull_stops, plain_goes_on}
 use Rattle.ciborium_ll_recode.proofs.recode.copy_element.Goals as goal
 
 pub returns-in_err-_header : goal.returns-in_err-_header
 returns-in_err-_header g c =
-    let p = err_from_is_err_and c.from_residual.result c.from_residual.ensures.1 in
-    let q = p.1 in
-    let same_error = p.2 in
-    let same : c.from_residual.result ≡ Err (r.Read c.in_err-_header.field-0.0) = cc in
+    let same = exit_is c.from_residual.result (r.Read c.in_err-_header.field-0.0) c.from_residual.ensures.1 in
     record {
       copied = λ count before old behind.
           rw same (pull_stops g.R.Read g.W.Write count before old (sides_of c.args.decoder.now c.args.encoder.now)

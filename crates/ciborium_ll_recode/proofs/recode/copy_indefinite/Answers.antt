@@ -1,5 +1,5 @@
-use Rattle.std.proofs.Common.{◌≡◌, Err, length}
-use Rattle.std.proofs.lemmas.Result.{err_from_is_err_and}
+use Rattle.std.proofs.Common.{length}
+use Rattle.ciborium_ll_decoder.proofs.DecodingLaws.{exit_is}
 use Rattle.ciborium_ll_recode.specs.Sides.{sides_of}
 use Rattle.ciborium_ll_recode.proofs.RecodeLaws.{header_error}
 use Rattle.ciborium_ll_recode.proofs.CopyLaws.{opened_within, open_unwritten, close_goes_on}
@@ -7,10 +7,7 @@ use Rattle.ciborium_ll_recode.proofs.recode.copy_indefinite.Goals as goal
 
 pub returns-in_err-write_header-clause-copied : goal.returns-in_err-write_header-clause-copied
 returns-in_err-write_header-clause-copied g c = λ count before old title t only behind.
-    let p = err_from_is_err_and c.from_residual.result c.from_residual.ensures.1 in
-    let q = p.1 in
-    let r = p.2 in
-    let same : c.from_residual.result ≡ Err c.in_err-write_header.field-0.0 = cc in
+    let same = exit_is c.from_residual.result c.in_err-write_header.field-0.0 c.from_residual.ensures.1 in
     let wrote = rw c.header.ensures at c.in_err-write_header.ensures.header in
     rw same (header_error g.R.Read g.W.Write count (length c.args.buffer.now) old
     (sides_of c.args.decoder.now c.args.encoder.now) _ _
@@ -20,11 +17,7 @@ returns-in_err-write_header-clause-copied g c = λ count before old title t only
 
 pub returns-in_err-copy_segments-clause-copied : goal.returns-in_err-copy_segments-clause-copied
 returns-in_err-copy_segments-clause-copied g c = λ count before old title t only behind.
-    let p = err_from_is_err_and c.from_residual-in_err-copy_segments.result
-    c.from_residual-in_err-copy_segments.ensures.1 in
-    let q = p.1 in
-    let r = p.2 in
-    let same : c.from_residual-in_err-copy_segments.result ≡ Err c.in_err-copy_segments.field-0.0 = cc in
+    let same = exit_is c.from_residual-in_err-copy_segments.result c.in_err-copy_segments.field-0.0 c.from_residual-in_err-copy_segments.ensures.1 in
     let titled = rw c.header.ensures at c.in_ok-write_header.ensures.header in
     let copied = rw c.in_err-copy_segments.was at c.copy_segments.ensures.copied in
     rw same (copied count before old (opened_within g.R.Read g.W.Write count before old

@@ -1,12 +1,11 @@
-use Rattle.std.proofs.Common.{refl, rules, sym, subst, ◌∙◌, ◌≡◌, ◌<◌, ℕ, Some, None, Ok, Err, length, arith}
-use Rattle.std.proofs.lemmas.Result.{err_from_is_err_and}
+use Rattle.std.proofs.Common.{refl, rules, sym, subst, ◌∙◌, ◌≡◌, ℕ, Some, None, Ok, Err, length}
 use Rattle.ciborium_ll_decoder.specs.declared.dec.Decoder.{Decoder}
 use Rattle.ciborium_ll_decoder.specs.declared.copy.RecodeError.TheVariants as r
 use Rattle.ciborium_ll_decoder.specs.Decoding.{MovesOn}
 use Rattle.ciborium_ll_decoder.specs.BodyCopies.{CopiesBody}
 use Rattle.ciborium_ll_recode.specs.Recoding.{ReadsString, GoesOnWithin}
 use Rattle.ciborium_ll_recode.specs.Sides.{sides_of}
-use Rattle.ciborium_ll_decoder.proofs.DecodingLaws.{MovesOn-none, MovesOn-then}
+use Rattle.ciborium_ll_decoder.proofs.DecodingLaws.{exit_is, nearer, MovesOn-none, MovesOn-then}
 use Rattle.ciborium_ll_recode.proofs.ThroughEncoder.{through_encoder}
 use Rattle.ciborium_ll_recode.proofs.RecodeLaws.{header_error}
 use Rattle.ciborium_ll_decoder.proofs.SegmentLaws.{advances_among, announced_rises}
@@ -49,10 +48,7 @@ returns-in_err-body-clause-copied g c = λ count before old within.
     let now = sides_of c.segments.segments.decoder.now c.segments.encoder in
     let so_far = c.segments.invariant.so_far in
     let error = c.in_err-body.field-0.0 in
-    let p = err_from_is_err_and c.from_residual.result c.from_residual.ensures.1 in
-    let q = p.1 in
-    let same_error = p.2 in
-    let same : c.from_residual.result ≡ Err (r.Read error) = cc in
+    let same = exit_is c.from_residual.result (r.Read error) c.from_residual.ensures.1 in
     let all = advances_among g.R.Read k so_far.bodies opened.decoder now.decoder c.segments.segments.strict
     (Err error) c.segments.segments.progress c.advance.new.self.progress c.advance.new.self.decoder.now
     c.segments.invariant.mode so_far.so_far c.in_err-body.ensures.advances c.advance.ensures.moves_on.steady in
@@ -67,10 +63,7 @@ returns-in_err-write_header-clause-copied g c = λ count before old within.
     let opened = sides_of c.args.decoder.now c.args.encoder.now in
     let now = sides_of c.segments.segments.decoder.now c.segments.encoder in
     let so_far = c.segments.invariant.so_far in
-    let p = err_from_is_err_and c.from_residual-in_err-write_header.result c.from_residual-in_err-write_header.ensures.1 in
-    let q = p.1 in
-    let r = p.2 in
-    let same : c.from_residual-in_err-write_header.result ≡ Err c.in_err-write_header.field-0.0 = cc in
+    let same = exit_is c.from_residual-in_err-write_header.result c.in_err-write_header.field-0.0 c.from_residual-in_err-write_header.ensures.1 in
     let advances = rw c.in-Some.is at c.in_ok-body.ensures.advances in
     let all = advances_among g.R.Read k so_far.bodies opened.decoder now.decoder c.segments.segments.strict
     (Ok (Some c.in-Some.body)) c.segments.segments.progress c.advance.new.self.progress
@@ -99,10 +92,8 @@ segments-smaller g c =
     c.advance.new.self.decoder.now c.segments.invariant.mode so_far.so_far advances c.advance.ensures.moves_on.steady in
     let rises = announced_rises g.R.Read k so_far.bodies opened.decoder now.decoder c.advance.new.self.decoder.now
     c.in-Some.body c.advance.new.self.progress all in
-    let more = c.in_ok-copy.ensures.moves_on.rises in
-    let risen : c.segments.segments.decoder.now.offset < c.copy.new.self.decoder.now.offset = omega (arith, rises, more)
-    in
-    search rules
+    nearer now.decoder c.advance.new.self.decoder.now c.copy.new.self.decoder.now rises
+    c.in_ok-copy.ensures.moves_on.rises
 
 pub segments-preserved : goal.segments-preserved
 segments-preserved g c =
@@ -137,10 +128,7 @@ returns-in_err-copy-clause-copied g c = λ count before old within.
     let opened = sides_of c.args.decoder.now c.args.encoder.now in
     let now = sides_of c.segments.segments.decoder.now c.segments.encoder in
     let so_far = c.segments.invariant.so_far in
-    let p = err_from_is_err_and c.from_residual-in_err-copy.result c.from_residual-in_err-copy.ensures.1 in
-    let q = p.1 in
-    let r = p.2 in
-    let same : c.from_residual-in_err-copy.result ≡ Err c.in_err-copy.field-0.0 = cc in
+    let same = exit_is c.from_residual-in_err-copy.result c.in_err-copy.field-0.0 c.from_residual-in_err-copy.ensures.1 in
     let advances = rw c.in-Some.is at c.in_ok-body.ensures.advances in
     let all = advances_among g.R.Read k so_far.bodies opened.decoder now.decoder c.segments.segments.strict
     (Ok (Some c.in-Some.body)) c.segments.segments.progress c.advance.new.self.progress

@@ -1,8 +1,7 @@
-use Rattle.std.proofs.Common.{rules, refl, ◌≡◌, ◌∙◌, ℕ, Ok, Err, length, arith, subst}
-use Rattle.std.proofs.lemmas.Result.{err_from_is_err_and}
+use Rattle.std.proofs.Common.{rules, refl, ◌≡◌, ◌∙◌, ℕ, Ok, length, arith, subst}
 use Rattle.ciborium_ll_recode.specs.Recoding.{CopiesElements, CopiesRun}
 use Rattle.ciborium_ll_recode.specs.Sides.{sides_of}
-use Rattle.ciborium_ll_decoder.proofs.DecodingLaws.{MovesOn-none, MovesOn-then}
+use Rattle.ciborium_ll_decoder.proofs.DecodingLaws.{exit_is, MovesOn-none, MovesOn-then}
 use Rattle.ciborium_ll_recode.proofs.CopyLaws.{run_none, run_behind, added_run, copies_all}
 use Rattle.ciborium_ll_recode.proofs.RecodeReadyLaws.{recode_told, recode_exactly}
 use Rattle.ciborium_ll_recode.proofs.RecodeAnyhowLaws.{recode_anyhow}
@@ -33,10 +32,7 @@ elements-preserved g c =
 
 pub returns-in_err-copy_element : goal.returns-in_err-copy_element
 returns-in_err-copy_element g c =
-    let p = err_from_is_err_and c.from_residual.result c.from_residual.ensures.1 in
-    let q = p.1 in
-    let r = p.2 in
-    let same : c.from_residual.result ≡ Err c.in_err-copy_element.field-0.0 = cc in
+    let same = exit_is c.from_residual.result c.in_err-copy_element.field-0.0 c.from_residual.ensures.1 in
     let old = sides_of c.args.decoder.now c.args.encoder.now in
     let now = sides_of c.elements.decoder c.elements.encoder in
     let behind = run_behind g.R.Read g.W.Write c.args.count c.elements._copied old now c.elements-test.true

@@ -1,9 +1,19 @@
 use Rattle.std.proofs.Common.{◌≡◌, ◌/◌, length, rules, sym, refl, subst, inl, inr, get_or, ◌<◌, ℕ}
+use Rattle.ciborium_ll_decoder.proofs.DecodingLaws.{exit_is, MovesOn-then}
 use Rattle.ciborium_ll_grammar.specs.Parts.{parts_bytes}
 use Rattle.ciborium_ll_grammar.specs.TitleRows.{IsTitleKind}
 use Rattle.ciborium_ll_grammar.proofs.LongerLaws.{parts_header, parts_taken, parts_refused}
-use Rattle.ciborium_ll_decoder.proofs.StrictLaws.{first_parts, first_refused, title_read}
+use Rattle.ciborium_ll_decoder.proofs.StrictLaws.{affix_stopped, first_parts, first_refused, not_full, open_refused, title_read}
 use Rattle.ciborium_ll_decoder.proofs.dec.Decoder.title.Goals as goal
+
+pub returns-in_err-minor-clause-header : goal.returns-in_err-minor-clause-header
+returns-in_err-minor-clause-header g c =
+    let answer = c.from_residual-in_err-minor in
+    let same = exit_is answer.result c.in_err-minor.field-0.0 answer.ensures.1 in
+    let one : length c.read.new.data ≡ 1 = search rules in
+    affix_stopped g.R.Read _ answer.result c.in_err-minor.field-0.0 c.args.self.now c.read.new.self c.minor.new.self
+    c.read.new.data same c.requires.none_waits c.in_ok-read.ensures.bytes c.in_ok-read.ensures.moves_on.steady one
+    c.in_err-minor.ensures.minor
 
 pub returns-in_default-clause-header : goal.returns-in_default-clause-header
 returns-in_default-clause-header g c =
@@ -68,3 +78,49 @@ header-requires-clause-kind g c =
     let affix = rw c.in-Some.is at c.in_ok-minor.ensures.minor in
     subst (λ (z : ℕ). IsTitleKind c.row_of-row.result.kind (get_or c.read.new.data 0 0 / 32) z) affix.holds.code
     c.row_of-row.ensures.kind
+
+pub returns-in-None-clause-header : goal.returns-in-None-clause-header
+returns-in-None-clause-header g c =
+    let affix = rw c.in-Some.is at c.in_ok-minor.ensures.minor in
+    let one : length c.read.new.data ≡ 1 = search rules in
+    let never = c.in-None.ensures.none in
+    inl (open_refused g.R.Read c.args.self.now c.read.new.self c.minor.new.self c.read.new.data c.in-Some.minor
+    c.requires.none_waits c.in_ok-read.ensures.bytes affix.holds.all one affix.holds.code never.0 never.1)
+
+-- ---- behind a first byte
+
+pub returns-in_err-minor-clause-moves_on : goal.returns-in_err-minor-clause-moves_on
+returns-in_err-minor-clause-moves_on g c =
+    MovesOn-then g.R.Read _ _ _ c.in_ok-read.ensures.moves_on c.minor.ensures.moves_on
+
+pub returns-in_err-minor-clause-full : goal.returns-in_err-minor-clause-full
+returns-in_err-minor-clause-full g c = λ full.
+    absurd (not_full g.R.Read c.args.self.now c.read.new.self c.read.new.data c.in_ok-read.ensures.bytes
+    (search rules) full)
+
+pub returns-in_default-clause-moves_on : goal.returns-in_default-clause-moves_on
+returns-in_default-clause-moves_on g c =
+    MovesOn-then g.R.Read _ _ _ c.in_ok-read.ensures.moves_on c.minor.ensures.moves_on
+
+pub returns-in_default-clause-full : goal.returns-in_default-clause-full
+returns-in_default-clause-full g c = λ full.
+    absurd (not_full g.R.Read c.args.self.now c.read.new.self c.read.new.data c.in_ok-read.ensures.bytes
+    (search rules) full)
+
+pub returns-in-Some-header-clause-moves_on : goal.returns-in-Some-header-clause-moves_on
+returns-in-Some-header-clause-moves_on g c =
+    MovesOn-then g.R.Read _ _ _ c.in_ok-read.ensures.moves_on c.minor.ensures.moves_on
+
+pub returns-in-Some-header-clause-full : goal.returns-in-Some-header-clause-full
+returns-in-Some-header-clause-full g c = λ full.
+    absurd (not_full g.R.Read c.args.self.now c.read.new.self c.read.new.data c.in_ok-read.ensures.bytes
+    (search rules) full)
+
+pub returns-in-None-clause-moves_on : goal.returns-in-None-clause-moves_on
+returns-in-None-clause-moves_on g c =
+    MovesOn-then g.R.Read _ _ _ c.in_ok-read.ensures.moves_on c.minor.ensures.moves_on
+
+pub returns-in-None-clause-full : goal.returns-in-None-clause-full
+returns-in-None-clause-full g c = λ full.
+    absurd (not_full g.R.Read c.args.self.now c.read.new.self c.read.new.data c.in_ok-read.ensures.bytes
+    (search rules) full)

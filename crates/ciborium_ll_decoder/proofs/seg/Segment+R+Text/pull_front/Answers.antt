@@ -1,15 +1,21 @@
-use Rattle.std.proofs.Common.{ℕ, List, take, rules, arith, sym, ap, subst, inr, ◌∙◌, ◌≡◌, ◌<◌, [], ◌++◌, length, drop}
+use Rattle.std.proofs.Common.{ℕ, List, take, rules, arith, sym, ap, subst, inr, ◌∙◌, ◌≡◌, ◌<◌, ◌≤◌, ◌-◌, [], ◌++◌, length, drop}
 use Rattle.std.proofs.Common.{length-append}
 use Rattle.std.proofs.lemmas.List.{take_rest}
 use Rattle.ciborium_ll_decoder.specs.declared.seg.Kept.{Kept}
 use Rattle.ciborium_ll_decoder.specs.Kept.{kept_bytes}
 use Rattle.ciborium_ll_text.specs.Text.{IsStuck, IsFront}
-use Rattle.ciborium_ll_decoder.proofs.ChunkLaws.{ReadsOn-none, rest_consumed}
+use Rattle.ciborium_ll_decoder.proofs.DecodingLaws.{exit_is}
+use Rattle.ciborium_ll_decoder.proofs.ChunkLaws.{fill_stopped, none_stopped, ReadsOn-behind, ReadsOn-none, left_behind, rest_consumed, unread_behind}
 use Rattle.ciborium_ll_text.proofs.FrontLaws.{IsFront-stuck, IsStuck-rest}
 use Rattle.std.proofs.lemmas.List.{take_at}
-use Rattle.ciborium_ll_text.specs.States.{IsLastEnd}
+use Rattle.ciborium_ll_text.specs.States.{after, IsLastEnd}
+use Rattle.ciborium_ll_text.specs.declared.state.State.TheVariants.{Between}
 use Rattle.ciborium_ll_text.proofs.LastEndLaws.{stuck_end}
 use Rattle.ciborium_ll_decoder.proofs.seg.Segment+R+Text.pull_front.Goals as goal
+
+-- a front of the bytes is no longer than they are
+front_within : (bytes front rest : List ℕ) → IsFront bytes front rest → length front ≤ length bytes
+front_within bytes front rest is = let parted = ap length is.parts in omega (arith, parted, length-append front rest)
 
 pub text_front-state-requires-clause-stuck : goal.text_front-state-requires-clause-stuck
 text_front-state-requires-clause-stuck g c =
@@ -39,52 +45,33 @@ invariant_of-self-clause-stuck g c =
     let kept = c.in-Some.ensures.some ∙ take_rest c.fill.new.filled (length c.text_front-state.result.0.now) in
     subst IsStuck (sym kept) (IsStuck-rest _ _ _ c.text_front-state.ensures.front)
 
+pub invariant_of-self-clause-told : goal.invariant_of-self-clause-told
+invariant_of-self-clause-told g c =
+    let kept = c.in-Some.ensures.some ∙ take_rest c.fill.new.filled (length c.text_front-state.result.0.now) in
+    c.text_front-state.ensures.state ∙ ap (after Between) (sym kept)
+
 pub returns-in-None-clause-chunk : goal.returns-in-None-clause-chunk
 returns-in-None-clause-chunk g c =
     let fill = c.in_ok-fill.ensures.filled in
     let text = c.text_front-state.result.0.now in
-    let whole = fill.whole in
-    let counted = ap length whole in
     let damage = c.damage-in-None.ensures in
     let same = c.fill.ensures.same in
-    let size : length c.fill.new.filled ≡ c.min-size.result = search rules in
     let behind : 3 < length (drop (length text) c.fill.new.filled) =
     rw (take_rest c.fill.new.filled (length text)) at c.in-None.ensures.none in
+    let fewer = ap (λ (n : ℕ). n - (c.min-size.result - c.len-kept.result)) same.unread in
     rw damage.error (record {
       place = same.place;
       same_place = damage.place ∙ same.place;
       damaged = damage.damaged;
       cause = inr (inr (record {
         read = fill.read;
-        reads = record {
-          some_unread = omega (arith, c.if-self-eq0.false);
-          sound = c.if-self.false;
-          count = omega (
-            arith,
-            counted,
-            size,
-            length-append (kept_bytes c.args.self.now.kept) fill.read,
-            c.min-size.ensures,
-            c.len-kept.ensures,
-            c.if-size-kept.false,
-          );
-          reads = rw damage.same fill.reads;
-          unread = omega (
-            arith,
-            counted,
-            size,
-            length-append (kept_bytes c.args.self.now.kept) fill.read,
-            c.min-size.ensures,
-            c.len-kept.ensures,
-            c.if-size-kept.false,
-            damage.unread,
-            same.unread,
-          );
-          place = damage.place ∙ same.place;
-        };
+        reads = ReadsOn-behind g.R.Read (length c.args.buffer.now) c.min-size.result c.len-kept.result c.args.self.now _
+            c.fill.new.filled fill.read c.if-self-eq0.false c.if-self.false c.len-kept.ensures c.min-size.ensures
+            c.if-size-kept.false (search rules) fill.whole (rw damage.same fill.reads) (damage.unread ∙ fewer)
+            (damage.place ∙ same.place);
         front = text;
         left = drop (length text) c.fill.new.filled;
-        split = rw (← whole) c.text_front-state.ensures.front;
+        split = rw (← fill.whole) c.text_front-state.ensures.front;
         too_much = behind;
       }));
       none_kept = inr damage.kept;
@@ -94,21 +81,62 @@ pub returns-in-Some-clause-rest : goal.returns-in-Some-clause-rest
 returns-in-Some-clause-rest g c =
     let fill = c.in_ok-fill.ensures.filled in
     let text = c.text_front-state.result.0.now in
-    let kept = kept_bytes c.args.self.now.kept in
-    let whole = fill.whole in
-    let counted = ap length whole in
     let same = c.fill.ensures.same in
-    let size : length c.fill.new.filled ≡ c.min-size.result = search rules in
     let behind = c.in-Some.ensures.some ∙ take_rest c.fill.new.filled (length text) in
-    rest_consumed _ _ c.args.self.now.unread _ kept (kept_bytes c.in-Some.rest) fill.read text fill.reads.bytes
-    (omega (
-      arith,
-      counted,
-      size,
-      length-append kept fill.read,
-      c.min-size.ensures,
-      c.len-kept.ensures,
-      c.if-size-kept.false,
-      same.unread,
-    ))
-    (sym whole ∙ c.text_front-state.ensures.front.parts ∙ ap (λ z. text ++ z) (sym behind))
+    let fewer = ap (λ (n : ℕ). n - (c.min-size.result - c.len-kept.result)) same.unread in
+    rest_consumed _ _ c.args.self.now.unread _ (kept_bytes c.args.self.now.kept) (kept_bytes c.in-Some.rest) fill.read
+    text fill.reads.bytes
+    (unread_behind (length c.args.buffer.now) c.min-size.result c.len-kept.result c.args.self.now.unread _ _ _
+    fill.read c.len-kept.ensures c.min-size.ensures c.if-size-kept.false (search rules) fill.whole fewer)
+    (sym fill.whole ∙ c.text_front-state.ensures.front.parts ∙ ap (λ z. text ++ z) (sym behind))
+
+pub slice_bounds-keep-count : goal.slice_bounds-keep-count
+slice_bounds-keep-count g c = front_within _ _ _ c.text_front-state.ensures.front
+
+pub slice_bounds-keep-start : goal.slice_bounds-keep-start
+slice_bounds-keep-start g c = front_within _ _ _ c.text_front-state.ensures.front
+
+pub returns-in-Some-clause-chunk : goal.returns-in-Some-clause-chunk
+returns-in-Some-clause-chunk g c =
+    let fill = c.in_ok-fill.ensures.filled in
+    let text = c.text_front-state.result.0.now in
+    let same = c.fill.ensures.same in
+    let behind = c.in-Some.ensures.some ∙ take_rest c.fill.new.filled (length text) in
+    let fewer = ap (λ (n : ℕ). n - (c.min-size.result - c.len-kept.result)) same.unread in
+    record {
+      read = fill.read;
+      reads = ReadsOn-behind g.R.Read (length c.args.buffer.now) c.min-size.result c.len-kept.result c.args.self.now _
+          c.fill.new.filled fill.read c.if-self-eq0.false c.if-self.false c.len-kept.ensures c.min-size.ensures
+          c.if-size-kept.false (search rules) fill.whole fill.reads fewer same.place;
+      split = subst (λ (z : List ℕ). IsFront z text (kept_bytes c.in-Some.rest)) fill.whole
+          (subst (λ (z : List ℕ). IsFront c.fill.new.filled text z) (sym behind) c.text_front-state.ensures.front);
+      still_sound = same.damaged ∙ c.if-self.false;
+    }
+
+pub returns-in-Some-clause-left : goal.returns-in-Some-clause-left
+returns-in-Some-clause-left g c =
+    let fill = c.in_ok-fill.ensures.filled in
+    let text = c.text_front-state.result.0.now in
+    let behind = c.in-Some.ensures.some ∙ take_rest c.fill.new.filled (length text) in
+    let fewer = ap (λ (n : ℕ). n - (c.min-size.result - c.len-kept.result)) c.fill.ensures.same.unread in
+    left_behind c.args.self.now.unread _ (kept_bytes c.args.self.now.kept) (kept_bytes c.in-Some.rest) fill.read text
+    (unread_behind (length c.args.buffer.now) c.min-size.result c.len-kept.result c.args.self.now.unread _ _ _
+    fill.read c.len-kept.ensures c.min-size.ensures c.if-size-kept.false (search rules) fill.whole fewer)
+    (sym fill.whole ∙ c.text_front-state.ensures.front.parts ∙ ap (λ z. text ++ z) (sym behind))
+
+-- ---- reads that fail
+
+pub returns-in_err-read_nothing-clause-chunk : goal.returns-in_err-read_nothing-clause-chunk
+returns-in_err-read_nothing-clause-chunk g c =
+    none_stopped g.R.Read (length c.args.buffer.now) c.min-size.result c.len-kept.result c.args.self.now
+    c.read_nothing.new.self _ _ (exit_is c.from_residual.result c.in_err-read_nothing.field-0.0 c.from_residual.ensures.1)
+    c.if-self-eq0.false c.if-self.false c.len-kept.ensures c.min-size.ensures c.if-size-kept.true
+    c.read_nothing.ensures.same c.in_err-read_nothing.ensures.read
+
+pub returns-in_err-fill-clause-chunk : goal.returns-in_err-fill-clause-chunk
+returns-in_err-fill-clause-chunk g c =
+    let answer = c.from_residual-in_err-fill in
+    fill_stopped g.R.Read (length c.args.buffer.now) c.min-size.result c.len-kept.result c.args.self.now
+    c.fill.new.self c.fill.new.filled _ _ (exit_is answer.result c.in_err-fill.field-0.0 answer.ensures.1)
+    c.if-self-eq0.false c.if-self.false c.len-kept.ensures c.min-size.ensures c.if-size-kept.false (search rules)
+    c.fill.ensures.same c.in_err-fill.ensures.filled

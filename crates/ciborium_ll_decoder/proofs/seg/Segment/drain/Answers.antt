@@ -1,7 +1,6 @@
-use Rattle.std.proofs.Common.{rules, refl, ◌≡◌, true, Err}
-use Rattle.std.proofs.lemmas.Result.{err_from_is_err_and}
+use Rattle.std.proofs.Common.{rules, refl, ◌≡◌, true}
 use Rattle.std.specs.Option.{is_some}
-use Rattle.ciborium_ll_decoder.proofs.DecodingLaws.{MovesOn-none, MovesOn-then}
+use Rattle.ciborium_ll_decoder.proofs.DecodingLaws.{exit_is, MovesOn-none, MovesOn-then}
 use Rattle.ciborium_ll_decoder.proofs.FinishLaws.{rest_start, rest_pulled, rest_stopped}
 use Rattle.ciborium_ll_decoder.proofs.seg.Segment.drain.Goals as goal
 
@@ -26,10 +25,7 @@ chunks-preserved g c =
 
 pub returns-in_err-chunk-clause-finishes : goal.returns-in_err-chunk-clause-finishes
 returns-in_err-chunk-clause-finishes g c =
-    let from = err_from_is_err_and c.from_residual.result c.from_residual.ensures.1 in
-    let is_error = from.1 in
-    let is_same = from.2 in
-    let same : c.from_residual.result ≡ Err c.in_err-chunk.field-0.0 = cc in
+    let same = exit_is c.from_residual.result c.in_err-chunk.field-0.0 c.from_residual.ensures.1 in
     rest_stopped g.R.Read _ c.chunks.self c.chunks.invariant.so_far _ _ c.chunk.result c.from_residual.result
     c.in_err-chunk.field-0.0 c.chunk.new.segment c.chunk.ensures.chunk c.in_err-chunk.was same c.chunks.auto.buffer
     c.requires.room c.chunk.ensures.moves_on.steady

@@ -1,7 +1,6 @@
-use Rattle.std.proofs.Common.{rules, arith, refl, subst, ◌≡◌, ◌∙◌, Bool, Some, Ok, Err}
-use Rattle.std.proofs.lemmas.Result.{err_from_is_err_and}
+use Rattle.std.proofs.Common.{rules, arith, refl, subst, ◌∙◌, Bool, Some, Ok, Err}
 use Rattle.ciborium_ll_decoder.specs.Segments.{EndsAdvance}
-use Rattle.ciborium_ll_decoder.proofs.DecodingLaws.{MovesOn-none, MovesOn-then}
+use Rattle.ciborium_ll_decoder.proofs.DecodingLaws.{exit_is, MovesOn-none, MovesOn-then}
 use Rattle.ciborium_ll_decoder.proofs.AdvanceLaws.{Reached-start, Reached-step, Reached-ends}
 use Rattle.ciborium_ll_decoder.proofs.seg.Segments.advance.Goals as goal
 
@@ -32,10 +31,7 @@ titles-preserved g c =
 
 pub returns-in_err-body : goal.returns-in_err-body
 returns-in_err-body g c =
-    let p = err_from_is_err_and c.from_residual.result c.from_residual.ensures.1 in
-    let q = p.1 in
-    let r = p.2 in
-    let same : c.from_residual.result ≡ Err c.in_err-body.field-0.0 = cc in
+    let same = exit_is c.from_residual.result c.in_err-body.field-0.0 c.from_residual.ensures.1 in
     let reached = rw c.in-Open.is at c.titles.invariant.reached in
     let step = subst (λ (strict : Bool). EndsAdvance g.R.Read g.P.Parser.kind strict c.in-Open.opens
     c.titles.self.decoder.now (Err c.in_err-body.field-0.0) c.step.new.self.progress c.step.new.self.decoder.now)
