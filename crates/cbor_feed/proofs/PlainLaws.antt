@@ -5,7 +5,7 @@ use Rattle.std.proofs.Common.{◌&&◌, ◌||◌, eqb, ltb, eqb-true, ltb-true, 
 use Rattle.std.proofs.Common.{sym, ap}
 use Rattle.std.proofs.Common.{subst, ◌∙◌, arith, inl, inr}
 use Rattle.std.proofs.lemmas.Bool.{agree_below_at, and_parts, cases_lt, or_cases}
-use Rattle.std.proofs.lemmas.List.{length-take-le, take_rest}
+use Rattle.std.proofs.lemmas.List.{length-take-le}
 use Rattle.std.proofs.Math.Seq.{take-add}
 use Rattle.std.specs.Str.{IsAscii}
 use Rattle.ciborium_ll_text.proofs.Lists.{Below, length_zero}
@@ -266,14 +266,13 @@ span_plain xs span len strict below some is e least le any ascii =
 -- one more
 pub plain_more : (strict : Bool) (offset first last most left at len : ℕ) (xs : List ℕ) → at ≤ length xs → 0 < left
     → left ≤ most → ArePlain strict offset first (most - left) last (take at xs)
-    → IsPlain strict (take len (take (length xs - at) (drop at xs)))
+    → IsPlain strict (take len (drop at xs))
     → ArePlain strict offset first (most - (left - 1)) (offset + at) (take (at + len) xs)
 plain_more strict offset first last most left at len xs le some fits so_far one =
-    let rest : List ℕ = take len (take (length xs - at) (drop at xs)) in
+    let rest : List ℕ = take len (drop at xs) in
     let count : suc (most - left) ≡ most - (left - 1) = omega arith in
     let place : offset + length (take at xs) ≡ offset + at = ap (λ (z : ℕ). offset + z) (length-take-le at xs le) in
-    let bytes : take at xs ++ rest ≡ take (at + len) xs =
-    ap (λ (z : List ℕ). take at xs ++ take len z) (take_rest xs at) ∙ sym (take-add at len xs) in
+    let bytes : take at xs ++ rest ≡ take (at + len) xs = sym (take-add at len xs) in
     subst (λ (z : ℕ). ArePlain strict offset first z (offset + at) (take (at + len) xs)) count
     (subst (λ (z : ℕ). ArePlain strict offset first (suc (most - left)) z (take (at + len) xs)) place
     (subst (λ (z : List ℕ). ArePlain strict offset first (suc (most - left)) (offset + length (take at xs)) z) bytes

@@ -1,6 +1,6 @@
 use Rattle.std.proofs.Common.{◌<◌, ◌≤◌, ◌-◌, take, length}
 use Rattle.cbor_feed.specs.Plain.{ArePlain}
-use Rattle.cbor_feed.proofs.plain.plain_run.Given as goal
+use Rattle.cbor_feed.proofs.plain.run_of.Given as goal
 
 abbrev pub invariant-items : goal.invariant-items
 invariant-items l =

@@ -1,8 +1,7 @@
 use Rattle.std.proofs.Common.{◌≡◌, ℕ, ◌-◌, ◌<◌, [], subst, arith}
-use Rattle.ciborium_ll_text.proofs.Lists.{rest_long}
 use Rattle.cbor_feed.specs.Plain.{ArePlain, none}
 use Rattle.cbor_feed.proofs.PlainLaws.{plain_more}
-use Rattle.cbor_feed.proofs.plain.plain_run.Goals as goal
+use Rattle.cbor_feed.proofs.plain.run_of.Goals as goal
 
 pub items-init : goal.items-init
 items-init c =
@@ -17,10 +16,9 @@ items-init c =
 pub items-preserved : goal.items-preserved
 items-preserved c =
     let bytes = c.args.bytes.now in
-    let long = rest_long bytes c.items.at in
     let some : 0 < c.plain_len-len.result = omega (arith, c.if-len-eq0.false) in
     record {
-      within = omega (arith, long, c.plain_len-len.ensures.within, c.items.invariant.within);
+      within = c.plain_len-len.ensures.within;
       most = omega (arith, c.items.invariant.most);
       some = λ less. omega (arith, some);
       plain =
