@@ -111,12 +111,12 @@ span_says first l =
 
 -- ---- a title of one byte
 
-one_title : (b n : ℕ) (major : Major) → b ≡ 32 * major_code major + n → n < 24
+pub one_title : (b n : ℕ) (major : Major) → b ≡ 32 * major_code major + n → n < 24
     → IsTitle (b ∷ []) (numbered_header major Small n)
 one_title b n major e small =
     subst (λ (z : ℕ). IsTitle (z ∷ []) (numbered_header major Small n)) (sym e) (numbered major Small n small)
 
-one_taken : (strict : Bool) (b n : ℕ) (major : Major) → b ≡ 32 * major_code major + n → n < 24
+pub one_taken : (strict : Bool) (b n : ℕ) (major : Major) → b ≡ 32 * major_code major + n → n < 24
     → IsTakenTitle strict (b ∷ []) (numbered_header major Small n)
 one_taken false b n major e small = tt
 one_taken true b n major e small =
@@ -124,7 +124,7 @@ one_taken true b n major e small =
     (taken major Small n small refl)
 
 -- with nothing of a title in front
-unfronted : (spot : Spot) (len : ℕ) → length spot.front ≡ 0
+pub unfronted : (spot : Spot) (len : ℕ) → length spot.front ≡ 0
     → passed len spot ≡ record spot { place = spot.offset; offset = spot.offset + len }
 unfronted spot len clear =
     ap (λ (z : List ℕ). record spot { front = z; place = spot.offset; offset = spot.offset + len })

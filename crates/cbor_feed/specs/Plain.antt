@@ -1,12 +1,12 @@
 -- Items that their first byte tells, and of which all bytes are there.
-use Rattle.std.specs.Prelude.{◌≡◌, ◌==◌, ℕ, zero, suc, ◌+◌, ◌*◌, ◌/◌, ◌%◌, ◌<◌, ◌⊎◌, Bool, List, [], ◌++◌, length}
+use Rattle.std.specs.Prelude.{◌≡◌, ◌==◌, ℕ, zero, suc, ◌+◌, ◌*◌, ◌/◌, ◌%◌, ◌<◌, ◌⊎◌, Bool, List, [], ◌∷◌, ◌++◌, ◌-◌, length}
 use Rattle.std.specs.Prelude.{if◌then◌else◌, Option, Some, None}
 use Rattle.ciborium_ll_grammar.specs.Title.{affix_len}
 use Rattle.cbor_feed.specs.declared.phase.Phase.TheVariants as p
 use Rattle.cbor_feed.specs.declared.phase.Within.TheVariants as w
 use Rattle.cbor_feed.specs.declared.level.Level.{Level}
 use Rattle.cbor_feed.specs.declared.level.Level.TheVariants as l
-use Rattle.cbor_feed.specs.Spots.{Spot, item_done}
+use Rattle.cbor_feed.specs.Spots.{Spot, item_done, item_due}
 use Rattle.cbor_feed.specs.Steps.{Leads}
 
 -- so many bytes came, and the title with which they began is the last one
@@ -57,3 +57,9 @@ pairs_of left = if left % 2 == 0 then l.Pairs (left / 2) else l.Value (left / 2)
 abbrev pub lowered : ℕ → Level → Level
 lowered left (l.Items count) = l.Items left
 lowered left level = pairs_of left
+
+-- where an item is due and a level is left, this byte is the title of a nest, in which so much is left behind an item
+-- that is due (RFC 7049, 2.1)
+abbrev pub IsNestTitle : ℕ → Level → Type 0
+IsNestTitle first level = (spot : Spot) → spot.phase ≡ p.Title → length spot.front ≡ 0 → spot.within ≡ w.Nothing
+    → 0 < spot.depth → Leads spot (first ∷ []) (item_due (spot.depth - 1) (level ∷ spot.levels) (passed 1 spot))

@@ -9,7 +9,6 @@ ghost use Rattle.cbor_feed.specs.Blocked.{blocked, is_value};
 
 mod nests;
 
-use self::nests::is_long_nest;
 use crate::front::Front;
 use crate::level::Level;
 use crate::levels::Levels;
@@ -503,7 +502,6 @@ impl Walk<'_> {
         ensures lent { AreLent self.old.levels self.new.levels }
     {
         match header_of(&bytes[..1], self.strict) {
-            Some(header) if is_long_nest(header) => self.nest_taken(bytes, header),
             Some(header) => self.short_taken(bytes, header),
             None => {
                 let len = self.title_byte(bytes);
@@ -541,7 +539,7 @@ impl Walk<'_> {
     /// Else it is as [`Checker::title_run`]. Says how many bytes, and whether it can tell that another item is due, and
     /// nothing of its title came.
     #[inline(always)]
-    fn item_step(&mut self, bytes: &[u8]) -> (usize, bool)
+    fn other_step(&mut self, bytes: &[u8]) -> (usize, bool)
         requires phase { self.old.phase ≡ p.Title }
         requires fresh { length self.old.front ≡ 0 }
         requires due { self.old.within ≡ w.Nothing }
