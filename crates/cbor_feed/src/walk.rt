@@ -14,8 +14,6 @@ use crate::level::Level;
 use crate::levels::Levels;
 use crate::phase::{Fault, Phase, Within};
 use crate::plain::is_short_ascii;
-use crate::progress::{Feed, Progress};
-use crate::tell::answer;
 use crate::title::{begins_none, blocked, header_of, is_value};
 use ciborium_ll_grammar::hdr::Header;
 use ciborium_ll_grammar::hdr::table::{Affix, TitleKind, row_of};
@@ -756,40 +754,19 @@ impl Walk<'_> {
         at
     }
 
-    /// How far the item has come, by what is due.
+    /// Takes a piece of the item's bytes, as [`Checker::feed`](crate::Checker::feed) says it. Says how many.
     #[inline(always)]
-    fn answer(&self) -> Progress
-        ensures { result ≡ progress_of (spot_at self.now) }
-    {
-        answer(self.phase, &self.front, self.offset)
-    }
-
-    /// Takes a piece of the item's bytes, as [`Checker::feed`](crate::Checker::feed) says it.
-    #[inline(always)]
-    pub(crate) fn feed(&mut self, bytes: &[u8]) -> Feed
-        ensures taken { result.taken ≤ length bytes.now }
-        ensures all { IsMore result.progress → result.taken ≡ length bytes.now }
+    pub(crate) fn take(&mut self, bytes: &[u8]) -> usize
+        ensures taken { result ≤ length bytes.now }
+        ensures full { result < length bytes.now → is_due self.new.phase ≡ true → self.new.offset ≡ usize.MAX }
         ensures fed { (strict : Bool) (depth : ℕ) (fed : List ℕ) → IsFed strict depth fed (spot_at self.old)
-            → IsFed strict depth (fed ++ take result.taken bytes.now) (spot_at self.new) }
-        ensures tells { (strict : Bool) (depth : ℕ) (fed : List ℕ) → IsFed strict depth fed (spot_at self.old)
-            → Tells strict depth (fed ++ take result.taken bytes.now) result.progress }
+            → IsFed strict depth (fed ++ take result bytes.now) (spot_at self.new) }
         ensures counted { (strict : Bool) (depth : ℕ) (fed : List ℕ) → IsFed strict depth fed (spot_at self.old)
-            → length fed + result.taken ≤ usize.MAX }
-        ensures answers { IsAnswer result.progress (spot_at self.new) }
-        ensures stays { is_due self.old.phase ≡ false → (result.taken ≡ 0) × (spot_at self.new ≡ spot_at self.old) }
+            → length fed + result ≤ usize.MAX }
+        ensures stays { is_due self.old.phase ≡ false → (result ≡ 0) × (spot_at self.new ≡ spot_at self.old) }
         ensures lent { AreLent self.old.levels self.new.levels }
     {
         let counted = bytes.len().min(usize::MAX - self.offset);
-        let taken = self.run_all(&bytes[..counted]);
-        if taken < bytes.len() && self.is_due() {
-            return Feed {
-                taken,
-                progress: Progress::TooLong,
-            };
-        }
-        Feed {
-            taken,
-            progress: self.answer(),
-        }
+        self.run_all(&bytes[..counted])
     }
 }
