@@ -4,28 +4,22 @@ ghost use Rattle.std.specs.Prelude.{Bool, ℕ, ◌≡◌, ◌+◌, ◌-◌, ◌<
 ghost use Rattle.std.specs.Str.{IsAscii};
 ghost use Rattle.cbor_feed.specs.Plain.{ArePlain, IsPlain, IsSpan};
 
-/// Added for a longer title of a number, a float or a simple value, which may not be the shortest.
-const LONG: u8 = 64;
-
-/// Added for a text, which has to be looked at.
-const TEXT: u8 = 128;
-
-/// What each first byte tells, two lines for each major type: how many bytes an item has with its title, with one of
-/// the numbers above added. 0 is nothing.
+/// Of each first byte that tells it, two lines for each major type: how many bytes the item has with its title. 0 is
+/// nothing.
 #[rattlefmt::skip]
-static SPANS: [u8; 256] = [
+static LENS: [u8; 256] = [
     // unsigned integers
     1, 1, 1, 1, 1, 1, 1, 1, 1, 1, 1, 1, 1, 1, 1, 1,
-    1, 1, 1, 1, 1, 1, 1, 1, 66, 67, 69, 73, 0, 0, 0, 0,
+    1, 1, 1, 1, 1, 1, 1, 1, 2, 3, 5, 9, 0, 0, 0, 0,
     // negative integers
     1, 1, 1, 1, 1, 1, 1, 1, 1, 1, 1, 1, 1, 1, 1, 1,
-    1, 1, 1, 1, 1, 1, 1, 1, 66, 67, 69, 73, 0, 0, 0, 0,
+    1, 1, 1, 1, 1, 1, 1, 1, 2, 3, 5, 9, 0, 0, 0, 0,
     // byte strings
     1, 2, 3, 4, 5, 6, 7, 8, 9, 10, 11, 12, 13, 14, 15, 16,
     17, 18, 19, 20, 21, 22, 23, 24, 0, 0, 0, 0, 0, 0, 0, 0,
     // text strings
-    129, 130, 131, 132, 133, 134, 135, 136, 137, 138, 139, 140, 141, 142, 143, 144,
-    145, 146, 147, 148, 149, 150, 151, 152, 0, 0, 0, 0, 0, 0, 0, 0,
+    1, 2, 3, 4, 5, 6, 7, 8, 9, 10, 11, 12, 13, 14, 15, 16,
+    17, 18, 19, 20, 21, 22, 23, 24, 0, 0, 0, 0, 0, 0, 0, 0,
     // arrays
     0, 0, 0, 0, 0, 0, 0, 0, 0, 0, 0, 0, 0, 0, 0, 0,
     0, 0, 0, 0, 0, 0, 0, 0, 0, 0, 0, 0, 0, 0, 0, 0,
@@ -37,16 +31,61 @@ static SPANS: [u8; 256] = [
     0, 0, 0, 0, 0, 0, 0, 0, 0, 0, 0, 0, 0, 0, 0, 0,
     // simple values and floats
     1, 1, 1, 1, 1, 1, 1, 1, 1, 1, 1, 1, 1, 1, 1, 1,
-    1, 1, 1, 1, 1, 1, 1, 1, 66, 67, 69, 73, 0, 0, 0, 0,
+    1, 1, 1, 1, 1, 1, 1, 1, 2, 3, 5, 9, 0, 0, 0, 0,
 ];
 
-/// What a first byte tells.
-#[inline(always)]
-fn span_of(first: u8) -> u8
-    ensures { IsSpan first result }
-{
-    SPANS[first as usize]
+/// How many of these are the body of a text, which has to be looked at. Of any other item 0.
+#[rattlefmt::skip]
+static TEXT_LENS: [u8; 256] = [
+    // unsigned integers
+    0, 0, 0, 0, 0, 0, 0, 0, 0, 0, 0, 0, 0, 0, 0, 0,
+    0, 0, 0, 0, 0, 0, 0, 0, 0, 0, 0, 0, 0, 0, 0, 0,
+    // negative integers
+    0, 0, 0, 0, 0, 0, 0, 0, 0, 0, 0, 0, 0, 0, 0, 0,
+    0, 0, 0, 0, 0, 0, 0, 0, 0, 0, 0, 0, 0, 0, 0, 0,
+    // byte strings
+    0, 0, 0, 0, 0, 0, 0, 0, 0, 0, 0, 0, 0, 0, 0, 0,
+    0, 0, 0, 0, 0, 0, 0, 0, 0, 0, 0, 0, 0, 0, 0, 0,
+    // text strings
+    0, 1, 2, 3, 4, 5, 6, 7, 8, 9, 10, 11, 12, 13, 14, 15,
+    16, 17, 18, 19, 20, 21, 22, 23, 0, 0, 0, 0, 0, 0, 0, 0,
+    // arrays
+    0, 0, 0, 0, 0, 0, 0, 0, 0, 0, 0, 0, 0, 0, 0, 0,
+    0, 0, 0, 0, 0, 0, 0, 0, 0, 0, 0, 0, 0, 0, 0, 0,
+    // maps
+    0, 0, 0, 0, 0, 0, 0, 0, 0, 0, 0, 0, 0, 0, 0, 0,
+    0, 0, 0, 0, 0, 0, 0, 0, 0, 0, 0, 0, 0, 0, 0, 0,
+    // tags
+    0, 0, 0, 0, 0, 0, 0, 0, 0, 0, 0, 0, 0, 0, 0, 0,
+    0, 0, 0, 0, 0, 0, 0, 0, 0, 0, 0, 0, 0, 0, 0, 0,
+    // simple values and floats
+    0, 0, 0, 0, 0, 0, 0, 0, 0, 0, 0, 0, 0, 0, 0, 0,
+    0, 0, 0, 0, 0, 0, 0, 0, 0, 0, 0, 0, 0, 0, 0, 0,
+];
+
+/// What a first byte tells of an item.
+#[derive(Drop)]
+struct Span {
+    /// How many bytes it has with its title, or 0.
+    len: usize,
+    /// How many of these are the body of a text.
+    text_len: usize,
 }
+
+/// What a first byte tells. Which kind of item it is takes no branch.
+#[inline(always)]
+fn span_of(first: u8) -> Span
+    ensures span { IsSpan first result.len result.text_len }
+    ensures less { 0 < result.len → result.text_len < result.len }
+{
+    Span {
+        len: usize::from(LENS[first as usize]),
+        text_len: usize::from(TEXT_LENS[first as usize]),
+    }
+}
+
+/// The lower five bits of a first byte behind which its number stands, and all above it.
+const LONGER: u8 = 24;
 
 /// Of each number the highest bits of the first bytes of a word, the lowest first: of as many as it is above 16, up to
 /// all eight.
@@ -160,20 +199,18 @@ fn plain_len(bytes: &[u8], at: usize, strict: bool) -> usize
     ensures plain { 0 < result → IsPlain strict (take result (drop at bytes.now)) }
 {
     let span = span_of(bytes[at]);
-    let len = usize::from(span % LONG);
-    if len == 0 {
+    if span.len == 0 {
         return string_len(&bytes[at..]);
     }
-    if len > bytes.len() - at {
+    if span.len > bytes.len() - at {
         return 0;
     }
-    if strict && LONG <= span && span < TEXT {
+    if strict && bytes[at] % 32 >= LONGER {
         return 0;
     }
-    // Which kind of item it is takes no branch: of one that is no text no byte is looked at.
-    let text_len = if span < TEXT { 0 } else { len - 1 };
-    if is_ascii_from(bytes, at + 1, text_len) {
-        len
+    // Of an item that is no text no byte is looked at.
+    if is_ascii_from(bytes, at + 1, span.text_len) {
+        span.len
     } else {
         0
     }
@@ -186,51 +223,44 @@ pub(crate) struct Run {
     pub(crate) len: usize,
     /// How many items more there might have been.
     pub(crate) left: usize,
-    /// The offset of the last one, or what was given for it.
-    pub(crate) place: usize,
 }
 
 /// Items in front of which [`plain_len`] tells the length, at most so many, where an item is due at this offset.
+/// The place becomes the offset of the last one.
 #[inline(always)]
-fn run_of(bytes: &[u8], most: usize, strict: bool, offset: usize, place: usize) -> Run
+fn run_of(bytes: &[u8], most: usize, strict: bool, offset: usize, place: &mut usize) -> Run
     requires room { offset + length bytes.now ≤ usize.MAX }
     ensures within { result.len ≤ length bytes.now }
     ensures most { result.left ≤ most }
     ensures some { result.left < most → 0 < result.len }
-    ensures plain { ArePlain strict offset place (most - result.left) result.place (take result.len bytes.now) }
+    ensures plain { ArePlain strict offset place.old (most - result.left) place.new (take result.len bytes.now) }
 {
     let mut at = 0;
     let mut left = most;
-    let mut last = place;
+    let mut last = *place;
     'items: while left > 0 && at < bytes.len() {
         let len = plain_len(bytes, at, strict);
         if len == 0 {
-            return Run {
-                len: at,
-                left,
-                place: last,
-            };
+            *place = last;
+            return Run { len: at, left };
         }
         last = offset + at;
         at += len;
         left -= 1;
     }
-    Run {
-        len: at,
-        left,
-        place: last,
-    }
+    *place = last;
+    Run { len: at, left }
 }
 
 /// The same, in a loop for each kind of checker, so that where any spelling is taken it asks nothing of a longer title.
 /// It stays a function of its own, in which all that a title needs is in registers.
 #[inline(never)]
-pub(crate) fn plain_run(bytes: &[u8], most: usize, strict: bool, offset: usize, place: usize) -> Run
+pub(crate) fn plain_run(bytes: &[u8], most: usize, strict: bool, offset: usize, place: &mut usize) -> Run
     requires room { offset + length bytes.now ≤ usize.MAX }
     ensures within { result.len ≤ length bytes.now }
     ensures most { result.left ≤ most }
     ensures some { result.left < most → 0 < result.len }
-    ensures plain { ArePlain strict offset place (most - result.left) result.place (take result.len bytes.now) }
+    ensures plain { ArePlain strict offset place.old (most - result.left) place.new (take result.len bytes.now) }
 {
     if strict {
         run_of(bytes, most, true, offset, place)

@@ -69,8 +69,13 @@ impl Walk<'_> {
         let Some(left) = level.left() else {
             return (0, true);
         };
-        let run = plain_run(bytes, left + 1, self.strict, self.offset, self.place);
-        self.place = run.place;
+        let run = plain_run(
+            bytes,
+            left + 1,
+            self.strict,
+            self.offset,
+            &mut self.place,
+        );
         self.offset += run.len;
         if run.left > 0 {
             self.levels.replace(level.lowered(run.left - 1));
@@ -104,10 +109,15 @@ impl Walk<'_> {
         ensures clear { result.1 ≡ true → length self.new.front ≡ 0 }
         ensures lent { AreLent self.old.levels self.new.levels }
     {
-        let place = self.offset;
+        self.place = self.offset;
         self.offset += 1;
-        let run = plain_run(&bytes[1..], nest.left + 1, self.strict, self.offset, place);
-        self.place = run.place;
+        let run = plain_run(
+            &bytes[1..],
+            nest.left + 1,
+            self.strict,
+            self.offset,
+            &mut self.place,
+        );
         self.offset += run.len;
         if run.left > 0 {
             self.depth -= 1;

@@ -10,7 +10,7 @@ items-init c =
       within = omega arith;
       most = omega arith;
       some = λ less. absurd (omega (arith, less));
-      plain = subst (λ (z : ℕ). ArePlain c.args.strict c.args.offset c.args.place z c.args.place []) no_items none;
+      plain = subst (λ (z : ℕ). ArePlain c.args.strict c.args.offset c.args.place.now z c.args.place.now []) no_items none;
     }
 
 pub items-preserved : goal.items-preserved
@@ -22,7 +22,7 @@ items-preserved c =
       most = omega (arith, c.items.invariant.most);
       some = λ less. omega (arith, some);
       plain =
-          plain_more c.args.strict c.args.offset c.args.place c.items.last c.args.most c.items.left c.items.at
+          plain_more c.args.strict c.args.offset c.args.place.now c.items.last c.args.most c.items.left c.items.at
           c.plain_len-len.result bytes c.items.invariant.within c.items-test.true c.items.invariant.most
           c.items.invariant.plain (c.plain_len-len.ensures.plain some);
     }

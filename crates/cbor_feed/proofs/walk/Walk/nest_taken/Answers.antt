@@ -17,11 +17,11 @@ returns-then-run-gt0-clause-leads c =
     let within : run.len ≤ length xs - 1 = omega (arith, rest, c.plain_run-run.ensures.within) in
     let levels : levels_at c.push.new.self ≡ lowered (run.left - 1) level ∷ s.levels =
     c.push.ensures.pushed ∙ ap (λ (z : Level). z ∷ s.levels) c.lowered.ensures in
-    nest_goes s _ level c.args.nest.left run.place run.len xs c.requires.phase c.requires.fresh c.requires.due
+    nest_goes s _ level c.args.nest.left c.plain_run-run.new.place run.len xs c.requires.phase c.requires.fresh c.requires.due
     c.requires.deep c.requires.some c.requires.enters c.requires.left run.left c.if-run-gt0.true
     c.plain_run-run.ensures.most within c.plain_run-run.ensures.plain
     (ap (λ (z : List Level).
-    record s { depth = s.depth - 1; levels = z; place = run.place; offset = s.offset + 1 + run.len }) levels)
+    record s { depth = s.depth - 1; levels = z; place = c.plain_run-run.new.place; offset = s.offset + 1 + run.len }) levels)
 
 pub returns-clause-leads : goal.returns-clause-leads
 returns-clause-leads c =
@@ -31,7 +31,7 @@ returns-clause-leads c =
     let left : ℕ = c.args.nest.left in
     let rest = rest_long xs 1 in
     let within : run.len ≤ length xs - 1 = omega (arith, rest, c.plain_run-run.ensures.within) in
-    nest_ends s (spot_at c.item_over-goes.new.self) c.args.nest.level left run.place run.len xs c.requires.phase
+    nest_ends s (spot_at c.item_over-goes.new.self) c.args.nest.level left c.plain_run-run.new.place run.len xs c.requires.phase
     c.requires.fresh c.requires.due c.requires.deep c.requires.some c.requires.enters c.requires.left
     (left + 1 - run.left) (omega (arith, c.if-run-gt0.false)) within c.plain_run-run.ensures.plain
     c.item_over-goes.ensures.done
