@@ -158,13 +158,13 @@ fn is_ascii_from(bytes: &[u8], at: usize, len: usize) -> bool
     bytes[at..at + len].is_ascii()
 }
 
-/// Whether so many bytes are there, are at most as many as two words have, and are ASCII.
+/// Whether so many bytes from there on are at most as many as two words have, and are ASCII.
 #[inline(always)]
-pub(crate) fn is_short_ascii(bytes: &[u8], len: usize) -> bool
-    ensures there { result ≡ true → len ≤ length bytes.now }
-    ensures ascii { result ≡ true → IsAscii (take len bytes.now) }
+pub(crate) fn is_short_ascii(bytes: &[u8], at: usize, len: usize) -> bool
+    requires { at + len ≤ length bytes.now }
+    ensures { result ≡ true → IsAscii (take len (drop at bytes.now)) }
 {
-    len <= SHORT && len <= bytes.len() && is_ascii_from(bytes, 0, len)
+    len <= SHORT && is_ascii_from(bytes, at, len)
 }
 
 /// How many bytes the string in front has, where an item is due, its length stands in one byte behind the first and is

@@ -39,7 +39,7 @@ pub(crate) struct Walk<'a> {
 
 impl Walk<'_> {
     ghost use Rattle.std.specs.Prelude.{◌<◌};
-    ghost use Rattle.cbor_feed.specs.Walking.{AreLent, levels_at, spot_at};
+    ghost use Rattle.cbor_feed.specs.Walking.{AreLent, levels_at, rest_of, spot_at};
     ghost use Rattle.std.specs.Prelude.{Bool, ℕ, ◌-◌, ◌/◌, ◌++◌, List, [], IfSome, take, true, false};
     ghost use Rattle.ciborium_ll_grammar.specs.Title.{IsTitle};
     ghost use Rattle.ciborium_ll_grammar.specs.Items.{IsTakenTitle};
@@ -684,10 +684,6 @@ impl Walk<'_> {
         ensures leads { Leads (spot_at self.old) (take result bytes.now) (spot_at self.new) }
         ensures lent { AreLent self.old.levels self.new.levels }
     {
-        if is_short_ascii(bytes, left) {
-            self.text_taken(left, left, State::Between);
-            return left;
-        }
         let len = left.min(bytes.len());
         let (front, behind) = text_front(&bytes[..len], 0, State::Between);
         if behind.may_end(left - len) {
@@ -703,6 +699,26 @@ impl Walk<'_> {
         1
     }
 
+    /// The same of the bytes of a piece from there on. Few of them, where they are ASCII, are taken with no branch by
+    /// their number, whether the text ends with them or the piece does.
+    #[inline(always)]
+    fn text_from(&mut self, left: usize, bytes: &[u8], at: usize) -> usize
+        requires phase { self.old.phase ≡ p.Text left s.Between }
+        requires some { at < length bytes.now }
+        requires room { self.old.offset + length (rest_of bytes.now at) ≤ usize.MAX }
+        ensures some { 0 < result }
+        ensures within { result ≤ length (rest_of bytes.now at) }
+        ensures leads { Leads (spot_at self.old) (take result (rest_of bytes.now at)) (spot_at self.new) }
+        ensures lent { AreLent self.old.levels self.new.levels }
+    {
+        let len = left.min(bytes.len() - at);
+        if is_short_ascii(bytes, at, len) {
+            self.text_taken(left, len, State::Between);
+            return len;
+        }
+        self.text_run(left, &bytes[at..])
+    }
+
     /// Whether more bytes may come.
     #[inline(always)]
     fn is_due(&self) -> bool
@@ -711,26 +727,27 @@ impl Walk<'_> {
         !matches!(self.phase, Phase::Ended | Phase::Faulted(_))
     }
 
-    /// Some bytes more: titles of items, a title or a byte of one, or of a body what is there. Says how many.
-    fn run(&mut self, bytes: &[u8]) -> usize
-        requires some { 0 < length bytes.now }
-        requires room { self.old.offset + length bytes.now ≤ usize.MAX }
+    /// Some bytes more from there on: titles of items, a title or a byte of one, or of a body what is there. Says how many.
+    fn run(&mut self, bytes: &[u8], at: usize) -> usize
+        requires some { at < length bytes.now }
+        requires room { self.old.offset + length (rest_of bytes.now at) ≤ usize.MAX }
         requires due { is_due self.old.phase ≡ true }
         ensures some { 0 < result }
-        ensures within { result ≤ length bytes.now }
-        ensures leads { Leads (spot_at self.old) (take result bytes.now) (spot_at self.new) }
+        ensures within { result ≤ length (rest_of bytes.now at) }
+        ensures leads { Leads (spot_at self.old) (take result (rest_of bytes.now at)) (spot_at self.new) }
         ensures lent { AreLent self.old.levels self.new.levels }
     {
+        let rest = &bytes[at..];
         match self.phase {
-            Phase::Title if self.front.len() > 0 => self.title_byte(bytes),
+            Phase::Title if self.front.len() > 0 => self.title_byte(rest),
             Phase::Title => match self.within {
-                Within::Nothing => self.items(bytes),
-                Within::Bytes(_) | Within::Text(_) => self.title_within(bytes),
+                Within::Nothing => self.items(rest),
+                Within::Bytes(_) | Within::Text(_) => self.title_within(rest),
             },
-            Phase::Bytes(left) => self.bytes_run(left, bytes),
-            Phase::Text(left, State::Between) => self.text_run(left, bytes),
+            Phase::Bytes(left) => self.bytes_run(left, rest),
+            Phase::Text(left, State::Between) => self.text_from(left, bytes, at),
             Phase::Text(left, state) => {
-                self.text_step(left, state, bytes[0]);
+                self.text_step(left, state, rest[0]);
                 1
             }
             Phase::Ended | Phase::Faulted(_) => unreachable!(),
@@ -749,7 +766,7 @@ impl Walk<'_> {
     {
         let mut at = 0;
         'runs: while at < bytes.len() && self.is_due() {
-            at += self.run(&bytes[at..]);
+            at += self.run(bytes, at);
         }
         at
     }
