@@ -255,7 +255,13 @@ fn run_of(bytes: &[u8], most: usize, strict: bool, offset: usize, place: &mut us
 /// The same, in a loop for each kind of checker, so that where any spelling is taken it asks nothing of a longer title.
 /// It stays a function of its own, in which all that a title needs is in registers.
 #[inline(never)]
-pub(crate) fn plain_run(bytes: &[u8], most: usize, strict: bool, offset: usize, place: &mut usize) -> Run
+pub(crate) fn plain_run(
+    bytes: &[u8],
+    most: usize,
+    strict: bool,
+    offset: usize,
+    place: &mut usize,
+) -> Run
     requires room { offset + length bytes.now ≤ usize.MAX }
     ensures within { result.len ≤ length bytes.now }
     ensures most { result.left ≤ most }

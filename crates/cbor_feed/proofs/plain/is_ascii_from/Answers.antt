@@ -1,4 +1,4 @@
-use Rattle.std.proofs.Common.{◌≡◌, ◌≤◌, ◌+◌, ◌-◌, eqb-true, arith, rules}
+use Rattle.std.proofs.Common.{eqb-true, rules}
 use Rattle.cbor_feed.proofs.HighBits.{none_set, part_ascii}
 use Rattle.cbor_feed.proofs.plain.is_ascii_from.Goals as goal
 

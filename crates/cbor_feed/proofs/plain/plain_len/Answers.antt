@@ -1,9 +1,9 @@
-use Rattle.std.proofs.Common.{◌≡◌, ℕ, ◌+◌, ◌-◌, ◌%◌, ◌<◌, ◌≤◌, List, length, length-drop, take, drop, false, arith, subst}
-use Rattle.std.proofs.Common.{slice_index, sym, ap, ◌∙◌, rules}
-use Rattle.std.proofs.lemmas.List.{drop_more, get_or-drop, take_rest}
+use Rattle.std.proofs.Common.{◌≡◌, ℕ, ◌+◌, ◌-◌, ◌%◌, ◌≤◌, List, length, length-drop, take, drop, false, arith, subst}
+use Rattle.std.proofs.Common.{slice_index, sym, ap, ◌∙◌}
+use Rattle.std.proofs.lemmas.List.{drop_more, get_or-drop}
 use Rattle.std.specs.Str.{IsAscii}
 use Rattle.ciborium_ll_text.proofs.Lists.{Below}
-use Rattle.cbor_feed.specs.Plain.{IsPlain, IsSpan}
+use Rattle.cbor_feed.specs.Plain.{IsSpan}
 use Rattle.cbor_feed.proofs.PlainLaws.{span_plain}
 use Rattle.cbor_feed.proofs.plain.plain_len.Goals as goal
 use Rattle.cbor_feed.proofs.plain.plain_len.Goals.{else-strict-via-then-strict+else-bytes-at-ge-LONGER}

@@ -1,8 +1,7 @@
-use Rattle.std.proofs.Common.{◌≡◌, ℕ, ◌≤◌, Bool, List, [], length, refl, arith, rules, true}
+use Rattle.std.proofs.Common.{◌≡◌, refl, arith, rules, true}
 use Rattle.cbor_feed.specs.declared.progress.Progress.TheVariants as r
 use Rattle.cbor_feed.specs.Places.{spot_in}
 use Rattle.cbor_feed.specs.Spots.{Spot}
-use Rattle.cbor_feed.specs.Steps.{IsFed}
 use Rattle.cbor_feed.specs.Telling.{is_due}
 use Rattle.cbor_feed.proofs.TellLaws.{fed_counts, more_due, told}
 use Rattle.cbor_feed.proofs.position.Position.tell.Goals as goal

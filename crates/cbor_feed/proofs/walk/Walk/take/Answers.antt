@@ -1,4 +1,4 @@
-use Rattle.std.proofs.Common.{◌≡◌, ◌≤◌, ◌++◌, take, length, ap, true, arith, rules, length-append}
+use Rattle.std.proofs.Common.{◌≤◌, take, length, ap, arith, rules}
 use Rattle.std.proofs.lemmas.List.{length-take-le}
 use Rattle.cbor_feed.specs.Walking.{spot_at}
 use Rattle.cbor_feed.proofs.LeadLaws.{leads_counts, leads_fed, leads_stays, run_front}

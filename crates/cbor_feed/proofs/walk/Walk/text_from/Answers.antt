@@ -1,4 +1,4 @@
-use Rattle.std.proofs.Common.{◌≡◌, ◌+◌, ◌<◌, ◌≤◌, List, ℕ, length, take, sym, subst, rules, arith}
+use Rattle.std.proofs.Common.{◌+◌, ◌≤◌, List, ℕ, length, take, sym, subst, rules, arith}
 use Rattle.std.proofs.lemmas.List.{get_or-drop, take_rest}
 use Rattle.std.specs.Str.{IsAscii}
 use Rattle.ciborium_ll_text.specs.declared.state.State.TheVariants as s

@@ -1,4 +1,4 @@
-use Rattle.std.proofs.Common.{◌≡◌, ◌-◌, ◌*◌, ◌+◌, subst, arith, rules}
+use Rattle.std.proofs.Common.{◌-◌, arith}
 use Rattle.cbor_feed.proofs.NestLaws.{array_enters, map_enters}
 use Rattle.cbor_feed.proofs.walk.nests.nest_of.Goals as goal
 
