@@ -1,7 +1,6 @@
 //! What a checker waits for.
 
-ghost use Rattle.std.specs.Prelude.{◌≡◌, ◌≢◌, ℕ, Some};
-ghost use Rattle.cbor_feed.specs.declared.phase.Phase.TheVariants as p;
+ghost use Rattle.std.specs.Prelude.{◌≡◌, Some};
 ghost use Rattle.cbor_feed.specs.Snapshots.{phase_in, within_in};
 
 use ciborium_ll_text::state::State;
@@ -50,20 +49,6 @@ pub(crate) enum Within {
     Text(usize),
 }
 
-impl Fault {
-    /// The number of what is faulted so, and its place. It is kept apart, as [`Phase::over`].
-    #[inline(never)]
-    fn numbers(self) -> (u8, usize)
-        ensures { (text : ℕ) → phase_in result.0 result.1 text ≡ Some (p.Faulted self) }
-    {
-        match self {
-            Fault::Syntax(place) => (5, place),
-            Fault::Break(place) => (6, place),
-            Fault::Deep(place) => (7, place),
-        }
-    }
-}
-
 impl Phase {
     /// The number of the kind, how many bytes are due or the place of a fault, and the number of a text's state.
     #[inline(always)]
@@ -75,15 +60,13 @@ impl Phase {
             Phase::Bytes(left) => (2, left, 0),
             Phase::Text(left, state) => (3, left, state.number()),
             Phase::Ended => (4, 0, 0),
-            Phase::Faulted(fault) => {
-                let (kind, place) = fault.numbers();
-                (kind, place, 0)
-            }
+            Phase::Faulted(Fault::Syntax(place)) => (5, place, 0),
+            Phase::Faulted(Fault::Break(place)) => (6, place, 0),
+            Phase::Faulted(Fault::Deep(place)) => (7, place, 0),
         }
     }
 
     /// What a checker with these numbers waits for.
-    #[inline(always)]
     pub(crate) fn of(kind: u8, number: usize, text: u8) -> Option<Phase>
         ensures { result ≡ phase_in kind number text }
     {
@@ -94,17 +77,6 @@ impl Phase {
                 Some(state) => Some(Phase::Text(number, state)),
                 None => None,
             },
-            _ => Phase::over(kind, number),
-        }
-    }
-
-    /// The same of one that waits for nothing. It is kept apart from the others, so that those are told by comparisons
-    /// and no jump through a table.
-    #[inline(never)]
-    fn over(kind: u8, number: usize) -> Option<Phase>
-        ensures { (text : ℕ) → kind ≢ 1 → kind ≢ 2 → kind ≢ 3 → result ≡ phase_in kind number text }
-    {
-        match kind {
             4 => Some(Phase::Ended),
             5 => Some(Phase::Faulted(Fault::Syntax(number))),
             6 => Some(Phase::Faulted(Fault::Break(number))),

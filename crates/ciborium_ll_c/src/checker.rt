@@ -48,20 +48,6 @@ fn told_progress(progress: Progress) -> (CllAnswer, usize)
     match progress {
         Progress::Ended(len) => (CllAnswer::Ok, len),
         Progress::More(due) => (CllAnswer::Short, due),
-        _ => told_rarely(progress),
-    }
-}
-
-/// The same, apart from the answers that most pieces have, so that those are told by comparisons and no jump through a
-/// table.
-#[inline(never)]
-fn told_rarely(progress: Progress) -> (CllAnswer, usize)
-    ensures answer { result.0 ≡ progress_answer progress }
-    ensures number { result.1 ≡ progress_number progress }
-{
-    match progress {
-        Progress::Ended(len) => (CllAnswer::Ok, len),
-        Progress::More(due) => (CllAnswer::Short, due),
         Progress::Fault(fault) => told_fault(fault),
         Progress::TooLong => (CllAnswer::TooLong, 0),
     }
