@@ -7,6 +7,7 @@ pub mod LeadLaws
 pub mod LevelLaws
 pub mod LiveLaws
 pub mod LongerBegun
+pub mod NestLaws
 pub mod OneSpot
 pub mod PlainLaws
 pub mod RunLaws

@@ -4,8 +4,8 @@ use Rattle.std.proofs.Common.{[], ◌∷◌, ◌++◌}
 use Rattle.std.proofs.Common.{◌&&◌, ◌||◌, eqb, ltb, eqb-true, ltb-true, get_or, length, take, drop, slice_index, refl}
 use Rattle.std.proofs.Common.{sym, ap}
 use Rattle.std.proofs.Common.{subst, ◌∙◌, arith, inl, inr}
-use Rattle.std.proofs.lemmas.Bool.{agree_below_at, and_parts, cases_lt, or_cases}
-use Rattle.std.proofs.lemmas.List.{length-take-le, take_rest}
+use Rattle.std.proofs.lemmas.Bool.{agree_below_at, and_parts, or_cases}
+use Rattle.std.proofs.lemmas.List.{length-take-le}
 use Rattle.std.proofs.Math.Seq.{take-add}
 use Rattle.std.specs.Str.{IsAscii}
 use Rattle.ciborium_ll_text.proofs.Lists.{Below, length_zero}
@@ -18,7 +18,7 @@ use Rattle.ciborium_ll_grammar.specs.Title.{NamesNoTitle, affix_len, major_code,
 use Rattle.ciborium_ll_grammar.specs.Items.{IsTakenTitle}
 use Rattle.ciborium_ll_grammar.specs.TitleRows.{IsTitleKind}
 use Rattle.ciborium_ll_grammar.proofs.LongerLaws.{taken}
-use Rattle.cbor_feed.specs.declared.plain.TheConstants.{SPANS}
+use Rattle.cbor_feed.specs.declared.plain.TheConstants.{LENS, TEXT_LENS}
 use Rattle.cbor_feed.specs.Blocked.{is_value}
 use Rattle.cbor_feed.specs.Plain.{ArePlain, IsPlain, IsSpan, IsValueMajor, more, passed}
 use Rattle.cbor_feed.specs.Spots.{Spot, item_done}
@@ -31,22 +31,24 @@ abbrev major_test : ℕ → Bool
 major_test major = eqb major 0 || (eqb major 1 || eqb major 7)
 
 abbrev value_test : ℕ → ℕ → Bool
-value_test first span = eqb span 1 && (ltb (first % 32) 24 && major_test (first / 32))
+value_test first len = eqb len 1 && (ltb (first % 32) 24 && major_test (first / 32))
 
 abbrev bytes_test : ℕ → ℕ → Bool
-bytes_test first span = eqb span (1 + first % 32) && (ltb (first % 32) 24 && eqb (first / 32) 2)
+bytes_test first len = eqb len (1 + first % 32) && (ltb (first % 32) 24 && eqb (first / 32) 2)
 
 abbrev long_test : ℕ → ℕ → Bool
-long_test first span =
-    eqb span (65 + affix_len (first % 32)) && (ltb 0 (affix_len (first % 32)) && (ltb (first % 32) 28
-    && (ltb (affix_len (first % 32)) 9 && major_test (first / 32))))
+long_test first len =
+    eqb len (1 + affix_len (first % 32)) && (ltb 0 (affix_len (first % 32)) && (ltb 23 (first % 32)
+    && (ltb (first % 32) 28 && major_test (first / 32))))
 
-abbrev text_test : ℕ → ℕ → Bool
-text_test first span = eqb span (129 + first % 32) && (ltb (first % 32) 24 && eqb (first / 32) 3)
+abbrev text_test : ℕ → ℕ → ℕ → Bool
+text_test first len text_len =
+    (eqb len (1 + first % 32) && (ltb (first % 32) 24 && eqb (first / 32) 3)) && eqb text_len (first % 32)
 
-abbrev span_test : ℕ → ℕ → Bool
-span_test first span =
-    eqb span 0 || (value_test first span || (bytes_test first span || (long_test first span || text_test first span)))
+abbrev span_test : ℕ → ℕ → ℕ → Bool
+span_test first len text_len =
+    (eqb len 0 || (value_test first len || (bytes_test first len || (long_test first len
+    || text_test first len text_len)))) && (eqb len 0 || ltb text_len len)
 
 major_tells : (major : ℕ) → major_test major ≡ true → IsValueMajor major
 major_tells major e =
@@ -72,51 +74,68 @@ value_tells first span e =
     let two = and_parts (ltb (first % 32) 24) _ one.1 in
     (eqb-true span 1 one.0, ltb-true (first % 32) 24 two.0, major_tells (first / 32) two.1)
 
-long_tells : (first span : ℕ) → long_test first span ≡ true
-    → (span ≡ 65 + affix_len (first % 32)) × (0 < affix_len (first % 32)) × (first % 32 < 28)
-    × (affix_len (first % 32) < 9) × IsValueMajor (first / 32)
-long_tells first span e =
-    let one = and_parts (eqb span (65 + affix_len (first % 32))) _ e in
+long_tells : (first len : ℕ) → long_test first len ≡ true
+    → (len ≡ 1 + affix_len (first % 32)) × (0 < affix_len (first % 32)) × (24 ≤ first % 32) × (first % 32 < 28)
+    × IsValueMajor (first / 32)
+long_tells first len e =
+    let one = and_parts (eqb len (1 + affix_len (first % 32))) _ e in
     let two = and_parts (ltb 0 (affix_len (first % 32))) _ one.1 in
-    let three = and_parts (ltb (first % 32) 28) _ two.1 in
-    let four = and_parts (ltb (affix_len (first % 32)) 9) _ three.1 in (
-      eqb-true span _ one.0,
+    let three = and_parts (ltb 23 (first % 32)) _ two.1 in
+    let four = and_parts (ltb (first % 32) 28) _ three.1 in (
+      eqb-true len _ one.0,
       ltb-true 0 _ two.0,
-      ltb-true (first % 32) 28 three.0,
-      ltb-true _ 9 four.0,
+      ltb-true 23 (first % 32) three.0,
+      ltb-true (first % 32) 28 four.0,
       major_tells (first / 32) four.1,
     )
 
-span_tells : (first span : ℕ) → span_test first span ≡ true → IsSpan first span
-span_tells first span e =
-    elim (or_cases (eqb span 0) _ e) [
-      | inl none ↦ inl (eqb-true span 0 none)
-      | inr a ↦ elim (or_cases (value_test first span) _ a) [
-        | inl value ↦ inr (inl (value_tells first span value))
-        | inr b ↦ elim (or_cases (bytes_test first span) _ b) [
-          | inl bytes ↦ inr (inr (inl (small_tells first span (1 + first % 32) 2 bytes)))
-          | inr c ↦ elim (or_cases (long_test first span) (text_test first span) c) [
-            | inl long ↦ inr (inr (inr (inl (long_tells first span long))))
-            | inr text ↦ inr (inr (inr (inr (small_tells first span (129 + first % 32) 3 text))))
+text_tells : (first len text_len : ℕ) → text_test first len text_len ≡ true
+    → (len ≡ 1 + first % 32) × (first % 32 < 24) × (first / 32 ≡ 3) × (text_len ≡ first % 32)
+text_tells first len text_len e =
+    let one = and_parts (eqb len (1 + first % 32) && _) (eqb text_len (first % 32)) e in
+    let two = small_tells first len (1 + first % 32) 3 one.0 in
+    (two.0, two.1, two.2, eqb-true text_len (first % 32) one.1)
+
+span_tells : (first len text_len : ℕ) → span_test first len text_len ≡ true
+    → IsSpan first len text_len × (0 < len → text_len < len)
+span_tells first len text_len both =
+    let parts = and_parts (eqb len 0 || _) (eqb len 0 || ltb text_len len) both in (
+      elim (or_cases (eqb len 0) _ parts.0) [
+        | inl none ↦ inl (eqb-true len 0 none)
+        | inr a ↦ elim (or_cases (value_test first len) _ a) [
+          | inl value ↦ inr (inl (value_tells first len value))
+          | inr b ↦ elim (or_cases (bytes_test first len) _ b) [
+            | inl bytes ↦ inr (inr (inl (small_tells first len (1 + first % 32) 2 bytes)))
+            | inr c ↦ elim (or_cases (long_test first len) (text_test first len text_len) c) [
+              | inl long ↦ inr (inr (inr (inl (long_tells first len long))))
+              | inr text ↦ inr (inr (inr (inr (text_tells first len text_len text))))
+            ]
           ]
         ]
-      ]
-    ]
+      ],
+      λ more. elim (or_cases (eqb len 0) (ltb text_len len) parts.1) [
+        | inl none ↦ absurd (let e = eqb-true len 0 none in omega (arith, e, more))
+        | inr less ↦ ltb-true text_len len less
+      ],
+    )
 
 -- each of the 256 numbers passes its test
-pub span_says : (first : ℕ) → first < 256 → IsSpan first (get_or SPANS first 0)
-span_says first l =
-    span_tells first (get_or SPANS first 0) (agree_below_at (λ (b : ℕ). span_test b (get_or SPANS b 0))
-    (λ (b : ℕ). true) 256 first refl l)
+pub span_says : (first len text_len : ℕ) → first < 256 → len ≡ get_or LENS first 0
+    → text_len ≡ get_or TEXT_LENS first 0 → IsSpan first len text_len × (0 < len → text_len < len)
+span_says first len text_len l len_is text_len_is =
+    span_tells first len text_len
+    (ap (λ (z : ℕ). span_test first z text_len) len_is
+    ∙ (ap (λ (z : ℕ). span_test first (get_or LENS first 0) z) text_len_is
+    ∙ agree_below_at (λ (b : ℕ). span_test b (get_or LENS b 0) (get_or TEXT_LENS b 0)) (λ (b : ℕ). true) 256 first refl l))
 
 -- ---- a title of one byte
 
-one_title : (b n : ℕ) (major : Major) → b ≡ 32 * major_code major + n → n < 24
+pub one_title : (b n : ℕ) (major : Major) → b ≡ 32 * major_code major + n → n < 24
     → IsTitle (b ∷ []) (numbered_header major Small n)
 one_title b n major e small =
     subst (λ (z : ℕ). IsTitle (z ∷ []) (numbered_header major Small n)) (sym e) (numbered major Small n small)
 
-one_taken : (strict : Bool) (b n : ℕ) (major : Major) → b ≡ 32 * major_code major + n → n < 24
+pub one_taken : (strict : Bool) (b n : ℕ) (major : Major) → b ≡ 32 * major_code major + n → n < 24
     → IsTakenTitle strict (b ∷ []) (numbered_header major Small n)
 one_taken false b n major e small = tt
 one_taken true b n major e small =
@@ -124,7 +143,7 @@ one_taken true b n major e small =
     (taken major Small n small refl)
 
 -- with nothing of a title in front
-unfronted : (spot : Spot) (len : ℕ) → length spot.front ≡ 0
+pub unfronted : (spot : Spot) (len : ℕ) → length spot.front ≡ 0
     → passed len spot ≡ record spot { place = spot.offset; offset = spot.offset + len }
 unfronted spot len clear =
     ap (λ (z : List ℕ). record spot { front = z; place = spot.offset; offset = spot.offset + len })
@@ -197,83 +216,38 @@ long_value b xs n below counts some less major le = λ spot at clear due any.
     value_leads (b ∷ xs) n spot _ kind.kind below at clear due any kind.value (omega (arith, counts, some)) le counts
     kind.is (ap item_done (ap (λ (z : ℕ). passed z spot) long ∙ unfronted spot n clear))
 
--- ---- what the number of a first byte says of the item
+-- ---- what the numbers of a first byte say of the item
 
--- a value of one byte, or a byte string
-pub low_plain : (xs : List ℕ) (span len : ℕ) (strict : Bool) → Below xs → 0 < length xs
-    → IsSpan (slice_index xs 0) span → span < 64 → len ≡ span % 64 → 0 < len → len ≤ length xs
-    → IsPlain strict (take len xs)
-low_plain [] span len strict below some is low e least le = absurd (omega arith)
-low_plain (b ∷ xs) span len strict below some (inl none) low e least le = absurd (omega (arith, none, e, least))
-low_plain (b ∷ xs) span len strict below some (inr (inl v)) low e least le =
-    let one : len ≡ 1 = omega (arith, v.0, e) in
-    subst (λ (z : ℕ). IsPlain strict (take z (b ∷ xs))) (sym one) (small_value b xs strict below v.1 v.2)
-low_plain (b ∷ xs) span len strict below some (inr (inr (inl v))) low e least le =
-    let n : len ≡ 1 + b % 32 = omega (arith, v.0, v.1, e) in
-    subst (λ (z : ℕ). IsPlain strict (take z (b ∷ xs))) (sym n)
-    (small_bytes b xs strict below v.1 v.2 (omega (arith, n, le)))
-low_plain (b ∷ xs) span len strict below some (inr (inr (inr (inl v)))) low e least le = absurd (omega
-    (arith, v.0, low))
-low_plain (b ∷ xs) span len strict below some (inr (inr (inr (inr v)))) low e least le = absurd (omega
-    (arith, v.0, low))
-
--- a longer title of a value
-pub long_plain : (xs : List ℕ) (span len : ℕ) → Below xs → 0 < length xs → IsSpan (slice_index xs 0) span → 64 ≤ span
-    → span < 128 → len ≡ span % 64 → len ≤ length xs → IsPlain false (take len xs)
-long_plain [] span len below some is low high e le = absurd (omega arith)
-long_plain (b ∷ xs) span len below some (inl none) low high e le = absurd (omega (arith, none, low))
-long_plain (b ∷ xs) span len below some (inr (inl v)) low high e le = absurd (omega (arith, v.0, low))
-long_plain (b ∷ xs) span len below some (inr (inr (inl v))) low high e le = absurd (omega (arith, v.0, v.1, low))
-long_plain (b ∷ xs) span len below some (inr (inr (inr (inl v)))) low high e le =
-    long_value b xs len below (omega (arith, v.0, v.3, e)) v.1 v.2 v.4 le
-long_plain (b ∷ xs) span len below some (inr (inr (inr (inr v)))) low high e le = absurd (omega (arith, v.0, high))
-
--- a text that is ASCII
-pub text_plain : (xs : List ℕ) (span len : ℕ) (strict : Bool) → Below xs → 0 < length xs
-    → IsSpan (slice_index xs 0) span → 128 ≤ span → len ≡ span % 64 → len ≤ length xs
-    → IsAscii (take (len - 1) (drop 1 xs)) → IsPlain strict (take len xs)
-text_plain [] span len strict below some is high e le ascii = absurd (omega arith)
-text_plain (b ∷ xs) span len strict below some (inl none) high e le ascii = absurd (omega (arith, none, high))
-text_plain (b ∷ xs) span len strict below some (inr (inl v)) high e le ascii = absurd (omega (arith, v.0, high))
-text_plain (b ∷ xs) span len strict below some (inr (inr (inl v))) high e le ascii = absurd (omega
-    (arith, v.0, v.1, high))
-text_plain (b ∷ xs) span len strict below some (inr (inr (inr (inl v)))) high e le ascii =
-    absurd (omega (arith, v.0, v.3, high))
-text_plain (b ∷ xs) span len strict below some (inr (inr (inr (inr v)))) high e le ascii =
-    let n : len ≡ 1 + b % 32 = omega (arith, v.0, v.1, e) in
-    let less : len - 1 ≡ b % 32 = omega (arith, n) in
-    subst (λ (z : ℕ). IsPlain strict (take z (b ∷ xs))) (sym n)
-    (small_text b xs strict below v.1 v.2 (omega (arith, n, le))
-    (subst (λ (z : ℕ). IsAscii (take z xs)) less ascii))
-
--- whichever of them it is: of a longer title any spelling is taken, and of a text the body is ASCII
-pub span_plain : (xs : List ℕ) (span len : ℕ) (strict : Bool) → Below xs → 0 < length xs
-    → IsSpan (slice_index xs 0) span → len ≡ span % 64 → 0 < len → len ≤ length xs
-    → (64 ≤ span → span < 128 → strict ≡ false) → (128 ≤ span → IsAscii (take (len - 1) (drop 1 xs)))
-    → IsPlain strict (take len xs)
-span_plain xs span len strict below some is e least le any ascii =
-    elim (cases_lt span 64) [
-      | inl low ↦ low_plain xs span len strict below some is low e least le
-      | inr high ↦ elim (cases_lt span 128) [
-        | inl long ↦ subst (λ (z : Bool). IsPlain z (take len xs)) (sym (any high long))
-            (long_plain xs span len below some is high long e le)
-        | inr text ↦ text_plain xs span len strict below some is text e le (ascii text)
-      ]
-    ]
+-- of a longer title any spelling is taken, and of a text the body is ASCII
+pub span_plain : (xs : List ℕ) (len text_len : ℕ) (strict : Bool) → Below xs → 0 < length xs
+    → IsSpan (slice_index xs 0) len text_len → 0 < len → len ≤ length xs
+    → (24 ≤ slice_index xs 0 % 32 → strict ≡ false) → IsAscii (take text_len (drop 1 xs)) → IsPlain strict (take len xs)
+span_plain [] len text_len strict below some is least le any ascii = absurd (omega arith)
+span_plain (b ∷ xs) len text_len strict below some (inl none) least le any ascii = absurd (omega (arith, none, least))
+span_plain (b ∷ xs) len text_len strict below some (inr (inl v)) least le any ascii =
+    subst (λ (z : ℕ). IsPlain strict (take z (b ∷ xs))) (sym v.0) (small_value b xs strict below v.1 v.2)
+span_plain (b ∷ xs) len text_len strict below some (inr (inr (inl v))) least le any ascii =
+    subst (λ (z : ℕ). IsPlain strict (take z (b ∷ xs))) (sym v.0)
+    (small_bytes b xs strict below v.1 v.2 (omega (arith, v.0, le)))
+span_plain (b ∷ xs) len text_len strict below some (inr (inr (inr (inl v)))) least le any ascii =
+    subst (λ (z : Bool). IsPlain z (take len (b ∷ xs))) (sym (any v.2)) (long_value b xs len below v.0 v.1 v.3 v.4 le)
+span_plain (b ∷ xs) len text_len strict below some (inr (inr (inr (inr v)))) least le any ascii =
+    subst (λ (z : ℕ). IsPlain strict (take z (b ∷ xs))) (sym v.0)
+    (small_text b xs strict below v.1 v.2 (omega (arith, v.0, le))
+    (subst (λ (z : ℕ). IsAscii (take z xs)) v.3 ascii))
 
 -- ---- items one behind the other
 
 -- one more
 pub plain_more : (strict : Bool) (offset first last most left at len : ℕ) (xs : List ℕ) → at ≤ length xs → 0 < left
     → left ≤ most → ArePlain strict offset first (most - left) last (take at xs)
-    → IsPlain strict (take len (take (length xs - at) (drop at xs)))
+    → IsPlain strict (take len (drop at xs))
     → ArePlain strict offset first (most - (left - 1)) (offset + at) (take (at + len) xs)
 plain_more strict offset first last most left at len xs le some fits so_far one =
-    let rest : List ℕ = take len (take (length xs - at) (drop at xs)) in
+    let rest : List ℕ = take len (drop at xs) in
     let count : suc (most - left) ≡ most - (left - 1) = omega arith in
     let place : offset + length (take at xs) ≡ offset + at = ap (λ (z : ℕ). offset + z) (length-take-le at xs le) in
-    let bytes : take at xs ++ rest ≡ take (at + len) xs =
-    ap (λ (z : List ℕ). take at xs ++ take len z) (take_rest xs at) ∙ sym (take-add at len xs) in
+    let bytes : take at xs ++ rest ≡ take (at + len) xs = sym (take-add at len xs) in
     subst (λ (z : ℕ). ArePlain strict offset first z (offset + at) (take (at + len) xs)) count
     (subst (λ (z : ℕ). ArePlain strict offset first (suc (most - left)) z (take (at + len) xs)) place
     (subst (λ (z : List ℕ). ArePlain strict offset first (suc (most - left)) (offset + length (take at xs)) z) bytes

@@ -73,7 +73,7 @@ lowered_same l.OpenValue count e = absurd cc
 -- ---- where the items lead
 
 -- an item is due in the nest
-abbrev due : Spot → List Level → ℕ → ℕ → Spot
+abbrev pub due : Spot → List Level → ℕ → ℕ → Spot
 due s levels place offset = record s {
   phase = p.Title;
   front = [];
@@ -112,7 +112,7 @@ run_leads s rest level all (suc count) left last bytes is (more {last = place} {
     (subst (λ (z : Spot). Leads m item z) new (one m refl refl refl refl))
 
 -- the spot with what is due there written out
-written : (s : Spot) (levels : List Level) → s.phase ≡ p.Title → length s.front ≡ 0 → s.within ≡ w.Nothing
+pub written : (s : Spot) (levels : List Level) → s.phase ≡ p.Title → length s.front ≡ 0 → s.within ≡ w.Nothing
     → s.levels ≡ levels → s ≡ due s levels s.place s.offset
 written s levels at clear in_none same =
     ap (λ (z : Phase). record s { phase = z }) at

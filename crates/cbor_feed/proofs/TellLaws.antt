@@ -13,8 +13,9 @@ use Rattle.cbor_feed.specs.Spots.{Spot}
 use Rattle.cbor_feed.specs.Steps.{start, with_byte, TitleStep, cut, early, whole, none}
 use Rattle.cbor_feed.specs.Steps.{counted}
 use Rattle.cbor_feed.specs.Steps.{StepIn, Step, IsFed, fresh, more}
-use Rattle.cbor_feed.specs.Telling.{has_left, title_due, progress_in, progress_of, Tells}
+use Rattle.cbor_feed.specs.Telling.{has_left, is_due, title_due, progress_in, progress_of, Tells}
 use Rattle.cbor_feed.specs.declared.progress.Progress.{Progress}
+use Rattle.cbor_feed.specs.declared.progress.Progress.TheVariants as r
 use Rattle.cbor_feed.proofs.KeptLaws.{entered_kept, bytes_kept, left_kept}
 use Rattle.cbor_feed.proofs.LiveLaws.{fed_goes}
 use Rattle.cbor_feed.proofs.Waiting.{WaitsIn}
@@ -123,3 +124,11 @@ pub told : (s : Bool) (d : ℕ) (fed : List ℕ) (spot : Spot) (progress : Progr
     → has_left spot.phase ≡ true
     → length spot.front ≤ affix_len (slice_index spot.front 0 % 32) → Tells s d fed progress
 told s d fed spot progress e is left short = subst (Tells s d fed) (sym e) (tells s d fed spot is left short)
+
+-- where more bytes are due by the answer they are by the phase
+pub more_due : (phase : Phase) (spot : Spot) (due : ℕ) → r.More due ≡ progress_in phase spot → is_due phase ≡ true
+more_due p.Title spot due e = refl
+more_due (p.Bytes left) spot due e = refl
+more_due (p.Text left state) spot due e = refl
+more_due p.Ended spot due e = absurd cc
+more_due (p.Faulted fault) spot due e = absurd cc

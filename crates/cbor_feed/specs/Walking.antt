@@ -1,5 +1,5 @@
 -- A checker during a call, with the numbers of its nests in memory of someone else's, as the spot that it has come to.
-use Rattle.std.specs.Prelude.{◌≡◌, List}
+use Rattle.std.specs.Prelude.{◌≡◌, ◌-◌, ℕ, List, length, take, drop}
 use Rattle.cbor_feed.specs.declared.level.Level.{Level}
 use Rattle.cbor_feed.specs.declared.levels.Levels.{Levels}
 use Rattle.cbor_feed.specs.declared.walk.Walk.{Walk}
@@ -27,3 +27,7 @@ spot_at w = record {
   place = w.place;
   offset = w.offset;
 }
+
+-- the bytes of a piece from there on
+abbrev pub rest_of : List ℕ → ℕ → List ℕ
+rest_of bytes at = take (length bytes - at) (drop at bytes)

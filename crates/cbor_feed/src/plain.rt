@@ -1,31 +1,25 @@
 //! Items that their first byte tells, and of which all bytes are there.
 
-ghost use Rattle.std.specs.Prelude.{Bool, ℕ, ◌≡◌, ◌+◌, ◌-◌, ◌<◌, ◌≤◌, take, length, slice_index, true};
+ghost use Rattle.std.specs.Prelude.{Bool, ℕ, ◌≡◌, ◌+◌, ◌-◌, ◌<◌, ◌≤◌, drop, take, length, slice_index, true};
 ghost use Rattle.std.specs.Str.{IsAscii};
 ghost use Rattle.cbor_feed.specs.Plain.{ArePlain, IsPlain, IsSpan};
 
-/// Added for a longer title of a number, a float or a simple value, which may not be the shortest.
-const LONG: u8 = 64;
-
-/// Added for a text, which has to be looked at.
-const TEXT: u8 = 128;
-
-/// What each first byte tells, two lines for each major type: how many bytes an item has with its title, with one of
-/// the numbers above added. 0 is nothing.
+/// Of each first byte that tells it, two lines for each major type: how many bytes the item has with its title. 0 is
+/// nothing.
 #[rattlefmt::skip]
-static SPANS: [u8; 256] = [
+static LENS: [u8; 256] = [
     // unsigned integers
     1, 1, 1, 1, 1, 1, 1, 1, 1, 1, 1, 1, 1, 1, 1, 1,
-    1, 1, 1, 1, 1, 1, 1, 1, 66, 67, 69, 73, 0, 0, 0, 0,
+    1, 1, 1, 1, 1, 1, 1, 1, 2, 3, 5, 9, 0, 0, 0, 0,
     // negative integers
     1, 1, 1, 1, 1, 1, 1, 1, 1, 1, 1, 1, 1, 1, 1, 1,
-    1, 1, 1, 1, 1, 1, 1, 1, 66, 67, 69, 73, 0, 0, 0, 0,
+    1, 1, 1, 1, 1, 1, 1, 1, 2, 3, 5, 9, 0, 0, 0, 0,
     // byte strings
     1, 2, 3, 4, 5, 6, 7, 8, 9, 10, 11, 12, 13, 14, 15, 16,
     17, 18, 19, 20, 21, 22, 23, 24, 0, 0, 0, 0, 0, 0, 0, 0,
     // text strings
-    129, 130, 131, 132, 133, 134, 135, 136, 137, 138, 139, 140, 141, 142, 143, 144,
-    145, 146, 147, 148, 149, 150, 151, 152, 0, 0, 0, 0, 0, 0, 0, 0,
+    1, 2, 3, 4, 5, 6, 7, 8, 9, 10, 11, 12, 13, 14, 15, 16,
+    17, 18, 19, 20, 21, 22, 23, 24, 0, 0, 0, 0, 0, 0, 0, 0,
     // arrays
     0, 0, 0, 0, 0, 0, 0, 0, 0, 0, 0, 0, 0, 0, 0, 0,
     0, 0, 0, 0, 0, 0, 0, 0, 0, 0, 0, 0, 0, 0, 0, 0,
@@ -37,16 +31,61 @@ static SPANS: [u8; 256] = [
     0, 0, 0, 0, 0, 0, 0, 0, 0, 0, 0, 0, 0, 0, 0, 0,
     // simple values and floats
     1, 1, 1, 1, 1, 1, 1, 1, 1, 1, 1, 1, 1, 1, 1, 1,
-    1, 1, 1, 1, 1, 1, 1, 1, 66, 67, 69, 73, 0, 0, 0, 0,
+    1, 1, 1, 1, 1, 1, 1, 1, 2, 3, 5, 9, 0, 0, 0, 0,
 ];
 
-/// What a first byte tells.
-#[inline(always)]
-fn span_of(first: u8) -> u8
-    ensures { IsSpan first result }
-{
-    SPANS[first as usize]
+/// How many of these are the body of a text, which has to be looked at. Of any other item 0.
+#[rattlefmt::skip]
+static TEXT_LENS: [u8; 256] = [
+    // unsigned integers
+    0, 0, 0, 0, 0, 0, 0, 0, 0, 0, 0, 0, 0, 0, 0, 0,
+    0, 0, 0, 0, 0, 0, 0, 0, 0, 0, 0, 0, 0, 0, 0, 0,
+    // negative integers
+    0, 0, 0, 0, 0, 0, 0, 0, 0, 0, 0, 0, 0, 0, 0, 0,
+    0, 0, 0, 0, 0, 0, 0, 0, 0, 0, 0, 0, 0, 0, 0, 0,
+    // byte strings
+    0, 0, 0, 0, 0, 0, 0, 0, 0, 0, 0, 0, 0, 0, 0, 0,
+    0, 0, 0, 0, 0, 0, 0, 0, 0, 0, 0, 0, 0, 0, 0, 0,
+    // text strings
+    0, 1, 2, 3, 4, 5, 6, 7, 8, 9, 10, 11, 12, 13, 14, 15,
+    16, 17, 18, 19, 20, 21, 22, 23, 0, 0, 0, 0, 0, 0, 0, 0,
+    // arrays
+    0, 0, 0, 0, 0, 0, 0, 0, 0, 0, 0, 0, 0, 0, 0, 0,
+    0, 0, 0, 0, 0, 0, 0, 0, 0, 0, 0, 0, 0, 0, 0, 0,
+    // maps
+    0, 0, 0, 0, 0, 0, 0, 0, 0, 0, 0, 0, 0, 0, 0, 0,
+    0, 0, 0, 0, 0, 0, 0, 0, 0, 0, 0, 0, 0, 0, 0, 0,
+    // tags
+    0, 0, 0, 0, 0, 0, 0, 0, 0, 0, 0, 0, 0, 0, 0, 0,
+    0, 0, 0, 0, 0, 0, 0, 0, 0, 0, 0, 0, 0, 0, 0, 0,
+    // simple values and floats
+    0, 0, 0, 0, 0, 0, 0, 0, 0, 0, 0, 0, 0, 0, 0, 0,
+    0, 0, 0, 0, 0, 0, 0, 0, 0, 0, 0, 0, 0, 0, 0, 0,
+];
+
+/// What a first byte tells of an item.
+#[derive(Drop)]
+struct Span {
+    /// How many bytes it has with its title, or 0.
+    len: usize,
+    /// How many of these are the body of a text.
+    text_len: usize,
 }
+
+/// What a first byte tells. Which kind of item it is takes no branch.
+#[inline(always)]
+fn span_of(first: u8) -> Span
+    ensures span { IsSpan first result.len result.text_len }
+    ensures less { 0 < result.len → result.text_len < result.len }
+{
+    Span {
+        len: usize::from(LENS[first as usize]),
+        text_len: usize::from(TEXT_LENS[first as usize]),
+    }
+}
+
+/// The lower five bits of a first byte behind which its number stands, and all above it.
+const LONGER: u8 = 24;
 
 /// Of each number the highest bits of the first bytes of a word, the lowest first: of as many as it is above 16, up to
 /// all eight.
@@ -63,12 +102,28 @@ static HIGH_BITS: [u64; 33] = [
     0x8080_8080_8080_8080,
 ];
 
-/// The highest bits of the eight bytes from there on: of the first ones, as many as the number is above 16.
+/// Of each number the highest bits of the others.
+#[rattlefmt::skip]
+static OTHER_BITS: [u64; 33] = [
+    0x8080_8080_8080_8080, 0x8080_8080_8080_8080, 0x8080_8080_8080_8080, 0x8080_8080_8080_8080,
+    0x8080_8080_8080_8080, 0x8080_8080_8080_8080, 0x8080_8080_8080_8080, 0x8080_8080_8080_8080,
+    0x8080_8080_8080_8080, 0x8080_8080_8080_8080, 0x8080_8080_8080_8080, 0x8080_8080_8080_8080,
+    0x8080_8080_8080_8080, 0x8080_8080_8080_8080, 0x8080_8080_8080_8080, 0x8080_8080_8080_8080,
+    0x8080_8080_8080_8080, 0x8080_8080_8080_8000, 0x8080_8080_8080_0000, 0x8080_8080_8000_0000,
+    0x8080_8080_0000_0000, 0x8080_8000_0000_0000, 0x8080_0000_0000_0000, 0x8000_0000_0000_0000,
+    0x0000_0000_0000_0000, 0x0000_0000_0000_0000, 0x0000_0000_0000_0000, 0x0000_0000_0000_0000,
+    0x0000_0000_0000_0000, 0x0000_0000_0000_0000, 0x0000_0000_0000_0000, 0x0000_0000_0000_0000,
+    0x0000_0000_0000_0000,
+];
+
+/// The highest bits of the eight bytes from there on: of those from one on and in front of another, which are named by
+/// numbers that are 16 more.
 #[inline(always)]
-fn high_bits(bytes: &[u8], at: usize, number: usize) -> u64
+fn high_bits(bytes: &[u8], at: usize, from: usize, until: usize) -> u64
     requires there { at + 8 ≤ length bytes.now }
-    requires number { number ≤ 32 }
-    ensures { result ≡ 0 → (j : ℕ) → j < 8 → j + 16 < number → slice_index bytes.now (at + j) < 128 }
+    requires from { from ≤ 32 }
+    requires until { until ≤ 32 }
+    ensures { result ≡ 0 → (j : ℕ) → j < 8 → from ≤ j + 16 → j + 16 < until → slice_index bytes.now (at + j) < 128 }
 {
     let word = u64::from_le_bytes([
         bytes[at],
@@ -80,36 +135,36 @@ fn high_bits(bytes: &[u8], at: usize, number: usize) -> u64
         bytes[at + 6],
         bytes[at + 7],
     ]);
-    word & HIGH_BITS[number]
+    word & HIGH_BITS[until] & OTHER_BITS[from]
 }
 
 /// How many bytes two words have.
 const SHORT: usize = 16;
 
-/// Whether so many bytes in front are ASCII. Of up to 16, where as many are there, it takes no branch by their number.
+/// Whether so many bytes from there on are ASCII. Of up to 16, where as many bytes are in all, it takes no branch by
+/// their number or their place: where two words from there on would reach too far, it reads the last two.
 #[inline(always)]
-fn is_ascii_front(bytes: &[u8], len: usize) -> bool
-    requires { len ≤ length bytes.now }
-    ensures { result ≡ true → IsAscii (take len bytes.now) }
+fn is_ascii_from(bytes: &[u8], at: usize, len: usize) -> bool
+    requires { at + len ≤ length bytes.now }
+    ensures { result ≡ true → IsAscii (take len (drop at bytes.now)) }
 {
     if len <= SHORT && bytes.len() >= SHORT {
-        let first = high_bits(bytes, 0, len + 16);
-        let second = high_bits(bytes, 8, len + 8);
+        let start = at.min(bytes.len() - SHORT);
+        let before = at - start;
+        let first = high_bits(bytes, start, before + 16, before + len + 16);
+        let second = high_bits(bytes, start + 8, before + 8, before + len + 8);
         return first | second == 0;
     }
-    if len <= 8 && bytes.len() >= 8 {
-        return high_bits(bytes, 0, len + 16) == 0;
-    }
-    bytes[..len].is_ascii()
+    bytes[at..at + len].is_ascii()
 }
 
-/// Whether so many bytes are there, are at most as many as two words have, and are ASCII.
+/// Whether so many bytes from there on are at most as many as two words have, and are ASCII.
 #[inline(always)]
-pub(crate) fn is_short_ascii(bytes: &[u8], len: usize) -> bool
-    ensures there { result ≡ true → len ≤ length bytes.now }
-    ensures ascii { result ≡ true → IsAscii (take len bytes.now) }
+pub(crate) fn is_short_ascii(bytes: &[u8], at: usize, len: usize) -> bool
+    requires { at + len ≤ length bytes.now }
+    ensures { result ≡ true → IsAscii (take len (drop at bytes.now)) }
 {
-    len <= SHORT && len <= bytes.len() && is_ascii_front(bytes, len)
+    len <= SHORT && is_ascii_from(bytes, at, len)
 }
 
 /// How many bytes the string in front has, where an item is due, its length stands in one byte behind the first and is
@@ -134,30 +189,28 @@ fn string_len(bytes: &[u8]) -> usize
     }
 }
 
-/// How many bytes the item in front has, where an item is due and all of it is there: of a number, a float or a simple
-/// value, of a byte string below 256 bytes, or of a text below that which is ASCII. Of any other one 0, and so of a
-/// longer title where the shortest alone is taken.
+/// How many bytes the item from there on has, where an item is due and all of it is there: of a number, a float or a
+/// simple value, of a byte string below 256 bytes, or of a text below that which is ASCII. Of any other one 0, and so of
+/// a longer title where the shortest alone is taken.
 #[inline(always)]
-fn plain_len(bytes: &[u8], strict: bool) -> usize
-    requires some { 0 < length bytes.now }
-    ensures within { result ≤ length bytes.now }
-    ensures plain { 0 < result → IsPlain strict (take result bytes.now) }
+fn plain_len(bytes: &[u8], at: usize, strict: bool) -> usize
+    requires some { at < length bytes.now }
+    ensures within { at + result ≤ length bytes.now }
+    ensures plain { 0 < result → IsPlain strict (take result (drop at bytes.now)) }
 {
-    let span = span_of(bytes[0]);
-    let len = usize::from(span % LONG);
-    if len == 0 {
-        return string_len(bytes);
+    let span = span_of(bytes[at]);
+    if span.len == 0 {
+        return string_len(&bytes[at..]);
     }
-    if len > bytes.len() {
+    if span.len > bytes.len() - at {
         return 0;
     }
-    if strict && LONG <= span && span < TEXT {
+    if strict && bytes[at] % 32 >= LONGER {
         return 0;
     }
-    // Which kind of item it is takes no branch: of one that is no text no byte is looked at.
-    let text_len = if span < TEXT { 0 } else { len - 1 };
-    if is_ascii_front(&bytes[1..], text_len) {
-        len
+    // Of an item that is no text no byte is looked at.
+    if is_ascii_from(bytes, at + 1, span.text_len) {
+        span.len
     } else {
         0
     }
@@ -170,39 +223,54 @@ pub(crate) struct Run {
     pub(crate) len: usize,
     /// How many items more there might have been.
     pub(crate) left: usize,
-    /// The offset of the last one, or what was given for it.
-    pub(crate) place: usize,
 }
 
-/// Items in front of which [`plain_len`] tells the length, at most so many, where an item is due at this offset. It
-/// stays a function of its own, in which all that a title needs is in registers.
-#[inline(never)]
-pub(crate) fn plain_run(bytes: &[u8], most: usize, strict: bool, offset: usize, place: usize) -> Run
+/// Items in front of which [`plain_len`] tells the length, at most so many, where an item is due at this offset.
+/// The place becomes the offset of the last one.
+#[inline(always)]
+fn run_of(bytes: &[u8], most: usize, strict: bool, offset: usize, place: &mut usize) -> Run
     requires room { offset + length bytes.now ≤ usize.MAX }
     ensures within { result.len ≤ length bytes.now }
     ensures most { result.left ≤ most }
     ensures some { result.left < most → 0 < result.len }
-    ensures plain { ArePlain strict offset place (most - result.left) result.place (take result.len bytes.now) }
+    ensures plain { ArePlain strict offset place.old (most - result.left) place.new (take result.len bytes.now) }
 {
     let mut at = 0;
     let mut left = most;
-    let mut last = place;
+    let mut last = *place;
     'items: while left > 0 && at < bytes.len() {
-        let len = plain_len(&bytes[at..], strict);
+        let len = plain_len(bytes, at, strict);
         if len == 0 {
-            return Run {
-                len: at,
-                left,
-                place: last,
-            };
+            *place = last;
+            return Run { len: at, left };
         }
         last = offset + at;
         at += len;
         left -= 1;
     }
-    Run {
-        len: at,
-        left,
-        place: last,
+    *place = last;
+    Run { len: at, left }
+}
+
+/// The same, in a loop for each kind of checker, so that where any spelling is taken it asks nothing of a longer title.
+/// It stays a function of its own, in which all that a title needs is in registers.
+#[inline(never)]
+pub(crate) fn plain_run(
+    bytes: &[u8],
+    most: usize,
+    strict: bool,
+    offset: usize,
+    place: &mut usize,
+) -> Run
+    requires room { offset + length bytes.now ≤ usize.MAX }
+    ensures within { result.len ≤ length bytes.now }
+    ensures most { result.left ≤ most }
+    ensures some { result.left < most → 0 < result.len }
+    ensures plain { ArePlain strict offset place.old (most - result.left) place.new (take result.len bytes.now) }
+{
+    if strict {
+        run_of(bytes, most, true, offset, place)
+    } else {
+        run_of(bytes, most, false, offset, place)
     }
 }

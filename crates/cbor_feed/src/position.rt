@@ -1,6 +1,6 @@
 //! Where a checker stands, but for the numbers of its nests.
 
-ghost use Rattle.std.specs.Prelude.{◌≡◌, ◌+◌, ◌≤◌, ◌%◌, length, slice_index, true, false, IsSome};
+ghost use Rattle.std.specs.Prelude.{◌≡◌, ◌+◌, ◌<◌, ◌≤◌, ◌%◌, length, slice_index, true, false, IsSome};
 ghost use Rattle.ciborium_ll_grammar.specs.Title.{affix_len};
 ghost use Rattle.cbor_feed.specs.Opens.{open_count};
 ghost use Rattle.cbor_feed.specs.Snapshots.{levels_in};
@@ -9,8 +9,9 @@ ghost use Rattle.cbor_feed.specs.Telling.{has_left};
 use crate::front::Front;
 use crate::levels::{Levels, MOST_LEVELS, are_levels};
 use crate::phase::{Phase, Within};
-use crate::progress::Feed;
+use crate::progress::{Feed, Progress};
 use crate::snapshot::{Snapshot, is_state, strict_of};
+use crate::tell::answer;
 use crate::walk::Walk;
 
 /// Where a checker stands, but for the numbers of its nests: how many there are, and all else.
@@ -65,11 +66,7 @@ impl Position {
         ensures holds { IsSome (levels_in self.now.nests snapshot.old.kinds snapshot.old.counts)
             → Holds snapshot.new (spot_in self.now snapshot.old.kinds snapshot.old.counts) }
     {
-        let (phase, number, text) = self.phase.numbers();
         let (strings, more) = self.within.numbers();
-        snapshot.phase = phase;
-        snapshot.number = number as u64;
-        snapshot.text = text;
         snapshot.strings = strings;
         snapshot.more = more as u64;
         snapshot.title_len = self.front.save(&mut snapshot.title) as u8;
@@ -78,6 +75,11 @@ impl Position {
         snapshot.depth = self.depth as u64;
         snapshot.place = self.place as u64;
         snapshot.offset = self.offset as u64;
+        // What differs by what is due comes last, so that nothing else waits until that is told.
+        let (phase, number, text) = self.phase.numbers();
+        snapshot.phase = phase;
+        snapshot.number = number as u64;
+        snapshot.text = text;
     }
 
     /// Becomes the position of the checker whose numbers these are, and says whether there is one. Where the numbers are
@@ -142,6 +144,31 @@ impl Position {
         ensures answers { IsAnswer result.progress (spot_in self.new kinds.new counts.new) }
         ensures stays { is_due self.old.phase ≡ false → (result.taken ≡ 0) × (spot_in self.new kinds.new counts.new ≡ spot_in self.old kinds.old counts.old) }
     {
+        let taken = self.take(kinds, counts, bytes);
+        Feed {
+            taken,
+            progress: self.tell(taken < bytes.len()),
+        }
+    }
+
+    /// The same with no answer. Says how many bytes are taken.
+    #[inline(always)]
+    pub(crate) fn take(
+        &mut self,
+        kinds: &mut [u8; MOST_LEVELS],
+        counts: &mut [u64; MOST_LEVELS],
+        bytes: &[u8],
+    ) -> usize
+        requires { IsSome (levels_in self.old.nests kinds.old counts.old) }
+        ensures known { IsSome (levels_in self.new.nests kinds.new counts.new) }
+        ensures taken { result ≤ length bytes.now }
+        ensures full { result < length bytes.now → is_due self.new.phase ≡ true → self.new.offset ≡ usize.MAX }
+        ensures fed { (strict : Bool) (depth : ℕ) (fed : List ℕ) → IsFed strict depth fed (spot_in self.old kinds.old counts.old)
+            → IsFed strict depth (fed ++ take result bytes.now) (spot_in self.new kinds.new counts.new) }
+        ensures counted { (strict : Bool) (depth : ℕ) (fed : List ℕ) → IsFed strict depth fed (spot_in self.old kinds.old counts.old)
+            → length fed + result ≤ usize.MAX }
+        ensures stays { is_due self.old.phase ≡ false → (result ≡ 0) × (spot_in self.new kinds.new counts.new ≡ spot_in self.old kinds.old counts.old) }
+    {
         let mut walk = Walk {
             strict: self.strict,
             phase: self.phase,
@@ -156,7 +183,7 @@ impl Position {
             place: self.place,
             offset: self.offset,
         };
-        let feed = walk.feed(bytes);
+        let taken = walk.take(bytes);
         *self = Position {
             strict: walk.strict,
             phase: walk.phase,
@@ -167,6 +194,25 @@ impl Position {
             place: walk.place,
             offset: walk.offset,
         };
-        feed
+        taken
+    }
+
+    /// How far the item has come, where some bytes of the piece are left or none. It is told behind all that a call
+    /// writes, so that no number waits for it.
+    #[inline(always)]
+    pub(crate) fn tell(&self, left: bool) -> Progress
+        requires full { left ≡ true → is_due self.now.phase ≡ true → self.now.offset ≡ usize.MAX }
+        ensures all { left ≡ true → IsMore result → ⊥ }
+        ensures tells { (kinds counts : List ℕ) (strict : Bool) (depth : ℕ) (fed : List ℕ)
+            → IsFed strict depth fed (spot_in self.now kinds counts) → Tells strict depth fed result }
+        ensures answers { (kinds counts : List ℕ) → IsAnswer result (spot_in self.now kinds counts) }
+    {
+        match answer(self.phase, &self.front, self.offset) {
+            Progress::More(_) if left => Progress::TooLong,
+            Progress::More(due) => Progress::More(due),
+            Progress::Ended(len) => Progress::Ended(len),
+            Progress::Fault(fault) => Progress::Fault(fault),
+            Progress::TooLong => Progress::TooLong,
+        }
     }
 }

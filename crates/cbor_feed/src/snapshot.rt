@@ -96,9 +96,12 @@ impl Snapshot {
         if !position.load(self) {
             return None;
         }
-        let feed = position.feed(&mut self.kinds, &mut self.counts, bytes);
+        let taken = position.take(&mut self.kinds, &mut self.counts, bytes);
         position.save(self);
-        Some(feed)
+        Some(Feed {
+            taken,
+            progress: position.tell(taken < bytes.len()),
+        })
     }
 }
 

@@ -9,14 +9,11 @@ ghost use Rattle.cbor_feed.specs.Blocked.{blocked, is_value};
 
 mod nests;
 
-use self::nests::is_long_nest;
 use crate::front::Front;
 use crate::level::Level;
 use crate::levels::Levels;
 use crate::phase::{Fault, Phase, Within};
 use crate::plain::is_short_ascii;
-use crate::progress::{Feed, Progress};
-use crate::tell::answer;
 use crate::title::{begins_none, blocked, header_of, is_value};
 use ciborium_ll_grammar::hdr::Header;
 use ciborium_ll_grammar::hdr::table::{Affix, TitleKind, row_of};
@@ -42,7 +39,7 @@ pub(crate) struct Walk<'a> {
 
 impl Walk<'_> {
     ghost use Rattle.std.specs.Prelude.{◌<◌};
-    ghost use Rattle.cbor_feed.specs.Walking.{AreLent, levels_at, spot_at};
+    ghost use Rattle.cbor_feed.specs.Walking.{AreLent, levels_at, rest_of, spot_at};
     ghost use Rattle.std.specs.Prelude.{Bool, ℕ, ◌-◌, ◌/◌, ◌++◌, List, [], IfSome, take, true, false};
     ghost use Rattle.ciborium_ll_grammar.specs.Title.{IsTitle};
     ghost use Rattle.ciborium_ll_grammar.specs.Items.{IsTakenTitle};
@@ -503,7 +500,6 @@ impl Walk<'_> {
         ensures lent { AreLent self.old.levels self.new.levels }
     {
         match header_of(&bytes[..1], self.strict) {
-            Some(header) if is_long_nest(header) => self.nest_taken(bytes, header),
             Some(header) => self.short_taken(bytes, header),
             None => {
                 let len = self.title_byte(bytes);
@@ -541,7 +537,7 @@ impl Walk<'_> {
     /// Else it is as [`Checker::title_run`]. Says how many bytes, and whether it can tell that another item is due, and
     /// nothing of its title came.
     #[inline(always)]
-    fn item_step(&mut self, bytes: &[u8]) -> (usize, bool)
+    fn other_step(&mut self, bytes: &[u8]) -> (usize, bool)
         requires phase { self.old.phase ≡ p.Title }
         requires fresh { length self.old.front ≡ 0 }
         requires due { self.old.within ≡ w.Nothing }
@@ -688,10 +684,6 @@ impl Walk<'_> {
         ensures leads { Leads (spot_at self.old) (take result bytes.now) (spot_at self.new) }
         ensures lent { AreLent self.old.levels self.new.levels }
     {
-        if is_short_ascii(bytes, left) {
-            self.text_taken(left, left, State::Between);
-            return left;
-        }
         let len = left.min(bytes.len());
         let (front, behind) = text_front(&bytes[..len], 0, State::Between);
         if behind.may_end(left - len) {
@@ -707,6 +699,26 @@ impl Walk<'_> {
         1
     }
 
+    /// The same of the bytes of a piece from there on. Few of them, where they are ASCII, are taken with no branch by
+    /// their number, whether the text ends with them or the piece does.
+    #[inline(always)]
+    fn text_from(&mut self, left: usize, bytes: &[u8], at: usize) -> usize
+        requires phase { self.old.phase ≡ p.Text left s.Between }
+        requires some { at < length bytes.now }
+        requires room { self.old.offset + length (rest_of bytes.now at) ≤ usize.MAX }
+        ensures some { 0 < result }
+        ensures within { result ≤ length (rest_of bytes.now at) }
+        ensures leads { Leads (spot_at self.old) (take result (rest_of bytes.now at)) (spot_at self.new) }
+        ensures lent { AreLent self.old.levels self.new.levels }
+    {
+        let len = left.min(bytes.len() - at);
+        if is_short_ascii(bytes, at, len) {
+            self.text_taken(left, len, State::Between);
+            return len;
+        }
+        self.text_run(left, &bytes[at..])
+    }
+
     /// Whether more bytes may come.
     #[inline(always)]
     fn is_due(&self) -> bool
@@ -715,26 +727,27 @@ impl Walk<'_> {
         !matches!(self.phase, Phase::Ended | Phase::Faulted(_))
     }
 
-    /// Some bytes more: titles of items, a title or a byte of one, or of a body what is there. Says how many.
-    fn run(&mut self, bytes: &[u8]) -> usize
-        requires some { 0 < length bytes.now }
-        requires room { self.old.offset + length bytes.now ≤ usize.MAX }
+    /// Some bytes more from there on: titles of items, a title or a byte of one, or of a body what is there. Says how many.
+    fn run(&mut self, bytes: &[u8], at: usize) -> usize
+        requires some { at < length bytes.now }
+        requires room { self.old.offset + length (rest_of bytes.now at) ≤ usize.MAX }
         requires due { is_due self.old.phase ≡ true }
         ensures some { 0 < result }
-        ensures within { result ≤ length bytes.now }
-        ensures leads { Leads (spot_at self.old) (take result bytes.now) (spot_at self.new) }
+        ensures within { result ≤ length (rest_of bytes.now at) }
+        ensures leads { Leads (spot_at self.old) (take result (rest_of bytes.now at)) (spot_at self.new) }
         ensures lent { AreLent self.old.levels self.new.levels }
     {
+        let rest = &bytes[at..];
         match self.phase {
-            Phase::Title if self.front.len() > 0 => self.title_byte(bytes),
+            Phase::Title if self.front.len() > 0 => self.title_byte(rest),
             Phase::Title => match self.within {
-                Within::Nothing => self.items(bytes),
-                Within::Bytes(_) | Within::Text(_) => self.title_within(bytes),
+                Within::Nothing => self.items(rest),
+                Within::Bytes(_) | Within::Text(_) => self.title_within(rest),
             },
-            Phase::Bytes(left) => self.bytes_run(left, bytes),
-            Phase::Text(left, State::Between) => self.text_run(left, bytes),
+            Phase::Bytes(left) => self.bytes_run(left, rest),
+            Phase::Text(left, State::Between) => self.text_from(left, bytes, at),
             Phase::Text(left, state) => {
-                self.text_step(left, state, bytes[0]);
+                self.text_step(left, state, rest[0]);
                 1
             }
             Phase::Ended | Phase::Faulted(_) => unreachable!(),
@@ -753,45 +766,24 @@ impl Walk<'_> {
     {
         let mut at = 0;
         'runs: while at < bytes.len() && self.is_due() {
-            at += self.run(&bytes[at..]);
+            at += self.run(bytes, at);
         }
         at
     }
 
-    /// How far the item has come, by what is due.
+    /// Takes a piece of the item's bytes, as [`Checker::feed`](crate::Checker::feed) says it. Says how many.
     #[inline(always)]
-    fn answer(&self) -> Progress
-        ensures { result ≡ progress_of (spot_at self.now) }
-    {
-        answer(self.phase, &self.front, self.offset)
-    }
-
-    /// Takes a piece of the item's bytes, as [`Checker::feed`](crate::Checker::feed) says it.
-    #[inline(always)]
-    pub(crate) fn feed(&mut self, bytes: &[u8]) -> Feed
-        ensures taken { result.taken ≤ length bytes.now }
-        ensures all { IsMore result.progress → result.taken ≡ length bytes.now }
+    pub(crate) fn take(&mut self, bytes: &[u8]) -> usize
+        ensures taken { result ≤ length bytes.now }
+        ensures full { result < length bytes.now → is_due self.new.phase ≡ true → self.new.offset ≡ usize.MAX }
         ensures fed { (strict : Bool) (depth : ℕ) (fed : List ℕ) → IsFed strict depth fed (spot_at self.old)
-            → IsFed strict depth (fed ++ take result.taken bytes.now) (spot_at self.new) }
-        ensures tells { (strict : Bool) (depth : ℕ) (fed : List ℕ) → IsFed strict depth fed (spot_at self.old)
-            → Tells strict depth (fed ++ take result.taken bytes.now) result.progress }
+            → IsFed strict depth (fed ++ take result bytes.now) (spot_at self.new) }
         ensures counted { (strict : Bool) (depth : ℕ) (fed : List ℕ) → IsFed strict depth fed (spot_at self.old)
-            → length fed + result.taken ≤ usize.MAX }
-        ensures answers { IsAnswer result.progress (spot_at self.new) }
-        ensures stays { is_due self.old.phase ≡ false → (result.taken ≡ 0) × (spot_at self.new ≡ spot_at self.old) }
+            → length fed + result ≤ usize.MAX }
+        ensures stays { is_due self.old.phase ≡ false → (result ≡ 0) × (spot_at self.new ≡ spot_at self.old) }
         ensures lent { AreLent self.old.levels self.new.levels }
     {
         let counted = bytes.len().min(usize::MAX - self.offset);
-        let taken = self.run_all(&bytes[..counted]);
-        if taken < bytes.len() && self.is_due() {
-            return Feed {
-                taken,
-                progress: Progress::TooLong,
-            };
-        }
-        Feed {
-            taken,
-            progress: self.answer(),
-        }
+        self.run_all(&bytes[..counted])
     }
 }

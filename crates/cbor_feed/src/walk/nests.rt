@@ -1,23 +1,49 @@
 //! Nests whose items are counted, and the plain items in front.
 
-ghost use Rattle.std.specs.Prelude.{◌≡◌, ◌+◌, ◌<◌, ◌≤◌, length, take, true, false};
+ghost use Rattle.std.specs.Prelude.{◌≡◌, ◌+◌, ◌<◌, ◌≤◌, IfSome, Some, length, slice_index, take, true, false};
+ghost use Rattle.cbor_feed.specs.Plain.{IsNestTitle, counted_behind};
 
 use super::Walk;
+use crate::level::Level;
 use crate::plain::plain_run;
-use ciborium_ll_grammar::hdr::Header;
 
-/// Whether the header is that of a nest in which it pays to look for plain items.
+/// A nest whose items are counted, where one of them is due.
+#[derive(Drop)]
+struct Nest {
+    /// What is left in it behind that one.
+    level: Level,
+    /// How many items that are.
+    left: usize,
+}
+
+/// The nest of which this byte is the title, where it pays to look for plain items in it: an array of 4 to 23 items, or
+/// a map of 2 to 23 pairs.
 #[inline(always)]
-pub(super) fn is_long_nest(header: Header) -> bool {
-    matches!(header, Header::Array(Some(count)) if count > 3)
-        || matches!(header, Header::Map(Some(count)) if count > 1)
+fn nest_of(first: u8) -> Option<Nest>
+    ensures enters { IfSome result (λ nest. IsNestTitle first nest.level) }
+    ensures left { IfSome result (λ nest. counted_behind nest.level ≡ Some nest.left) }
+    ensures few { IfSome result (λ nest. nest.left < usize.MAX) }
+{
+    if 0x84 <= first && first <= 0x97 {
+        let count = usize::from(first - 0x80);
+        return Some(Nest {
+            level: Level::Items(count - 1),
+            left: count - 1,
+        });
+    }
+    if 0xa2 <= first && first <= 0xb7 {
+        let count = usize::from(first - 0xa0);
+        return Some(Nest {
+            level: Level::Value(count - 1),
+            left: 2 * count - 1,
+        });
+    }
+    None
 }
 
 impl Walk<'_> {
     ghost use Rattle.cbor_feed.specs.Walking.{AreLent, spot_at};
     ghost use Rattle.cbor_feed.specs.Steps.{Leads};
-    ghost use Rattle.ciborium_ll_grammar.specs.Items.{IsTakenTitle};
-    ghost use Rattle.ciborium_ll_grammar.specs.Title.{IsTitle};
     ghost use Rattle.cbor_feed.specs.declared.phase.Within.TheVariants as w;
     ghost use Rattle.cbor_feed.specs.declared.phase.Phase.TheVariants as p;
 
@@ -43,8 +69,7 @@ impl Walk<'_> {
         let Some(left) = level.left() else {
             return (0, true);
         };
-        let run = plain_run(bytes, left + 1, self.strict, self.offset, self.place);
-        self.place = run.place;
+        let run = plain_run(bytes, left + 1, self.strict, self.offset, &mut self.place);
         self.offset += run.len;
         if run.left > 0 {
             self.levels.replace(level.lowered(run.left - 1));
@@ -56,17 +81,20 @@ impl Walk<'_> {
         (run.len, goes)
     }
 
-    /// All of a title of one byte, which means this header of a nest, where an item is due, and the plain items behind
-    /// it. Says how many bytes, and whether another item is due.
+    /// All of a title of one byte, which is that of this nest, where an item is due, and the plain items behind it. The
+    /// level is written once, as those leave it, and not at all where they are all that the nest has. Says how many
+    /// bytes, and whether another item is due.
     #[inline(always)]
-    pub(super) fn nest_taken(&mut self, bytes: &[u8], header: Header) -> (usize, bool)
+    fn nest_taken(&mut self, bytes: &[u8], nest: Nest) -> (usize, bool)
         requires phase { self.old.phase ≡ p.Title }
         requires fresh { length self.old.front ≡ 0 }
         requires due { self.old.within ≡ w.Nothing }
         requires some { 0 < length bytes.now }
         requires room { self.old.offset + length bytes.now ≤ usize.MAX }
-        requires title { IsTitle (take 1 bytes.now) header }
-        requires taken { IsTakenTitle self.old.strict (take 1 bytes.now) header }
+        requires deep { 0 < self.old.depth }
+        requires enters { IsNestTitle (slice_index bytes.now 0) nest.level }
+        requires left { counted_behind nest.level ≡ Some nest.left }
+        requires few { nest.left < usize.MAX }
         ensures some { 0 < result.0 }
         ensures within { result.0 ≤ length bytes.now }
         ensures leads { Leads (spot_at self.old) (take result.0 bytes.now) (spot_at self.new) }
@@ -77,11 +105,44 @@ impl Walk<'_> {
     {
         self.place = self.offset;
         self.offset += 1;
-        if !self.enter_item(header) {
-            return (1, false);
+        let run = plain_run(
+            &bytes[1..],
+            nest.left + 1,
+            self.strict,
+            self.offset,
+            &mut self.place,
+        );
+        self.offset += run.len;
+        if run.left > 0 {
+            self.depth -= 1;
+            self.levels.push(nest.level.lowered(run.left - 1));
+            return (1 + run.len, true);
         }
-        let (len, goes) = self.plain_items(&bytes[1..]);
-        (1 + len, goes)
+        let goes = self.item_over();
+        (1 + run.len, goes)
+    }
+
+    /// A title where an item is due, as [`Walk::other_step`], of which that of a nest is looked for first, with the
+    /// plain items behind it.
+    #[inline(always)]
+    pub(super) fn item_step(&mut self, bytes: &[u8]) -> (usize, bool)
+        requires phase { self.old.phase ≡ p.Title }
+        requires fresh { length self.old.front ≡ 0 }
+        requires due { self.old.within ≡ w.Nothing }
+        requires some { 0 < length bytes.now }
+        requires room { self.old.offset + length bytes.now ≤ usize.MAX }
+        ensures some { 0 < result.0 }
+        ensures within { result.0 ≤ length bytes.now }
+        ensures leads { Leads (spot_at self.old) (take result.0 bytes.now) (spot_at self.new) }
+        ensures title { result.1 ≡ true → self.new.phase ≡ p.Title }
+        ensures item { result.1 ≡ true → self.new.within ≡ w.Nothing }
+        ensures clear { result.1 ≡ true → length self.new.front ≡ 0 }
+        ensures lent { AreLent self.old.levels self.new.levels }
+    {
+        match nest_of(bytes[0]) {
+            Some(nest) if self.depth > 0 => self.nest_taken(bytes, nest),
+            _ => self.other_step(bytes),
+        }
     }
 
     /// Items where one is due: plain ones of the nest in which it is, and what [`Walk::item_run`] takes behind them.

@@ -7,6 +7,7 @@ pub returns : goal.returns
 returns c = λ none.
     let xs = c.args.bytes.now in
     let at = c.args.at in
-    low_in c.from_le_bytes-word.result _ c.args.number xs at none refl (omega (arith, c.requires.number))
+    low_in c.from_le_bytes-word.result _ _ c.args.from c.args.until xs at none refl refl
+    (omega (arith, c.requires.from)) (omega (arith, c.requires.until))
     (le_bytes_8 (eight xs at) c.from_le_bytes-word.result refl
     (eight_bytes xs at (λ i. (c.type_inv.bytes i).fits)) c.from_le_bytes-word.ensures)

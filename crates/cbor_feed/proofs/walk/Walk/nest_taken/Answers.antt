@@ -1,35 +1,37 @@
-use Rattle.std.proofs.Common.{ℕ, List, take, subst, arith, rules}
-use Rattle.std.proofs.lemmas.List.{length-take-le, take_rest}
+use Rattle.std.proofs.Common.{◌≡◌, ℕ, ◌+◌, ◌-◌, ◌≤◌, List, ◌∷◌, length, ap, ◌∙◌, arith}
 use Rattle.ciborium_ll_text.proofs.Lists.{rest_long}
-use Rattle.cbor_feed.specs.Steps.{Leads}
-use Rattle.cbor_feed.specs.Walking.{spot_at}
-use Rattle.cbor_feed.proofs.LeadLaws.{leads_counts}
-use Rattle.cbor_feed.proofs.ShortLeads.{both_lead, short_leads}
+use Rattle.cbor_feed.specs.declared.level.Level.{Level}
+use Rattle.cbor_feed.specs.Plain.{lowered}
+use Rattle.cbor_feed.specs.Spots.{Spot}
+use Rattle.cbor_feed.specs.Walking.{levels_at, spot_at}
+use Rattle.cbor_feed.proofs.NestLaws.{nest_ends, nest_goes}
 use Rattle.cbor_feed.proofs.walk.Walk.nest_taken.Goals as goal
 
-pub returns-then-not-enter_item-clause-leads : goal.returns-then-not-enter_item-clause-leads
-returns-then-not-enter_item-clause-leads c =
-    short_leads c.args.bytes.now (spot_at c.args.self.now) (spot_at c.enter_item.new.self) c.args.header
-    (λ i less. search rules) c.requires.phase c.requires.fresh c.requires.due c.requires.some c.requires.title
-    c.requires.taken c.enter_item.ensures.entered
-
-pub plain_items-len-requires-clause-room : goal.plain_items-len-requires-clause-room
-plain_items-len-requires-clause-room c =
-    let first = short_leads c.args.bytes.now (spot_at c.args.self.now) (spot_at c.enter_item.new.self) c.args.header
-    (λ i less. search rules) c.requires.phase c.requires.fresh c.requires.due c.requires.some c.requires.title
-    c.requires.taken c.enter_item.ensures.entered in
-    let counts = leads_counts (spot_at c.args.self.now) (spot_at c.enter_item.new.self)
-    (take 1 c.args.bytes.now) first in
-    let one = length-take-le 1 c.args.bytes.now (omega (arith, c.requires.some)) in
-    let rest = rest_long c.args.bytes.now 1 in
-    omega (arith, counts, one, rest, c.requires.some, c.requires.room)
+pub returns-then-run-gt0-clause-leads : goal.returns-then-run-gt0-clause-leads
+returns-then-run-gt0-clause-leads c =
+    let s : Spot = spot_at c.args.self.now in
+    let xs = c.args.bytes.now in
+    let run = c.plain_run-run.result in
+    let level : Level = c.args.nest.level in
+    let rest = rest_long xs 1 in
+    let within : run.len ≤ length xs - 1 = omega (arith, rest, c.plain_run-run.ensures.within) in
+    let levels : levels_at c.push.new.self ≡ lowered (run.left - 1) level ∷ s.levels =
+    c.push.ensures.pushed ∙ ap (λ (z : Level). z ∷ s.levels) c.lowered.ensures in
+    nest_goes s _ level c.args.nest.left c.plain_run-run.new.place run.len xs c.requires.phase c.requires.fresh c.requires.due
+    c.requires.deep c.requires.some c.requires.enters c.requires.left run.left c.if-run-gt0.true
+    c.plain_run-run.ensures.most within c.plain_run-run.ensures.plain
+    (ap (λ (z : List Level).
+    record s { depth = s.depth - 1; levels = z; place = c.plain_run-run.new.place; offset = s.offset + 1 + run.len }) levels)
 
 pub returns-clause-leads : goal.returns-clause-leads
 returns-clause-leads c =
-    let first = short_leads c.args.bytes.now (spot_at c.args.self.now) (spot_at c.enter_item.new.self) c.args.header
-    (λ i less. search rules) c.requires.phase c.requires.fresh c.requires.due c.requires.some c.requires.title
-    c.requires.taken c.enter_item.ensures.entered in
-    both_lead c.args.bytes.now c.plain_items-len.result.0 (spot_at c.args.self.now) (spot_at c.enter_item.new.self)
-    (spot_at c.plain_items-len.new.self) first
-    (subst (λ (z : List ℕ). Leads (spot_at c.enter_item.new.self) (take c.plain_items-len.result.0 z)
-    (spot_at c.plain_items-len.new.self)) (take_rest c.args.bytes.now 1) c.plain_items-len.ensures.leads)
+    let s : Spot = spot_at c.args.self.now in
+    let xs = c.args.bytes.now in
+    let run = c.plain_run-run.result in
+    let left : ℕ = c.args.nest.left in
+    let rest = rest_long xs 1 in
+    let within : run.len ≤ length xs - 1 = omega (arith, rest, c.plain_run-run.ensures.within) in
+    nest_ends s (spot_at c.item_over-goes.new.self) c.args.nest.level left c.plain_run-run.new.place run.len xs c.requires.phase
+    c.requires.fresh c.requires.due c.requires.deep c.requires.some c.requires.enters c.requires.left
+    (left + 1 - run.left) (omega (arith, c.if-run-gt0.false)) within c.plain_run-run.ensures.plain
+    c.item_over-goes.ensures.done

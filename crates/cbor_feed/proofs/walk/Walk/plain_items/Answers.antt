@@ -35,12 +35,12 @@ returns-then-run-gt0-clause-leads c =
     c.replace.ensures.put ∙ (ap (λ (z : Level). z ∷ others (levels_at c.innermost.new.self)) c.lowered.ensures
     ∙ ap (λ (z : List Level). lowered (run.left - 1) level ∷ others z) same) in
     run_goes s
-    (record s { levels = levels_at c.replace.new.self; place = run.place; offset = s.offset + run.len }) level
-    left run.place bytes c.requires.phase c.requires.fresh c.requires.due is all (left + 1) run.left (omega arith)
+    (record s { levels = levels_at c.replace.new.self; place = c.plain_run-run.new.place; offset = s.offset + run.len }) level
+    left c.plain_run-run.new.place bytes c.requires.phase c.requires.fresh c.requires.due is all (left + 1) run.left (omega arith)
     c.if-run-gt0.true c.plain_run-run.ensures.most c.plain_run-run.ensures.plain
-    (ap (λ (z : List Level). record s { levels = z; place = run.place; offset = s.offset + run.len }) levels
+    (ap (λ (z : List Level). record s { levels = z; place = c.plain_run-run.new.place; offset = s.offset + run.len }) levels
     ∙ ap (λ (z : ℕ).
-    record s { levels = lowered (run.left - 1) level ∷ others s.levels; place = run.place; offset = s.offset + z })
+    record s { levels = lowered (run.left - 1) level ∷ others s.levels; place = c.plain_run-run.new.place; offset = s.offset + z })
     (sym long))
 
 pub returns-clause-leads : goal.returns-clause-leads
@@ -55,11 +55,11 @@ returns-clause-leads c =
     let all : counted_behind level ≡ Some left = search rules in
     let same : levels_at c.innermost.new.self ≡ s.levels = ap levels_at c.innermost.ensures.same in
     let levels : levels_at c.pop.new.self ≡ others s.levels = c.pop.ensures.taken ∙ ap others same in
-    run_ends s (spot_at c.item_over-goes.new.self) level left run.place bytes c.requires.phase c.requires.fresh
+    run_ends s (spot_at c.item_over-goes.new.self) level left c.plain_run-run.new.place bytes c.requires.phase c.requires.fresh
     c.requires.due is all (left + 1 - run.left) (omega (arith, c.if-run-gt0.false)) c.plain_run-run.ensures.plain
     (c.item_over-goes.ensures.done
     ∙ (ap (λ (z : List Level).
-    item_done (record s { depth = s.depth + 1; levels = z; place = run.place; offset = s.offset + run.len })) levels
+    item_done (record s { depth = s.depth + 1; levels = z; place = c.plain_run-run.new.place; offset = s.offset + run.len })) levels
     ∙ ap (λ (z : ℕ).
-    item_done (record s { depth = s.depth + 1; levels = others s.levels; place = run.place; offset = s.offset + z }))
+    item_done (record s { depth = s.depth + 1; levels = others s.levels; place = c.plain_run-run.new.place; offset = s.offset + z }))
     (sym long)))

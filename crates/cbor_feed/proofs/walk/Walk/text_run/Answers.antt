@@ -1,28 +1,19 @@
 use Rattle.std.proofs.Common.{◌≡◌, ◌≤◌, take, length, rules, arith}
 use Rattle.std.proofs.lemmas.List.{length-take-le}
 use Rattle.ciborium_ll_text.specs.declared.state.State.TheVariants as s
-use Rattle.ciborium_ll_text.proofs.StateLaws.{ascii_stays}
 use Rattle.cbor_feed.specs.Walking.{spot_at}
 use Rattle.cbor_feed.proofs.LeadLaws.{between_ends, front_long, front_state, one_leads, text_leads, text_one, whole_state}
 use Rattle.cbor_feed.proofs.walk.Walk.text_run.Goals as goal
-
-pub returns-then-is_short_ascii-clause-leads : goal.returns-then-is_short_ascii-clause-leads
-returns-then-is_short_ascii-clause-leads c =
-    text_leads c.args.bytes.now c.args.left c.args.left s.Between s.Between (spot_at c.args.self.now)
-    (spot_at c.text_taken.new.self) (λ i less. search rules) c.requires.phase (search rules)
-    (c.is_short_ascii.ensures.there c.if-is_short_ascii.true) (omega arith)
-    (ascii_stays (take c.args.left c.args.bytes.now) (c.is_short_ascii.ensures.ascii c.if-is_short_ascii.true))
-    (between_ends _) c.text_taken.ensures.spot
 
 pub returns-then-may_end-clause-leads : goal.returns-then-may_end-clause-leads
 returns-then-may_end-clause-leads c =
     let front = c.text_front-behind.result.0.now in
     let state = c.text_front-behind.ensures in
     text_leads c.args.bytes.now c.min-len.result c.args.left s.Between c.text_front-behind.result.1
-    (spot_at c.args.self.now) (spot_at c.text_taken-then-may_end.new.self) (λ i less. search rules) c.requires.phase (search rules)
+    (spot_at c.args.self.now) (spot_at c.text_taken.new.self) (λ i less. search rules) c.requires.phase (search rules)
     (search rules) (search rules)
     (whole_state (take c.min-len.result c.args.bytes.now) front c.text_front-behind.result.1 state.front state.state)
-    (search rules) c.text_taken-then-may_end.ensures.spot
+    (search rules) c.text_taken.ensures.spot
 
 pub returns-then-whole-gt0-clause-leads : goal.returns-then-whole-gt0-clause-leads
 returns-then-whole-gt0-clause-leads c =

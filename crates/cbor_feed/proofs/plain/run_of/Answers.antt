@@ -1,8 +1,7 @@
 use Rattle.std.proofs.Common.{◌≡◌, ℕ, ◌-◌, ◌<◌, [], subst, arith}
-use Rattle.ciborium_ll_text.proofs.Lists.{rest_long}
 use Rattle.cbor_feed.specs.Plain.{ArePlain, none}
 use Rattle.cbor_feed.proofs.PlainLaws.{plain_more}
-use Rattle.cbor_feed.proofs.plain.plain_run.Goals as goal
+use Rattle.cbor_feed.proofs.plain.run_of.Goals as goal
 
 pub items-init : goal.items-init
 items-init c =
@@ -11,20 +10,19 @@ items-init c =
       within = omega arith;
       most = omega arith;
       some = λ less. absurd (omega (arith, less));
-      plain = subst (λ (z : ℕ). ArePlain c.args.strict c.args.offset c.args.place z c.args.place []) no_items none;
+      plain = subst (λ (z : ℕ). ArePlain c.args.strict c.args.offset c.args.place.now z c.args.place.now []) no_items none;
     }
 
 pub items-preserved : goal.items-preserved
 items-preserved c =
     let bytes = c.args.bytes.now in
-    let long = rest_long bytes c.items.at in
     let some : 0 < c.plain_len-len.result = omega (arith, c.if-len-eq0.false) in
     record {
-      within = omega (arith, long, c.plain_len-len.ensures.within, c.items.invariant.within);
+      within = c.plain_len-len.ensures.within;
       most = omega (arith, c.items.invariant.most);
       some = λ less. omega (arith, some);
       plain =
-          plain_more c.args.strict c.args.offset c.args.place c.items.last c.args.most c.items.left c.items.at
+          plain_more c.args.strict c.args.offset c.args.place.now c.items.last c.args.most c.items.left c.items.at
           c.plain_len-len.result bytes c.items.invariant.within c.items-test.true c.items.invariant.most
           c.items.invariant.plain (c.plain_len-len.ensures.plain some);
     }

@@ -1,6 +1,6 @@
 use Rattle.std.proofs.Common.{◌<◌, ◌≤◌, ◌-◌, take, length}
 use Rattle.cbor_feed.specs.Plain.{ArePlain}
-use Rattle.cbor_feed.proofs.plain.plain_run.Given as goal
+use Rattle.cbor_feed.proofs.plain.run_of.Given as goal
 
 abbrev pub invariant-items : goal.invariant-items
 invariant-items l =
@@ -8,7 +8,7 @@ invariant-items l =
       within : l.at ≤ length l.bytes;
       most : l.left ≤ l.most;
       some : l.left < l.most → 0 < l.at;
-      plain : ArePlain l.strict l.offset l.place (l.most - l.left) l.last (take l.at l.bytes);
+      plain : ArePlain l.strict l.offset l.fn.place (l.most - l.left) l.last (take l.at l.bytes);
     }
 
 abbrev pub decreases-items : goal.decreases-items

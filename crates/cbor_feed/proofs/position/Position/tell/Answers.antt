@@ -1,0 +1,40 @@
+use Rattle.std.proofs.Common.{◌≡◌, refl, arith, rules, true}
+use Rattle.cbor_feed.specs.declared.progress.Progress.TheVariants as r
+use Rattle.cbor_feed.specs.Places.{spot_in}
+use Rattle.cbor_feed.specs.Spots.{Spot}
+use Rattle.cbor_feed.specs.Telling.{is_due}
+use Rattle.cbor_feed.proofs.TellLaws.{fed_counts, more_due, told}
+use Rattle.cbor_feed.proofs.position.Position.tell.Goals as goal
+
+pub returns-in-More-clause-tells : goal.returns-in-More-clause-tells
+returns-in-More-clause-tells c = λ kinds counts strict depth fed is.
+    let spot : Spot = spot_in c.args.self.now kinds counts in
+    let due : is_due spot.phase ≡ true =
+    more_due spot.phase spot c.in-More.field-0 (search (rules, c.answer.ensures spot refl refl refl)) in
+    let full = c.requires.full c.if-left.true due in
+    let long = fed_counts strict depth fed spot is in
+    omega (arith, full, long)
+
+pub returns-in-More-2-clause-tells : goal.returns-in-More-2-clause-tells
+returns-in-More-2-clause-tells c = λ kinds counts strict depth fed is.
+    let spot : Spot = spot_in c.args.self.now kinds counts in
+    told strict depth fed spot (r.More c.in-More.field-0) (search (rules, c.answer.ensures spot refl refl refl)) is
+    c.args.self.now.left c.args.self.now.begun
+
+pub returns-in-Ended-clause-tells : goal.returns-in-Ended-clause-tells
+returns-in-Ended-clause-tells c = λ kinds counts strict depth fed is.
+    let spot : Spot = spot_in c.args.self.now kinds counts in
+    told strict depth fed spot (r.Ended c.in-Ended.len) (search (rules, c.answer.ensures spot refl refl refl)) is
+    c.args.self.now.left c.args.self.now.begun
+
+pub returns-in-Fault-clause-tells : goal.returns-in-Fault-clause-tells
+returns-in-Fault-clause-tells c = λ kinds counts strict depth fed is.
+    let spot : Spot = spot_in c.args.self.now kinds counts in
+    told strict depth fed spot (r.Fault c.in-Fault.fault) (search (rules, c.answer.ensures spot refl refl refl)) is
+    c.args.self.now.left c.args.self.now.begun
+
+pub returns-in-TooLong-clause-tells : goal.returns-in-TooLong-clause-tells
+returns-in-TooLong-clause-tells c = λ kinds counts strict depth fed is.
+    let spot : Spot = spot_in c.args.self.now kinds counts in
+    told strict depth fed spot (r.TooLong) (search (rules, c.answer.ensures spot refl refl refl)) is
+    c.args.self.now.left c.args.self.now.begun
