@@ -2,9 +2,9 @@
 
 ghost use Rattle.ciborium_ll_service.specs.Depth.{IsWithinDepth};
 
-use crate::skip;
-use ciborium_ll_answers::{head, string, value};
-use ciborium_ll_copies::copy;
+use crate::skip::Skip;
+use crate::{copy, head, string, value};
+use ciborium_ll_requests::answer::last_line;
 use ciborium_ll_requests::request::Request;
 use std::alloc::Global;
 use std::fmt;
@@ -12,15 +12,15 @@ use std::fmt::Write;
 
 /// Answers a line. The error comes only where the sink refused text, or where there is no memory.
 #[tactic(auto, using(crate::proofs::DepthLaws::within_depth))]
-pub fn line<T: Write>(alloc: Global, line: &[u8], sink: &mut T) -> fmt::Result {
+pub fn line<S: Skip, T: Write>(alloc: Global, line: &[u8], sink: &mut T) -> fmt::Result {
     match Request::parse(alloc, line)? {
-        Some(request) => answer(alloc, &request, sink),
+        Some(request) => answer::<S, T>(alloc, &request, sink),
         None => sink.write_str("error: line\n"),
     }
 }
 
 /// Answers a request. Each has a function of its own.
-fn answer<T: Write>(alloc: Global, request: &Request, sink: &mut T) -> fmt::Result
+fn answer<S: Skip, T: Write>(alloc: Global, request: &Request, sink: &mut T) -> fmt::Result
     requires { IsWithinDepth request.now }
 {
     match request {
@@ -30,6 +30,6 @@ fn answer<T: Write>(alloc: Global, request: &Request, sink: &mut T) -> fmt::Resu
         Request::Text(asked) => value::text(alloc, asked, sink),
         Request::Recode(asked) => copy::elements(alloc, asked, sink),
         Request::Strict(asked) => copy::strict_elements(alloc, asked, sink),
-        Request::Skip(asked) => skip::item(asked, sink),
+        Request::Skip(asked) => last_line(S::skipped(asked), sink),
     }
 }

@@ -2,7 +2,7 @@
 
 ghost use Rattle.std.specs.Prelude.{IfOk};
 ghost use Rattle.ciborium_ll_grammar.specs.Strings.{Bytes as byte_strings, Text as text_strings};
-ghost use Rattle.ciborium_ll_answers.specs.Value.{IsValueSpelling};
+ghost use Rattle.ciborium_ll_service.specs.Value.{IsValueSpelling};
 
 use crate::memory::{OutOfMemory, VecWriter};
 use ciborium_ll_encoder::enc::Encoder;
