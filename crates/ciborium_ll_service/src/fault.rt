@@ -67,18 +67,6 @@ impl From<AllocError> for ToolError {
     }
 }
 
-impl From<fmt::Error> for ToolError {
-    ghost use Rattle.std.specs.Prelude.{◌≡◌};
-    ghost use Rattle.ciborium_ll_service.specs.declared.fault.ToolError.TheVariants.{Memory};
-
-    ghost from_gives = { λ _ error. error ≡ Memory };
-
-    /// An answer is made in memory, so that only memory can fail there.
-    fn from(_refused: fmt::Error) -> ToolError {
-        ToolError::Memory
-    }
-}
-
 impl From<OutOfMemory> for ToolError {
     ghost use Rattle.std.specs.Prelude.{◌≡◌};
     ghost use Rattle.ciborium_ll_service.specs.declared.fault.ToolError.TheVariants.{Memory};

@@ -61,7 +61,7 @@ fn answer_next<S: Skip, R: io::Read + Drop, W: io::Write>(
         return Ok(false);
     }
     answer.clear();
-    answer::line::<S, String>(alloc, line.as_slice(), answer)?;
+    answer::line::<S>(alloc, line.as_slice(), answer)?;
     writer.write_all(answer.as_bytes())?;
     Ok(true)
 }
