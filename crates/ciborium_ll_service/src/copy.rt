@@ -2,7 +2,7 @@
 
 use ciborium_ll_decoder::dec::{Decoder, Error};
 use ciborium_ll_encoder::enc::Encoder;
-use ciborium_ll_io::io::{self, Read, SliceReader, SliceWriter};
+use ciborium_ll_io::io::{EndOfFile, OutOfSpace, SliceReader, SliceWriter};
 use ciborium_ll_recode::recode::{RecodeError, recode};
 use ciborium_ll_requests::answer::{Last, copy_line};
 use ciborium_ll_requests::request::Numbered;
@@ -46,15 +46,11 @@ fn copy(
 /// Copies so many elements, and says why the copy stopped before, if it did. Its contract says nothing of the copy:
 /// else whoever calls it proves each further step with all of that in view. For the same reason what an error means is
 /// a function of its own.
-fn copied<R: Read, W: io::Write>(
-    decoder: &mut Decoder<R>,
-    encoder: &mut Encoder<W>,
+fn copied(
+    decoder: &mut Decoder<SliceReader<'_>>,
+    encoder: &mut Encoder<SliceWriter<'_>>,
     count: usize,
-) -> Option<Last>
-where
-    R::Error: Drop,
-    W::Error: Drop,
-{
+) -> Option<Last> {
     let mut buffer = [0; BUFFER_SIZE];
     match recode(decoder, encoder, count, &mut buffer) {
         Ok(()) => None,
@@ -63,7 +59,7 @@ where
 }
 
 /// Why a copy stopped that ended at this offset.
-fn stopped<E: Drop, F: Drop>(error: RecodeError<E, F>, offset: usize) -> Last {
+fn stopped(error: RecodeError<EndOfFile, OutOfSpace>, offset: usize) -> Last {
     match error {
         RecodeError::Read(Error::Syntax(place)) => Last::Syntax(place),
         RecodeError::Read(Error::Io(_)) => Last::Short(offset),

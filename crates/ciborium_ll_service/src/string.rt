@@ -7,7 +7,7 @@ ghost use Rattle.ciborium_ll_decoder.specs.Segments.{string_reference};
 use ciborium_ll_decoder::dec::{Decoder, Error};
 use ciborium_ll_decoder::seg::{Bytes, Chunked, Segment, Segments, Text};
 use ciborium_ll_grammar::hdr::Header;
-use ciborium_ll_io::io::SliceReader;
+use ciborium_ll_io::io::{EndOfFile, SliceReader};
 use ciborium_ll_requests::answer::{Last, chunk_line, last_line, segment_line};
 use ciborium_ll_requests::request::Numbered;
 use std::alloc::{AllocError, Global};
@@ -31,8 +31,8 @@ enum Stop {
     Unwritten,
 }
 
-impl<E: Drop> From<Error<E>> for Stop {
-    fn from(error: Error<E>) -> Stop {
+impl From<Error<EndOfFile>> for Stop {
+    fn from(error: Error<EndOfFile>) -> Stop {
         match error {
             Error::Io(_) => Stop::Short,
             Error::Syntax(place) => Stop::Syntax(place),
