@@ -3,9 +3,9 @@
 use super::faults::is_printed_as;
 use ciborium_ll::io::{ReadFault, WriteFault};
 use ciborium_ll::{Error, RecodeError};
-use ciborium_ll_answers::fault::{Fault, fault_of_raw};
-use ciborium_ll_copies::raw::{raw, raw_buffered};
 use ciborium_ll_fixtures::streams::{PartReader, PartWriter};
+use ciborium_ll_service::fault::{Fault, fault_of_raw};
+use ciborium_ll_service::raw::{raw, raw_buffered};
 use std::alloc::Global;
 use std::io;
 use std::test::Fail;

@@ -2,7 +2,7 @@
 
 use ciborium_ll::io::{ReadFault, WriteFault};
 use ciborium_ll::{Error, RecodeError};
-use ciborium_ll_answers::fault::{Fault, fault_of_raw};
+use ciborium_ll_service::fault::{Fault, fault_of_raw};
 use std::alloc::Global;
 use std::test::Fail;
 

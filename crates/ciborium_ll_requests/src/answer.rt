@@ -1,7 +1,7 @@
 //! Answers, as lines of text.
 
 use crate::word::word_of;
-use std::alloc::Global;
+use std::alloc::{AllocError, Global};
 use std::fmt;
 use std::fmt::Write;
 
@@ -67,7 +67,12 @@ pub enum Value {
 }
 
 /// Writes the line of a title at this offset.
-pub fn title_line<T: Write>(offset: usize, name: &str, value: Value, sink: &mut T) -> fmt::Result {
+pub fn title_line(
+    offset: usize,
+    name: &str,
+    value: Value,
+    sink: &mut String,
+) -> Result<(), AllocError> {
     match value {
         Value::Nothing => writeln!(sink, "{offset} {name}"),
         Value::Number(n) => writeln!(sink, "{offset} {name} {n}"),
@@ -76,35 +81,35 @@ pub fn title_line<T: Write>(offset: usize, name: &str, value: Value, sink: &mut 
 }
 
 /// Writes the line of what ended an answer.
-pub fn last_line<T: Write>(last: Last, sink: &mut T) -> fmt::Result {
+pub fn last_line(last: Last, sink: &mut String) -> Result<(), AllocError> {
     writeln!(sink, "{last}")
 }
 
 /// Writes the line of a segment with so many bytes.
-pub fn segment_line<T: Write>(length: usize, sink: &mut T) -> fmt::Result {
+pub fn segment_line(length: usize, sink: &mut String) -> Result<(), AllocError> {
     writeln!(sink, "segment {length}")
 }
 
 /// Writes bytes as a line of one word.
-pub fn word_line<T: Write>(alloc: Global, bytes: &[u8], sink: &mut T) -> fmt::Result {
+pub fn word_line(alloc: Global, bytes: &[u8], sink: &mut String) -> Result<(), AllocError> {
     write_word(alloc, bytes, sink)?;
-    sink.write_str("\n")
+    sink.push_str("\n")
 }
 
 /// Writes the line of a chunk.
-pub fn chunk_line<T: Write>(alloc: Global, chunk: &[u8], sink: &mut T) -> fmt::Result {
-    sink.write_str("chunk ")?;
+pub fn chunk_line(alloc: Global, chunk: &[u8], sink: &mut String) -> Result<(), AllocError> {
+    sink.push_str("chunk ")?;
     word_line(alloc, chunk, sink)
 }
 
 /// Writes what a copy wrote, and what is left or why the copy stopped. Where it stopped for want of room that is all.
-pub fn copy_line<T: Write>(
+pub fn copy_line(
     alloc: Global,
     last: Option<Last>,
     written: &[u8],
     left: &[u8],
-    sink: &mut T,
-) -> fmt::Result {
+    sink: &mut String,
+) -> Result<(), AllocError> {
     match last {
         Some(Last::Room) => last_line(Last::Room, sink),
         Some(last) => {
@@ -113,14 +118,14 @@ pub fn copy_line<T: Write>(
         }
         None => {
             write_word(alloc, written, sink)?;
-            sink.write_str(" rest ")?;
+            sink.push_str(" rest ")?;
             word_line(alloc, left, sink)
         }
     }
 }
 
 /// Writes bytes as a word.
-fn write_word<T: Write>(alloc: Global, bytes: &[u8], sink: &mut T) -> fmt::Result {
+fn write_word(alloc: Global, bytes: &[u8], sink: &mut String) -> Result<(), AllocError> {
     let word = word_of(alloc, bytes)?;
-    sink.write_str(word.as_str())
+    sink.push_str(word.as_str())
 }

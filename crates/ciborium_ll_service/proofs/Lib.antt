@@ -1,1 +1,2 @@
 mod DepthLaws
+mod RawLaws

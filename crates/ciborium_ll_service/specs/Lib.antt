@@ -1,1 +1,5 @@
 pub mod Depth
+pub mod Fault
+pub mod Raw
+pub mod Restoring
+pub mod Value

@@ -2,25 +2,23 @@
 
 ghost use Rattle.ciborium_ll_service.specs.Depth.{IsWithinDepth};
 
-use crate::skip;
-use ciborium_ll_answers::{head, string, value};
-use ciborium_ll_copies::copy;
+use crate::skip::Skip;
+use crate::{copy, head, string, value};
+use ciborium_ll_requests::answer::last_line;
 use ciborium_ll_requests::request::Request;
-use std::alloc::Global;
-use std::fmt;
-use std::fmt::Write;
+use std::alloc::{AllocError, Global};
 
-/// Answers a line. The error comes only where the sink refused text, or where there is no memory.
+/// Answers a line. The error says that there is no memory for the answer.
 #[tactic(auto, using(crate::proofs::DepthLaws::within_depth))]
-pub fn line<T: Write>(alloc: Global, line: &[u8], sink: &mut T) -> fmt::Result {
+pub fn line<S: Skip>(alloc: Global, line: &[u8], sink: &mut String) -> Result<(), AllocError> {
     match Request::parse(alloc, line)? {
-        Some(request) => answer(alloc, &request, sink),
-        None => sink.write_str("error: line\n"),
+        Some(request) => answer::<S>(alloc, &request, sink),
+        None => sink.push_str("error: line\n"),
     }
 }
 
 /// Answers a request. Each has a function of its own.
-fn answer<T: Write>(alloc: Global, request: &Request, sink: &mut T) -> fmt::Result
+fn answer<S: Skip>(alloc: Global, request: &Request, sink: &mut String) -> Result<(), AllocError>
     requires { IsWithinDepth request.now }
 {
     match request {
@@ -30,6 +28,6 @@ fn answer<T: Write>(alloc: Global, request: &Request, sink: &mut T) -> fmt::Resu
         Request::Text(asked) => value::text(alloc, asked, sink),
         Request::Recode(asked) => copy::elements(alloc, asked, sink),
         Request::Strict(asked) => copy::strict_elements(alloc, asked, sink),
-        Request::Skip(asked) => skip::item(asked, sink),
+        Request::Skip(asked) => last_line(S::skipped(asked), sink),
     }
 }

@@ -1,8 +1,17 @@
-//! Answers lines on CBOR titles, strings and copies over any reader and writer of std.
+//! What the program does: it answers lines on CBOR titles, strings and copies over any reader and writer of std, and
+//! copies raw bytes.
 //!
-//! `ciborium_ll_tool` is the program that calls it.
+//! `ciborium_ll_tool` is the program that calls it, and hands it what skips an item (`skip::Skip`). So this crate is
+//! proved beside `cbor_skip`.
 #![tactic(auto)]
 
 mod answer;
+mod copy;
+pub mod fault;
+mod head;
+pub mod memory;
+pub mod raw;
 pub mod service;
-mod skip;
+pub mod skip;
+mod string;
+mod value;

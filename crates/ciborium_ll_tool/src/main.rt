@@ -4,10 +4,13 @@
 //! so many elements from standard input to standard output.
 #![tactic(auto)]
 
-use ciborium_ll_answers::fault::{Fault, fault_of_raw, fault_of_run};
-use ciborium_ll_copies::raw::raw_buffered;
+mod skip;
+
+use crate::skip::Skipper;
 use ciborium_ll_requests::arguments::chosen;
 use ciborium_ll_requests::choice::Chosen;
+use ciborium_ll_service::fault::{Fault, fault_of_raw, fault_of_run};
+use ciborium_ll_service::raw::raw_buffered;
 use ciborium_ll_service::service::run;
 use std::process::ExitCode;
 use std::{env, io};
@@ -45,7 +48,7 @@ fn words_of(rt: &HostRuntime) -> io::Result<Vec<String>> {
 
 /// Answers the lines of standard input on standard output.
 fn answered(rt: &HostRuntime) -> Result<(), Fault> {
-    match run(rt.alloc(), rt.reader(), io::writer(rt)) {
+    match run::<Skipper, _, _>(rt.alloc(), rt.reader(), io::writer(rt)) {
         Ok(()) => Ok(()),
         Err(error) => Err(fault_of_run(&error)),
     }

@@ -5,17 +5,15 @@ ghost use Rattle.std.specs.Io.KnownBytes.{Appends};
 ghost use Rattle.ciborium_ll_io.specs.Transfer.{AppendsFront};
 
 use ciborium_ll_io::io::{Failures, Write};
-use std::alloc::Global;
-use std::fmt;
+use std::alloc::{AllocError, Global};
 
 /// A growth of the memory was refused. Nothing was written.
 #[derive(Debug, Drop)]
 pub struct OutOfMemory;
 
-impl From<OutOfMemory> for fmt::Error {
-    /// An answer that is made in memory has no other error.
-    fn from(_refused: OutOfMemory) -> fmt::Error {
-        fmt::Error
+impl From<OutOfMemory> for AllocError {
+    fn from(_refused: OutOfMemory) -> AllocError {
+        AllocError
     }
 }
 

@@ -2,26 +2,24 @@
 
 ghost use Rattle.std.specs.Prelude.{IfOk};
 ghost use Rattle.ciborium_ll_grammar.specs.Strings.{Bytes as byte_strings, Text as text_strings};
-ghost use Rattle.ciborium_ll_answers.specs.Value.{IsValueSpelling};
+ghost use Rattle.ciborium_ll_service.specs.Value.{IsValueSpelling};
 
 use crate::memory::{OutOfMemory, VecWriter};
 use ciborium_ll_encoder::enc::Encoder;
 use ciborium_ll_requests::answer::word_line;
 use ciborium_ll_requests::request::Limited;
-use std::alloc::Global;
-use std::fmt;
-use std::fmt::Write;
+use std::alloc::{AllocError, Global};
 
 /// Answers `bytes`: the spelling of a byte string under a limit.
-pub fn bytes<T: Write>(alloc: Global, asked: &Limited, sink: &mut T) -> fmt::Result {
+pub fn bytes(alloc: Global, asked: &Limited, sink: &mut String) -> Result<(), AllocError> {
     let spelling = spelled_bytes(alloc, asked.bytes.as_slice(), asked.limit)?;
     word_line(alloc, spelling.as_slice(), sink)
 }
 
 /// Answers `text`: the spelling of a text string under a limit, where the bytes are text.
-pub fn text<T: Write>(alloc: Global, asked: &Limited, sink: &mut T) -> fmt::Result {
+pub fn text(alloc: Global, asked: &Limited, sink: &mut String) -> Result<(), AllocError> {
     let Ok(value) = std::str::from_utf8(asked.bytes.as_slice()) else {
-        return sink.write_str("error: text\n");
+        return sink.push_str("error: text\n");
     };
     let spelling = spelled_text(alloc, value, asked.limit)?;
     word_line(alloc, spelling.as_slice(), sink)

@@ -1,8 +1,8 @@
 //! Elements copied from one stream of bytes to another.
 
 ghost use Rattle.std.specs.Prelude.{◌≡◌, ℕ, List, Some};
-ghost use Rattle.ciborium_ll_copies.specs.Raw.{CopiesRaw, Tells, TellsFlushed, Untold, flushed_outcome};
-ghost use Rattle.ciborium_ll_copies.specs.Restoring.{Restores, RestoresCopy, RestoresFlush};
+ghost use Rattle.ciborium_ll_service.specs.Raw.{CopiesRaw, Tells, TellsFlushed, Untold, flushed_outcome};
+ghost use Rattle.ciborium_ll_service.specs.Restoring.{Restores, RestoresCopy, RestoresFlush};
 
 use crate::copy::BUFFER_SIZE;
 use ciborium_ll_decoder::dec::{Decoder, Error};

@@ -2,36 +2,38 @@
 
 use ciborium_ll_decoder::dec::{Decoder, Error};
 use ciborium_ll_encoder::enc::Encoder;
-use ciborium_ll_io::io::{self, Read, SliceReader, SliceWriter};
+use ciborium_ll_io::io::{EndOfFile, OutOfSpace, SliceReader, SliceWriter};
 use ciborium_ll_recode::recode::{RecodeError, recode};
 use ciborium_ll_requests::answer::{Last, copy_line};
 use ciborium_ll_requests::request::Numbered;
-use std::alloc::Global;
-use std::fmt;
-use std::fmt::Write;
+use std::alloc::{AllocError, Global};
 
 /// How many bytes of a string are copied at a time, at most.
 pub const BUFFER_SIZE: usize = 64;
 
 /// Answers `recode`: what a copy of so many elements wrote, and what is left of the bytes or why the copy stopped.
-pub fn elements<T: Write>(alloc: Global, asked: &Numbered, sink: &mut T) -> fmt::Result {
+pub fn elements(alloc: Global, asked: &Numbered, sink: &mut String) -> Result<(), AllocError> {
     let decoder = Decoder::from(SliceReader::new(asked.bytes.as_slice()));
     copy(alloc, decoder, asked, sink)
 }
 
 /// Answers `strict`: the same by a strict decoder.
-pub fn strict_elements<T: Write>(alloc: Global, asked: &Numbered, sink: &mut T) -> fmt::Result {
+pub fn strict_elements(
+    alloc: Global,
+    asked: &Numbered,
+    sink: &mut String,
+) -> Result<(), AllocError> {
     let decoder = Decoder::strict(SliceReader::new(asked.bytes.as_slice()));
     copy(alloc, decoder, asked, sink)
 }
 
 /// Copies elements of this decoder, and says what was written, and what is left or why the copy stopped.
-fn copy<T: Write>(
+fn copy(
     alloc: Global,
     mut decoder: Decoder<SliceReader<'_>>,
     asked: &Numbered,
-    sink: &mut T,
-) -> fmt::Result {
+    sink: &mut String,
+) -> Result<(), AllocError> {
     // No element has a longer spelling than the one that it is read from.
     let mut space = vec![in alloc; 0u8; asked.bytes.len()]?;
     let mut encoder = Encoder::from(SliceWriter::new(space.as_mut_slice()));
@@ -44,15 +46,11 @@ fn copy<T: Write>(
 /// Copies so many elements, and says why the copy stopped before, if it did. Its contract says nothing of the copy:
 /// else whoever calls it proves each further step with all of that in view. For the same reason what an error means is
 /// a function of its own.
-fn copied<R: Read, W: io::Write>(
-    decoder: &mut Decoder<R>,
-    encoder: &mut Encoder<W>,
+fn copied(
+    decoder: &mut Decoder<SliceReader<'_>>,
+    encoder: &mut Encoder<SliceWriter<'_>>,
     count: usize,
-) -> Option<Last>
-where
-    R::Error: Drop,
-    W::Error: Drop,
-{
+) -> Option<Last> {
     let mut buffer = [0; BUFFER_SIZE];
     match recode(decoder, encoder, count, &mut buffer) {
         Ok(()) => None,
@@ -61,7 +59,7 @@ where
 }
 
 /// Why a copy stopped that ended at this offset.
-fn stopped<E: Drop, F: Drop>(error: RecodeError<E, F>, offset: usize) -> Last {
+fn stopped(error: RecodeError<EndOfFile, OutOfSpace>, offset: usize) -> Last {
     match error {
         RecodeError::Read(Error::Syntax(place)) => Last::Syntax(place),
         RecodeError::Read(Error::Io(_)) => Last::Short(offset),

@@ -2,9 +2,9 @@ use Rattle.std.proofs.Common.{◌≡◌, List, ℕ, Some, subst, sym, ap, ◌∙
 use Rattle.std.specs.Io.KnownBytes.{Keeps}
 use Rattle.ciborium_ll_streams.specs.declared.streams.StdReader.{StdReader}
 use Rattle.ciborium_ll_streams.specs.declared.streams.StdWriter.{StdWriter}
-use Rattle.ciborium_ll_copies.specs.Raw.{Tells}
-use Rattle.ciborium_ll_copies.proofs.RawLaws.{kept_known, told_ahead, raw_flushed}
-use Rattle.ciborium_ll_copies.proofs.raw.raw.Goals as goal
+use Rattle.ciborium_ll_service.specs.Raw.{Tells}
+use Rattle.ciborium_ll_service.proofs.RawLaws.{kept_known, told_ahead, raw_flushed}
+use Rattle.ciborium_ll_service.proofs.raw.raw.Goals as goal
 
 pub returns : goal.returns
 returns g c = λ due written told-due told-written.

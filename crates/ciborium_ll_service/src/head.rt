@@ -4,11 +4,10 @@ use ciborium_ll_decoder::dec::{Decoder, Error};
 use ciborium_ll_grammar::hdr::{Float, Header};
 use ciborium_ll_io::io::{EndOfFile, SliceReader};
 use ciborium_ll_requests::answer::{Last, Value, last_line, title_line};
-use std::fmt;
-use std::fmt::Write;
+use std::alloc::AllocError;
 
 /// Answers `heads`: a line for each title, and one for what ended them.
-pub fn heads<T: Write>(bytes: &[u8], sink: &mut T) -> fmt::Result {
+pub fn heads(bytes: &[u8], sink: &mut String) -> Result<(), AllocError> {
     let mut decoder = Decoder::from(SliceReader::new(bytes));
     // Each title takes a byte, and the call after the last title fails.
     for _ in 0..=bytes.len() {

@@ -19,8 +19,8 @@ use Rattle.ciborium_ll_recode.specs.Recoding.{CopiesElements}
 use Rattle.ciborium_ll_decoder.specs.BodyCopies.{sides}
 use Rattle.ciborium_ll_recode.specs.RecodingTold.{IsTold, RecodesAnyhow, StopsShort}
 use Rattle.ciborium_ll_decoder.proofs.BodyLaws.{view_none}
-use Rattle.ciborium_ll_copies.specs.Restoring.{Restores, RestoresCopy, RestoresFlush}
-use Rattle.ciborium_ll_copies.specs.Raw.{CopiesRaw, ReadsShort, TellsFlushed, WritesShort, flushed_outcome}
+use Rattle.ciborium_ll_service.specs.Restoring.{Restores, RestoresCopy, RestoresFlush}
+use Rattle.ciborium_ll_service.specs.Raw.{CopiesRaw, ReadsShort, TellsFlushed, WritesShort, flushed_outcome}
 
 -- known bytes that are kept are known still
 pub kept_known : (old new : Option (List ℕ)) (bytes : List ℕ) → Keeps old new → old ≡ Some bytes → new ≡ Some bytes

@@ -1,9 +1,9 @@
 -- What the program says of an error.
 use Rattle.std.specs.Prelude.{◌≡◌, ℕ, List, ◌++◌, Option, Some, None, codes, decimal}
-use Rattle.ciborium_ll_answers.specs.declared.fault.Fault.{Fault}
-use Rattle.ciborium_ll_answers.specs.declared.fault.Fault.TheVariants as f
-use Rattle.ciborium_ll_answers.specs.declared.fault.ToolError.{ToolError}
-use Rattle.ciborium_ll_answers.specs.declared.fault.ToolError.TheVariants as e
+use Rattle.ciborium_ll_service.specs.declared.fault.Fault.{Fault}
+use Rattle.ciborium_ll_service.specs.declared.fault.Fault.TheVariants as f
+use Rattle.ciborium_ll_service.specs.declared.fault.ToolError.{ToolError}
+use Rattle.ciborium_ll_service.specs.declared.fault.ToolError.TheVariants as e
 use Rattle.ciborium_ll_decoder.specs.declared.dec.Error.TheVariants as d
 use Rattle.ciborium_ll_streams.specs.declared.streams.ReadFault.{ReadFault}
 use Rattle.ciborium_ll_streams.specs.declared.streams.WriteFault.{WriteFault}

@@ -1,8 +1,8 @@
 use Rattle.std.proofs.Common.{◌≡◌, List, ℕ, Some, subst, sym, ap, ◌∙◌}
 use Rattle.ciborium_ll_streams.specs.Buffers.{buffered_ahead, buffered_kept_back, buffered_written}
-use Rattle.ciborium_ll_copies.specs.Raw.{TellsFlushed, Untold}
-use Rattle.ciborium_ll_copies.proofs.RawLaws.{flushed_known, kept_known, raw_any, restored_outcome, told_ahead}
-use Rattle.ciborium_ll_copies.proofs.raw.raw_buffered.Goals as goal
+use Rattle.ciborium_ll_service.specs.Raw.{TellsFlushed, Untold}
+use Rattle.ciborium_ll_service.proofs.RawLaws.{flushed_known, kept_known, raw_any, restored_outcome, told_ahead}
+use Rattle.ciborium_ll_service.proofs.raw.raw_buffered.Goals as goal
 
 pub returns : goal.returns
 returns g c = λ due written told-due told-written.

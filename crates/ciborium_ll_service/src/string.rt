@@ -7,12 +7,10 @@ ghost use Rattle.ciborium_ll_decoder.specs.Segments.{string_reference};
 use ciborium_ll_decoder::dec::{Decoder, Error};
 use ciborium_ll_decoder::seg::{Bytes, Chunked, Segment, Segments, Text};
 use ciborium_ll_grammar::hdr::Header;
-use ciborium_ll_io::io::{Read, SliceReader};
+use ciborium_ll_io::io::{EndOfFile, SliceReader};
 use ciborium_ll_requests::answer::{Last, chunk_line, last_line, segment_line};
 use ciborium_ll_requests::request::Numbered;
-use std::alloc::Global;
-use std::fmt;
-use std::fmt::Write;
+use std::alloc::{AllocError, Global};
 
 /// Why the reading of a string stopped.
 #[derive(Drop)]
@@ -33,8 +31,8 @@ enum Stop {
     Unwritten,
 }
 
-impl<E: Drop> From<Error<E>> for Stop {
-    fn from(error: Error<E>) -> Stop {
+impl From<Error<EndOfFile>> for Stop {
+    fn from(error: Error<EndOfFile>) -> Stop {
         match error {
             Error::Io(_) => Stop::Short,
             Error::Syntax(place) => Stop::Syntax(place),
@@ -44,28 +42,28 @@ impl<E: Drop> From<Error<E>> for Stop {
 }
 
 /// Answers `chunks`: a line for each segment, chunk and end of a segment, and one for what ended the string.
-pub fn chunks<T: Write>(alloc: Global, asked: &Numbered, sink: &mut T) -> fmt::Result {
+pub fn chunks(alloc: Global, asked: &Numbered, sink: &mut String) -> Result<(), AllocError> {
     let mut buffer = vec![in alloc; 0u8; asked.number]?;
     chunks_within(alloc, asked.bytes.as_slice(), buffer.as_mut_slice(), sink)
 }
 
 /// The same, through this buffer.
-fn chunks_within<T: Write>(
+fn chunks_within(
     alloc: Global,
     bytes: &[u8],
     buffer: &mut [u8],
-    sink: &mut T,
-) -> fmt::Result {
+    sink: &mut String,
+) -> Result<(), AllocError> {
     let mut decoder = Decoder::from(SliceReader::new(bytes));
     let stop = string(alloc, &mut decoder, bytes.len(), buffer, sink);
     stop_line(stop, decoder.offset(), sink)
 }
 
 /// Writes what a stop at this offset is for the answer.
-fn stop_line<T: Write>(stop: Stop, offset: usize, sink: &mut T) -> fmt::Result {
+fn stop_line(stop: Stop, offset: usize, sink: &mut String) -> Result<(), AllocError> {
     match stopped(stop, offset) {
         Some(last) => last_line(last, sink),
-        None => Err(fmt::Error),
+        None => Err(AllocError),
     }
 }
 
@@ -83,22 +81,19 @@ fn stopped(stop: Stop, offset: usize) -> Option<Last> {
 }
 
 /// Reads a string of at most so many bytes.
-fn string<R: Read, T: Write>(
+fn string(
     alloc: Global,
-    decoder: &mut Decoder<R>,
+    decoder: &mut Decoder<SliceReader<'_>>,
     most: usize,
     buffer: &mut [u8],
-    sink: &mut T,
-) -> Stop
-where
-    R::Error: Drop,
-{
+    sink: &mut String,
+) -> Stop {
     match decoder.pull() {
         Ok(Header::Bytes(length)) => {
-            segment_lines::<R, Bytes, T>(alloc, &mut decoder.bytes(length), most, buffer, sink)
+            segment_lines::<Bytes>(alloc, &mut decoder.bytes(length), most, buffer, sink)
         }
         Ok(Header::Text(length)) => {
-            segment_lines::<R, Text, T>(alloc, &mut decoder.text(length), most, buffer, sink)
+            segment_lines::<Text>(alloc, &mut decoder.text(length), most, buffer, sink)
         }
         Ok(_) => Stop::Other,
         Err(error) => Stop::from(error),
@@ -106,15 +101,13 @@ where
 }
 
 /// Reads the segments of a string, each to its end. Each takes a byte, and the call after the last one ends them.
-fn segment_lines<R: Read, P: Chunked, T: Write>(
+fn segment_lines<P: Chunked>(
     alloc: Global,
-    segments: &mut Segments<'_, R, P>,
+    segments: &mut Segments<'_, SliceReader<'_>, P>,
     most: usize,
     buffer: &mut [u8],
-    sink: &mut T,
+    sink: &mut String,
 ) -> Stop
-where
-    R::Error: Drop,
     ensures { string_reference segments.new ≡ string_reference segments.old }
 {
     'segments: for _ in 0..=most {
@@ -126,14 +119,12 @@ where
 }
 
 /// Reads the next segment, to its end. It is `None` there.
-fn next_segment<R: Read, P: Chunked, T: Write>(
+fn next_segment<P: Chunked>(
     alloc: Global,
-    segments: &mut Segments<'_, R, P>,
+    segments: &mut Segments<'_, SliceReader<'_>, P>,
     buffer: &mut [u8],
-    sink: &mut T,
+    sink: &mut String,
 ) -> Option<Stop>
-where
-    R::Error: Drop,
     ensures { string_reference segments.new ≡ string_reference segments.old }
 {
     match segments.advance() {
@@ -147,14 +138,12 @@ where
 }
 
 /// Reads a segment. It is `None` at the segment's end.
-fn chunk_lines<R: Read, P: Chunked, T: Write>(
+fn chunk_lines<P: Chunked>(
     alloc: Global,
-    segment: &mut Segment<'_, R, P>,
+    segment: &mut Segment<'_, SliceReader<'_>, P>,
     buffer: &mut [u8],
-    sink: &mut T,
+    sink: &mut String,
 ) -> Option<Stop>
-where
-    R::Error: Drop,
     ensures { segment_reference segment.new ≡ segment_reference segment.old }
 {
     let mut was_empty = false;
@@ -171,7 +160,7 @@ where
 }
 
 /// Writes the line of a chunk, and tells whether it is empty. Of two empty ones in a row the second is a stop.
-fn told<T: Write>(alloc: Global, chunk: &[u8], was_empty: bool, sink: &mut T) -> Result<bool, Stop>
+fn told(alloc: Global, chunk: &[u8], was_empty: bool, sink: &mut String) -> Result<bool, Stop>
     ensures { IfOk result (λ is_empty. cond is_empty 0 1 < 2 * length chunk.now + cond was_empty 0 1) }
 {
     let is_empty = chunk.is_empty();
@@ -185,8 +174,8 @@ fn told<T: Write>(alloc: Global, chunk: &[u8], was_empty: bool, sink: &mut T) ->
 }
 
 /// Writes the line of a segment's end.
-fn end_told<T: Write>(sink: &mut T) -> Option<Stop> {
-    match sink.write_str("stop\n") {
+fn end_told(sink: &mut String) -> Option<Stop> {
+    match sink.push_str("stop\n") {
         Ok(()) => None,
         Err(_) => Some(Stop::Unwritten),
     }

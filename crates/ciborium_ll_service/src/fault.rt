@@ -1,7 +1,7 @@
 //! What the program says when it fails.
 
 ghost use Rattle.std.specs.Prelude.{◌≡◌};
-ghost use Rattle.ciborium_ll_answers.specs.Fault.{fault_of, fault_of_copy};
+ghost use Rattle.ciborium_ll_service.specs.Fault.{fault_of, fault_of_copy};
 
 use crate::memory::OutOfMemory;
 use ciborium_ll_decoder::copy::RecodeError;
@@ -28,7 +28,7 @@ pub enum Fault {
 
 impl fmt::Display for Fault {
     ghost use Rattle.std.specs.Prelude.{Some};
-    ghost use Rattle.ciborium_ll_answers.specs.Fault.{fault_text};
+    ghost use Rattle.ciborium_ll_service.specs.Fault.{fault_text};
 
     ghost output = { λ fault. Some (fault_text fault) };
 
@@ -58,7 +58,7 @@ pub enum ToolError {
 
 impl From<AllocError> for ToolError {
     ghost use Rattle.std.specs.Prelude.{◌≡◌};
-    ghost use Rattle.ciborium_ll_answers.specs.declared.fault.ToolError.TheVariants.{Memory};
+    ghost use Rattle.ciborium_ll_service.specs.declared.fault.ToolError.TheVariants.{Memory};
 
     ghost from_gives = { λ _ error. error ≡ Memory };
 
@@ -67,21 +67,9 @@ impl From<AllocError> for ToolError {
     }
 }
 
-impl From<fmt::Error> for ToolError {
-    ghost use Rattle.std.specs.Prelude.{◌≡◌};
-    ghost use Rattle.ciborium_ll_answers.specs.declared.fault.ToolError.TheVariants.{Memory};
-
-    ghost from_gives = { λ _ error. error ≡ Memory };
-
-    /// An answer is made in memory, so that only memory can fail there.
-    fn from(_refused: fmt::Error) -> ToolError {
-        ToolError::Memory
-    }
-}
-
 impl From<OutOfMemory> for ToolError {
     ghost use Rattle.std.specs.Prelude.{◌≡◌};
-    ghost use Rattle.ciborium_ll_answers.specs.declared.fault.ToolError.TheVariants.{Memory};
+    ghost use Rattle.ciborium_ll_service.specs.declared.fault.ToolError.TheVariants.{Memory};
 
     ghost from_gives = { λ _ error. error ≡ Memory };
 
@@ -100,7 +88,7 @@ impl From<LineError> for ToolError {
 }
 
 impl From<WriteFault> for ToolError {
-    ghost use Rattle.ciborium_ll_answers.specs.Fault.{IsWriteError};
+    ghost use Rattle.ciborium_ll_service.specs.Fault.{IsWriteError};
 
     ghost from_gives = { λ fault error. IsWriteError fault error };
 
@@ -113,7 +101,7 @@ impl From<WriteFault> for ToolError {
 }
 
 impl fmt::Display for ToolError {
-    ghost use Rattle.ciborium_ll_answers.specs.Fault.{tool_error_text};
+    ghost use Rattle.ciborium_ll_service.specs.Fault.{tool_error_text};
 
     ghost output = { tool_error_text };
 

@@ -1,2 +1,0 @@
-pub mod Raw
-pub mod Restoring
