@@ -2,23 +2,21 @@
 
 ghost use Rattle.ciborium_ll_service.specs.Depth.{IsWithinDepth};
 
-use crate::skip::Skip;
-use crate::{copy, head, string, value};
-use ciborium_ll_requests::answer::last_line;
+use crate::{copy, head, skip, string, value};
 use ciborium_ll_requests::request::Request;
 use std::alloc::{AllocError, Global};
 
 /// Answers a line. The error says that there is no memory for the answer.
 #[tactic(auto, using(crate::proofs::DepthLaws::within_depth))]
-pub fn line<S: Skip>(alloc: Global, line: &[u8], sink: &mut String) -> Result<(), AllocError> {
+pub fn line(alloc: Global, line: &[u8], sink: &mut String) -> Result<(), AllocError> {
     match Request::parse(alloc, line)? {
-        Some(request) => answer::<S>(alloc, &request, sink),
+        Some(request) => answer(alloc, &request, sink),
         None => sink.push_str("error: line\n"),
     }
 }
 
 /// Answers a request. Each has a function of its own.
-fn answer<S: Skip>(alloc: Global, request: &Request, sink: &mut String) -> Result<(), AllocError>
+fn answer(alloc: Global, request: &Request, sink: &mut String) -> Result<(), AllocError>
     requires { IsWithinDepth request.now }
 {
     match request {
@@ -28,6 +26,6 @@ fn answer<S: Skip>(alloc: Global, request: &Request, sink: &mut String) -> Resul
         Request::Text(asked) => value::text(alloc, asked, sink),
         Request::Recode(asked) => copy::elements(alloc, asked, sink),
         Request::Strict(asked) => copy::strict_elements(alloc, asked, sink),
-        Request::Skip(asked) => last_line(S::skipped(asked), sink),
+        Request::Skip(asked) => skip::item(asked, sink),
     }
 }

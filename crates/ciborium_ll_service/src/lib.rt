@@ -1,8 +1,7 @@
 //! What the program does: it answers lines on CBOR titles, strings and copies over any reader and writer of std, and
 //! copies raw bytes.
 //!
-//! `ciborium_ll_tool` is the program that calls it, and hands it what skips an item (`skip::Skip`). So this crate is
-//! proved beside `cbor_skip`.
+//! `ciborium_ll_tool` is the program that calls it.
 #![tactic(auto)]
 
 mod answer;
@@ -12,6 +11,6 @@ mod head;
 pub mod memory;
 pub mod raw;
 pub mod service;
-pub mod skip;
+mod skip;
 mod string;
 mod value;

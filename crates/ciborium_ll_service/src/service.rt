@@ -2,14 +2,13 @@
 
 use crate::answer;
 use crate::fault::ToolError;
-use crate::skip::Skip;
 use ciborium_ll_io::io::Write;
 use ciborium_ll_requests::input::Lines;
 use ciborium_ll_streams::StdWriter;
 use std::alloc::Global;
 use std::io;
 
-/// Answers each line of the reader on the writer, and flushes the writer at the end. `S` is what skips items.
+/// Answers each line of the reader on the writer, and flushes the writer at the end.
 ///
 /// A line ends at a line feed or at the end of the input. After 2^64 - 1 lines the run ends as at the end of the
 /// input. An interrupted call is a failure like any other.
@@ -19,13 +18,13 @@ use std::io;
 /// were then written, and of a `Write` some of the next answer may be.
 ///
 /// It is safe and returns; what it reads and writes no clause says.
-pub fn run<S: Skip, R: io::Read + Drop, W: io::Write + Drop>(
+pub fn run<R: io::Read + Drop, W: io::Write + Drop>(
     alloc: Global,
     reader: R,
     writer: W,
 ) -> Result<(), ToolError> {
     let mut writer = StdWriter::new(writer);
-    let outcome = answer_lines::<S, R, W>(alloc, reader, &mut writer);
+    let outcome = answer_lines(alloc, reader, &mut writer);
     if let Err(ToolError::Memory) = outcome {
         let _ = writer.write_all(b"error: memory\n");
     }
@@ -33,7 +32,7 @@ pub fn run<S: Skip, R: io::Read + Drop, W: io::Write + Drop>(
 }
 
 /// Answers each line, and flushes.
-fn answer_lines<S: Skip, R: io::Read + Drop, W: io::Write>(
+fn answer_lines<R: io::Read + Drop, W: io::Write>(
     alloc: Global,
     reader: R,
     writer: &mut StdWriter<W>,
@@ -42,7 +41,7 @@ fn answer_lines<S: Skip, R: io::Read + Drop, W: io::Write>(
     let mut line = Vec::new(alloc);
     let mut answer = String::new(alloc);
     for _ in 0..u64::MAX {
-        if !answer_next::<S, R, W>(alloc, &mut lines, &mut line, &mut answer, writer)? {
+        if !answer_next(alloc, &mut lines, &mut line, &mut answer, writer)? {
             break;
         }
     }
@@ -50,7 +49,7 @@ fn answer_lines<S: Skip, R: io::Read + Drop, W: io::Write>(
 }
 
 /// Answers the next line, and tells whether there was one. The line and its answer are read and made in this memory.
-fn answer_next<S: Skip, R: io::Read + Drop, W: io::Write>(
+fn answer_next<R: io::Read + Drop, W: io::Write>(
     alloc: Global,
     lines: &mut Lines<R>,
     line: &mut Vec<u8>,
@@ -61,7 +60,7 @@ fn answer_next<S: Skip, R: io::Read + Drop, W: io::Write>(
         return Ok(false);
     }
     answer.clear();
-    answer::line::<S>(alloc, line.as_slice(), answer)?;
+    answer::line(alloc, line.as_slice(), answer)?;
     writer.write_all(answer.as_bytes())?;
     Ok(true)
 }

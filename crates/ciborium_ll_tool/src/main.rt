@@ -4,9 +4,6 @@
 //! so many elements from standard input to standard output.
 #![tactic(auto)]
 
-mod skip;
-
-use crate::skip::Skipper;
 use ciborium_ll_requests::arguments::chosen;
 use ciborium_ll_requests::choice::Chosen;
 use ciborium_ll_service::fault::{Fault, fault_of_raw, fault_of_run};
@@ -48,7 +45,7 @@ fn words_of(rt: &HostRuntime) -> io::Result<Vec<String>> {
 
 /// Answers the lines of standard input on standard output.
 fn answered(rt: &HostRuntime) -> Result<(), Fault> {
-    match run::<Skipper, _, _>(rt.alloc(), rt.reader(), io::writer(rt)) {
+    match run(rt.alloc(), rt.reader(), io::writer(rt)) {
         Ok(()) => Ok(()),
         Err(error) => Err(fault_of_run(&error)),
     }

@@ -1,27 +1,14 @@
 // Runs of the program's lines over bytes in memory.
 
-use ciborium_ll_requests::answer::Last;
-use ciborium_ll_requests::request::Numbered;
 use ciborium_ll_service::fault::ToolError;
 use ciborium_ll_service::service::run;
-use ciborium_ll_service::skip::Skip;
 use std::alloc::{AllocError, Global};
 use std::test::Fail;
-
-// Skips nothing. What the program skips by, the lines in its own `stdin` and `stdout` show.
-pub struct Unskipped;
-
-impl Skip for Unskipped {
-    // The item ends at the depth that was asked for.
-    fn skipped(asked: &Numbered) -> Last {
-        Last::Item(asked.number)
-    }
-}
 
 // What `run` writes for an input.
 pub fn answers(alloc: Global, input: &[u8]) -> Result<Vec<u8>, ToolError> {
     let mut output = Vec::new(alloc);
-    run::<Unskipped, _, _>(alloc, input, &mut output)?;
+    run(alloc, input, &mut output)?;
     Ok(output)
 }
 

@@ -408,14 +408,67 @@ strict 0 1805
     answer_blocks(&rt, rt.alloc(), blocks)
 }
 
-// What skips in these tests says that the item ends at the depth that was asked for.
 #[test]
 fn items_that_are_skipped(rt: HostRuntime) -> Result<(), Fail> {
     let blocks = "\
 skip 1 80
 item 1
 
-skip 256 80ff
-item 256";
+skip 1 c001
+item 2
+
+skip 1 bfff
+item 2
+
+skip 1 9f01020300ff
+item 6
+
+skip 2 a16161820102
+item 6
+
+skip 0 5f4101ff
+item 4
+
+skip 0 0001
+item 1
+
+skip 2 c1a0ff
+item 2
+
+skip 0 80
+deep 0
+
+skip 0 c0
+deep 0
+
+skip 1 a16161820102
+deep 3
+
+skip 0 ff
+break 0
+
+skip 1 81ff
+break 1
+
+skip 1 bf01ff
+break 2
+
+skip 3 62c328
+syntax 0
+
+skip 1 811f
+syntax 1
+
+skip 1 8201
+short 2
+
+skip 1 bb8000000000000001
+short 9
+
+skip 1 bb80000000000000010000
+short 11
+
+skip 0 -
+short 0";
     answer_blocks(&rt, rt.alloc(), blocks)
 }

@@ -7,6 +7,19 @@ use ciborium_ll_requests::word::{bytes_of, word_of};
 use std::alloc::{AllocError, Global};
 use std::test::Fail;
 
+// Skips an item in so many arrays of one item.
+fn is_deep_answered(alloc: Global, levels: usize, want: &[u8]) -> Result<bool, Fail> {
+    let line = line_of(alloc, b"skip 256 ", b"81", levels, b"00")?;
+    is_answered(alloc, line.as_slice(), want)
+}
+
+#[test]
+fn the_deepest_item(rt: HostRuntime) -> Result<(), Fail> {
+    assert!(rt; is_deep_answered(rt.alloc(), 256, b"item 257\n")?);
+    assert!(rt; is_deep_answered(rt.alloc(), 257, b"deep 256\n")?);
+    Ok(())
+}
+
 // Runs a line that is no request, and one that is. The first must not touch the second.
 fn is_refused(alloc: Global, line: &[u8]) -> Result<bool, Fail> {
     let mut input = line.to_vec(alloc)?;

@@ -1,6 +1,5 @@
 // Runs over readers and writers that move few bytes a call or fail, and where an allocation is refused.
 
-use super::answers::Unskipped;
 use ciborium_ll::io::Write;
 use ciborium_ll_fixtures::streams::{PartReader, PartWriter};
 use ciborium_ll_service::fault::{ToolError, fault_of_run};
@@ -49,7 +48,7 @@ fn run_between<R: io::Read + Drop>(
     reader: R,
     mut writer: PartWriter,
 ) -> Result<Ended, ToolError> {
-    let (read, write) = match run::<Unskipped, _, _>(alloc, reader, &mut writer) {
+    let (read, write) = match run(alloc, reader, &mut writer) {
         Ok(()) => (None, None),
         Err(ToolError::Read(error)) => (Some(error.kind()), None),
         Err(ToolError::Write(error)) => (None, Some(error.kind())),
@@ -159,7 +158,7 @@ end 2
 
 // Whether there was memory for the whole of the script.
 fn script_has_memory(alloc: Global, room: &mut &mut [u8]) -> Result<bool, ToolError> {
-    match run::<Unskipped, _, _>(alloc, SCRIPT, room) {
+    match run(alloc, SCRIPT, room) {
         Ok(()) => Ok(true),
         Err(ToolError::Memory) => Ok(false),
         Err(error) => Err(error),
