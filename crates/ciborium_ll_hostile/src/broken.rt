@@ -1,6 +1,7 @@
 use crate::calls::{decoded, front_of};
 use crate::copies::{Kind, agrees};
 use crate::titles::reads_titles;
+use ciborium_ll_fixtures::checks::holds_for;
 use ciborium_ll_fixtures::samples;
 use std::alloc::Global;
 use std::process::Abort;
@@ -10,7 +11,7 @@ use std::test::Fail;
 fn reads(rt: &impl Abort, alloc: Global, count: usize, bytes: &[u8]) -> Result<(), Fail> {
     let never = usize::MAX;
     let has_failed = reads_titles(rt, false, bytes, never) || reads_titles(rt, true, bytes, never);
-    assert!(rt; !has_failed, "at {bytes:?}");
+    holds_for(rt, !has_failed, bytes);
     agrees(rt, alloc, Kind::Headers, count, bytes)?;
     agrees(rt, alloc, Kind::Elements, count, bytes)?;
     agrees(rt, alloc, Kind::StrictElements, count, bytes)
