@@ -99,6 +99,39 @@ pub fn copies_elements(
     answer_of(recodes(rt, decoder, encoder, count, buffer))
 }
 
+// The copy of either.
+fn copies_any(
+    rt: &impl Abort,
+    kind: Kind,
+    decoder: &mut Decoder<FailingReader<'_>>,
+    encoder: &mut Encoder<FailingWriter<'_>>,
+    count: usize,
+) -> Answer {
+    match kind {
+        Kind::Headers => copies_headers(decoder, encoder, count),
+        Kind::Elements | Kind::StrictElements => {
+            copies_elements(rt, decoder, encoder, count, &mut [0; 64])
+        }
+    }
+}
+
+// What a copy came to.
+fn came_to(
+    alloc: Global,
+    answer: Answer,
+    offset: usize,
+    reader: &FailingReader<'_>,
+    writer: &FailingWriter<'_>,
+) -> Result<Outcome, Fail> {
+    Ok(Outcome {
+        answer,
+        written: writer.written().to_vec(alloc)?,
+        offset,
+        left: reader.left().len(),
+        has_failed: reader.has_failed() || writer.has_failed(),
+    })
+}
+
 // Copies by a reader and a writer that fail where they are told to.
 pub fn copies(
     rt: &impl Abort,
@@ -112,22 +145,15 @@ pub fn copies(
     let is_strict = matches!(kind, Kind::StrictElements);
     let mut decoder = failing_decoder_as(is_strict, bytes, failing.0);
     let mut encoder = failing_encoder(&mut space, failing.1);
-    let answer = match kind {
-        Kind::Headers => copies_headers(&mut decoder, &mut encoder, count),
-        Kind::Elements | Kind::StrictElements => {
-            copies_elements(rt, &mut decoder, &mut encoder, count, &mut [0; 64])
-        }
-    };
+    let answer = copies_any(rt, kind, &mut decoder, &mut encoder, count);
     let offset = decoder.offset();
-    let reader = decoder.into_inner();
-    let writer = encoder.into_inner();
-    Ok(Outcome {
+    came_to(
+        alloc,
         answer,
-        written: writer.written().to_vec(alloc)?,
         offset,
-        left: reader.left().len(),
-        has_failed: reader.has_failed() || writer.has_failed(),
-    })
+        &decoder.into_inner(),
+        &encoder.into_inner(),
+    )
 }
 
 // What a plain reading of bytes gives.
@@ -362,17 +388,23 @@ fn a_string_by_hand(rt: HostRuntime) -> Result<(), Fail> {
     Ok(())
 }
 
+// Whether a copy of an element fails under a read, and one more is whole.
+fn is_copied_twice(
+    rt: &impl Abort,
+    decoder: &mut Decoder<FailingReader<'_>>,
+    encoder: &mut Encoder<FailingWriter<'_>>,
+) -> bool {
+    let first = copies_elements(rt, decoder, encoder, 1, &mut [0; 4]);
+    let second = copies_elements(rt, decoder, encoder, 1, &mut [0; 4]);
+    matches!(first, Answer::Unread) && matches!(second, Answer::Done)
+}
+
 // A copy that failed at its first read has lost nothing, and is made once more.
 #[test]
 fn a_copy_is_asked_for_once_more(rt: HostRuntime) {
     let mut space = [0; 8];
     let mut decoder = failing_decoder(&STRING, Failing::Call(1));
     let mut encoder = failing_encoder(&mut space, Failing::Never);
-    let first = copies_elements(&rt, &mut decoder, &mut encoder, 1, &mut [0; 4]);
-    let second = copies_elements(&rt, &mut decoder, &mut encoder, 1, &mut [0; 4]);
-    holds(
-        &rt,
-        matches!((first, second), (Answer::Unread, Answer::Done)),
-    );
+    holds(&rt, is_copied_twice(&rt, &mut decoder, &mut encoder));
     holds(&rt, encoder.into_inner().written() == STRING.as_slice());
 }
