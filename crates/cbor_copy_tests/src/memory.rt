@@ -1,5 +1,6 @@
 use crate::answers::MOST;
 use cbor_copy::{Copier, End, Progress, Snapshot};
+use ciborium_ll_fixtures::checks::holds;
 use ciborium_ll_fixtures::samples;
 use std::process::Abort;
 use std::test::Fail;
@@ -82,31 +83,34 @@ fn damaged_numbers(rt: HostRuntime) -> Result<(), Fail> {
 #[test]
 fn no_states(rt: HostRuntime) {
     let mut memory = behind(&[0x7f, 0x62, 0xc3], MOST);
-    assert!(&rt; Copier::restore(&memory).is_some());
+    holds(&rt, Copier::restore(&memory).is_some());
     memory.front_len = 4;
-    assert!(&rt; Copier::restore(&memory).is_none());
+    holds(&rt, Copier::restore(&memory).is_none());
     memory.front_len = 1;
     memory.more = 3;
-    assert!(&rt; Copier::restore(&memory).is_none());
+    holds(&rt, Copier::restore(&memory).is_none());
     memory.more = 0;
     memory.phase = 0;
-    assert!(&rt; Copier::restore(&memory).is_none());
+    holds(&rt, Copier::restore(&memory).is_none());
 }
 
 // What an end means: of no elements, of one that is cut, with bytes to write, behind both and behind a fault.
 #[test]
 fn ends(rt: HostRuntime) {
     let mut out = [0; 4];
-    assert!(&rt; Copier::new(0).end() == End::Ended);
+    holds(&rt, Copier::new(0).end() == End::Ended);
     let mut copier = Copier::new(2);
-    assert!(&rt; copier.end() == End::Short);
+    holds(&rt, copier.end() == End::Short);
     let _ = copier.feed(&[0x05, 0x19, 0x03], &mut out);
-    assert!(&rt; copier.end() == End::Short);
+    holds(&rt, copier.end() == End::Short);
     let _ = copier.feed(&[0xe8], &mut out[..1]);
-    assert!(&rt; copier.end() == End::Room);
+    holds(&rt, copier.end() == End::Room);
     let copied = copier.feed(&[], &mut out);
-    assert!(&rt; copied.progress == Progress::Ended && copier.end() == End::Ended);
+    holds(
+        &rt,
+        copied.progress == Progress::Ended && copier.end() == End::Ended,
+    );
     let mut copier = Copier::new(2);
     let _ = copier.feed(&[0x05, 0x1c], &mut out);
-    assert!(&rt; copier.end() == End::Syntax(1));
+    holds(&rt, copier.end() == End::Syntax(1));
 }

@@ -1,5 +1,6 @@
 use crate::answers::{Answer, NESTED, skipped};
 use ciborium_ll::Decoder;
+use ciborium_ll_fixtures::checks::holds_at;
 use ciborium_ll_fixtures::devices::{EndlessReader, Failing, FailingReader};
 use std::process::Abort;
 
@@ -18,7 +19,7 @@ fn a_call_that_fails(rt: HostRuntime) {
         } else {
             Answer::Short(failing.saturating_sub(1))
         };
-        assert!(rt; failed(failing) == want, "at {failing}");
+        holds_at(&rt, failed(failing) == want, failing);
     }
 }
 
@@ -45,14 +46,14 @@ fn skips_twice(bytes: &[u8], failing: usize) -> (Answer, Answer) {
 fn a_strict_decoder_goes_on(rt: HostRuntime) {
     for &(bytes, failing, offset, place) in &STRICT {
         let want = (Answer::Short(offset), Answer::Syntax(place));
-        assert!(rt; skips_twice(bytes, failing) == want, "at {offset}");
+        holds_at(&rt, skips_twice(bytes, failing) == want, offset);
     }
 }
 
 // Skips an item of one byte that comes for ever, and compares the answer.
 fn endless_row(rt: &impl Abort, byte: u8, want: Answer) {
     let mut decoder = Decoder::from(EndlessReader::new(byte));
-    assert!(rt; skipped(&mut decoder, 256) == want, "at {byte}");
+    holds_at(rt, skipped(&mut decoder, 256) == want, usize::from(byte));
 }
 
 #[test]

@@ -1,6 +1,7 @@
 use crate::calls::{decoded, front_of};
 use crate::copies::{Kind, agrees};
 use crate::titles::reads_titles;
+use ciborium_ll_fixtures::checks::holds_for;
 use ciborium_ll_fixtures::samples;
 use std::alloc::Global;
 use std::process::Abort;
@@ -10,7 +11,7 @@ use std::test::Fail;
 fn reads(rt: &impl Abort, alloc: Global, count: usize, bytes: &[u8]) -> Result<(), Fail> {
     let never = usize::MAX;
     let has_failed = reads_titles(rt, false, bytes, never) || reads_titles(rt, true, bytes, never);
-    assert!(rt; !has_failed, "at {bytes:?}");
+    holds_for(rt, !has_failed, bytes);
     agrees(rt, alloc, Kind::Headers, count, bytes)?;
     agrees(rt, alloc, Kind::Elements, count, bytes)?;
     agrees(rt, alloc, Kind::StrictElements, count, bytes)
@@ -45,14 +46,22 @@ fn each_sample_is_cut_at_each_place(rt: HostRuntime) -> Result<(), Fail> {
     Ok(())
 }
 
+// Reads a first byte with each beginning of eight bytes of one kind behind it.
+fn reads_with(rt: &impl Abort, alloc: Global, first: u8, next: u8) -> Result<(), Fail> {
+    let bytes = [first, next, next, next, next, next, next, next, next];
+    for end in 1..=bytes.len() {
+        reads(rt, alloc, 1, front_of(&bytes, end))?;
+    }
+    Ok(())
+}
+
+static NEXT: [u8; 5] = [0, 1, 0x61, 0x80, 0xff];
+
 #[test]
 fn each_first_byte_and_each_cut_of_what_follows(rt: HostRuntime) -> Result<(), Fail> {
     for first in 0..=u8::MAX {
-        for next in [0, 1, 0x61, 0x80, 0xff] {
-            let bytes = [first, next, next, next, next, next, next, next, next];
-            for end in 1..=bytes.len() {
-                reads(&rt, rt.alloc(), 1, front_of(&bytes, end))?;
-            }
+        for next in &NEXT {
+            reads_with(&rt, rt.alloc(), first, *next)?;
         }
     }
     Ok(())
@@ -64,11 +73,15 @@ fn reads_long(rt: &impl Abort, alloc: Global, first: &str, length: &str) -> Resu
     reads_sample(rt, alloc, 1, hex.as_str())
 }
 
+static LENGTHS: [&str; 2] = ["8000000000000000", "ffffffffffffffff"];
+
+static FIRST: [&str; 6] = ["5b", "7b", "9b", "bb", "5f5b", "7f7b"];
+
 // Lengths that no memory holds are titles like any others, and the bodies are then cut.
 #[test]
 fn lengths_that_no_input_has(rt: HostRuntime) -> Result<(), Fail> {
-    for length in ["8000000000000000", "ffffffffffffffff"] {
-        for first in ["5b", "7b", "9b", "bb", "5f5b", "7f7b"] {
+    for length in &LENGTHS {
+        for first in &FIRST {
             reads_long(&rt, rt.alloc(), first, length)?;
         }
     }
