@@ -1,6 +1,5 @@
 use crate::answers::MOST;
 use cbor_copy::{Copier, End, Progress, Snapshot};
-use ciborium_ll_fixtures::checks::holds;
 use ciborium_ll_fixtures::samples;
 use std::process::Abort;
 use std::test::Fail;
@@ -83,34 +82,31 @@ fn damaged_numbers(rt: HostRuntime) -> Result<(), Fail> {
 #[test]
 fn no_states(rt: HostRuntime) {
     let mut memory = behind(&[0x7f, 0x62, 0xc3], MOST);
-    holds(&rt, Copier::restore(&memory).is_some());
+    assert!(&rt; Copier::restore(&memory).is_some());
     memory.front_len = 4;
-    holds(&rt, Copier::restore(&memory).is_none());
+    assert!(&rt; Copier::restore(&memory).is_none());
     memory.front_len = 1;
     memory.more = 3;
-    holds(&rt, Copier::restore(&memory).is_none());
+    assert!(&rt; Copier::restore(&memory).is_none());
     memory.more = 0;
     memory.phase = 0;
-    holds(&rt, Copier::restore(&memory).is_none());
+    assert!(&rt; Copier::restore(&memory).is_none());
 }
 
 // What an end means: of no elements, of one that is cut, with bytes to write, behind both and behind a fault.
 #[test]
 fn ends(rt: HostRuntime) {
     let mut out = [0; 4];
-    holds(&rt, Copier::new(0).end() == End::Ended);
+    assert!(&rt; Copier::new(0).end() == End::Ended);
     let mut copier = Copier::new(2);
-    holds(&rt, copier.end() == End::Short);
+    assert!(&rt; copier.end() == End::Short);
     let _ = copier.feed(&[0x05, 0x19, 0x03], &mut out);
-    holds(&rt, copier.end() == End::Short);
+    assert!(&rt; copier.end() == End::Short);
     let _ = copier.feed(&[0xe8], &mut out[..1]);
-    holds(&rt, copier.end() == End::Room);
+    assert!(&rt; copier.end() == End::Room);
     let copied = copier.feed(&[], &mut out);
-    holds(
-        &rt,
-        copied.progress == Progress::Ended && copier.end() == End::Ended,
-    );
+    assert!(&rt; copied.progress == Progress::Ended && copier.end() == End::Ended);
     let mut copier = Copier::new(2);
     let _ = copier.feed(&[0x05, 0x1c], &mut out);
-    holds(&rt, copier.end() == End::Syntax(1));
+    assert!(&rt; copier.end() == End::Syntax(1));
 }

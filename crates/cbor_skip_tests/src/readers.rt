@@ -1,6 +1,5 @@
 use crate::answers::{Answer, NESTED, skipped};
 use ciborium_ll::Decoder;
-use ciborium_ll_fixtures::checks::holds_at;
 use ciborium_ll_fixtures::devices::{EndlessReader, Failing, FailingReader};
 use std::process::Abort;
 
@@ -19,7 +18,7 @@ fn a_call_that_fails(rt: HostRuntime) {
         } else {
             Answer::Short(failing.saturating_sub(1))
         };
-        holds_at(&rt, failed(failing) == want, failing);
+        assert!(rt; failed(failing) == want, "at {failing}");
     }
 }
 
@@ -46,14 +45,14 @@ fn skips_twice(bytes: &[u8], failing: usize) -> (Answer, Answer) {
 fn a_strict_decoder_goes_on(rt: HostRuntime) {
     for &(bytes, failing, offset, place) in &STRICT {
         let want = (Answer::Short(offset), Answer::Syntax(place));
-        holds_at(&rt, skips_twice(bytes, failing) == want, offset);
+        assert!(rt; skips_twice(bytes, failing) == want, "at {offset}");
     }
 }
 
 // Skips an item of one byte that comes for ever, and compares the answer.
 fn endless_row(rt: &impl Abort, byte: u8, want: Answer) {
     let mut decoder = Decoder::from(EndlessReader::new(byte));
-    holds_at(rt, skipped(&mut decoder, 256) == want, usize::from(byte));
+    assert!(rt; skipped(&mut decoder, 256) == want, "at {byte}");
 }
 
 #[test]

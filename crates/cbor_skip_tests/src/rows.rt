@@ -1,7 +1,6 @@
 use crate::answers::{Answer, NESTED, item_row, skipped};
 use ciborium_ll::io::{SliceReader, StdReader};
 use ciborium_ll::{Decoder, Header};
-use ciborium_ll_fixtures::checks::{holds, holds_for};
 use std::process::Abort;
 
 #[test]
@@ -64,7 +63,7 @@ fn left_row(rt: &impl Abort, depth: usize, bytes: &[u8], left: usize) {
     let _ = skipped(&mut decoder, depth);
     assert!(rt; !decoder.is_waiting());
     let reader = decoder.into_inner();
-    holds_for(rt, reader.left().len() == left, bytes);
+    assert!(rt; reader.left().len() == left, "at {bytes:?}");
 }
 
 // What is left behind an item, and behind a break and a nest that stop the read.
@@ -96,10 +95,10 @@ fn waiting_row(rt: &impl Abort, depth: usize, want: Answer, offset: usize, next:
     assert!(rt; depth <= 256);
     let mut decoder = Decoder::from(SliceReader::new(&[0x98, 2, 1, 2, 5]));
     waits(rt, &mut decoder);
-    holds(rt, decoder.offset() == 1);
-    holds(rt, skipped(&mut decoder, depth) == want);
-    holds(rt, decoder.offset() == offset);
-    holds(rt, has_next(&mut decoder, next));
+    assert!(rt; decoder.offset() == 1);
+    assert!(rt; skipped(&mut decoder, depth) == want);
+    assert!(rt; decoder.offset() == offset);
+    assert!(rt; has_next(&mut decoder, next));
 }
 
 // The header that waits counts as its shortest title.
@@ -112,7 +111,7 @@ fn behind_a_header_that_waits(rt: HostRuntime) {
 // Skips an item by a strict decoder, and compares the answer.
 fn strict_row(rt: &impl Abort, bytes: &[u8], want: Answer) {
     let mut decoder = Decoder::strict(SliceReader::new(bytes));
-    holds_for(rt, skipped(&mut decoder, 1) == want, bytes);
+    assert!(rt; skipped(&mut decoder, 1) == want, "at {bytes:?}");
 }
 
 // A strict decoder refuses what isn't the shortest spelling.
@@ -127,7 +126,7 @@ fn by_a_strict_decoder(rt: HostRuntime) {
 fn deep_row(rt: &impl Abort, bytes: &[u8], want: Answer) {
     item_row(rt, 256, bytes, want);
     let mut decoder = Decoder::from(StdReader::new(bytes));
-    holds(rt, skipped(&mut decoder, 256) == want);
+    assert!(rt; skipped(&mut decoder, 256) == want);
 }
 
 // An item in 256 arrays, and one in 257.

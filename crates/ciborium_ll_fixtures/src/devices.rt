@@ -22,7 +22,7 @@ pub enum Failing {
 }
 
 /// Why a call of a device failed.
-#[derive(Drop)]
+#[derive(Debug, Drop)]
 pub enum DeviceFault {
     /// It was planned to fail.
     Planned,

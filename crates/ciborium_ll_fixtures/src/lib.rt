@@ -1,7 +1,6 @@
 //! Inputs, devices and plain readings that the tests of other crates share.
 #![tactic(auto)]
 
-pub mod checks;
 pub mod devices;
 pub mod plain;
 pub mod samples;

@@ -182,3 +182,8 @@ pub fn drains_text<R: Read, W: Write>(
     assert!(rt; fit(sizes, buffer.len()));
     drain_text(segment, sizes, buffer, sink)
 }
+
+// A row holds. The message says at which call, and in which bytes.
+pub fn holds(rt: &impl Abort, is_right: bool, call: usize, bytes: &[u8]) {
+    assert!(rt; is_right, "at {call} of {bytes:?}");
+}

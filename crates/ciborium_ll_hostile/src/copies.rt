@@ -1,10 +1,9 @@
 use crate::calls::{
-    decoded, failing_decoder, failing_decoder_as, failing_encoder, front_of, recodes,
+    decoded, failing_decoder, failing_decoder_as, failing_encoder, front_of, holds, recodes,
 };
 use ciborium_ll::io::{EndOfFile, OutOfSpace, SliceReader, SliceWriter};
 use ciborium_ll::laws::copy_headers;
 use ciborium_ll::{Decoder, Encoder, Error, RecodeError};
-use ciborium_ll_fixtures::checks::{holds, holds_at, holds_for, holds_in, holds_named};
 use ciborium_ll_fixtures::devices::{DeviceFault, Failing, FailingReader, FailingWriter};
 use ciborium_ll_fixtures::plain::{self, Copied, Fault};
 use ciborium_ll_fixtures::samples::{
@@ -99,39 +98,6 @@ pub fn copies_elements(
     answer_of(recodes(rt, decoder, encoder, count, buffer))
 }
 
-// The copy of either.
-fn copies_any(
-    rt: &impl Abort,
-    kind: Kind,
-    decoder: &mut Decoder<FailingReader<'_>>,
-    encoder: &mut Encoder<FailingWriter<'_>>,
-    count: usize,
-) -> Answer {
-    match kind {
-        Kind::Headers => copies_headers(decoder, encoder, count),
-        Kind::Elements | Kind::StrictElements => {
-            copies_elements(rt, decoder, encoder, count, &mut [0; 64])
-        }
-    }
-}
-
-// What a copy came to.
-fn came_to(
-    alloc: Global,
-    answer: Answer,
-    offset: usize,
-    reader: &FailingReader<'_>,
-    writer: &FailingWriter<'_>,
-) -> Result<Outcome, Fail> {
-    Ok(Outcome {
-        answer,
-        written: writer.written().to_vec(alloc)?,
-        offset,
-        left: reader.left().len(),
-        has_failed: reader.has_failed() || writer.has_failed(),
-    })
-}
-
 // Copies by a reader and a writer that fail where they are told to.
 pub fn copies(
     rt: &impl Abort,
@@ -145,15 +111,22 @@ pub fn copies(
     let is_strict = matches!(kind, Kind::StrictElements);
     let mut decoder = failing_decoder_as(is_strict, bytes, failing.0);
     let mut encoder = failing_encoder(&mut space, failing.1);
-    let answer = copies_any(rt, kind, &mut decoder, &mut encoder, count);
+    let answer = match kind {
+        Kind::Headers => copies_headers(&mut decoder, &mut encoder, count),
+        Kind::Elements | Kind::StrictElements => {
+            copies_elements(rt, &mut decoder, &mut encoder, count, &mut [0; 64])
+        }
+    };
     let offset = decoder.offset();
-    came_to(
-        alloc,
+    let reader = decoder.into_inner();
+    let writer = encoder.into_inner();
+    Ok(Outcome {
         answer,
+        written: writer.written().to_vec(alloc)?,
         offset,
-        &decoder.into_inner(),
-        &encoder.into_inner(),
-    )
+        left: reader.left().len(),
+        has_failed: reader.has_failed() || writer.has_failed(),
+    })
 }
 
 // What a plain reading of bytes gives.
@@ -210,7 +183,7 @@ pub fn agrees(
     let want = copies_plainly(alloc, kind, count, bytes)?;
     let is_right = is_written(&got, &want) && is_fault(got.answer, want.fault);
     let is_read = got.offset == want.offset && keeps(&got, bytes.len());
-    holds_for(rt, is_right && is_read, bytes);
+    assert!(rt; is_right && is_read, "answer to {bytes:?}");
     Ok(())
 }
 
@@ -232,7 +205,7 @@ fn stops_reading(
     let want = copies_plainly(alloc, kind, count, front_of(bytes, got.offset))?;
     let has_stopped = matches!(got.answer, Answer::Unread) && keeps(&got, bytes.len());
     let is_due = matches!(want.fault, Some(Fault::Short)) && is_written(&got, &want);
-    holds_in(rt, has_stopped && is_due, call, bytes);
+    holds(rt, has_stopped && is_due, call, bytes);
     Ok(true)
 }
 
@@ -255,7 +228,7 @@ fn stops_writing(
     let whole = copies_plainly(alloc, kind, count, bytes)?;
     let has_stopped = matches!(got.answer, Answer::Unwritten) && keeps(&got, bytes.len());
     let is_right = has_stopped && is_begun(&got, &due) && is_begun(&got, &whole);
-    holds_in(rt, is_right, call, bytes);
+    holds(rt, is_right, call, bytes);
     Ok(true)
 }
 
@@ -312,7 +285,7 @@ fn each_call_fails(
     let want = copies_plainly(alloc, kind, count, bytes)?;
     let have_ended = read < 99 && write < 99;
     let have_failed = (read > 0) == (count > 0) && (write > 0) == !want.output.is_empty();
-    holds_named(rt, have_ended && have_failed, hex);
+    assert!(rt; have_ended && have_failed, "at {hex}");
     Ok(())
 }
 
@@ -358,45 +331,41 @@ fn each_call_fails_under_strict_copies(rt: HostRuntime) -> Result<(), Fail> {
 // A string of indefinite length, whose one body is "ab".
 const STRING: [u8; 5] = [0x7f, 0x62, 0x61, 0x62, 0xff];
 
-// Copies that string where the reader and the writer fail, or don't, and compares how much was written and read.
-fn is_string_copied(
+// A copy of that string where the reader and the writer fail, or don't: how much was written and read.
+fn string_row(
     rt: &impl Abort,
     alloc: Global,
     failing: (Failing, Failing),
     want: (usize, usize),
-) -> Result<bool, Fail> {
+) -> Result<(), Fail> {
     let got = copies(rt, alloc, Kind::Elements, 1, &STRING, failing)?;
     let is_whole = matches!(got.answer, Answer::Done) == (want.0 == 5);
     let is_front = STRING.starts_with(got.written.as_slice());
     let came_to = (got.written.len(), got.offset);
-    Ok(came_to == want && is_whole && is_front)
+    assert!(rt; came_to == want && is_whole && is_front, "to {want:?}");
+    Ok(())
 }
 
 #[test]
 fn a_string_by_hand(rt: HostRuntime) -> Result<(), Fail> {
     let never = Failing::Never;
     for (call, written, offset) in [(1, 0, 0), (2, 1, 1), (3, 2, 2), (4, 4, 4), (5, 5, 5)] {
-        let failing = (Failing::Call(call), never);
-        let is_right = is_string_copied(&rt, rt.alloc(), failing, (written, offset))?;
-        holds_at(&rt, is_right, call);
+        string_row(
+            &rt,
+            rt.alloc(),
+            (Failing::Call(call), never),
+            (written, offset),
+        )?;
     }
     for (call, written, offset) in [(1, 0, 1), (2, 1, 2), (3, 3, 4), (4, 4, 5), (5, 5, 5)] {
-        let failing = (never, Failing::Call(call));
-        let is_right = is_string_copied(&rt, rt.alloc(), failing, (written, offset))?;
-        holds_at(&rt, is_right, call);
+        string_row(
+            &rt,
+            rt.alloc(),
+            (never, Failing::Call(call)),
+            (written, offset),
+        )?;
     }
     Ok(())
-}
-
-// Whether a copy of an element fails under a read, and one more is whole.
-fn is_copied_twice(
-    rt: &impl Abort,
-    decoder: &mut Decoder<FailingReader<'_>>,
-    encoder: &mut Encoder<FailingWriter<'_>>,
-) -> bool {
-    let first = copies_elements(rt, decoder, encoder, 1, &mut [0; 4]);
-    let second = copies_elements(rt, decoder, encoder, 1, &mut [0; 4]);
-    matches!(first, Answer::Unread) && matches!(second, Answer::Done)
 }
 
 // A copy that failed at its first read has lost nothing, and is made once more.
@@ -405,6 +374,8 @@ fn a_copy_is_asked_for_once_more(rt: HostRuntime) {
     let mut space = [0; 8];
     let mut decoder = failing_decoder(&STRING, Failing::Call(1));
     let mut encoder = failing_encoder(&mut space, Failing::Never);
-    holds(&rt, is_copied_twice(&rt, &mut decoder, &mut encoder));
-    holds(&rt, encoder.into_inner().written() == STRING.as_slice());
+    let first = copies_elements(&rt, &mut decoder, &mut encoder, 1, &mut [0; 4]);
+    let second = copies_elements(&rt, &mut decoder, &mut encoder, 1, &mut [0; 4]);
+    assert!(rt; matches!((first, second), (Answer::Unread, Answer::Done)));
+    assert!(rt; encoder.into_inner().written() == STRING.as_slice());
 }

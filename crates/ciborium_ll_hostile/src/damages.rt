@@ -3,7 +3,6 @@ use crate::copies::{Answer, copies_slice, is_fault};
 use ciborium_ll::io::{EndOfFile, OutOfSpace, SliceReader, SliceWriter};
 use ciborium_ll::laws::{Drained, End};
 use ciborium_ll::{Decoder, Encoder, Error, Header, RecodeError, Segment, Text};
-use ciborium_ll_fixtures::checks::{holds_at, holds_for};
 use ciborium_ll_fixtures::plain::{self, Fault};
 use std::alloc::Global;
 use std::process::Abort;
@@ -45,7 +44,7 @@ fn compares(rt: &impl Abort, alloc: Global, bytes: &[u8]) -> Result<(bool, bool)
     let want = plain::copy(alloc, false, 1, bytes)?.fault;
     let want_strictly = plain::strict_copy(alloc, 1, bytes)?.fault;
     let is_right = all_end(rt, false, bytes, want) && all_end(rt, true, bytes, want_strictly);
-    holds_for(rt, is_right, bytes);
+    assert!(rt; is_right, "at {bytes:?}");
     Ok((want.is_some(), want_strictly.is_some()))
 }
 
@@ -75,11 +74,11 @@ fn replaces_each_byte(rt: &impl Abort, alloc: Global, text: [u8; 10]) -> Result<
 fn each_byte_is_replaced(rt: HostRuntime) -> Result<(), Fail> {
     let two_bodies = [0x7f, 0x62, 0xc3, 0xa9, 0x64, 0xf0, 0x9f, 0x98, 0x80, 0xff];
     let wrong = replaces_each_byte(&rt, rt.alloc(), two_bodies)?;
-    holds_at(&rt, wrong.texts > 2000 && wrong.texts < 2550, wrong.texts);
+    assert!(rt; wrong.texts > 2000 && wrong.texts < 2550, "{}", wrong.texts);
     // By one byte more here, a title becomes a longer one, and another one an open inside the string.
     let three_bodies = [0x7f, 0x61, 0x01, 0x60, 0x62, 0x01, 0x01, 0xff, 0xff, 0x00];
     let wrong = replaces_each_byte(&rt, rt.alloc(), three_bodies)?;
-    holds_at(&rt, wrong.texts < wrong.strictly, wrong.texts);
+    assert!(rt; wrong.texts < wrong.strictly, "{}", wrong.texts);
     Ok(())
 }
 

@@ -4,7 +4,6 @@ use crate::calls::{
 use crate::copies::{Answer, copies_slice, is_fault};
 use ciborium_ll::io::{Read, SliceReader, Write};
 use ciborium_ll::{Bytes, Decoder, Encoder, Error, Header, RecodeError, Segment, Segments};
-use ciborium_ll_fixtures::checks::{holds, holds_at};
 use ciborium_ll_fixtures::devices::EndlessReader;
 use ciborium_ll_fixtures::plain::Fault;
 use std::alloc::{AllocError, Global};
@@ -33,11 +32,10 @@ fn copies_opens(rt: &impl Abort, bytes: &[u8]) {
     let mut decoder = calls::decoder(bytes);
     let mut encoder = calls::encoder(&mut space);
     let answer = copies_slice(rt, &mut decoder, &mut encoder, &mut [0; 64]);
-    holds(
-        rt,
-        matches!(answer, Answer::Done) && encoder.into_inner().written() == [0x5f, 0xff].as_slice(),
+    assert!(rt;
+        matches!(answer, Answer::Done) && encoder.into_inner().written() == [0x5f, 0xff].as_slice()
     );
-    holds(rt, decoder.offset() == 200_000 && has_left(decoder, &[]));
+    assert!(rt; decoder.offset() == 200_000 && has_left(decoder, &[]));
 }
 
 // Opens within opens take no memory: they are counted.
@@ -61,20 +59,14 @@ fn chunk_is_empty(segment: &mut Segment<'_, SliceReader<'_>, Bytes>) -> bool {
 #[test]
 fn a_body_that_passes_the_greatest_offset(rt: HostRuntime) {
     let mut decoder = decoder_from(SliceReader::new(&[0x41, 1]), usize::MAX - 1);
-    holds(
-        &rt,
-        matches!(pulls(&mut decoder), Ok(Header::Bytes(Some(1)))),
-    );
+    assert!(rt; matches!(pulls(&mut decoder), Ok(Header::Bytes(Some(1)))));
     let mut segments = bytes_of(&rt, &mut decoder, Some(1));
     let mut segment = next_segment(&rt, &mut segments);
     for _ in 0..2 {
-        holds(
-            &rt,
-            chunk_is_too_long(&mut segment, &mut [0; 1]) && segment.left() == 1,
-        );
+        assert!(rt; chunk_is_too_long(&mut segment, &mut [0; 1]) && segment.left() == 1);
     }
-    holds(&rt, chunk_is_empty(&mut segment) && segment.left() == 1);
-    holds(&rt, has_left(decoder, &[1]));
+    assert!(rt; chunk_is_empty(&mut segment) && segment.left() == 1);
+    assert!(rt; has_left(decoder, &[1]));
 }
 
 // Whether a copy of elements passes the greatest offset.
@@ -97,10 +89,9 @@ fn a_copy_that_passes_the_greatest_offset(rt: HostRuntime) {
     let mut space = [0; 4];
     let mut decoder = decoder_from(SliceReader::new(&[0x43]), usize::MAX - 1);
     let mut encoder = calls::encoder(&mut space);
-    holds(&rt, copy_is_too_long(&rt, &mut decoder, &mut encoder, 1));
-    holds(
-        &rt,
-        encoder.into_inner().written() == [0x43].as_slice() && decoder.offset() == usize::MAX,
+    assert!(rt; copy_is_too_long(&rt, &mut decoder, &mut encoder, 1));
+    assert!(rt;
+        encoder.into_inner().written() == [0x43].as_slice() && decoder.offset() == usize::MAX
     );
 }
 
@@ -117,12 +108,12 @@ fn has_come_to_an_end(mut decoder: Decoder<EndlessReader>) -> bool {
 #[test]
 fn opens_without_an_end(rt: HostRuntime) {
     let mut decoder = decoder_from(EndlessReader::new(0x5f), usize::MAX - 1000);
-    holds(&rt, matches!(pulls(&mut decoder), Ok(Header::Bytes(None))));
+    assert!(rt; matches!(pulls(&mut decoder), Ok(Header::Bytes(None))));
     let mut segments = bytes_of(&rt, &mut decoder, None);
     for _ in 0..2 {
-        holds(&rt, segment_is_too_long(&mut segments));
+        assert!(rt; segment_is_too_long(&mut segments));
     }
-    holds(&rt, has_come_to_an_end(decoder));
+    assert!(rt; has_come_to_an_end(decoder));
 }
 
 #[test]
@@ -130,12 +121,9 @@ fn numbers_without_an_end(rt: HostRuntime) {
     let mut space = [1; 2000];
     let mut decoder = decoder_from(EndlessReader::new(0), usize::MAX - 1000);
     let mut encoder = calls::encoder(&mut space);
-    holds(
-        &rt,
-        copy_is_too_long(&rt, &mut decoder, &mut encoder, usize::MAX),
-    );
-    holds(&rt, encoder.into_inner().written() == [0; 1000].as_slice());
-    holds(&rt, has_come_to_an_end(decoder));
+    assert!(rt; copy_is_too_long(&rt, &mut decoder, &mut encoder, usize::MAX));
+    assert!(rt; encoder.into_inner().written() == [0; 1000].as_slice());
+    assert!(rt; has_come_to_an_end(decoder));
 }
 
 // A copy of a damaged body that is cut stops through this buffer by this fault, at this offset.
@@ -144,9 +132,9 @@ fn cut_body(rt: &impl Abort, buffer: &mut [u8], want: Fault, offset: usize) {
     let mut decoder = calls::decoder(b"\x66\xffabc");
     let mut encoder = calls::encoder(&mut space);
     let answer = copies_slice(rt, &mut decoder, &mut encoder, buffer);
-    holds_at(rt, is_fault(answer, Some(want)), offset);
+    assert!(rt; is_fault(answer, Some(want)), "not {offset}");
     let is_written = encoder.into_inner().written() == [0x66].as_slice();
-    holds_at(rt, is_written && decoder.offset() == offset, offset);
+    assert!(rt; is_written && decoder.offset() == offset, "not {offset}");
 }
 
 // Where a damaged body is cut, a small buffer finds the damage, and a great one the end.

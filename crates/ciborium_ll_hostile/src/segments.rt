@@ -1,10 +1,9 @@
 use crate::calls::{
     bytes_of, chunk_of_bytes, chunk_of_text, decoded, drains_bytes, drains_text, failing_decoder,
-    failing_encoder, next_segment, pulls, segment_of, text_of,
+    failing_encoder, holds, next_segment, pulls, segment_of, text_of,
 };
 use ciborium_ll::laws::{self, End};
 use ciborium_ll::{Bytes, Decoder, Encoder, Error, Header, RecodeError, Segment, Segments, Text};
-use ciborium_ll_fixtures::checks::{holds_at, holds_for, holds_in, holds_named};
 use ciborium_ll_fixtures::devices::{DeviceFault, Failing, FailingReader, FailingWriter};
 use ciborium_ll_fixtures::plain::Title;
 use ciborium_ll_fixtures::samples;
@@ -192,7 +191,7 @@ fn reads_chunk<S: Chunks>(
 ) -> Step {
     let due = body.pull(tape, buffer.len());
     let is_right = is_due(&segment.chunk(buffer), &due);
-    holds_named(rt, is_right && segment.due() == body.left(), "a chunk");
+    assert!(rt; is_right && segment.due() == body.left(), "another chunk");
     step_of(&due)
 }
 
@@ -244,7 +243,7 @@ fn drains_chunks<S: Chunks>(
         let want = body.drain(&mut run.tape, run.way.sizes, &mut run.sink)?;
         let is_right = is_drained(&segment.drain(rt, run.way.sizes, writer), want);
         let is_left = segment.due() == body.left();
-        holds_at(rt, is_right && is_left, call);
+        assert!(rt; is_right && is_left, "another answer of drain {call}");
         errors = errors.saturating_add(usize::from(counts_drain(&mut run.seen, want)));
         if want == Drained::Ended || run.stops(errors) {
             break;
@@ -341,11 +340,11 @@ fn reads_next<S: Strings>(
     match walk.next(&mut run.tape) {
         Ok(Some(body)) => segments.reads_next(rt, body, run, writer),
         Ok(None) => {
-            holds_named(rt, segments.ends(), "the end of a string");
+            assert!(rt; segments.ends(), "no end of a string");
             Ok(Step::Ended)
         }
         Err(stop) => {
-            holds_named(rt, segments.fails(stop), "the fault of a string");
+            assert!(rt; segments.fails(stop), "another end of a string");
             Ok(Step::Stopped(stop))
         }
     }
@@ -423,12 +422,12 @@ fn reads_element(
 ) -> Result<bool, Fail> {
     match run.tape.title() {
         Ok(title) => {
-            holds_named(rt, is_pulled(decoder, title.header()), "a title");
+            assert!(rt; is_pulled(decoder, title.header()), "another title");
             reads_body(rt, decoder, title, run, writer)?;
             Ok(false)
         }
         Err(stop) => {
-            holds_named(rt, is_refused(decoder, stop), "the fault of a title");
+            assert!(rt; is_refused(decoder, stop), "another end of a title");
             add_planned(&mut run.seen.titles, stop);
             Ok(stop == Stop::Short)
         }
@@ -446,7 +445,7 @@ fn reads_elements(
 ) -> Result<(), Fail> {
     for _ in 0..256usize {
         let is_short = reads_element(rt, decoder, run, writer)?;
-        holds_in(rt, decoder.offset() == run.tape.offset(), call, bytes);
+        holds(rt, decoder.offset() == run.tape.offset(), call, bytes);
         if run.stops(0) || is_short && run.tape.has_ended() {
             break;
         }
@@ -483,7 +482,7 @@ fn reads(
     let is_written = writer.written() == run.sink.taken();
     let has_failed = reader.has_failed() || writer.has_failed();
     let is_seen = has_failed == (run.seen != NOWHERE);
-    holds_in(rt, is_left && is_written && is_seen, call, bytes);
+    holds(rt, is_left && is_written && is_seen, call, bytes);
     Ok(run.seen)
 }
 
@@ -513,7 +512,7 @@ fn both_ways(
     };
     let seen = reads(rt, alloc, bytes, failing, way)?;
     let is_same = reads(rt, alloc, bytes, failing, stops)? == seen;
-    holds_in(rt, is_same, failing[0].min(failing[1]), bytes);
+    holds(rt, is_same, failing[0].min(failing[1]), bytes);
     Ok(seen)
 }
 
@@ -597,11 +596,11 @@ fn fails_so_often(
         writes: 0,
     };
     let seen = each_fails(rt, alloc, bytes, false, way)?;
-    holds_for(rt, seen == reads, bytes);
+    assert!(rt; seen == reads, "the reads of {bytes:?}");
     let writes = if way.drains { writes } else { 0 };
     let want = Seen { writes, ..NOWHERE };
     let seen = each_fails(rt, alloc, bytes, true, way)?;
-    holds_for(rt, seen == want, bytes);
+    assert!(rt; seen == want, "the writes of {bytes:?}");
     Ok(())
 }
 

@@ -1,7 +1,6 @@
-use crate::calls::{decoded, front_of, recodes};
+use crate::calls::{decoded, front_of, holds, recodes};
 use ciborium_ll::io::{ReadFault, StdReader, StdWriter, WriteFault};
 use ciborium_ll::{Decoder, Encoder, Error, RecodeError};
-use ciborium_ll_fixtures::checks::holds_in;
 use ciborium_ll_fixtures::plain::{self, Fault};
 use ciborium_ll_fixtures::samples::COPIES;
 use ciborium_ll_fixtures::streams::{PartReader, PartWriter};
@@ -83,7 +82,7 @@ fn stops_reading(
     let taken = sink_of(encoder).taken;
     let is_due = taken.as_slice() == want.output.as_slice() && offset == want.offset;
     let is_right = is_due && is_read_answer(outcome, has_failed, want.fault);
-    holds_in(rt, is_right, call, bytes);
+    holds(rt, is_right, call, bytes);
     Ok(has_failed)
 }
 
@@ -111,7 +110,7 @@ fn stops_writing(
     }
     let want = plain::copy(alloc, false, count, bytes)?;
     let is_due = begins(sink.taken.as_slice(), want.output.as_slice(), call);
-    holds_in(rt, is_due && is_write_answer(outcome, kind), call, bytes);
+    holds(rt, is_due && is_write_answer(outcome, kind), call, bytes);
     Ok(true)
 }
 
@@ -130,7 +129,7 @@ fn interrupts_reads(
         last = call;
     }
     let (count, bytes) = row;
-    holds_in(rt, last < 63 && (last > 0 || count == 0), last, bytes);
+    holds(rt, last < 63 && (last > 0 || count == 0), last, bytes);
     Ok(())
 }
 
@@ -159,7 +158,7 @@ fn fails_writes(
     }
     let (count, bytes) = row;
     let want = plain::copy(alloc, false, count, bytes)?;
-    holds_in(rt, last == want.output.len(), last, bytes);
+    holds(rt, last == want.output.len(), last, bytes);
     Ok(())
 }
 

@@ -6,7 +6,6 @@ use crate::calls::{
 use crate::copies::{Answer, copies_elements};
 use ciborium_ll::io::Read;
 use ciborium_ll::{Body, Bytes, Decoder, Error, Header, Segment, Segments};
-use ciborium_ll_fixtures::checks::{holds, holds_at};
 use ciborium_ll_fixtures::devices::{DeviceFault, Failing, FailingReader};
 use std::process::Abort;
 
@@ -62,11 +61,14 @@ fn refuses_twice(segments: &mut Segments<'_, FailingReader<'_>, Bytes>, place: u
 
 // A decoder in front of the bytes `REFUSED`, which begin at this place, refuses what it has to.
 fn refuses(rt: &impl Abort, decoder: &mut Decoder<FailingReader<'_>>, place: usize) {
-    holds_at(rt, is_refused(decoder, place), place);
-    holds_at(rt, matches!(pulls(decoder), Ok(Header::Bytes(None))), place);
+    assert!(rt; is_refused(decoder, place), "a longer title at {place}");
+    assert!(rt;
+        matches!(pulls(decoder), Ok(Header::Bytes(None))),
+        "at {place}"
+    );
     let mut segments = bytes_of(rt, decoder, None);
     let nested = place.saturating_add(3);
-    holds_at(rt, refuses_twice(&mut segments, nested), nested);
+    assert!(rt; refuses_twice(&mut segments, nested), "an open at {place}");
 }
 
 // Reads two bytes of a body.
@@ -85,11 +87,8 @@ fn reads_once_more(decoder: &mut Decoder<FailingReader<'_>>) -> bool {
 fn behind_a_read_of_a_body(rt: HostRuntime) {
     let bytes = [0x42, 1, 2, 0x18, 5, 0x5f, 0x5f];
     let mut decoder = strict_decoder(&bytes, 2);
-    holds(
-        &rt,
-        matches!(pulls(&mut decoder), Ok(Header::Bytes(Some(2)))),
-    );
-    holds(&rt, reads_once_more(&mut decoder));
+    assert!(rt; matches!(pulls(&mut decoder), Ok(Header::Bytes(Some(2)))));
+    assert!(rt; reads_once_more(&mut decoder));
     refuses(&rt, &mut decoder, 3);
 }
 
@@ -97,11 +96,11 @@ fn behind_a_read_of_a_body(rt: HostRuntime) {
 #[test]
 fn behind_a_pull_of_a_title(rt: HostRuntime) {
     let mut decoder = strict_decoder(&REFUSED, 1);
-    holds(&rt, pull_fails(&mut decoder));
+    assert!(rt; pull_fails(&mut decoder));
     refuses(&rt, &mut decoder, 0);
     // The first byte of a title whose affix was not read is gone.
     let mut decoder = strict_decoder(&[0x19, 0x18, 5, 0x5f, 0x5f], 2);
-    holds(&rt, pull_fails(&mut decoder));
+    assert!(rt; pull_fails(&mut decoder));
     refuses(&rt, &mut decoder, 1);
 }
 
@@ -122,11 +121,11 @@ static STRINGS: [Row; 5] = [
 // Under `advance` the reader fails, and the next call refuses a title, as does each later one.
 fn string_row(rt: &impl Abort, bytes: &[u8], call: usize, place: usize) {
     let mut decoder = strict_decoder(bytes, call);
-    holds(rt, matches!(pulls(&mut decoder), Ok(Header::Bytes(None))));
+    assert!(rt; matches!(pulls(&mut decoder), Ok(Header::Bytes(None))));
     let mut segments = bytes_of(rt, &mut decoder, None);
     let is_unread = advances(&mut segments) == Advance::Unread;
     let is_refused = refuses_twice(&mut segments, place);
-    holds_at(rt, is_unread && is_refused, place);
+    assert!(rt; is_unread && is_refused, "at {place}");
 }
 
 #[test]
@@ -152,19 +151,16 @@ fn chunk_is_there(segment: &mut Segment<'_, FailingReader<'_>, Bytes>) -> bool {
 // A body is read once more.
 fn body_row(rt: &impl Abort, segments: &mut Segments<'_, FailingReader<'_>, Bytes>) {
     let mut segment = next_segment(rt, segments);
-    holds(
-        rt,
-        chunk_fails(&mut segment) && chunk_is_there(&mut segment),
-    );
+    assert!(rt; chunk_fails(&mut segment) && chunk_is_there(&mut segment));
 }
 
 #[test]
 fn behind_a_pull_of_a_segment(rt: HostRuntime) {
     let mut decoder = strict_decoder(&[0x5f, 0x42, 1, 2, 0x5f, 0xff, 0xff], 3);
-    holds(&rt, matches!(pulls(&mut decoder), Ok(Header::Bytes(None))));
+    assert!(rt; matches!(pulls(&mut decoder), Ok(Header::Bytes(None))));
     let mut segments = bytes_of(&rt, &mut decoder, None);
     body_row(&rt, &mut segments);
-    holds(&rt, advances(&mut segments) == Advance::Syntax(4));
+    assert!(rt; advances(&mut segments) == Advance::Syntax(4));
 }
 
 // Elements, under a copy of two of which a call of the reader fails.
@@ -200,11 +196,11 @@ fn behind_a_copy(rt: HostRuntime) {
     for &(bytes, call, place) in &COPIES {
         let got = copies_twice(&rt, bytes, (Failing::Call(call), Failing::Never));
         let is_right = matches!(got, (Answer::Unread, Answer::Syntax(at)) if at == place);
-        holds_at(&rt, is_right, place);
+        assert!(rt; is_right, "at {place}");
     }
     for &(bytes, call, place) in &WRITES {
         let got = copies_twice(&rt, bytes, (Failing::Never, Failing::Call(call)));
         let is_right = matches!(got, (Answer::Unwritten, Answer::Syntax(at)) if at == place);
-        holds_at(&rt, is_right, place);
+        assert!(rt; is_right, "at {place}");
     }
 }

@@ -1,10 +1,9 @@
 use crate::calls::{
-    self, bytes_of, chunk_of_text, decoded, failing_decoder, failing_encoder, next_segment, pulls,
-    segment_of, text_of,
+    self, bytes_of, chunk_of_text, decoded, failing_decoder, failing_encoder, holds, next_segment,
+    pulls, segment_of, text_of,
 };
 use ciborium_ll::laws::{Drained, End};
 use ciborium_ll::{Bytes, Decoder, Encoder, Error, Header, RecodeError, Segment, Segments, Text};
-use ciborium_ll_fixtures::checks::{holds, holds_at, holds_in};
 use ciborium_ll_fixtures::devices::{DeviceFault, Failing, FailingReader, FailingWriter};
 use std::alloc::Global;
 use std::process::Abort;
@@ -22,7 +21,7 @@ fn segment_fails(
         Err(Error::Syntax(place)) => damaged == Some(place),
         _ => false,
     };
-    holds(rt, is_right);
+    assert!(rt; is_right);
 }
 
 // The title of a segment whose affix was not read is gone, and the call that comes next reads on behind its first byte.
@@ -30,11 +29,11 @@ fn segment_fails(
 fn an_affix_fails_in_a_string(rt: HostRuntime) {
     let bytes = [0x5f, 0x58, 2, 1, 2, 0xff];
     let mut decoder = failing_decoder(&bytes, Failing::Call(3));
-    holds(&rt, matches!(pulls(&mut decoder), Ok(Header::Bytes(None))));
+    assert!(rt; matches!(pulls(&mut decoder), Ok(Header::Bytes(None))));
     let mut segments = bytes_of(&rt, &mut decoder, None);
     segment_fails(&rt, &mut segments, None);
     segment_fails(&rt, &mut segments, Some(2));
-    holds(&rt, decoder.offset() == 3);
+    assert_eq!(rt; decoder.offset(), 3);
 }
 
 // What a pull of a chunk of a text gives.
@@ -60,12 +59,12 @@ fn gives(segment: &mut Segment<'_, FailingReader<'_>, Text>, size: usize, want: 
 // Reads a text of two bytes by buffers of these sizes. It compares what each gives, and how many bytes are left then.
 fn text_row(rt: &impl Abort, bytes: &[u8], failing: Failing, steps: &[(usize, Want, usize)]) {
     let mut decoder = failing_decoder(bytes, failing);
-    holds(rt, matches!(pulls(&mut decoder), Ok(Header::Text(Some(2)))));
+    assert!(rt; matches!(pulls(&mut decoder), Ok(Header::Text(Some(2)))));
     let mut segments = text_of(rt, &mut decoder, Some(2));
     let mut segment = next_segment(rt, &mut segments);
-    for (row, &(size, want, left)) in steps.iter().enumerate() {
+    for &(size, want, left) in steps {
         let is_right = gives(&mut segment, size, want) && segment.left() == left;
-        holds_at(rt, is_right, row);
+        assert!(rt; is_right, "by a buffer of {size}, {left} left");
     }
 }
 
@@ -216,7 +215,7 @@ fn drains_body(
         && is_ending(second, false, false);
     let written = writer.written();
     let is_due = is_front(written, body, has_write_failed);
-    holds_in(rt, are_endings && is_due, written.len(), bytes);
+    holds(rt, are_endings && is_due, written.len(), bytes);
     has_read_failed || has_write_failed
 }
 
@@ -234,10 +233,7 @@ fn drains_bytes_of(
     let endings = drains(rt, &mut decoder, header, sink);
     let offset = decoder.offset();
     let reader = decoder.into_inner();
-    holds(
-        rt,
-        offset.saturating_add(reader.left().len()) == bytes.len(),
-    );
+    assert!(rt; offset.saturating_add(reader.left().len()) == bytes.len());
     (endings, reader.has_failed())
 }
 
@@ -256,7 +252,7 @@ fn each_call_fails(rt: &impl Abort, alloc: Global, row: (&str, &str)) -> Result<
     }
     // Each four bytes are a read and a write. The body has two digits a byte.
     let is_right = reads == row.1.len().div_ceil(8) && writes == reads;
-    holds_in(rt, is_right, reads, row.0.as_bytes());
+    holds(rt, is_right, reads, row.0.as_bytes());
     Ok(())
 }
 

@@ -1,9 +1,9 @@
 use crate::calls::{
-    decoded, decoder, failing_decoder, failing_decoder_as, failing_encoder, pull_fails, pulls,
+    decoded, decoder, failing_decoder, failing_decoder_as, failing_encoder, holds, pull_fails,
+    pulls,
 };
 use ciborium_ll::io::Write;
 use ciborium_ll::{Decoder, Encoder, Error, Header};
-use ciborium_ll_fixtures::checks::{holds, holds_at, holds_in, holds_named};
 use ciborium_ll_fixtures::devices::{DeviceFault, Failing, FailingReader, FailingWriter};
 use ciborium_ll_fixtures::plain::{self, Fault, Title};
 use ciborium_ll_fixtures::samples;
@@ -106,7 +106,7 @@ fn reads_on(
         } else {
             is_plain(answer, plain.want) && offset == plain.behind
         };
-        holds_in(rt, is_right, failing, bytes);
+        holds(rt, is_right, failing, bytes);
         calls = calls.saturating_add(plain.reads);
         if plain.want.err() == Some(Fault::Short) && start >= bytes.len() {
             break;
@@ -120,10 +120,7 @@ pub fn reads_titles(rt: &impl Abort, is_strict: bool, bytes: &[u8], failing: usi
     reads_on(rt, &mut decoder, is_strict, bytes, failing);
     let offset = decoder.offset();
     let reader = decoder.into_inner();
-    holds(
-        rt,
-        offset.saturating_add(reader.left().len()) == bytes.len(),
-    );
+    assert!(rt; offset.saturating_add(reader.left().len()) == bytes.len());
     reader.has_failed()
 }
 
@@ -131,7 +128,7 @@ pub fn reads_titles(rt: &impl Abort, is_strict: bool, bytes: &[u8], failing: usi
 fn each_read_fails(rt: &impl Abort, alloc: Global, is_strict: bool, hex: &str) -> Result<(), Fail> {
     let bytes = decoded(alloc, hex)?;
     let last = (1..=64usize).find(|call| !reads_titles(rt, is_strict, bytes.as_slice(), *call));
-    holds_named(rt, last.is_some(), hex);
+    assert!(rt; last.is_some(), "at {hex}");
     Ok(())
 }
 
@@ -152,9 +149,9 @@ fn an_empty_affix_is_a_call(rt: HostRuntime) {
     let bytes = [5, 0xff, 0x1f, 0x3f, 0xdf, 0x1c];
     let mut decoder = failing_decoder(&bytes, Failing::Empty);
     for offset in 1..=5 {
-        holds(&rt, pull_fails(&mut decoder) && decoder.offset() == offset);
+        assert!(rt; pull_fails(&mut decoder) && decoder.offset() == offset);
     }
-    holds(&rt, matches!(pulls(&mut decoder), Err(Error::Syntax(5))));
+    assert!(rt; matches!(pulls(&mut decoder), Err(Error::Syntax(5))));
     an_empty_affix_is_written(&rt, Header::Positive(5), 5);
     an_empty_affix_is_written(&rt, Header::Break, 0xff);
 }
@@ -173,20 +170,17 @@ fn header_fails(encoder: &mut Encoder<FailingWriter<'_>>, header: Header) -> boo
 fn an_empty_affix_is_written(rt: &impl Abort, header: Header, first: u8) {
     let mut space = [0; 1];
     let mut encoder = failing_encoder(&mut space, Failing::Empty);
-    holds_at(rt, header_fails(&mut encoder, header), usize::from(first));
-    holds_at(rt, nothing_fails(&mut encoder), usize::from(first));
-    holds(rt, encoder.into_inner().written() == [first].as_slice());
+    assert!(rt; header_fails(&mut encoder, header), "at {first}");
+    assert!(rt; nothing_fails(&mut encoder), "at {first}");
+    assert!(rt; encoder.into_inner().written() == [first].as_slice());
 }
 
 // Asks for a title whose read of this number fails, and once more. The first pull reads up to this
 // offset, and the next one gives this number.
 fn asks_once_more(rt: &impl Abort, bytes: &[u8], call: usize, offset: usize, want: u64) {
     let mut decoder = failing_decoder(bytes, Failing::Call(call));
-    holds(rt, pull_fails(&mut decoder) && decoder.offset() == offset);
-    holds(
-        rt,
-        matches!(pulls(&mut decoder), Ok(Header::Positive(number)) if number == want),
-    );
+    assert!(rt; pull_fails(&mut decoder) && decoder.offset() == offset);
+    assert!(rt; matches!(pulls(&mut decoder), Ok(Header::Positive(number)) if number == want));
 }
 
 // A failure at the first byte loses nothing, so that the next call gives the title. One at the affix lost that byte.
@@ -195,5 +189,5 @@ fn a_title_is_asked_for_once_more(rt: HostRuntime) {
     let bytes = [0x19, 0x18, 0x18];
     asks_once_more(&rt, &bytes, 1, 0, 0x1818);
     asks_once_more(&rt, &bytes, 2, 1, 0x18);
-    holds(&rt, pulls(&mut decoder(&bytes)).is_ok());
+    assert!(rt; pulls(&mut decoder(&bytes)).is_ok());
 }

@@ -1,8 +1,7 @@
-use crate::calls::{failing_encoder, front_of};
+use crate::calls::{failing_encoder, front_of, holds};
 use ciborium_ll::io::Write;
 use ciborium_ll::laws::{Piece, write_pieces};
 use ciborium_ll::{Encoder, Float, Header};
-use ciborium_ll_fixtures::checks::holds_in;
 use ciborium_ll_fixtures::devices::{DeviceFault, Failing, FailingWriter};
 use std::process::Abort;
 
@@ -149,7 +148,7 @@ fn fails_at(rt: &impl Abort, row: (Call, &[&[u8]]), whole: &[u8], failing: usize
     let goes_on = left.goes_on == (failing != parts.len());
     let writer = encoder.into_inner();
     let is_due = stands(writer.written(), parts, whole, failing);
-    holds_in(rt, is_right && goes_on && is_due, number, whole);
+    holds(rt, is_right && goes_on && is_due, number, whole);
 }
 
 // How a call of an encoder ended.
@@ -195,7 +194,7 @@ fn each_write_fails(rt: &impl Abort, row: (Call, &[&[u8]])) {
     let is_written = matches!(written_of(writes(&mut whole, call)), Written::All);
     let writer = whole.into_inner();
     let written = writer.written();
-    holds_in(rt, is_written && are_parts(written, parts), 0, written);
+    holds(rt, is_written && are_parts(written, parts), 0, written);
     for failing in 0..=parts.len() {
         fails_at(rt, row, written, failing);
     }

@@ -3,7 +3,6 @@
 use super::faults::is_printed_as;
 use ciborium_ll::io::{ReadFault, WriteFault};
 use ciborium_ll::{Error, RecodeError};
-use ciborium_ll_fixtures::checks::{holds, holds_at, holds_for};
 use ciborium_ll_fixtures::streams::{PartReader, PartWriter};
 use ciborium_ll_service::fault::{Fault, fault_of_raw};
 use ciborium_ll_service::raw::{raw, raw_buffered};
@@ -122,13 +121,10 @@ fn is_unread(alloc: Global, bytes: &[u8]) -> bool {
 // A copy that always answered that its reader failed would fail here.
 #[test]
 fn raw_copies(rt: HostRuntime) {
-    holds(
-        &rt,
-        is_copied(rt.alloc(), &[0x58, 1, 1, 0], &[0x41, 1], &[0]),
-    );
+    assert!(rt; is_copied(rt.alloc(), &[0x58, 1, 1, 0], &[0x41, 1], &[0]));
     let bytes = [0x7f, 0x61, 0x61, 0x5f, 0xff];
-    holds(&rt, stops_at(rt.alloc(), &bytes, 3, &[0x7f, 0x61, 0x61]));
-    holds(&rt, is_unread(rt.alloc(), &[]));
+    assert!(rt; stops_at(rt.alloc(), &bytes, 3, &[0x7f, 0x61, 0x61]));
+    assert!(rt; is_unread(rt.alloc(), &[]));
 }
 
 // A copy of one element, byte by byte, writes this and flushes it.
@@ -152,9 +148,9 @@ fn is_unwritten(alloc: Global, bytes: &[u8]) -> bool {
 
 #[test]
 fn raw_copies_between_streams(rt: HostRuntime) {
-    holds(&rt, is_copied_slowly(rt.alloc(), &[0x58, 1, 1], &[0x41, 1]));
-    holds(&rt, is_unflushed(rt.alloc(), &[0]));
-    holds(&rt, is_unwritten(rt.alloc(), &[0]));
+    assert!(rt; is_copied_slowly(rt.alloc(), &[0x58, 1, 1], &[0x41, 1]));
+    assert!(rt; is_unflushed(rt.alloc(), &[0]));
+    assert!(rt; is_unwritten(rt.alloc(), &[0]));
 }
 
 // A string and titles that are longer than a window, in their shortest spelling.
@@ -195,9 +191,9 @@ fn is_front(alloc: Global, bytes: &[u8]) -> bool {
 #[test]
 fn raw_copies_through_windows(rt: HostRuntime) -> Result<(), Fail> {
     let bytes = long_elements(rt.alloc())?;
-    holds(&rt, is_same(rt.alloc(), bytes.as_slice()));
-    holds(&rt, is_same_slowly(rt.alloc(), bytes.as_slice()));
-    holds(&rt, is_front(rt.alloc(), bytes.as_slice()));
+    assert!(rt; is_same(rt.alloc(), bytes.as_slice()));
+    assert!(rt; is_same_slowly(rt.alloc(), bytes.as_slice()));
+    assert!(rt; is_front(rt.alloc(), bytes.as_slice()));
     Ok(())
 }
 
@@ -266,7 +262,7 @@ fn copies_flush_once(rt: HostRuntime) -> Result<(), Fail> {
     ];
     for (count, bytes, want, word, word_unflushed) in rows {
         let is_right = is_flushed(rt.alloc(), (count, bytes), false, want, word)?;
-        holds_for(&rt, is_right, bytes);
+        assert!(rt; is_right, "at {bytes:?}");
         let is_right = is_flushed(rt.alloc(), (count, bytes), true, want, word_unflushed)?;
         assert!(rt; is_right, "at {bytes:?}, unflushed");
     }
@@ -284,7 +280,7 @@ fn buffered_copies_flush_once(rt: HostRuntime) -> Result<(), Fail> {
         for flush_fails in [false, true] {
             let row = (count, bytes);
             let is_right = is_flushed_buffered(rt.alloc(), row, flush_fails, want, word)?;
-            holds_for(&rt, is_right, bytes);
+            assert!(rt; is_right, "at {bytes:?}");
         }
     }
     Ok(())
@@ -337,10 +333,10 @@ fn tells_end(alloc: Global) -> bool {
 #[test]
 fn raw_hands_faults_on(rt: HostRuntime) {
     for call in 1..=3_usize {
-        holds_at(&rt, tells_read(rt.alloc(), call), call);
-        holds_at(&rt, tells_write(rt.alloc(), call), call);
+        assert!(rt; tells_read(rt.alloc(), call));
+        assert!(rt; tells_write(rt.alloc(), call));
     }
-    holds(&rt, tells_end(rt.alloc()));
+    assert!(rt; tells_end(rt.alloc()));
     let (copied, flushed) = ends_of_one([0].as_slice(), PartWriter::new(rt.alloc(), 0));
-    holds(&rt, copied == End::Done && flushed == End::Zero);
+    assert!(rt; copied == End::Done && flushed == End::Zero);
 }

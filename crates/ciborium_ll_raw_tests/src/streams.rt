@@ -1,7 +1,6 @@
 // Copies of raw bytes between streams that move few bytes a call, or fail at one, beside a plain reading.
 
 use super::copies::{self, End, long_elements};
-use ciborium_ll_fixtures::checks::{holds, holds_at, holds_in};
 use ciborium_ll_fixtures::plain::{self, Copied, Fault};
 use ciborium_ll_fixtures::samples::COPIES;
 use ciborium_ll_fixtures::streams::{PartReader, PartWriter};
@@ -72,6 +71,11 @@ fn end_of_write(kind: Option<io::ErrorKind>) -> End {
     }
 }
 
+// A row holds. The message says at which call, and in which bytes.
+fn holds(rt: &impl Abort, is_right: bool, call: usize, bytes: &[u8]) {
+    assert!(rt; is_right, "at {call} of {bytes:?}");
+}
+
 // What was written is what a plain reading gives, and it was flushed.
 fn is_flushed(ended: &Ended, want: &Copied) -> bool {
     let is_written = ended.sink.taken.as_slice() == want.output.as_slice();
@@ -112,7 +116,7 @@ fn stops_reading(
     } else {
         is_whole(is_buffered, &ended, &want)
     };
-    holds_in(rt, is_right && is_flushed(&ended, &want), call, bytes);
+    holds(rt, is_right && is_flushed(&ended, &want), call, bytes);
     Ok(has_failed)
 }
 
@@ -153,7 +157,7 @@ fn stops_writing(
         let is_due = is_front(&ended, &want, want.output.len());
         is_due && ended.flushed == End::Done && is_answer(ended.copied, want.fault)
     };
-    holds_in(rt, is_right, call, bytes);
+    holds(rt, is_right, call, bytes);
     Ok(has_failed)
 }
 
@@ -173,7 +177,7 @@ fn interrupts_reads(
         last = call;
     }
     let (count, bytes) = row;
-    holds_in(rt, last < 63 && (last > 0 || count == 0), last, bytes);
+    holds(rt, last < 63 && (last > 0 || count == 0), last, bytes);
     Ok(())
 }
 
@@ -212,7 +216,7 @@ fn fails_writes(
     }
     let (count, bytes) = row;
     let want = plain::copy(alloc, false, count, bytes)?;
-    holds_in(rt, last == want.output.len(), last, bytes);
+    holds(rt, last == want.output.len(), last, bytes);
     Ok(())
 }
 
@@ -247,7 +251,7 @@ fn stops_reading_on(rt: &impl Abort, alloc: Global, bytes: &[u8], call: usize) -
         ended.copied == End::Done && taken == bytes
     };
     let is_front = bytes.starts_with(taken) && ended.flushed == End::Done;
-    holds_at(rt, is_right && is_front, call);
+    assert!(rt; is_right && is_front, "at {call}");
     has_failed
 }
 
@@ -273,7 +277,7 @@ fn stops_writing_on(rt: &impl Abort, alloc: Global, bytes: &[u8], call: usize) -
         is_told_once(ended.copied, ended.flushed)
     };
     let is_cut = bytes.starts_with(taken) && (taken.len() < bytes.len()) == has_failed;
-    holds_at(rt, is_right && is_cut, call);
+    assert!(rt; is_right && is_cut, "at {call}");
     has_failed
 }
 
@@ -294,7 +298,7 @@ fn each_call_of_a_long_copy_fails(rt: HostRuntime) -> Result<(), Fail> {
         }
     }
     // Each call came that it takes to move 35,003 bytes.
-    holds(&rt, last_read >= 35 && last_read < 99);
-    holds(&rt, last_write >= 35 && last_write < 99);
+    assert!(rt; last_read >= 35 && last_read < 99);
+    assert!(rt; last_write >= 35 && last_write < 99);
     Ok(())
 }

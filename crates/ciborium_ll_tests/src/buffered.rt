@@ -1,9 +1,7 @@
-use crate::calls::{decoder_over, encoder_over};
 use crate::streams::{Failure, read_failure, write_failure};
 use ciborium_ll::io::{BufferedReader, BufferedWriter, Read, Write};
 use ciborium_ll::recode::recode;
 use ciborium_ll::{Decoder, Encoder};
-use ciborium_ll_fixtures::checks::{holds, holds_at};
 use ciborium_ll_fixtures::streams::{PartReader, PartWriter};
 use std::alloc::Global;
 use std::io;
@@ -79,21 +77,23 @@ fn reads_row(room: usize, parts: &[&[u8]], calls: usize, ahead: &[u8], left: &[u
 }
 
 // How many bytes are lent, what each read gives, how many calls that is, and what is then ahead and left.
-static READS: [(usize, &[&[u8]], usize, &[u8], &[u8]); 8] = [
-    (4, &[], 0, &[], &[1, 2, 3, 4, 5, 6]),
-    (4, &[&[], &[]], 0, &[], &[1, 2, 3, 4, 5, 6]),
-    (4, &[&[1]], 1, &[2, 3, 4], &[5, 6]),
-    (4, &[&[1], &[2, 3, 4], &[]], 1, &[], &[5, 6]),
-    (4, &[&[1], &[2, 3, 4], &[5]], 2, &[6], &[]),
-    (2, &[&[1], &[2, 3, 4, 5]], 2, &[], &[6]),
-    (2, &[&[1], &[2, 3]], 2, &[4], &[5, 6]),
-    (0, &[&[1], &[2, 3], &[], &[4, 5, 6]], 3, &[], &[]),
-];
-
 #[test]
 fn reads_ahead(rt: HostRuntime) {
-    for (row, &(room, parts, calls, ahead, left)) in READS.iter().enumerate() {
-        holds_at(&rt, reads_row(room, parts, calls, ahead, left), row);
+    let rows: [(usize, &[&[u8]], usize, &[u8], &[u8]); 8] = [
+        (4, &[], 0, &[], &[1, 2, 3, 4, 5, 6]),
+        (4, &[&[], &[]], 0, &[], &[1, 2, 3, 4, 5, 6]),
+        (4, &[&[1]], 1, &[2, 3, 4], &[5, 6]),
+        (4, &[&[1], &[2, 3, 4], &[]], 1, &[], &[5, 6]),
+        (4, &[&[1], &[2, 3, 4], &[5]], 2, &[6], &[]),
+        (2, &[&[1], &[2, 3, 4, 5]], 2, &[], &[6]),
+        (2, &[&[1], &[2, 3]], 2, &[4], &[5, 6]),
+        (0, &[&[1], &[2, 3], &[], &[4, 5, 6]], 3, &[], &[]),
+    ];
+    for (room, parts, calls, ahead, left) in rows {
+        assert!(rt;
+            reads_row(room, parts, calls, ahead, left),
+            "at {room}, {parts:?}"
+        );
     }
 }
 
@@ -114,15 +114,15 @@ fn gives_three<'a>(reader: &mut BufferedReader<'a, PartReader<'a>>) -> bool {
 fn keeps_faults(rt: &impl Abort, room: usize) {
     let mut lent = [0; 8];
     let mut reader = failing_reader(&mut lent, room);
-    holds_at(rt, !fills(&mut reader, &mut [0; 2]), room);
+    assert!(rt; !fills(&mut reader, &mut [0; 2]), "at {room}");
     // A success keeps the fault that there was.
-    holds_at(rt, gives(&mut reader, &[1, 2]), room);
+    assert!(rt; gives(&mut reader, &[1, 2]), "at {room}");
     let interrupted = Failure::Failed(io::ErrorKind::Interrupted);
-    holds_at(rt, read_fault(&mut reader) == interrupted, room);
-    holds_at(rt, read_fault(&mut reader) == Failure::Never, room);
-    holds_at(rt, gives_three(&mut reader), room);
+    assert!(rt; read_fault(&mut reader) == interrupted, "at {room}");
+    assert!(rt; read_fault(&mut reader) == Failure::Never, "at {room}");
+    assert!(rt; gives_three(&mut reader), "at {room}");
     let parts = take_reader_apart(reader);
-    holds_at(rt, parts.failure == Failure::Stopped, room);
+    assert!(rt; parts.failure == Failure::Stopped, "at {room}");
 }
 
 #[test]
@@ -217,20 +217,22 @@ fn keeps_row(alloc: Global, room: usize, parts: &[&[u8]], written: &[u8], kept: 
 }
 
 // How many bytes are lent, what each write brings, and what is then written and kept back.
-static WRITES: [(usize, &[&[u8]], &[u8], &[u8]); 7] = [
-    (4, &[], &[], &[]),
-    (4, &[&[1], &[2, 3, 4]], &[], &[1, 2, 3, 4]),
-    (4, &[&[1, 2, 3, 4], &[]], &[], &[1, 2, 3, 4]),
-    (4, &[&[1, 2, 3], &[4, 5]], &[1, 2, 3], &[4, 5]),
-    (2, &[&[1], &[2, 3, 4]], &[1, 2, 3, 4], &[]),
-    (2, &[&[1, 2, 3], &[4], &[5]], &[1, 2, 3], &[4, 5]),
-    (0, &[&[1], &[], &[2, 3]], &[1, 2, 3], &[]),
-];
-
 #[test]
 fn keeps_back(rt: HostRuntime) {
-    for (row, &(room, parts, written, kept)) in WRITES.iter().enumerate() {
-        holds_at(&rt, keeps_row(rt.alloc(), room, parts, written, kept), row);
+    let rows: [(usize, &[&[u8]], &[u8], &[u8]); 7] = [
+        (4, &[], &[], &[]),
+        (4, &[&[1], &[2, 3, 4]], &[], &[1, 2, 3, 4]),
+        (4, &[&[1, 2, 3, 4], &[]], &[], &[1, 2, 3, 4]),
+        (4, &[&[1, 2, 3], &[4, 5]], &[1, 2, 3], &[4, 5]),
+        (2, &[&[1], &[2, 3, 4]], &[1, 2, 3, 4], &[]),
+        (2, &[&[1, 2, 3], &[4], &[5]], &[1, 2, 3], &[4, 5]),
+        (0, &[&[1], &[], &[2, 3]], &[1, 2, 3], &[]),
+    ];
+    for (room, parts, written, kept) in rows {
+        assert!(rt;
+            keeps_row(rt.alloc(), room, parts, written, kept),
+            "at {room}, {parts:?}"
+        );
     }
 }
 
@@ -253,31 +255,24 @@ fn flushes_twice(alloc: Global) -> [bool; 4] {
 
 #[test]
 fn a_flush_passes_on_what_was_kept_back(rt: HostRuntime) {
-    holds(&rt, flushes_twice(rt.alloc()) == [true; 4]);
-}
-
-const INTERRUPTED: io::ErrorKind = io::ErrorKind::Interrupted;
-
-// Writes to a sink whose second write fails, and flushes. It keeps what was not passed on, and the fault until that is
-// taken.
-fn keeps_what_failed(rt: &impl Abort, writer: &mut BufferedWriter<PartWriter>) {
-    holds(rt, takes(writer, &[1, 2, 3, 4]));
-    holds(rt, !takes(writer, &[5]) && keeps(writer, &[2, 3, 4]));
-    holds(rt, write_fault(writer) == Failure::Failed(INTERRUPTED));
-    holds(rt, write_fault(writer) == Failure::Never);
-    holds(rt, !passes_on(writer));
+    assert_eq!(rt; flushes_twice(rt.alloc()), [true; 4]);
 }
 
 // What a failed write could not pass on is kept back still.
 #[test]
 fn nothing_that_was_kept_back_is_lost(rt: HostRuntime) {
     let mut lent = [0; 4];
+    let interrupted = io::ErrorKind::Interrupted;
     let sink = PartWriter::new(rt.alloc(), 1).within(3);
-    let mut writer = writer_to(sink.failing_at(2, Some(INTERRUPTED)), &mut lent);
-    keeps_what_failed(&rt, &mut writer);
+    let mut writer = writer_to(sink.failing_at(2, Some(interrupted)), &mut lent);
+    assert!(rt; takes(&mut writer, &[1, 2, 3, 4]));
+    assert!(rt; !takes(&mut writer, &[5]) && keeps(&writer, &[2, 3, 4]));
+    assert!(rt; write_fault(&mut writer) == Failure::Failed(interrupted));
+    assert!(rt; write_fault(&mut writer) == Failure::Never);
+    assert!(rt; !passes_on(&mut writer));
     let parts = take_apart(writer);
-    holds(&rt, parts.failure == Failure::Stopped);
-    holds(&rt, has_parts(&parts, &[1, 2, 3], &[4], 0));
+    assert!(rt; parts.failure == Failure::Stopped);
+    assert!(rt; has_parts(&parts, &[1, 2, 3], &[4], 0));
 }
 
 #[test]
@@ -285,11 +280,11 @@ fn a_flush_within_that_fails(rt: HostRuntime) {
     let mut lent = [0; 4];
     let sink = PartWriter::new(rt.alloc(), 1).failing_to_flush();
     let mut writer = writer_to(sink, &mut lent);
-    holds(&rt, takes(&mut writer, &[1, 2]));
-    holds(&rt, !passes_on(&mut writer));
+    assert!(rt; takes(&mut writer, &[1, 2]));
+    assert!(rt; !passes_on(&mut writer));
     let parts = take_apart(writer);
-    holds(&rt, parts.failure == Failure::Failed(io::ErrorKind::Other));
-    holds(&rt, has_parts(&parts, &[1, 2], &[], 1));
+    assert!(rt; parts.failure == Failure::Failed(io::ErrorKind::Other));
+    assert!(rt; has_parts(&parts, &[1, 2], &[], 1));
 }
 
 // An array's title, a number and a byte string, in their shortest spelling: three elements.
@@ -325,7 +320,7 @@ fn decoder_of<'a>(
     room: usize,
 ) -> Decoder<BufferedReader<'a, PartReader<'a>>> {
     let source = PartReader::new(bytes, usize::MAX);
-    decoder_over(BufferedReader::new(source, &mut lent[..room.min(64)]))
+    Decoder::from(BufferedReader::new(source, &mut lent[..room.min(64)]))
 }
 
 // An encoder into a vector, with so many of 64 bytes lent.
@@ -334,7 +329,7 @@ fn encoder_to<'a>(
     lent: &'a mut [u8; 64],
     room: usize,
 ) -> Encoder<BufferedWriter<'a, Vec<u8>>> {
-    encoder_over(BufferedWriter::new(Vec::new(alloc), &mut lent[..room.min(64)]))
+    Encoder::from(BufferedWriter::new(Vec::new(alloc), &mut lent[..room.min(64)]))
 }
 
 // Copies elements with so many bytes lent to each side, and compares what comes out.
@@ -353,6 +348,6 @@ fn copies_through_any_room(rt: HostRuntime) {
     let bytes = elements();
     for (ahead, back) in [(0usize, 0usize), (1, 64), (7, 1), (8, 9), (64, 64)] {
         let is_right = is_copied(rt.alloc(), &bytes, ahead, back);
-        holds_at(&rt, is_right, ahead);
+        assert!(rt; is_right, "at {ahead}, {back}");
     }
 }

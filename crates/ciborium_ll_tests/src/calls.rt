@@ -6,8 +6,8 @@ use ciborium_ll::io::{
     Discard, EndOfFile, Failures, OutOfSpace, Read, SliceReader, SliceWriter, Write,
 };
 use ciborium_ll::{Bytes, Decoder, Encoder, Error, Header, Segments, Text};
-use ciborium_ll_fixtures::checks::{holds, holds_at};
 use std::process::Abort;
+use std::test::Fail;
 
 // Pulls the header that is wanted.
 pub fn pulls<R: Read>(rt: &impl Abort, decoder: &mut Decoder<R>, want: Header, offset: usize)
@@ -21,7 +21,7 @@ where
         panic!(rt; "no header");
     };
     assert!(rt; header == want, "another header");
-    holds_at(rt, decoder.offset() == offset, offset);
+    assert!(rt; decoder.offset() == offset, "not at {offset}");
 }
 
 // Pulls the title of a byte string, and begins to read it. That the one is enough for the other is proved here.
@@ -77,8 +77,8 @@ pub fn gives_back<R: Read>(
     assert!(rt; !decoder.is_waiting());
     assert!(rt; header.title_len() <= decoder.offset());
     decoder.push(header);
-    holds(rt, decoder.is_waiting());
-    holds_at(rt, decoder.offset() == offset, offset);
+    assert!(rt; decoder.is_waiting());
+    assert_eq!(rt; decoder.offset(), offset);
 }
 
 // Reads the bytes that come next.
@@ -115,20 +115,20 @@ pub fn pushes<W: Write>(encoder: &mut Encoder<W>, header: Header) -> Result<(), 
 fn reads_a_slice(rt: &impl Abort) {
     let mut reader = SliceReader::new(&[1, 2, 3]);
     let mut two = [0; 2];
-    holds(rt, reads(&mut reader, &mut two).is_ok());
-    holds(rt, two == [1, 2]);
-    holds(rt, matches!(reads(&mut reader, &mut two), Err(EndOfFile)));
-    holds(rt, reader.left() == [3].as_slice());
+    assert!(rt; reads(&mut reader, &mut two).is_ok());
+    assert_eq!(rt; two, [1, 2]);
+    assert!(rt; matches!(reads(&mut reader, &mut two), Err(EndOfFile)));
+    assert_eq!(rt; reader.left(), [3].as_slice());
 }
 
 // Writes to a slice of three bytes, twice two.
 fn writes_a_slice(rt: &impl Abort) {
     let mut space = [0; 3];
     let mut writer = SliceWriter::new(&mut space);
-    holds(rt, writes(&mut writer, &[7, 8]).is_ok());
-    holds(rt, matches!(writes(&mut writer, &[9, 9]), Err(OutOfSpace)));
-    holds(rt, writer.room() == 1);
-    holds(rt, writer.written() == [7, 8].as_slice());
+    assert!(rt; writes(&mut writer, &[7, 8]).is_ok());
+    assert!(rt; matches!(writes(&mut writer, &[9, 9]), Err(OutOfSpace)));
+    assert_eq!(rt; writer.room(), 1);
+    assert_eq!(rt; writer.written(), [7, 8].as_slice());
 }
 
 #[test]
@@ -137,45 +137,33 @@ fn slices(rt: HostRuntime) {
     writes_a_slice(&rt);
 }
 
-// Writes bytes to one that keeps nothing, and more than it has room for. It comes to this room.
-fn discards(writer: &mut Discard, bytes: &[u8], more: &[u8], room: usize) -> bool {
-    let is_written = writes(writer, bytes).is_ok();
-    let is_full = matches!(writes(writer, more), Err(OutOfSpace));
-    is_written && is_full && writer.room() == room
-}
-
-// Whether there is no room for a title.
-fn has_no_room(encoder: &mut Encoder<Discard>) -> bool {
-    matches!(pushes(encoder, Header::Positive(24)), Err(OutOfSpace))
-}
-
 #[test]
-fn a_writer_that_keeps_nothing(rt: HostRuntime) {
+fn a_writer_that_keeps_nothing(rt: HostRuntime) -> Result<(), Fail> {
     let mut writer = Discard::new(3);
-    holds(&rt, discards(&mut writer, &[7, 8], &[9, 9], 1));
-    holds(&rt, writes(&mut writer, &[]).is_ok());
-    let mut encoder = encoder_over(writer);
-    holds(&rt, has_no_room(&mut encoder));
-    holds(&rt, writer_of(encoder).room() == 0);
-}
+    writes(&mut writer, &[7, 8])?;
+    assert!(rt; matches!(writes(&mut writer, &[9, 9]), Err(OutOfSpace)));
+    assert_eq!(rt; writer.room(), 1);
+    writes(&mut writer, &[])?;
+    let mut encoder = Encoder::from(writer);
+    assert!(rt; matches!(pushes(&mut encoder, Header::Positive(24)), Err(OutOfSpace)));
+    assert_eq!(rt; encoder.into_inner().room(), 0);
 
-// It takes no memory, so its room may pass all memory that there is.
-#[test]
-fn a_writer_of_any_room(rt: HostRuntime) {
+    // It takes no memory, so its room may pass all memory that there is.
     let mut writer = Discard::new(usize::MAX);
     for _ in 0..1000 {
-        holds(&rt, writes(&mut writer, &[0; 1000]).is_ok());
+        writes(&mut writer, &[0; 1000])?;
     }
-    holds(&rt, usize::MAX - writer.room() == 1_000_000);
+    assert_eq!(rt; usize::MAX - writer.room(), 1_000_000);
+    Ok(())
 }
 
 #[test]
 fn a_slice_behind_its_writer(rt: HostRuntime) {
     let mut space = [0; 3];
-    holds(&rt, fills(&mut space, &[7, 8]));
-    holds(&rt, space == [7, 8, 0]);
-    holds(&rt, !fills(&mut space, &[9; 4]));
-    holds(&rt, space == [7, 8, 0]);
+    assert!(rt; fills(&mut space, &[7, 8]));
+    assert_eq!(rt; space, [7, 8, 0]);
+    assert!(rt; !fills(&mut space, &[9; 4]));
+    assert_eq!(rt; space, [7, 8, 0]);
 }
 
 #[test]
@@ -187,43 +175,19 @@ fn failures(_rt: HostRuntime) {
 #[test]
 fn the_greatest_number(rt: HostRuntime) {
     let bytes = [0x3b, 255, 255, 255, 255, 255, 255, 255, 255];
-    let mut decoder = decoder_of(&bytes);
-    holds(&rt, gives(&mut decoder, Header::Negative(u64::MAX), 9));
+    let mut decoder = Decoder::from(SliceReader::new(&bytes));
+    assert!(rt; gives(&mut decoder, Header::Negative(u64::MAX), 9));
     let mut space = [0; 9];
-    let mut encoder = encoder_to(&mut space);
-    holds(
-        &rt,
-        pushes(&mut encoder, Header::Negative(u64::MAX)).is_ok(),
-    );
-    holds(&rt, encoder.into_inner().written() == bytes.as_slice());
+    let mut encoder = Encoder::from(SliceWriter::new(&mut space));
+    assert!(rt; pushes(&mut encoder, Header::Negative(u64::MAX)).is_ok());
+    assert_eq!(rt; encoder.into_inner().written(), bytes.as_slice());
 }
 
 #[test]
 fn a_cut_title_loses_its_first_byte(rt: HostRuntime) {
-    let mut decoder = decoder_of(&[0x19, 3]);
-    holds(
-        &rt,
-        matches!(next_of(&mut decoder), Err(Error::Io(EndOfFile))),
-    );
-    holds(
-        &rt,
-        decoder.offset() == 1 && gives(&mut decoder, Header::Positive(3), 2),
-    );
-}
-
-// A decoder of bytes. Nothing is known of it, so that the proof of who uses it stays short.
-pub fn decoder_of(bytes: &[u8]) -> Decoder<SliceReader<'_>> {
-    Decoder::from(SliceReader::new(bytes))
-}
-
-// A strict decoder of bytes.
-pub fn strict_decoder_of(bytes: &[u8]) -> Decoder<SliceReader<'_>> {
-    Decoder::strict(SliceReader::new(bytes))
-}
-
-// An encoder into a space.
-pub fn encoder_to(space: &mut [u8]) -> Encoder<SliceWriter<'_>> {
-    Encoder::from(SliceWriter::new(space))
+    let mut decoder = Decoder::from(SliceReader::new(&[0x19, 3]));
+    assert!(rt; matches!(next_of(&mut decoder), Err(Error::Io(EndOfFile))));
+    assert!(rt; decoder.offset() == 1 && gives(&mut decoder, Header::Positive(3), 2));
 }
 
 // Whether these bytes are left behind a decoder.
@@ -231,19 +195,14 @@ pub fn has_left(decoder: Decoder<SliceReader>, left: &[u8]) -> bool {
     decoder.into_inner().left() == left
 }
 
-// Whether those from an offset on are.
-pub fn has_rest(decoder: Decoder<SliceReader>, bytes: &[u8], offset: usize) -> bool {
-    Some(decoder.into_inner().left()) == bytes.get(offset..)
-}
-
 #[test]
 fn a_header_given_back(rt: HostRuntime) {
     // A longer title comes back as the shortest one.
-    let mut decoder = decoder_of(&[0x18, 5, 0]);
-    holds(&rt, gives(&mut decoder, Header::Positive(5), 2));
+    let mut decoder = decoder_over(SliceReader::new(&[0x18, 5, 0]));
+    assert!(rt; gives(&mut decoder, Header::Positive(5), 2));
     gives_back(&rt, &mut decoder, Header::Positive(5), 1);
-    holds(&rt, gives(&mut decoder, Header::Positive(5), 2));
-    holds(&rt, has_left(decoder, &[0]));
+    assert!(rt; gives(&mut decoder, Header::Positive(5), 2));
+    assert!(rt; has_left(decoder, &[0]));
 }
 
 // Whether a header waits in front of the bytes, of which so many are asked for.
@@ -268,14 +227,14 @@ fn gives_no_byte(decoder: &mut Decoder<SliceReader>, offset: usize) -> bool {
 
 #[test]
 fn no_bytes_while_a_header_waits(rt: HostRuntime) {
-    let mut decoder = decoder_of(&[1, 2]);
-    holds(&rt, gives(&mut decoder, Header::Positive(1), 1));
+    let mut decoder = decoder_over(SliceReader::new(&[1, 2]));
+    assert!(rt; gives(&mut decoder, Header::Positive(1), 1));
     gives_back(&rt, &mut decoder, Header::Positive(1), 0);
-    holds(&rt, finds_waiting(&mut decoder, &mut [0; 1]));
-    holds(&rt, finds_waiting(&mut decoder, &mut []));
-    holds(&rt, gives(&mut decoder, Header::Positive(1), 1));
-    holds(&rt, gives_byte(&mut decoder, 2, 2));
-    holds(&rt, gives_no_byte(&mut decoder, 2));
+    assert!(rt; finds_waiting(&mut decoder, &mut [0; 1]));
+    assert!(rt; finds_waiting(&mut decoder, &mut []));
+    assert!(rt; gives(&mut decoder, Header::Positive(1), 1));
+    assert!(rt; gives_byte(&mut decoder, 2, 2));
+    assert!(rt; gives_no_byte(&mut decoder, 2));
 }
 
 // A decoder of bytes that begin so far behind the beginning of all.
@@ -302,38 +261,35 @@ fn is_at_the_end(mut decoder: Decoder<SliceReader>, left: &[u8]) -> bool {
 #[test]
 fn the_greatest_offset(rt: HostRuntime) {
     let mut decoder = far_decoder(&[0], usize::MAX);
-    holds(&rt, pulls_too_far(&mut decoder));
-    holds(&rt, reads_too_far(&mut decoder));
-    holds(&rt, is_at_the_end(decoder, &[0]));
+    assert!(rt; pulls_too_far(&mut decoder));
+    assert!(rt; reads_too_far(&mut decoder));
+    assert!(rt; is_at_the_end(decoder, &[0]));
 
     let mut decoder = far_decoder(&[0x18, 5], usize::MAX - 1);
-    holds(&rt, pulls_too_far(&mut decoder));
-    holds(&rt, is_at_the_end(decoder, &[5]));
+    assert!(rt; pulls_too_far(&mut decoder));
+    assert!(rt; is_at_the_end(decoder, &[5]));
 
     let mut decoder = far_decoder(&[0, 0], usize::MAX - 1);
-    holds(&rt, gives(&mut decoder, Header::Positive(0), usize::MAX));
-    holds(&rt, pulls_too_far(&mut decoder));
-    holds(&rt, is_at_the_end(decoder, &[0]));
+    assert!(rt; gives(&mut decoder, Header::Positive(0), usize::MAX));
+    assert!(rt; pulls_too_far(&mut decoder));
+    assert!(rt; is_at_the_end(decoder, &[0]));
 }
 
 #[test]
 fn a_title_that_does_not_fit(rt: HostRuntime) {
     let mut space = [0; 1];
-    let mut encoder = encoder_to(&mut space);
-    holds(
-        &rt,
-        matches!(pushes(&mut encoder, Header::Positive(24)), Err(OutOfSpace)),
-    );
-    holds(&rt, encoder.into_inner().written() == [0x18].as_slice());
+    let mut encoder = Encoder::from(SliceWriter::new(&mut space));
+    assert!(rt; matches!(pushes(&mut encoder, Header::Positive(24)), Err(OutOfSpace)));
+    assert_eq!(rt; encoder.into_inner().written(), [0x18].as_slice());
 }
 
 // A decoder over any reader.
-pub fn decoder_over<R: Read>(reader: R) -> Decoder<R> {
+fn decoder_over<R: Read>(reader: R) -> Decoder<R> {
     Decoder::from(reader)
 }
 
 // The reader of a decoder.
-pub fn reader_of<R: Read>(decoder: Decoder<R>) -> R {
+fn reader_of<R: Read>(decoder: Decoder<R>) -> R {
     decoder.into_inner()
 }
 
@@ -349,30 +305,26 @@ fn finds_a_waiting_header(outer: &mut Outer<'_>) -> bool {
     matches!(next_of(outer), Err(Error::Io(Error::Waiting)))
 }
 
-// Pulls the last header, and then finds the end.
-fn gives_the_last(outer: &mut Outer<'_>) -> bool {
-    gives(outer, Header::Positive(1), 1) && finds_the_end(outer)
-}
-
 #[test]
 fn a_decoder_over_a_decoder(rt: HostRuntime) {
-    let mut inner = decoder_of(&[0x18, 24, 1]);
-    holds(&rt, gives(&mut inner, Header::Positive(24), 2));
+    let mut inner = decoder_over(SliceReader::new(&[0x18, 24, 1]));
+    assert!(rt; gives(&mut inner, Header::Positive(24), 2));
     let mut outer = decoder_over(inner);
-    holds(&rt, gives_the_last(&mut outer));
+    assert!(rt; gives(&mut outer, Header::Positive(1), 1));
+    assert!(rt; finds_the_end(&mut outer));
     let mut inner = reader_of(outer);
-    holds(&rt, inner.offset() == 3);
+    assert_eq!(rt; inner.offset(), 3);
     gives_back(&rt, &mut inner, Header::Positive(1), 2);
-    holds(&rt, finds_a_waiting_header(&mut decoder_over(inner)));
+    assert!(rt; finds_a_waiting_header(&mut decoder_over(inner)));
 }
 
 // An encoder over any writer.
-pub fn encoder_over<W: Write>(writer: W) -> Encoder<W> {
+fn encoder_over<W: Write>(writer: W) -> Encoder<W> {
     Encoder::from(writer)
 }
 
 // The writer of an encoder.
-pub fn writer_of<W: Write>(encoder: Encoder<W>) -> W {
+fn writer_of<W: Write>(encoder: Encoder<W>) -> W {
     encoder.into_inner()
 }
 
@@ -388,7 +340,7 @@ where
 fn an_encoder_over_an_encoder(rt: HostRuntime) {
     let mut space = [0; 4];
     let mut encoder = encoder_over(encoder_over(SliceWriter::new(&mut space)));
-    holds(&rt, writes_a_string(&mut encoder));
+    assert!(rt; writes_a_string(&mut encoder));
     let writer = writer_of(writer_of(encoder));
-    holds(&rt, writer.written() == [0x43, 1, 2, 3].as_slice());
+    assert!(rt; writer.written() == [0x43, 1, 2, 3].as_slice());
 }

@@ -1,11 +1,10 @@
 ghost use Rattle.std.specs.Prelude.{◌≤◌, All, IsTrue};
 
-use crate::calls::{begins_bytes, begins_text, decoder_of, encoder_to};
-use ciborium_ll::io::{Read, SliceWriter, Write};
+use crate::calls::{begins_bytes, begins_text};
+use ciborium_ll::io::{EndOfFile, OutOfSpace, Read, SliceReader, SliceWriter, Write};
 use ciborium_ll::laws::{Drained, End, drain_bytes, drain_text};
 use ciborium_ll::recode::RecodeError;
-use ciborium_ll::{Bytes, Chunked, Encoder, Error, Segment, Segments, Text};
-use ciborium_ll_fixtures::checks::{holds, holds_at};
+use ciborium_ll::{Bytes, Chunked, Decoder, Encoder, Error, Segment, Segments, Text};
 use std::process::Abort;
 
 // Whether a buffer of 64 bytes is enough for each of these sizes.
@@ -15,24 +14,11 @@ fn fit(sizes: &[usize]) -> bool
     sizes.iter().all(|size| *size <= 64)
 }
 
-// How a drain ended: its chunks or its sizes did, after so many calls, or it found no text in the body at this place.
-#[derive(Clone, Copy, PartialEq, Eq)]
-pub enum Ending {
-    Ended(usize),
-    OutOfSizes(usize),
-    Syntax(usize),
-    Other,
-}
-
-// What the outcome of a drain says.
-fn ending_of<E, F>(outcome: &Result<Drained, RecodeError<E, F>>) -> Ending {
-    match outcome {
-        Ok(drained) => match drained.end {
-            End::Ended => Ending::Ended(drained.calls),
-            End::OutOfSizes => Ending::OutOfSizes(drained.calls),
-        },
-        Err(RecodeError::Read(Error::Syntax(place))) => Ending::Syntax(*place),
-        Err(_) => Ending::Other,
+// A drain ended so, after so many calls.
+fn ends_so<E>(drained: &Result<Drained, E>, calls: usize, end: &End) -> bool {
+    match drained {
+        Ok(drained) => drained.calls == calls && drained.end == *end,
+        Err(_) => false,
     }
 }
 
@@ -56,13 +42,9 @@ pub fn drains_text<R: Read, W: Write>(
     segment: &mut Segment<'_, R, Text>,
     sizes: &[usize],
     sink: &mut Encoder<W>,
-) -> Ending
-where
-    R::Error: Drop,
-    W::Error: Drop,
-{
+) -> Result<Drained, RecodeError<R::Error, W::Error>> {
     assert!(rt; fit(sizes));
-    ending_of(&drain_text(segment, sizes, &mut [0; 64], sink))
+    drain_text(segment, sizes, &mut [0; 64], sink)
 }
 
 // The same of a byte string.
@@ -71,13 +53,9 @@ fn drains_bytes<R: Read, W: Write>(
     segment: &mut Segment<'_, R, Bytes>,
     sizes: &[usize],
     sink: &mut Encoder<W>,
-) -> Ending
-where
-    R::Error: Drop,
-    W::Error: Drop,
-{
+) -> Result<Drained, RecodeError<R::Error, W::Error>> {
     assert!(rt; fit(sizes));
-    ending_of(&drain_bytes(segment, sizes, &mut [0; 64], sink))
+    drain_bytes(segment, sizes, &mut [0; 64], sink)
 }
 
 // Drains a text of a single segment.
@@ -86,20 +64,23 @@ fn drains_whole_text(
     bytes: &[u8],
     sizes: &[usize],
     sink: &mut Encoder<SliceWriter>,
-) -> Ending {
-    let mut decoder = decoder_of(bytes);
+) -> Result<Drained, RecodeError<EndOfFile, OutOfSpace>> {
+    let mut decoder = Decoder::from(SliceReader::new(bytes));
     let length = bytes.len().saturating_sub(1);
     let mut segments = begins_text(rt, &mut decoder, Some(length), 1);
     drains_text(rt, &mut next_segment(rt, &mut segments), sizes, sink)
 }
 
 // Drains a text of a single segment, whose body is written whole, and compares how the drain ended.
-fn text_row(rt: &impl Abort, row: usize, bytes: &[u8], sizes: &[usize], end: Ending) {
+fn text_row(rt: &impl Abort, bytes: &[u8], sizes: &[usize], calls: usize, end: &End) {
     let mut space = [0; 6];
-    let mut sink = encoder_to(&mut space);
-    let is_right = drains_whole_text(rt, bytes, sizes, &mut sink) == end;
+    let mut sink = Encoder::from(SliceWriter::new(&mut space));
+    let drained = drains_whole_text(rt, bytes, sizes, &mut sink);
     let is_written = Some(sink.into_inner().written()) == bytes.get(1..);
-    holds_at(rt, is_right && is_written, row);
+    assert!(rt;
+        ends_so(&drained, calls, end) && is_written,
+        "at {bytes:?}, {sizes:?}"
+    );
 }
 
 // The character U+1F600, and the same between two letters.
@@ -107,57 +88,50 @@ const EMOJI: &[u8] = b"\x64\xf0\x9f\x98\x80";
 
 const LETTERS: &[u8] = b"\x66a\xf0\x9f\x98\x80b";
 
-// A text in its bytes, the sizes of the buffers, and how the drain ends.
-type Row = (&'static [u8], &'static [usize], Ending);
+// A text in its bytes, the sizes of the buffers, how many calls there are, and how the drain ends.
+type Row = (&'static [u8], &'static [usize], usize, End);
 
 static TEXTS: [Row; 8] = [
-    (EMOJI, &[4], Ending::OutOfSizes(1)),
-    (EMOJI, &[4, 4], Ending::Ended(2)),
-    (EMOJI, &[3, 3, 4, 4], Ending::Ended(4)),
-    (LETTERS, &[4, 4, 4, 4, 4], Ending::Ended(4)),
-    (LETTERS, &[5, 5, 5, 5, 5], Ending::Ended(3)),
-    (LETTERS, &[64, 64], Ending::Ended(2)),
-    (b"\x60", &[4], Ending::Ended(1)),
-    (b"\x60", &[], Ending::OutOfSizes(0)),
+    (EMOJI, &[4], 1, End::OutOfSizes),
+    (EMOJI, &[4, 4], 2, End::Ended),
+    (EMOJI, &[3, 3, 4, 4], 4, End::Ended),
+    (LETTERS, &[4, 4, 4, 4, 4], 4, End::Ended),
+    (LETTERS, &[5, 5, 5, 5, 5], 3, End::Ended),
+    (LETTERS, &[64, 64], 2, End::Ended),
+    (b"\x60", &[4], 1, End::Ended),
+    (b"\x60", &[], 0, End::OutOfSizes),
 ];
 
 #[test]
 fn texts_by_any_sizes(rt: HostRuntime) {
-    for (row, &(bytes, sizes, end)) in TEXTS.iter().enumerate() {
-        text_row(&rt, row, bytes, sizes, end);
+    for (bytes, sizes, calls, end) in &TEXTS {
+        text_row(&rt, bytes, sizes, *calls, end);
     }
 }
 
 #[test]
 fn a_body_that_is_no_text(rt: HostRuntime) {
     let mut space = [0; 6];
-    let mut sink = encoder_to(&mut space);
-    let ending = drains_whole_text(&rt, b"\x62a\xff", &[4, 4], &mut sink);
-    holds(&rt, ending == Ending::Syntax(0));
-    holds(&rt, sink.into_inner().written() == b"a".as_slice());
+    let mut sink = Encoder::from(SliceWriter::new(&mut space));
+    let drained = drains_whole_text(&rt, b"\x62a\xff", &[4, 4], &mut sink);
+    assert!(rt; matches!(drained, Err(RecodeError::Read(Error::Syntax(0)))));
+    assert!(rt; sink.into_inner().written() == b"a".as_slice());
 }
 
-// Drains a byte string of a single segment.
-fn drains_whole_bytes(rt: &impl Abort, sizes: &[usize], sink: &mut Encoder<SliceWriter>) -> Ending {
-    let mut decoder = decoder_of(b"\x43\x01\x02\x03");
-    let mut segments = begins_bytes(rt, &mut decoder, Some(3), 1);
-    drains_bytes(rt, &mut next_segment(rt, &mut segments), sizes, sink)
-}
-
-// Whether a drain of these bytes ends so, and writes this.
-fn bytes_end_so(rt: &impl Abort, sizes: &[usize], want: &[u8], end: Ending) -> bool {
+// Drains a byte string of a single segment, and compares how the drain ended, and what was written.
+fn bytes_row(rt: &impl Abort, sizes: &[usize], want: &[u8], calls: usize, end: &End) {
     let mut space = [0; 3];
-    let mut sink = encoder_to(&mut space);
-    let is_right = drains_whole_bytes(rt, sizes, &mut sink) == end;
-    sink.into_inner().written() == want && is_right
+    let mut decoder = Decoder::from(SliceReader::new(b"\x43\x01\x02\x03"));
+    let mut sink = Encoder::from(SliceWriter::new(&mut space));
+    let mut segments = begins_bytes(rt, &mut decoder, Some(3), 1);
+    let drained = drains_bytes(rt, &mut next_segment(rt, &mut segments), sizes, &mut sink);
+    let is_written = sink.into_inner().written() == want;
+    assert!(rt; ends_so(&drained, calls, end) && is_written, "by {sizes:?}");
 }
 
 #[test]
 fn bytes_by_any_sizes(rt: HostRuntime) {
-    holds(
-        &rt,
-        bytes_end_so(&rt, &[2, 2, 2], &[1, 2, 3], Ending::Ended(3)),
-    );
-    holds(&rt, bytes_end_so(&rt, &[0, 0], &[], Ending::OutOfSizes(2)));
-    holds(&rt, bytes_end_so(&rt, &[2], &[1, 2], Ending::OutOfSizes(1)));
+    bytes_row(&rt, &[2, 2, 2], &[1, 2, 3], 3, &End::Ended);
+    bytes_row(&rt, &[0, 0], &[], 2, &End::OutOfSizes);
+    bytes_row(&rt, &[2], &[1, 2], 1, &End::OutOfSizes);
 }

@@ -1,6 +1,5 @@
 // The table of first bytes, counted.
 
-use ciborium_ll_fixtures::checks::holds_at;
 use ciborium_ll_grammar::hdr::table::{Affix, Row, TitleKind, row_of};
 
 // How many bytes of its title stand behind a first byte, if one begins with it. A row that says both that a title
@@ -39,7 +38,7 @@ fn first_bytes_by_what_stands_behind_them(rt: HostRuntime) {
         (Some(8), 8),
         (None, 27),
     ];
-    for (row, (length, want)) in rows.iter().enumerate() {
-        holds_at(&rt, rows_with(*length) == *want, row);
+    for (length, want) in rows {
+        assert_eq!(rt; rows_with(length), want);
     }
 }

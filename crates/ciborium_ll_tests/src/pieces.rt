@@ -1,8 +1,7 @@
-use crate::calls::{decoder_of, encoder_to, has_left};
-use ciborium_ll::io::{OutOfSpace, Write};
+use ciborium_ll::io::{OutOfSpace, SliceReader, SliceWriter, Write};
 use ciborium_ll::laws::{self, Piece};
-use ciborium_ll::{Encoder, Header};
-use ciborium_ll_fixtures::checks::holds;
+use ciborium_ll::{Decoder, Encoder, Header};
+use std::test::Fail;
 
 const WRITTEN: &[u8] = b"\x82\x5f\x42\x01\x02\x41\x03\xff\x7f\x62\xc3\xa9\x63\xe2\x82\xac\xff";
 
@@ -17,34 +16,32 @@ fn writes_array<W: Write>(encoder: &mut Encoder<W>) -> Result<(), W::Error> {
 }
 
 #[test]
-fn pieces_are_written_one_by_one(rt: HostRuntime) {
+fn pieces_are_written_one_by_one(rt: HostRuntime) -> Result<(), Fail> {
     let mut space = [0; 17];
-    let mut encoder = encoder_to(&mut space);
-    holds(&rt, writes_array(&mut encoder).is_ok());
-    holds(&rt, laws::write_pieces(&mut encoder, &[]).is_ok());
-    holds(&rt, encoder.into_inner().written() == WRITTEN);
+    let mut encoder = Encoder::from(SliceWriter::new(&mut space));
+    writes_array(&mut encoder)?;
+    laws::write_pieces(&mut encoder, &[])?;
+    assert_eq!(rt; encoder.into_inner().written(), WRITTEN);
+    Ok(())
 }
 
 #[test]
 fn pieces_that_do_not_fit(rt: HostRuntime) {
     let mut space = [0; 16];
-    let mut encoder = encoder_to(&mut space);
-    holds(&rt, matches!(writes_array(&mut encoder), Err(OutOfSpace)));
-    holds(
-        &rt,
-        WRITTEN.strip_prefix(encoder.into_inner().written()) == Some([0xff].as_slice()),
-    );
+    let mut encoder = Encoder::from(SliceWriter::new(&mut space));
+    assert!(rt; matches!(writes_array(&mut encoder), Err(OutOfSpace)));
+    assert!(rt; WRITTEN.strip_prefix(encoder.into_inner().written()) == Some([0xff].as_slice()));
 }
 
 #[test]
 fn what_was_written_is_copied(rt: HostRuntime) {
     let mut space = [0; 18];
-    let mut decoder = decoder_of(
+    let mut decoder = Decoder::from(SliceReader::new(
         b"\x82\x5f\x42\x01\x02\x41\x03\xff\x7f\x62\xc3\xa9\x63\xe2\x82\xac\xff\x00",
-    );
-    let mut encoder = encoder_to(&mut space);
+    ));
+    let mut encoder = Encoder::from(SliceWriter::new(&mut space));
     let copied = laws::copy_spelled(&mut decoder, &mut encoder, 3, &mut [0; 4]);
-    holds(&rt, copied.is_ok());
-    holds(&rt, encoder.into_inner().written() == WRITTEN);
-    holds(&rt, has_left(decoder, &[0]));
+    assert!(rt; copied.is_ok());
+    assert_eq!(rt; encoder.into_inner().written(), WRITTEN);
+    assert_eq!(rt; decoder.into_inner().left(), [0].as_slice());
 }

@@ -1,6 +1,8 @@
-use crate::calls::{begins_text, decoder_of, encoder_to};
-use crate::drains::{Ending, drains_text, next_segment};
-use ciborium_ll_fixtures::checks::holds_for;
+use crate::calls::begins_text;
+use crate::drains::{drains_text, next_segment};
+use ciborium_ll::io::{SliceReader, SliceWriter};
+use ciborium_ll::laws::End;
+use ciborium_ll::{Decoder, Encoder};
 use simdutf8::basic;
 use std::process::Abort;
 
@@ -13,12 +15,12 @@ const BYTES: [u8; 20] = [
 // Whether the text of this length that the bytes are is read to its end, by buffers of four bytes.
 fn ends(rt: &impl Abort, bytes: &[u8], length: usize) -> bool {
     let mut written = [0; 4];
-    let mut decoder = decoder_of(bytes);
-    let mut sink = encoder_to(&mut written);
+    let mut decoder = Decoder::from(SliceReader::new(bytes));
+    let mut sink = Encoder::from(SliceWriter::new(&mut written));
     let mut segments = begins_text(rt, &mut decoder, Some(length), 1);
     let mut segment = next_segment(rt, &mut segments);
-    let ending = drains_text(rt, &mut segment, &[4; 6], &mut sink);
-    matches!(ending, Ending::Ended(_))
+    let drained = drains_text(rt, &mut segment, &[4; 6], &mut sink);
+    matches!(drained, Ok(drained) if drained.end == End::Ended)
 }
 
 // The title of a text of this length, at most four, and the bytes that are the digits of a number by 20.
@@ -35,7 +37,7 @@ fn list_of(length: u8, number: usize) -> [u8; 5] {
 // A list of bytes ends as a text where it is one.
 fn list_row(rt: &impl Abort, bytes: &[u8], length: usize) {
     let is_text = basic::from_utf8(bytes.get(1..).unwrap_or(&[])).is_ok();
-    holds_for(rt, ends(rt, bytes, length) == is_text, bytes);
+    assert!(rt; ends(rt, bytes, length) == is_text, "{bytes:?}");
 }
 
 #[test]

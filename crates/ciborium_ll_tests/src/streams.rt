@@ -1,9 +1,6 @@
-use crate::calls::{
-    decoder_over, encoder_over, flushes, gives, pushes, reader_of, reads, writer_of, writes,
-};
-use ciborium_ll::Header;
+use crate::calls::{flushes, pulls, pushes, reads, writes};
 use ciborium_ll::io::{ReadFault, StdReader, StdWriter, Write, WriteFault};
-use ciborium_ll_fixtures::checks::holds;
+use ciborium_ll::{Decoder, Encoder, Header};
 use ciborium_ll_fixtures::streams::{PartReader, PartWriter};
 use std::alloc::Global;
 use std::io;
@@ -79,13 +76,13 @@ fn flushes_std<T: io::Write>(writer: &mut StdWriter<T>) -> Failure {
 // No contract says that a read over std succeeds. An adapter that always answered `End` would fail here.
 #[test]
 fn a_reader_in_memory(rt: HostRuntime) {
-    let mut decoder = decoder_over(StdReader::new([0x18, 24, 1, 2].as_slice()));
-    holds(&rt, gives(&mut decoder, Header::Positive(24), 2));
+    let mut decoder = Decoder::from(StdReader::new([0x18, 24, 1, 2].as_slice()));
+    pulls(&rt, &mut decoder, Header::Positive(24), 2);
     let mut one = [0; 1];
-    holds(&rt, reads(&mut decoder, &mut one).is_ok());
-    holds(&rt, one == [1]);
-    let left = reader_of(decoder).into_inner();
-    holds(&rt, left == [2].as_slice());
+    assert!(rt; reads(&mut decoder, &mut one).is_ok());
+    assert_eq!(rt; one, [1]);
+    let left = decoder.into_inner().into_inner();
+    assert_eq!(rt; left, [2].as_slice());
 }
 
 #[test]
@@ -94,17 +91,14 @@ fn one_byte_a_read(rt: HostRuntime) {
     let inner = PartReader::new(&[1, 2, 3, 4], 1).failing_at(4, interrupted);
     let mut reader = StdReader::new(inner);
     let mut two = [0; 2];
-    holds(&rt, reads_std(&mut reader, &mut two) == Failure::Never);
-    holds(&rt, two == [1, 2]);
-    holds(&rt, reads_std(&mut reader, &mut []) == Failure::Never);
-    holds(
-        &rt,
-        reads_std(&mut reader, &mut two) == Failure::Failed(interrupted),
-    );
-    holds(&rt, reads_std(&mut reader, &mut two) == Failure::Stopped);
+    assert!(rt; reads_std(&mut reader, &mut two) == Failure::Never);
+    assert!(rt; two == [1, 2]);
+    assert!(rt; reads_std(&mut reader, &mut []) == Failure::Never);
+    assert!(rt; reads_std(&mut reader, &mut two) == Failure::Failed(interrupted));
+    assert!(rt; reads_std(&mut reader, &mut two) == Failure::Stopped);
     let inner = reader.into_inner();
-    holds(&rt, inner.calls == 6);
-    holds(&rt, inner.left.is_empty());
+    assert_eq!(rt; inner.calls, 6);
+    assert!(rt; inner.left.is_empty());
 }
 
 // A read of a reader that fails, and how many calls came to it.
@@ -132,8 +126,8 @@ fn an_error_of_std_is_handed_on(rt: HostRuntime) {
         io::ErrorKind::Other,
     ] {
         let failed = Failure::Failed(kind);
-        holds(&rt, failed_read(kind) == (failed, 1));
-        holds(&rt, failed_write(kind) == (failed, failed, 2));
+        assert!(rt; failed_read(kind) == (failed, 1));
+        assert!(rt; failed_write(kind) == (failed, failed, 2));
     }
 }
 
@@ -154,20 +148,20 @@ fn writes_all(alloc: Global, bytes: &[u8]) -> bool {
 fn more_than_a_million_bytes(rt: HostRuntime) -> Result<(), Fail> {
     let bytes = vec![in rt.alloc(); 7u8; 1_100_000]?;
     let mut data = vec![in rt.alloc(); 0u8; 1_100_000]?;
-    holds(&rt, reads_all(bytes.as_slice(), data.as_mut_slice()));
-    holds(&rt, data.as_slice() == bytes.as_slice());
-    holds(&rt, writes_all(rt.alloc(), bytes.as_slice()));
+    assert!(rt; reads_all(bytes.as_slice(), data.as_mut_slice()));
+    assert!(rt; data.as_slice() == bytes.as_slice());
+    assert!(rt; writes_all(rt.alloc(), bytes.as_slice()));
     Ok(())
 }
 
 // Nor that a write does. An adapter that always answered `Zero` would fail here.
 #[test]
 fn a_writer_in_memory(rt: HostRuntime) {
-    let mut encoder = encoder_over(StdWriter::new(Vec::new(rt.alloc())));
-    holds(&rt, pushes(&mut encoder, Header::Bytes(Some(2))).is_ok());
-    holds(&rt, writes(&mut encoder, &[1, 2]).is_ok());
-    let taken = writer_of(encoder).into_inner();
-    holds(&rt, taken.as_slice() == [0x42, 1, 2].as_slice());
+    let mut encoder = Encoder::from(StdWriter::new(Vec::new(rt.alloc())));
+    assert!(rt; pushes(&mut encoder, Header::Bytes(Some(2))).is_ok());
+    assert!(rt; writes(&mut encoder, &[1, 2]).is_ok());
+    let taken = encoder.into_inner().into_inner();
+    assert_eq!(rt; taken.as_slice(), [0x42, 1, 2].as_slice());
 }
 
 // What a writer took, in how many calls and flushes.
@@ -180,27 +174,21 @@ fn one_byte_a_write(rt: HostRuntime) {
     let interrupted = io::ErrorKind::Interrupted;
     let inner = PartWriter::new(rt.alloc(), 1).within(4);
     let mut writer = StdWriter::new(inner.failing_at(4, Some(interrupted)));
-    holds(&rt, writes_std(&mut writer, &[1, 2]) == Failure::Never);
-    holds(&rt, writes_std(&mut writer, &[]) == Failure::Never);
-    holds(
-        &rt,
-        writes_std(&mut writer, &[3, 4]) == Failure::Failed(interrupted),
-    );
-    holds(&rt, writes_std(&mut writer, &[5, 6]) == Failure::Stopped);
-    holds(&rt, came_to(&writer.into_inner(), &[1, 2, 3, 5], (6, 0)));
+    assert!(rt; writes_std(&mut writer, &[1, 2]) == Failure::Never);
+    assert!(rt; writes_std(&mut writer, &[]) == Failure::Never);
+    assert!(rt; writes_std(&mut writer, &[3, 4]) == Failure::Failed(interrupted));
+    assert!(rt; writes_std(&mut writer, &[5, 6]) == Failure::Stopped);
+    assert!(rt; came_to(&writer.into_inner(), &[1, 2, 3, 5], (6, 0)));
 }
 
 #[test]
 fn a_flush_is_passed_on(rt: HostRuntime) {
     let mut writer = StdWriter::new(PartWriter::new(rt.alloc(), 1));
-    holds(&rt, flushes_std(&mut writer) == Failure::Never);
+    assert!(rt; flushes_std(&mut writer) == Failure::Never);
     let inner = writer.into_inner();
-    holds(&rt, (inner.calls, inner.flushes) == (0, 1));
+    assert_eq!(rt; (inner.calls, inner.flushes), (0, 1));
 
     let mut writer = StdWriter::new(inner.failing_to_flush());
-    holds(
-        &rt,
-        flushes_std(&mut writer) == Failure::Failed(io::ErrorKind::Other),
-    );
-    holds(&rt, writer.into_inner().flushes == 2);
+    assert!(rt; flushes_std(&mut writer) == Failure::Failed(io::ErrorKind::Other));
+    assert_eq!(rt; writer.into_inner().flushes, 2);
 }

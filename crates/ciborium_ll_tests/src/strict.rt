@@ -1,11 +1,10 @@
-use crate::calls::{begins_bytes, decoder_of, encoder_to, gives, gives_back, strict_decoder_of};
+use crate::calls::{begins_bytes, gives, gives_back};
 use crate::elements::{Stop, recodes};
 use crate::strings::refused_at;
 use crate::vectors::{Next, next_header};
-use ciborium_ll::io::SliceReader;
+use ciborium_ll::io::{SliceReader, SliceWriter};
 use ciborium_ll::recode::strict_len;
-use ciborium_ll::{Decoder, Header};
-use ciborium_ll_fixtures::checks::{holds, holds_at, holds_for};
+use ciborium_ll::{Decoder, Encoder, Header};
 use ciborium_ll_fixtures::samples::VECTORS;
 use std::process::Abort;
 use std::test::Fail;
@@ -20,8 +19,8 @@ fn copies_strictly(
     offset: usize,
 ) -> bool {
     let mut space = [0; 16];
-    let mut decoder = strict_decoder_of(bytes);
-    let mut encoder = encoder_to(&mut space);
+    let mut decoder = Decoder::strict(SliceReader::new(bytes));
+    let mut encoder = Encoder::from(SliceWriter::new(&mut space));
     let stopped = recodes(rt, &mut decoder, &mut encoder, count, &mut [0; 64]);
     let is_written = encoder.into_inner().written() == written;
     is_written && stopped == end && decoder.offset() == offset
@@ -41,7 +40,7 @@ fn copy_rows(rt: &impl Abort, rows: &[Row]) {
         let is_copied = copies_strictly(rt, bytes, count, written, end, offset);
         let want = (end == Stop::Never).then_some(offset);
         let is_long = length_of(bytes, count) == want;
-        holds_for(rt, is_copied && is_long, bytes);
+        assert!(rt; is_copied && is_long, "at {bytes:?}");
     }
 }
 
@@ -99,10 +98,10 @@ fn a_body_of_many_chunks(rt: HostRuntime) {
     let mut bytes = [0; 300];
     bytes[0] = 0x58;
     bytes[1] = 250;
-    holds(&rt, length_of(&bytes, 1) == Some(252));
-    holds(&rt, length_of(&bytes, 49) == Some(300));
-    holds(&rt, length_of(&bytes, 50).is_none());
-    holds(&rt, length_of(&bytes[..251], 1).is_none());
+    assert!(rt; length_of(&bytes, 1) == Some(252));
+    assert!(rt; length_of(&bytes, 49) == Some(300));
+    assert!(rt; length_of(&bytes, 50).is_none());
+    assert!(rt; length_of(&bytes[..251], 1).is_none());
 }
 
 // The numbers of bytes that an affix has, and what the first byte of a title says of each.
@@ -128,11 +127,11 @@ fn longer_title(first: u8, number: &[u8], size: usize) -> [u8; 9] {
 // Pulls a title by a decoder of either kind: the header, where it is taken whole.
 fn pulled(rt: &impl Abort, mut decoder: Decoder<SliceReader>, title: &[u8]) -> Option<Header> {
     let answer = next_header(&mut decoder);
-    holds_for(rt, decoder.offset() == title.len(), title);
+    assert_eq!(rt; decoder.offset(), title.len(), "at {title:?}");
     match answer {
         Next::Header(header) => Some(header),
         _ => {
-            holds_for(rt, answer == Next::Syntax(0), title);
+            assert!(rt; answer == Next::Syntax(0), "at {title:?}");
             None
         }
     }
@@ -140,15 +139,15 @@ fn pulled(rt: &impl Abort, mut decoder: Decoder<SliceReader>, title: &[u8]) -> O
 
 // What a decoder of either kind gives for a title.
 fn both_pulled(rt: &impl Abort, title: &[u8]) -> (Option<Header>, Option<Header>) {
-    let plain = pulled(rt, decoder_of(title), title);
-    let strict = pulled(rt, strict_decoder_of(title), title);
+    let plain = pulled(rt, Decoder::from(SliceReader::new(title)), title);
+    let strict = pulled(rt, Decoder::strict(SliceReader::new(title)), title);
     (plain, strict)
 }
 
 // Compares what decoders of both kinds give for a title.
 fn title_row(rt: &impl Abort, title: &[u8], plain: Header, strict: Option<Header>) {
     let is_right = both_pulled(rt, title) == (Some(plain), strict);
-    holds_for(rt, is_right, title);
+    assert!(rt; is_right, "at {title:?}");
 }
 
 // No strict decoder takes a longer title of a header, and another one takes each. It tells how many there are.
@@ -190,7 +189,7 @@ fn vectors_and_their_longer_titles(rt: HostRuntime) -> Result<(), Fail> {
         all = all.saturating_add(vector_row(&rt, shortest.as_slice(), header));
     }
     // The titles of numbers that are a byte have four longer ones, and so on; simple values in one byte have one.
-    holds(&rt, all == 80);
+    assert_eq!(rt; all, 80);
     Ok(())
 }
 
@@ -213,7 +212,7 @@ fn is_strict(first: u8, second: Option<u8>) -> bool {
 // Copies one element, and says whether that succeeds and writes just what it consumes.
 fn is_copied(rt: &impl Abort, mut decoder: Decoder<SliceReader>, bytes: &[u8]) -> (bool, bool) {
     let mut space = [0; 2];
-    let mut encoder = encoder_to(&mut space);
+    let mut encoder = Encoder::from(SliceWriter::new(&mut space));
     let stopped = recodes(rt, &mut decoder, &mut encoder, 1, &mut [0; 4]);
     let writer = encoder.into_inner();
     let written = writer.written();
@@ -223,13 +222,13 @@ fn is_copied(rt: &impl Abort, mut decoder: Decoder<SliceReader>, bytes: &[u8]) -
 
 // Compares both decoders on a list of one byte or two.
 fn both_decoders(rt: &impl Abort, bytes: &[u8], first: u8, second: Option<u8>) {
-    let (plain, is_plain_same) = is_copied(rt, decoder_of(bytes), bytes);
-    let (strict, is_same) = is_copied(rt, strict_decoder_of(bytes), bytes);
+    let (plain, is_plain_same) = is_copied(rt, Decoder::from(SliceReader::new(bytes)), bytes);
+    let (strict, is_same) = is_copied(rt, Decoder::strict(SliceReader::new(bytes)), bytes);
     let is_small = first == 0xf8 && matches!(second, Some(24..=31));
     let is_plain = strict == (plain && is_plain_same && !is_small);
     let is_right = strict == is_strict(first, second) && is_plain && (!strict || is_same);
     let is_long = length_of(bytes, 1).is_some() == strict;
-    holds_for(rt, is_right && is_long, bytes);
+    assert!(rt; is_right && is_long, "at {bytes:?}");
 }
 
 #[test]
@@ -252,15 +251,15 @@ fn answer_of(mut decoder: Decoder<SliceReader>) -> (Next, usize) {
 // each title that is one is the shortest.
 fn neither_takes(rt: &impl Abort, first: u8) -> bool {
     let bytes = [first, 0xff, 0xff, 0xff, 0xff, 0xff, 0xff, 0xff, 0xff];
-    let (plain, offset) = answer_of(decoder_of(&bytes));
-    let (strict, strict_offset) = answer_of(strict_decoder_of(&bytes));
+    let (plain, offset) = answer_of(Decoder::from(SliceReader::new(&bytes)));
+    let (strict, strict_offset) = answer_of(Decoder::strict(SliceReader::new(&bytes)));
     let is_taken = matches!(plain, Next::Header(_));
     let is_told = if is_taken {
         matches!(strict, Next::Header(_))
     } else {
         strict == Next::Syntax(0)
     };
-    holds_at(rt, is_told && strict_offset == offset, usize::from(first));
+    assert!(rt; is_told && strict_offset == offset, "at {first}");
     !is_taken
 }
 
@@ -270,26 +269,26 @@ fn first_bytes_that_neither_takes(rt: HostRuntime) {
     for first in 0..=u8::MAX {
         refused = refused.saturating_add(usize::from(neither_takes(&rt, first)));
     }
-    holds(&rt, refused == 27);
+    assert_eq!(rt; refused, 27);
 }
 
 // Asks a string of indefinite length twice for a segment, where a further open stands.
 fn refuses_an_open(rt: &impl Abort, bytes: &[u8]) {
-    let mut decoder = strict_decoder_of(bytes);
+    let mut decoder = Decoder::strict(SliceReader::new(bytes));
     let mut segments = begins_bytes(rt, &mut decoder, None, 1);
     for _ in 0..2 {
-        holds(rt, refused_at(&mut segments) == Some(1));
+        assert!(rt; refused_at(&mut segments) == Some(1));
     }
-    holds(rt, decoder.offset() == 2);
+    assert!(rt; decoder.offset() == 2);
 }
 
 // Gives back a header that a strict decoder would not take, and pulls it again.
 fn takes_what_was_pushed(rt: &impl Abort, bytes: &[u8]) {
     let small = Header::Simple(24);
-    let mut decoder = strict_decoder_of(bytes);
-    holds(rt, gives(&mut decoder, Header::Positive(24), 2));
+    let mut decoder = Decoder::strict(SliceReader::new(bytes));
+    assert!(rt; gives(&mut decoder, Header::Positive(24), 2));
     gives_back(rt, &mut decoder, small, 0);
-    holds(rt, gives(&mut decoder, small, 2));
+    assert!(rt; gives(&mut decoder, small, 2));
 }
 
 #[test]

@@ -1,8 +1,7 @@
-use crate::calls::{begins_bytes, begins_text, decoder_of, gives, has_left};
+use crate::calls::{begins_bytes, begins_text, gives, has_left};
 use crate::drains::next_segment;
-use ciborium_ll::io::Read;
+use ciborium_ll::io::{Read, SliceReader};
 use ciborium_ll::{Bytes, Decoder, Error, Header, Segment, Segments, Text};
-use ciborium_ll_fixtures::checks::{holds, holds_at, holds_for};
 use std::process::Abort;
 
 // What a call on a segment of text answers.
@@ -25,21 +24,13 @@ impl Answer {
     }
 }
 
-// The next chunk of a segment of text.
-fn chunk_of<'a, R: Read>(
-    segment: &mut Segment<'_, R, Text>,
-    buffer: &'a mut [u8],
-) -> Result<Option<&'a str>, Error<R::Error>> {
-    segment.pull(buffer)
-}
-
 // Pulls from a segment of text by a buffer of at most eight bytes, and compares the answer.
 fn pulls_chunk<R: Read>(segment: &mut Segment<'_, R, Text>, size: usize, want: Answer) -> bool
 where
     R::Error: Drop,
 {
     let mut space = [0; 8];
-    match chunk_of(segment, &mut space[..size.min(8)]) {
+    match segment.pull(&mut space[..size.min(8)]) {
         Ok(Some(chunk)) => want.is_chunk(chunk),
         Ok(None) => matches!(want, Answer::Ended),
         Err(Error::Syntax(place)) => want.is_damage(place),
@@ -49,13 +40,13 @@ where
 
 // Reads the only segment of a text by buffers of these sizes, and compares answers and what is left.
 fn text_row(rt: &impl Abort, bytes: &[u8], length: usize, steps: &[(usize, Answer, usize)]) {
-    let mut decoder = decoder_of(bytes);
+    let mut decoder = Decoder::from(SliceReader::new(bytes));
     let mut segments = begins_text(rt, &mut decoder, Some(length), 1);
     let mut segment = next_segment(rt, &mut segments);
-    holds_for(rt, segment.left() == length, bytes);
+    assert!(rt; segment.left() == length, "at {bytes:?}");
     for &(size, want, left) in steps {
         let is_right = pulls_chunk(&mut segment, size, want) && segment.left() == left;
-        holds_at(rt, is_right, size);
+        assert!(rt; is_right, "by a buffer of {size}");
     }
 }
 
@@ -109,10 +100,10 @@ where
 
 #[test]
 fn segments_that_are_never_asked_for(rt: HostRuntime) {
-    let mut decoder = decoder_of(&[0x58, 5, 1, 2, 3, 4, 5]);
+    let mut decoder = Decoder::from(SliceReader::new(&[0x58, 5, 1, 2, 3, 4, 5]));
     asks_for_segments(&rt, &mut decoder, Some(5), 2);
-    holds(&rt, decoder.offset() == 1 && decoder.is_waiting());
-    holds(&rt, gives(&mut decoder, Header::Bytes(Some(5)), 2));
+    assert!(rt; decoder.offset() == 1 && decoder.is_waiting());
+    assert!(rt; gives(&mut decoder, Header::Bytes(Some(5)), 2));
 }
 
 // Pulls a byte from a segment by a buffer of one byte, and compares it.
@@ -141,11 +132,11 @@ where
     R::Error: Drop,
 {
     let mut segment = next_segment(rt, segments);
-    holds_for(rt, segment.left() == body.len(), body);
+    assert!(rt; segment.left() == body.len(), "at {body:?}");
     for byte in body {
-        holds_at(rt, pulls_byte(&mut segment, *byte), usize::from(*byte));
+        assert!(rt; pulls_byte(&mut segment, *byte), "at {byte}");
     }
-    holds_for(rt, segment_ends(&mut segment), body);
+    assert!(rt; segment_ends(&mut segment), "at {body:?}");
 }
 
 // Asks for a segment behind the last one.
@@ -173,19 +164,19 @@ where
         reads_next(rt, segments, body);
     }
     for _ in 0..2 {
-        holds(rt, has_ended(segments));
+        assert!(rt; has_ended(segments));
     }
-    holds(rt, has_no_body(segments));
+    assert!(rt; has_no_body(segments));
 }
 
 #[test]
 fn bodies_of_nested_strings(rt: HostRuntime) {
     let bytes = [0x5f, 0x5f, 0x41, 1, 0xff, 0x41, 2, 0xff, 0];
-    let mut decoder = decoder_of(&bytes);
+    let mut decoder = Decoder::from(SliceReader::new(&bytes));
     let mut segments = begins_bytes(&rt, &mut decoder, None, 1);
     reads_bodies(&rt, &mut segments, &[&[1], &[2]]);
-    holds(&rt, decoder.offset() == 8);
-    holds(&rt, has_left(decoder, &[0]));
+    assert!(rt; decoder.offset() == 8);
+    assert!(rt; has_left(decoder, &[0]));
 }
 
 // Pulls a segment, and drops it. It tells how long its body is.
@@ -225,19 +216,19 @@ where
     R::Error: Drop,
 {
     for _ in 0..dropped {
-        holds(rt, dropped_len(segments) == Some(3));
+        assert!(rt; dropped_len(segments) == Some(3));
     }
     for _ in 0..2 {
-        holds(rt, refused_at(segments) == Some(place));
+        assert!(rt; refused_at(segments) == Some(place));
     }
 }
 
 // Reads a byte string of the indefinite form as `finds_no_segment` does, and compares the offset behind that.
 fn no_segment_row(rt: &impl Abort, bytes: &[u8], dropped: usize, place: usize, offset: usize) {
-    let mut decoder = decoder_of(bytes);
+    let mut decoder = Decoder::from(SliceReader::new(bytes));
     let mut segments = begins_bytes(rt, &mut decoder, None, 1);
     finds_no_segment(rt, &mut segments, dropped, place);
-    holds_for(rt, decoder.offset() == offset, bytes);
+    assert!(rt; decoder.offset() == offset, "at {bytes:?}");
 }
 
 #[test]
@@ -260,18 +251,18 @@ where
     let Ok(Some(body)) = segments.advance() else {
         panic!(rt; "no body");
     };
-    holds(rt, (body.length, body.place) == (want.len(), place));
+    assert!(rt; (body.length, body.place) == (want.len(), place));
     let mut segment = segments.segment(body);
-    holds(rt, pulls_chunk(&mut segment, 8, Answer::Chunk(want)));
-    holds(rt, segment.left() == 0);
+    assert!(rt; pulls_chunk(&mut segment, 8, Answer::Chunk(want)));
+    assert!(rt; segment.left() == 0);
 }
 
 #[test]
 fn a_body_by_length_and_place(rt: HostRuntime) {
-    let mut decoder = decoder_of(b"\x7f\x7f\x62\xc3\xa9\xff\xff");
+    let mut decoder = Decoder::from(SliceReader::new(b"\x7f\x7f\x62\xc3\xa9\xff\xff"));
     let mut segments = begins_text(&rt, &mut decoder, None, 1);
     reads_body(&rt, &mut segments, 2, "\u{e9}");
-    holds(&rt, decoder.offset() == 5);
+    assert!(rt; decoder.offset() == 5);
 }
 
 #[test]

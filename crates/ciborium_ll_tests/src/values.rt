@@ -1,7 +1,7 @@
-use crate::calls::{encoder_to, writes};
-use ciborium_ll::io::{OutOfSpace, Write};
+use crate::calls::writes;
+use ciborium_ll::io::{OutOfSpace, SliceWriter, Write};
 use ciborium_ll::{Encoder, Header};
-use ciborium_ll_fixtures::checks::holds;
+use std::test::Fail;
 
 const HELLO: &[u8] = b"\xa1\x07\x7f\x67Hello, \x66World!\xff";
 
@@ -19,32 +19,31 @@ fn counts<W: Write>(encoder: &mut Encoder<W>) -> Result<(), W::Error> {
 }
 
 #[test]
-fn a_map_with_a_text(rt: HostRuntime) {
+fn a_map_with_a_text(rt: HostRuntime) -> Result<(), Fail> {
     let mut space = [0; 19];
-    let mut encoder = encoder_to(&mut space);
-    holds(&rt, says_hello(&mut encoder).is_ok());
-    holds(&rt, encoder.into_inner().written() == HELLO);
+    let mut encoder = Encoder::from(SliceWriter::new(&mut space));
+    says_hello(&mut encoder)?;
+    assert_eq!(rt; encoder.into_inner().written(), HELLO);
+    Ok(())
 }
 
 #[test]
 fn a_map_with_a_text_that_does_not_fit(rt: HostRuntime) {
     let mut space = [0; 18];
-    let mut encoder = encoder_to(&mut space);
-    holds(&rt, matches!(says_hello(&mut encoder), Err(OutOfSpace)));
+    let mut encoder = Encoder::from(SliceWriter::new(&mut space));
+    assert!(rt; matches!(says_hello(&mut encoder), Err(OutOfSpace)));
     let writer = encoder.into_inner();
-    holds(&rt, writer.room() == 0);
-    holds(
-        &rt,
-        HELLO.strip_prefix(writer.written()) == Some([0xff].as_slice()),
-    );
+    assert_eq!(rt; writer.room(), 0);
+    assert!(rt; HELLO.strip_prefix(writer.written()) == Some([0xff].as_slice()));
 }
 
 #[test]
-fn bytes_in_segments(rt: HostRuntime) {
+fn bytes_in_segments(rt: HostRuntime) -> Result<(), Fail> {
     let mut space = [0; 8];
-    let mut encoder = encoder_to(&mut space);
-    holds(&rt, counts(&mut encoder).is_ok());
-    holds(&rt, writes(&mut encoder, &[]).is_ok());
+    let mut encoder = Encoder::from(SliceWriter::new(&mut space));
+    counts(&mut encoder)?;
+    writes(&mut encoder, &[])?;
     let want = [0x5f, 0x42, 1, 2, 0x41, 3, 0xff];
-    holds(&rt, encoder.into_inner().written() == want.as_slice());
+    assert_eq!(rt; encoder.into_inner().written(), want.as_slice());
+    Ok(())
 }

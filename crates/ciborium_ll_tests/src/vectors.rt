@@ -1,7 +1,6 @@
-use crate::calls::{decoder_of, encoder_to, next_of};
-use ciborium_ll::io::SliceReader;
-use ciborium_ll::{Decoder, Error, Header};
-use ciborium_ll_fixtures::checks::{holds, holds_at, holds_named};
+use crate::calls::next_of;
+use ciborium_ll::io::{SliceReader, SliceWriter};
+use ciborium_ll::{Decoder, Encoder, Error, Header};
 use ciborium_ll_fixtures::samples::{
     LISTS, LONGER_TITLES, TWENTY_FIVE, TWENTY_FIVE_AND_BREAK, VECTORS,
 };
@@ -34,7 +33,10 @@ fn next_or_end(rt: &impl Abort, decoder: &mut Decoder<SliceReader>, end: usize) 
     match next_header(decoder) {
         Next::Header(header) => Some(header),
         answer => {
-            holds_at(rt, answer == Next::Short && start == end, start);
+            assert!(rt;
+                answer == Next::Short && start == end,
+                "no header at {start}"
+            );
             None
         }
     }
@@ -42,7 +44,7 @@ fn next_or_end(rt: &impl Abort, decoder: &mut Decoder<SliceReader>, end: usize) 
 
 // The headers of bytes that end at a title's end.
 fn pulled(rt: &impl Abort, alloc: Global, bytes: &[u8]) -> Result<Vec<Header>, AllocError> {
-    let mut decoder = decoder_of(bytes);
+    let mut decoder = Decoder::from(SliceReader::new(bytes));
     let mut headers = Vec::new(alloc);
     for _ in 0..=bytes.len() {
         match next_or_end(rt, &mut decoder, bytes.len()) {
@@ -63,7 +65,7 @@ fn are_read(rt: &impl Abort, alloc: Global, hex: &str, headers: &[Header]) -> Re
 // The shortest titles of headers, in all at most 64 bytes.
 fn pushed(alloc: Global, headers: &[Header]) -> Result<String, Fail> {
     let mut space = [0; 64];
-    let mut encoder = encoder_to(&mut space);
+    let mut encoder = Encoder::from(SliceWriter::new(&mut space));
     for header in headers {
         encoder.push(*header)?;
     }
@@ -88,7 +90,7 @@ fn becomes_shortest(
 ) -> Result<(), Fail> {
     let are_read = are_read(rt, alloc, hex, headers)?;
     let are_written = are_written(alloc, headers, shortest)?;
-    holds_named(rt, are_read && are_written, hex);
+    assert!(rt; are_read && are_written, "at {hex}");
     Ok(())
 }
 
@@ -106,7 +108,7 @@ fn goes_both_ways(
 fn single_titles(rt: HostRuntime) -> Result<(), Fail> {
     for &(hex, header) in &VECTORS {
         goes_both_ways(&rt, rt.alloc(), hex, &[header])?;
-        holds_named(&rt, header.title_len() == hex.len() / 2, hex);
+        assert!(rt; header.title_len() == hex.len() / 2, "at {hex}");
     }
     Ok(())
 }
@@ -145,7 +147,7 @@ fn longer_titles(rt: HostRuntime) -> Result<(), Fail> {
 // What is answered to a first byte with nothing but zeros behind it, and how many bytes are taken.
 fn first_answer(first: u8) -> (Next, usize) {
     let bytes = [first, 0, 0, 0, 0, 0, 0, 0, 0];
-    let mut decoder = decoder_of(&bytes);
+    let mut decoder = Decoder::from(SliceReader::new(&bytes));
     let answer = next_header(&mut decoder);
     (answer, decoder.offset())
 }
@@ -155,7 +157,7 @@ fn is_refused(rt: &impl Abort, first: u8) -> bool {
     let (answer, offset) = first_answer(first);
     let is_refused = !matches!(answer, Next::Header(_));
     let is_told = answer == Next::Syntax(0) && offset == 1;
-    holds_at(rt, !is_refused || is_told, usize::from(first));
+    assert!(rt; !is_refused || is_told, "at {first}");
     is_refused
 }
 
@@ -165,7 +167,7 @@ fn first_bytes_that_begin_no_title(rt: HostRuntime) {
     for first in 0..=u8::MAX {
         refused = refused.saturating_add(u8::from(is_refused(&rt, first)));
     }
-    holds(&rt, refused == 27);
+    assert_eq!(rt; refused, 27);
 }
 
 // How many bytes are taken for the title that begins with a byte, if one does.
@@ -174,15 +176,6 @@ fn taken(first: u8) -> Option<usize> {
         (Next::Header(_), offset) => Some(offset),
         _ => None,
     }
-}
-
-// How many titles take so many bytes, by their first bytes.
-fn count_taken(length: Option<usize>) -> u8 {
-    let mut count = 0u8;
-    for first in 0..=u8::MAX {
-        count = count.saturating_add(u8::from(taken(first) == length));
-    }
-    count
 }
 
 // 197 first bytes stand alone, 8 each have 1, 2, 4 and 8 bytes behind them, and with 27 no title begins.
@@ -196,7 +189,11 @@ fn first_bytes_by_their_affix(rt: HostRuntime) {
         (Some(9), 8),
         (None, 27),
     ];
-    for (row, (length, want)) in rows.iter().enumerate() {
-        holds_at(&rt, count_taken(*length) == *want, row);
+    for (length, want) in rows {
+        let mut count = 0u8;
+        for first in 0..=u8::MAX {
+            count = count.saturating_add(u8::from(taken(first) == length));
+        }
+        assert_eq!(rt; count, want);
     }
 }

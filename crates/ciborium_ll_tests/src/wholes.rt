@@ -4,13 +4,12 @@ ghost use Rattle.ciborium_ll.specs.Decoding.{IsSteady, offset_of, refusals_of, w
 ghost use Rattle.ciborium_ll.specs.Segments.{string_decoder, string_reference};
 ghost use Rattle.ciborium_ll.specs.Title.{title_len};
 
-use crate::calls::{begins_text, decoder_of, pulls};
+use crate::calls::{begins_text, pulls};
 use crate::drains;
 use crate::elements::{Stop, read_end};
 use ciborium_ll::io::{Read, SliceReader};
 use ciborium_ll::laws::{skip_bytes, skip_text};
 use ciborium_ll::{Bytes, Decoder, Error, Header, Segment, Segments, Text};
-use ciborium_ll_fixtures::checks::{holds, holds_for};
 use std::process::Abort;
 
 // Reads a byte string to its end.
@@ -52,10 +51,10 @@ type Row = (&'static [u8], Header, Stop, usize, usize);
 // Reads strings to their ends, and compares how they end, the offset behind, and how many bytes are left.
 fn whole_rows(rt: &impl Abort, rows: &[Row]) {
     for &(bytes, header, want, offset, left) in rows {
-        let mut decoder = decoder_of(bytes);
+        let mut decoder = Decoder::from(SliceReader::new(bytes));
         let is_right = skips(rt, &mut decoder, header) == want && !decoder.is_waiting();
         let is_read = decoder.offset() == offset && decoder.into_inner().left().len() == left;
-        holds_for(rt, is_right && is_read, bytes);
+        assert!(rt; is_right && is_read, "at {bytes:?}");
     }
 }
 
@@ -135,12 +134,12 @@ where
 
 // Reads the first segment of a text, partly by hand, and the rest by `finish`. It compares how that ends, and the offset.
 fn finish_row(rt: &impl Abort, bytes: &[u8], want: Stop, offset: usize) {
-    let mut decoder = decoder_of(bytes);
+    let mut decoder = Decoder::from(SliceReader::new(bytes));
     let mut segments = begins_text(rt, &mut decoder, None, 1);
     let mut segment = drains::next_segment(rt, &mut segments);
-    holds_for(rt, gives_chunk(&mut segment, 3), bytes);
-    holds_for(rt, finishes_segment(segment) == want, bytes);
-    holds_for(rt, decoder.offset() == offset, bytes);
+    assert!(rt; gives_chunk(&mut segment, 3), "at {bytes:?}");
+    assert!(rt; finishes_segment(segment) == want, "at {bytes:?}");
+    assert!(rt; decoder.offset() == offset, "at {bytes:?}");
 }
 
 #[test]
@@ -200,16 +199,16 @@ fn reads_first<R: Read>(decoder: &mut Decoder<R>) -> Result<(), Error<R::Error>>
 fn a_segment_of_a_steady_reader(rt: HostRuntime) {
     let mut decoder = Decoder::from(SliceReader::new(b"\x5f\x42\x01\x02\xff"));
     pulls(&rt, &mut decoder, Header::Bytes(None), 1);
-    holds(&rt, reads_first(&mut decoder).is_ok());
-    holds(&rt, decoder.offset() == 4);
+    assert!(rt; reads_first(&mut decoder).is_ok());
+    assert!(rt; decoder.offset() == 4);
 }
 
 #[test]
 fn the_next_segment(rt: HostRuntime) {
-    let mut decoder = decoder_of(b"\x7f\x61a\x62bc\xff");
+    let mut decoder = Decoder::from(SliceReader::new(b"\x7f\x61a\x62bc\xff"));
     pulls(&rt, &mut decoder, Header::Text(None), 1);
     reads_a_segment(&rt, &mut decoder);
-    holds(&rt, decoder.offset() == 3);
+    assert!(rt; decoder.offset() == 3);
 }
 
 // Reads one segment of a text that was just begun.
@@ -220,5 +219,5 @@ where
     requires covered { title_len (Header.Text None) ≤ offset_of decoder.old }
 {
     let mut segments = decoder.text(None);
-    holds(rt, next_segment(&mut segments, &mut [0; 4]).is_ok());
+    assert!(rt; next_segment(&mut segments, &mut [0; 4]).is_ok());
 }

@@ -4,8 +4,7 @@ use super::answers::answers;
 use ciborium_ll::io::{SliceReader, SliceWriter};
 use ciborium_ll::recode::recode;
 use ciborium_ll::{Decoder, Encoder, Error, Float, Header, RecodeError};
-use ciborium_ll_fixtures::checks::{holds, holds_named};
-use std::alloc::{AllocError, Global};
+use std::alloc::AllocError;
 use std::fmt::Write;
 use std::process::Abort;
 use std::test::Fail;
@@ -143,24 +142,9 @@ fn add_lines_from(input: &mut String, want: &mut String, first: u8) -> Result<()
 // Compares line by line, for a short message.
 fn assert_same(rt: &impl Abort, output: &str, want: &str) {
     for (got, due) in output.lines().zip(want.lines()) {
-        holds_named(rt, got == due, due);
+        assert_eq!(rt; got, due);
     }
-    holds(rt, output.len() == want.len());
-}
-
-// Answers lines, and compares that with what is wanted.
-fn are_answered(rt: &impl Abort, alloc: Global, input: &str, want: &str) -> Result<(), Fail> {
-    let output = answers(alloc, input.as_bytes())?;
-    assert_same(rt, std::str::from_utf8(output.as_slice())?, want);
-    Ok(())
-}
-
-// Adds the lines on each list, and what they are answered.
-fn add_all_lines(input: &mut String, want: &mut String) -> Result<(), AllocError> {
-    for first in 0..=u8::MAX {
-        add_lines_from(input, want, first)?;
-    }
-    Ok(())
+    assert_eq!(rt; output.len(), want.len());
 }
 
 // A program that only knew some lines by heart would fail here.
@@ -168,12 +152,15 @@ fn add_all_lines(input: &mut String, want: &mut String) -> Result<(), AllocError
 fn every_list_of_one_and_two_bytes(rt: HostRuntime) -> Result<(), Fail> {
     let mut input = String::new(rt.alloc());
     let mut want = String::new(rt.alloc());
-    add_all_lines(&mut input, &mut want)?;
-    are_answered(&rt, rt.alloc(), input.as_str(), want.as_str())?;
+    for first in 0..=u8::MAX {
+        add_lines_from(&mut input, &mut want, first)?;
+    }
+    let output = answers(rt.alloc(), input.as_bytes())?;
+    assert_same(&rt, std::str::from_utf8(output.as_slice())?, want.as_str());
     // Of the lists of one byte, 197 are answered by a title and an end, and 32 and 27 by one line. Of those of two, a
     // title may come first, which adds a line, or have the second byte as its affix, or need more, or be refused.
     let of_one = 2 * 197 + 32 + 27;
     let of_two = 197 * (of_one + 256) + 8 * 2 * 256 + 24 * 256 + 27 * 256;
-    holds(&rt, want.lines().count() == of_one + of_two + 256 + 65_536);
+    assert_eq!(rt; want.lines().count(), of_one + of_two + 256 + 65_536);
     Ok(())
 }

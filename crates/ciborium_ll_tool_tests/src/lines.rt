@@ -1,7 +1,6 @@
 // Lines of each kind, each with what it is answered.
 
 use super::answers::answers;
-use ciborium_ll_fixtures::checks::holds_named;
 use std::alloc::Global;
 use std::process::Abort;
 use std::test::Fail;
@@ -16,7 +15,7 @@ fn is_block_answered(alloc: Global, block: &str) -> Result<bool, Fail> {
 // Runs the first line of each block. Blank lines part the blocks.
 fn answer_blocks(rt: &impl Abort, alloc: Global, blocks: &str) -> Result<(), Fail> {
     for block in blocks.split("\n\n") {
-        holds_named(rt, is_block_answered(alloc, block)?, block);
+        assert!(rt; is_block_answered(alloc, block)?, "at {block}");
     }
     Ok(())
 }

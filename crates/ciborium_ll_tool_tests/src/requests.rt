@@ -1,7 +1,6 @@
 // What the program is asked for: lines and arguments, those that are no request, and where lines end.
 
 use super::answers::{is_answered, line_of};
-use ciborium_ll_fixtures::checks::{holds, holds_for, holds_named};
 use ciborium_ll_requests::arguments::chosen;
 use ciborium_ll_requests::choice::Chosen;
 use ciborium_ll_requests::word::{bytes_of, word_of};
@@ -16,8 +15,8 @@ fn is_deep_answered(alloc: Global, levels: usize, want: &[u8]) -> Result<bool, F
 
 #[test]
 fn the_deepest_item(rt: HostRuntime) -> Result<(), Fail> {
-    holds(&rt, is_deep_answered(rt.alloc(), 256, b"item 257\n")?);
-    holds(&rt, is_deep_answered(rt.alloc(), 257, b"deep 256\n")?);
+    assert!(rt; is_deep_answered(rt.alloc(), 256, b"item 257\n")?);
+    assert!(rt; is_deep_answered(rt.alloc(), 257, b"deep 256\n")?);
     Ok(())
 }
 
@@ -47,7 +46,7 @@ const NO_REQUESTS: &[u8] = b"\
 #[test]
 fn lines_that_are_no_request(rt: HostRuntime) -> Result<(), Fail> {
     for line in NO_REQUESTS.split(|byte| *byte == b'|') {
-        holds_for(&rt, is_refused(rt.alloc(), line)?, line);
+        assert!(rt; is_refused(rt.alloc(), line)?, "at {line:?}");
     }
     Ok(())
 }
@@ -63,7 +62,7 @@ fn where_lines_end(rt: HostRuntime) -> Result<(), Fail> {
     ];
     for (input, want) in rows {
         let is_right = is_answered(rt.alloc(), input.as_bytes(), want.as_bytes())?;
-        holds_named(&rt, is_right, input);
+        assert!(rt; is_right, "at {input:?}");
     }
     Ok(())
 }
@@ -81,10 +80,7 @@ fn answer_of_breaks(alloc: Global) -> Result<String, Fail> {
 fn a_line_longer_than_a_read(rt: HostRuntime) -> Result<(), Fail> {
     let input = line_of(rt.alloc(), b"heads 59", b"ff", 10_000, b"")?;
     let want = answer_of_breaks(rt.alloc())?;
-    holds(
-        &rt,
-        is_answered(rt.alloc(), input.as_slice(), want.as_bytes())?,
-    );
+    assert!(rt; is_answered(rt.alloc(), input.as_slice(), want.as_bytes())?);
     Ok(())
 }
 
@@ -109,14 +105,14 @@ fn is_written_as(alloc: Global, bytes: &[u8], want: &str) -> Result<bool, AllocE
 
 #[test]
 fn words_of_bytes(rt: HostRuntime) -> Result<(), Fail> {
-    holds(&rt, is_read_as(rt.alloc(), "-", Some(&[]))?);
-    holds(&rt, is_read_as(rt.alloc(), "00", Some(&[0]))?);
-    holds(&rt, is_read_as(rt.alloc(), "0aFf", Some(&[10, 255]))?);
+    assert!(rt; is_read_as(rt.alloc(), "-", Some(&[]))?);
+    assert!(rt; is_read_as(rt.alloc(), "00", Some(&[0]))?);
+    assert!(rt; is_read_as(rt.alloc(), "0aFf", Some(&[10, 255]))?);
     for word in ["", "--", "0", "0g", "-0"] {
-        holds_named(&rt, is_read_as(rt.alloc(), word, None)?, word);
+        assert!(rt; is_read_as(rt.alloc(), word, None)?, "at {word:?}");
     }
-    holds(&rt, is_written_as(rt.alloc(), &[], "-")?);
-    holds(&rt, is_written_as(rt.alloc(), &[10, 255], "0aff")?);
+    assert!(rt; is_written_as(rt.alloc(), &[], "-")?);
+    assert!(rt; is_written_as(rt.alloc(), &[10, 255], "0aff")?);
     Ok(())
 }
 
@@ -131,12 +127,12 @@ fn asks_for(alloc: Global, text: &str, want: Chosen) -> Result<bool, Fail> {
 
 #[test]
 fn choices_of_arguments(rt: HostRuntime) -> Result<(), Fail> {
-    holds(&rt, asks_for(rt.alloc(), "", Chosen::Lines)?);
-    holds(&rt, asks_for(rt.alloc(), "recode 0", Chosen::Raw(0))?);
+    assert!(rt; asks_for(rt.alloc(), "", Chosen::Lines)?);
+    assert!(rt; asks_for(rt.alloc(), "recode 0", Chosen::Raw(0))?);
     let most = Chosen::Raw(4_294_967_295);
-    holds(&rt, asks_for(rt.alloc(), "recode 4294967295", most)?);
+    assert!(rt; asks_for(rt.alloc(), "recode 4294967295", most)?);
     for text in "recode 01|recode 4294967296|recode|recode 1 2|heads 1|1 recode".split('|') {
-        holds_named(&rt, asks_for(rt.alloc(), text, Chosen::Usage)?, text);
+        assert!(rt; asks_for(rt.alloc(), text, Chosen::Usage)?, "at {text}");
     }
     Ok(())
 }

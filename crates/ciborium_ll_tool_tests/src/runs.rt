@@ -1,7 +1,6 @@
 // Runs over readers and writers that move few bytes a call or fail, and where an allocation is refused.
 
 use ciborium_ll::io::Write;
-use ciborium_ll_fixtures::checks::{holds, holds_at};
 use ciborium_ll_fixtures::streams::{PartReader, PartWriter};
 use ciborium_ll_service::fault::{ToolError, fault_of_run};
 use ciborium_ll_service::memory::{OutOfMemory, VecWriter};
@@ -22,9 +21,9 @@ fn a_writer_in_memory(rt: HostRuntime) -> Result<(), Fail> {
     writes(&mut writer, &[1, 2])?;
     writes(&mut writer, &[])?;
     writes(&mut writer, &[3])?;
-    holds(&rt, writer.into_vec().as_slice() == [1, 2, 3].as_slice());
+    assert_eq!(rt; writer.into_vec().as_slice(), [1, 2, 3].as_slice());
     let refused = ToolError::from(OutOfMemory);
-    holds(&rt, matches!(refused, ToolError::Memory));
+    assert!(rt; matches!(refused, ToolError::Memory));
     Ok(())
 }
 
@@ -69,9 +68,9 @@ fn run_between<R: io::Read + Drop>(
 fn one_byte_a_call(rt: HostRuntime) -> Result<(), Fail> {
     let reader = PartReader::new(INPUT, 1);
     let ended = run_between(rt.alloc(), reader, PartWriter::new(rt.alloc(), 1))?;
-    holds(&rt, ended.read.is_none() && ended.write.is_none());
-    holds(&rt, ended.written == Some(OUTPUT.len()));
-    holds(&rt, ended.flushes == 1);
+    assert!(rt; ended.read.is_none() && ended.write.is_none());
+    assert!(rt; ended.written == Some(OUTPUT.len()));
+    assert_eq!(rt; ended.flushes, 1);
     Ok(())
 }
 
@@ -92,7 +91,7 @@ fn a_read_that_fails(rt: HostRuntime) -> Result<(), Fail> {
     for kind in [io::ErrorKind::Other, io::ErrorKind::Interrupted] {
         for (call, written) in [(1, 0), (9, 0), (10, 19), (16, 19), (21, 51)] {
             let is_right = stops_at_read(rt.alloc(), kind, call, written)?;
-            holds_at(&rt, is_right, call);
+            assert!(rt; is_right, "at {call}");
         }
     }
     Ok(())
@@ -119,7 +118,7 @@ fn a_write_that_fails(rt: HostRuntime) -> Result<(), Fail> {
     ];
     for kind in kinds {
         for call in [1, 8, 31, 51usize] {
-            holds_at(&rt, stops_at_write(rt.alloc(), kind, call)?, call);
+            assert!(rt; stops_at_write(rt.alloc(), kind, call)?, "at {call}");
         }
     }
     Ok(())
@@ -129,8 +128,8 @@ fn a_write_that_fails(rt: HostRuntime) -> Result<(), Fail> {
 fn a_flush_that_fails(rt: HostRuntime) -> Result<(), Fail> {
     let writer = PartWriter::new(rt.alloc(), 1).failing_to_flush();
     let ended = run_between(rt.alloc(), INPUT, writer)?;
-    holds(&rt, ended.write.is_some());
-    holds(&rt, ended.written == Some(OUTPUT.len()));
+    assert!(rt; ended.write.is_some());
+    assert!(rt; ended.written == Some(OUTPUT.len()));
     Ok(())
 }
 
@@ -183,9 +182,9 @@ fn whole_or_out_of_memory(rt: HostRuntime) -> Result<(), Fail> {
     let length = 256usize.saturating_sub(room.len());
     let written = space.get(..length).unwrap_or(&[]);
     if has_memory {
-        holds(&rt, written == SCRIPT_OUTPUT.as_bytes());
+        assert_eq!(rt; written, SCRIPT_OUTPUT.as_bytes());
     } else {
-        holds(&rt, is_out_of_memory(written));
+        assert!(rt; is_out_of_memory(written));
     }
     Ok(())
 }
@@ -198,12 +197,9 @@ fn is_run_printed_as(alloc: Global, error: ToolError, want: &str) -> Result<bool
 #[test]
 fn faults_as_printed(rt: HostRuntime) -> Result<(), Fail> {
     let read = ToolError::Read(io::Error::other("gone"));
-    holds(&rt, is_run_printed_as(rt.alloc(), read, "read")?);
+    assert!(rt; is_run_printed_as(rt.alloc(), read, "read")?);
     let write = ToolError::Write(io::Error::other("gone"));
-    holds(&rt, is_run_printed_as(rt.alloc(), write, "write")?);
-    holds(
-        &rt,
-        is_run_printed_as(rt.alloc(), ToolError::Memory, "memory")?,
-    );
+    assert!(rt; is_run_printed_as(rt.alloc(), write, "write")?);
+    assert!(rt; is_run_printed_as(rt.alloc(), ToolError::Memory, "memory")?);
     Ok(())
 }

@@ -6,7 +6,6 @@ ghost use Rattle.ciborium_ll.specs.Decoding.{waiting_of};
 
 use ciborium_ll::io::{EndOfFile, OutOfSpace, Read, SliceReader, SliceWriter};
 use ciborium_ll::{Decoder, Encoder, Error, Header, RecodeError, Segment, Text};
-use ciborium_ll_fixtures::checks::{holds, holds_for};
 use ciborium_ll_uses::{
     Entry, SumError, TextError, normalise, read_string, shortest_item_len, sum_numbers,
     write_strings,
@@ -16,7 +15,7 @@ use std::process::Abort;
 use std::test::Fail;
 
 // What a sum is, with the offset behind it.
-#[derive(Clone, Copy, PartialEq, Eq)]
+#[derive(Clone, Copy, Debug, PartialEq, Eq, Drop)]
 enum Sum {
     Total(i64, usize),
     NoArray(usize),
@@ -87,7 +86,7 @@ fn sums(rt: HostRuntime) {
         (&[0x82, 0x01], Sum::Short(2)),
     ];
     for (bytes, want) in rows {
-        holds_for(&rt, sum_of(bytes) == want, bytes);
+        assert_eq!(rt; sum_of(bytes), want);
     }
 }
 
@@ -107,9 +106,9 @@ fn a_map_of_strings(rt: HostRuntime) -> Result<(), Fail> {
     let mut space = [0; 64];
     let mut encoder = Encoder::from(SliceWriter::new(&mut space));
     write_strings(&mut encoder, &entries)?;
-    holds(&rt, encoder.into_inner().written() == wanted.as_slice());
+    assert_eq!(rt; encoder.into_inner().written(), wanted.as_slice());
     let mut encoder = Encoder::from(SliceWriter::new(&mut []));
-    holds(&rt, write_strings(&mut encoder, &[]).is_err());
+    assert!(rt; write_strings(&mut encoder, &[]).is_err());
     Ok(())
 }
 
@@ -122,13 +121,10 @@ fn a_map_without_room(rt: HostRuntime) {
         key: "k",
         value: "v",
     };
-    holds(
-        &rt,
-        matches!(write_strings(&mut encoder, &[entry]), Err(OutOfSpace)),
-    );
-    holds(
-        &rt,
-        encoder.into_inner().written() == [0xa1, 0x61, b'k', 0x61].as_slice(),
+    assert!(rt; matches!(write_strings(&mut encoder, &[entry]), Err(OutOfSpace)));
+    assert_eq!(rt;
+        encoder.into_inner().written(),
+        [0xa1, 0x61, b'k', 0x61].as_slice()
     );
 }
 
@@ -145,11 +141,11 @@ fn a_stream(rt: HostRuntime) {
         SliceWriter::new(&mut space),
         3,
     );
-    holds(&rt, outcome.is_ok());
-    holds(&rt, reader.left() == [0x05].as_slice());
-    holds(
-        &rt,
-        writer.written() == [0x81, 0x01, 0x7f, 0x61, b'a', 0x61, b'b', 0xff].as_slice(),
+    assert!(rt; outcome.is_ok());
+    assert_eq!(rt; reader.left(), [0x05].as_slice());
+    assert_eq!(rt;
+        writer.written(),
+        [0x81, 0x01, 0x7f, 0x61, b'a', 0x61, b'b', 0xff].as_slice()
     );
 }
 
@@ -161,19 +157,16 @@ fn a_stream_with_a_fault(rt: HostRuntime) {
         SliceWriter::new(&mut space),
         2,
     );
-    holds(
-        &rt,
-        matches!(outcome, Err(RecodeError::Read(Error::Syntax(2)))),
-    );
-    holds(&rt, writer.written() == [0x01].as_slice());
-    holds(&rt, reader.left() == [0x02].as_slice());
+    assert!(rt; matches!(outcome, Err(RecodeError::Read(Error::Syntax(2)))));
+    assert_eq!(rt; writer.written(), [0x01].as_slice());
+    assert_eq!(rt; reader.left(), [0x02].as_slice());
     let (reader, _, outcome) = normalise(
         SliceReader::new(&[0x18, 0x18]),
         SliceWriter::new(&mut [0; 1]),
         1,
     );
-    holds(&rt, matches!(outcome, Err(RecodeError::Write(OutOfSpace))));
-    holds(&rt, reader.left() == [].as_slice());
+    assert!(rt; matches!(outcome, Err(RecodeError::Write(OutOfSpace))));
+    assert_eq!(rt; reader.left(), [].as_slice());
 }
 
 // The room need not be more than the spelling, whatever is due.
@@ -185,9 +178,9 @@ fn a_stream_into_just_its_room(rt: HostRuntime) {
         SliceWriter::new(&mut space),
         1,
     );
-    holds(&rt, outcome.is_ok());
-    holds(&rt, writer.written() == [0x01].as_slice());
-    holds(&rt, reader.left() == [0x18, 0x02].as_slice());
+    assert!(rt; outcome.is_ok());
+    assert_eq!(rt; writer.written(), [0x01].as_slice());
+    assert_eq!(rt; reader.left(), [0x18, 0x02].as_slice());
 }
 
 #[test]
@@ -219,7 +212,7 @@ fn shortest_items(rt: HostRuntime) {
         (&[0xc1, 0xf9, 0x00, 0x00], Some(4)),
     ];
     for (bytes, want) in rows {
-        holds_for(&rt, shortest_item_len(bytes) == want, bytes);
+        assert_eq!(rt; shortest_item_len(bytes), want);
     }
 }
 
@@ -228,14 +221,14 @@ fn nested_items(rt: HostRuntime) {
     // Arrays of one item each, the innermost without any.
     let mut bytes = [0x81; 65];
     bytes[63] = 0x80;
-    holds(&rt, shortest_item_len(&bytes) == Some(64));
+    assert_eq!(rt; shortest_item_len(&bytes), Some(64));
     bytes[63] = 0x81;
     bytes[64] = 0x80;
-    holds(&rt, shortest_item_len(&bytes).is_none());
+    assert_eq!(rt; shortest_item_len(&bytes), None);
 }
 
 // Why no text was read.
-#[derive(Clone, Copy, PartialEq, Eq)]
+#[derive(Clone, Copy, Debug, PartialEq, Eq, Drop)]
 enum Fault {
     NoText(usize),
     TooLong,
@@ -287,7 +280,7 @@ fn is_read_as(given: &Result<String, Fault>, want: Result<&str, Fault>) -> bool 
 fn text_row(rt: &impl Abort, alloc: Global, bytes: &[u8], limit: usize, want: Result<&str, Fault>) {
     let mut decoder = Decoder::from(SliceReader::new(bytes));
     let given = read_string(alloc, &mut decoder, limit).map_err(fault_of);
-    holds_for(rt, is_read_as(&given, want), bytes);
+    assert!(rt; is_read_as(&given, want), "at {bytes:?}");
 }
 
 #[test]
@@ -307,8 +300,8 @@ fn a_text_longer_than_the_buffer(rt: HostRuntime) -> Result<(), Fail> {
     bytes[66] = 0xa9;
     let mut decoder = Decoder::from(SliceReader::new(&bytes));
     let text = read_string(rt.alloc(), &mut decoder, 66)?;
-    holds(&rt, text.as_bytes() == &bytes[2..]);
-    holds(&rt, decoder.offset() == 68);
+    assert_eq!(rt; text.as_bytes(), &bytes[2..]);
+    assert_eq!(rt; decoder.offset(), 68);
     Ok(())
 }
 
@@ -326,18 +319,15 @@ fn a_header_ahead(rt: HostRuntime) {
     let mut decoder = Decoder::from(SliceReader::new(&[0x18, 5, 0x80]));
     // The title is longer than needed, and waits as the shortest one.
     for _ in 0..2 {
-        holds(&rt, matches!(peek(&mut decoder), Ok(Header::Positive(5))));
-        holds(&rt, decoder.offset() == 1);
+        assert!(rt; matches!(peek(&mut decoder), Ok(Header::Positive(5))));
+        assert_eq!(rt; decoder.offset(), 1);
     }
-    holds(&rt, matches!(decoder.pull(), Ok(Header::Positive(5))));
-    holds(&rt, decoder.offset() == 2);
-    holds(
-        &rt,
-        matches!(peek(&mut decoder), Ok(Header::Array(Some(0)))),
-    );
-    holds(&rt, matches!(decoder.pull(), Ok(Header::Array(Some(0)))));
-    holds(&rt, matches!(peek(&mut decoder), Err(Error::Io(EndOfFile))));
-    holds(&rt, decoder.offset() == 3);
+    assert!(rt; matches!(decoder.pull(), Ok(Header::Positive(5))));
+    assert_eq!(rt; decoder.offset(), 2);
+    assert!(rt; matches!(peek(&mut decoder), Ok(Header::Array(Some(0)))));
+    assert!(rt; matches!(decoder.pull(), Ok(Header::Array(Some(0)))));
+    assert!(rt; matches!(peek(&mut decoder), Err(Error::Io(EndOfFile))));
+    assert_eq!(rt; decoder.offset(), 3);
 }
 
 // The first chunk of a text.
@@ -390,10 +380,7 @@ fn characters(rt: HostRuntime) {
     ];
     for (bytes, want) in rows {
         let mut decoder = Decoder::from(SliceReader::new(bytes));
-        holds(
-            &rt,
-            matches!(first_count(&mut decoder), Ok(count) if count == want),
-        );
+        assert!(rt; matches!(first_count(&mut decoder), Ok(count) if count == want));
     }
 }
 
@@ -410,9 +397,6 @@ fn first_chunks(rt: HostRuntime) {
     for (bytes, want) in rows {
         let mut decoder = Decoder::from(SliceReader::new(bytes));
         let mut buffer = [0; 4];
-        holds(
-            &rt,
-            matches!(first_chunk(&mut decoder, &mut buffer), Ok(chunk) if chunk == want),
-        );
+        assert!(rt; matches!(first_chunk(&mut decoder, &mut buffer), Ok(chunk) if chunk == want));
     }
 }

@@ -3,7 +3,6 @@
 use cbor_skip::SkipError;
 use ciborium_ll::Error;
 use ciborium_ll::io::EndOfFile;
-use ciborium_ll_fixtures::checks::{holds, holds_at, holds_for};
 use ciborium_ll_uses::{CoseError, Sign1, Span, read_sign1};
 
 // RFC 9052, appendix C.2.1: the protected parameters {1: -7}, the unprotected ones {4: '11'}, the payload "This is the
@@ -15,7 +14,7 @@ static SINGLE_SIGNATURE: &[u8] =
     \x44\x54\x7e\x01\xf1\x1d\x3b\x09\x16\xe5\xa4\xc3\x45\xca\xcb\x36";
 
 // What a read answers, as a plain value.
-#[derive(Clone, Copy, PartialEq, Eq)]
+#[derive(Clone, Copy, Debug, PartialEq, Eq, Drop)]
 enum Outcome {
     Parts(Sign1),
     Unexpected(usize),
@@ -72,23 +71,23 @@ fn span(start: usize, end: usize) -> Span {
 fn an_example_of_the_standard(rt: HostRuntime) {
     let payload = Some(span(12, 32));
     let want = parts(span(3, 6), span(6, 11), payload, span(34, 98));
-    holds(&rt, SINGLE_SIGNATURE.len() == 98);
-    holds(&rt, outcome_of(SINGLE_SIGNATURE) == want);
+    assert_eq!(rt; SINGLE_SIGNATURE.len(), 98);
+    assert_eq!(rt; outcome_of(SINGLE_SIGNATURE), want);
 }
 
 #[test]
 fn messages(rt: HostRuntime) {
     // Empty strings and an empty map, and a byte behind the message.
     let empty = parts(span(3, 3), span(3, 4), Some(span(5, 5)), span(6, 6));
-    holds(&rt, outcome_of(b"\xd2\x84\x40\xa0\x40\x40\xff") == empty);
+    assert_eq!(rt; outcome_of(b"\xd2\x84\x40\xa0\x40\x40\xff"), empty);
     // A detached payload.
     let detached = parts(span(3, 3), span(3, 4), None, span(6, 7));
-    holds(&rt, outcome_of(b"\xd2\x84\x40\xa0\xf6\x41s") == detached);
+    assert_eq!(rt; outcome_of(b"\xd2\x84\x40\xa0\xf6\x41s"), detached);
     // A map of indefinite length, which holds an array.
     let open = parts(span(3, 4), span(4, 9), None, span(11, 13));
-    holds(
-        &rt,
-        outcome_of(b"\xd2\x84\x41\xa0\xbf\x01\x81\x02\xff\xf6\x42ok") == open,
+    assert_eq!(rt;
+        outcome_of(b"\xd2\x84\x41\xa0\xbf\x01\x81\x02\xff\xf6\x42ok"),
+        open
     );
 }
 
@@ -127,7 +126,7 @@ fn what_is_refused(rt: HostRuntime) {
         (b"\xd2\x84\x40\xa1\x01", Outcome::MapShort),
     ];
     for (bytes, want) in rows {
-        holds_for(&rt, outcome_of(bytes) == want, bytes);
+        assert_eq!(rt; outcome_of(bytes), want);
     }
 }
 
@@ -135,7 +134,6 @@ fn what_is_refused(rt: HostRuntime) {
 fn a_message_that_is_cut(rt: HostRuntime) {
     for len in 0..SINGLE_SIGNATURE.len() {
         let outcome = outcome_of(&SINGLE_SIGNATURE[..len]);
-        let is_short = matches!(outcome, Outcome::Short | Outcome::MapShort);
-        holds_at(&rt, is_short, len);
+        assert!(rt; matches!(outcome, Outcome::Short | Outcome::MapShort));
     }
 }

@@ -12,14 +12,14 @@ returns-in_err-shown g c =
     let error = c.in_err-shown.field-0.0 in
     let same = exit_is c.from_residual.result error c.from_residual.ensures.1 in
     rw same (record {
-  draws = λ strict depth whole start before due p at all. record {
-    lines = break_line strict depth whole start _ _ before _ c.level-level.result c.args.place c.close-closed.result
-        c.close-closed.new.self (c.close-closed.ensures strict depth whole before due) p c.level-level.ensures.value at
-        (c.in_err-shown.ensures.draws all);
-    due = tt;
-    stops = refused_alone strict depth whole h.Break c.args.place before error c.in_err-shown.ensures.refusal;
-  };
-})
+      draws = λ strict depth whole start before due p at all. record {
+        lines = break_line strict depth whole start _ _ before _ c.level-level.result c.args.place c.close-closed.result
+            c.close-closed.new.self (c.close-closed.ensures strict depth whole before due) p c.level-level.ensures.value at
+            (c.in_err-shown.ensures.draws all);
+        due = tt;
+        stops = refused_alone strict depth whole h.Break c.args.place before error c.in_err-shown.ensures.refusal;
+      };
+    })
 
 pub returns-then-not-closed : goal.returns-then-not-closed
 returns-then-not-closed g c = record {

@@ -13,22 +13,22 @@ returns-in_err-shown g c =
     let error = c.in_err-shown.field-0.0 in
     let same = exit_is c.from_residual.result error c.from_residual.ensures.1 in
     rw same (record {
-  shows = λ depth whole start before due p taken place offset all.
-      let row = taken_bytes c.args.taken.now in
-      let k = kind_of c.args.kind in
-      let drawn = rw c.header-header.ensures at (c.in_err-shown.ensures.draws all) in
-      record {
-        bytes = [];
-        shows = title_only g.R.Read depth start _ _ before row _
-            (walk_line c.args.strict depth whole start _ _ before row
-            (kind_header k c.args.len) c.level-level.result c.args.place
-            c.args.walk.now due p (string_level k c.args.len due.nests 0) c.level-level.ensures.value place drawn);
-        due = tt;
-        passed = λ alike. tt;
-        stops = λ alike. refused_title g.R.Read c.args.strict depth whole _ c.args.place before _ _ error
-            c.in_err-shown.ensures.refusal;
-      };
-})
+      shows = λ depth whole start before due p taken place offset all.
+          let row = taken_bytes c.args.taken.now in
+          let k = kind_of c.args.kind in
+          let drawn = rw c.header-header.ensures at (c.in_err-shown.ensures.draws all) in
+          record {
+            bytes = [];
+            shows = title_only g.R.Read depth start _ _ before row _
+                (walk_line c.args.strict depth whole start _ _ before row
+                (kind_header k c.args.len) c.level-level.result c.args.place
+                c.args.walk.now due p (string_level k c.args.len due.nests 0) c.level-level.ensures.value place drawn);
+            due = tt;
+            passed = λ alike. tt;
+            stops = λ alike. refused_title g.R.Read c.args.strict depth whole _ c.args.place before _ _ error
+                c.in_err-shown.ensures.refusal;
+          };
+    })
 
 pub rest-requires-clause-behind : goal.rest-requires-clause-behind
 rest-requires-clause-behind g c =
@@ -39,26 +39,26 @@ returns-in_err-rest g c =
     let error = c.in_err-rest.field-0.0 in
     let same = exit_is c.from_residual-in_err-rest.result error c.from_residual-in_err-rest.ensures.1 in
     rw same (record {
-  shows = λ depth whole start before due p taken place offset all.
-      let row = taken_bytes c.args.taken.now in
-      let k = kind_of c.args.kind in
-      let drawn = rw c.header-header.ensures at (c.in_ok-shown.ensures.draws tt) in
-      let used = due.keeps.used in
-      let line = walk_line c.args.strict depth whole start _ _ before row
-      (kind_header k c.args.len) c.level-level.result c.args.place
-      c.args.walk.now due p (string_level k c.args.len due.nests 0) c.level-level.ensures.value place drawn in
-      let rest = c.in_err-rest.ensures.shows depth start due.nests before row
-      (whole, stands_any c.args.strict depth whole due.nests before due.within) p
-      (c.level-level.ensures.value ∙ used) (omega (arith, place, offset, length-append before row)) all in
-      record {
-        bytes = rest.bytes;
-        shows = title_then g.R.Read depth start _ _ _ before row rest.bytes _ _ line rest.shows;
-        due = tt;
-        passed = λ alike. tt;
-        stops = λ alike. rest_stops g.R.Read c.args.strict depth whole k c.args.len c.args.place before _ _
-            error (record { nests = due.nests; within = due.within; is = refl }) (rest.stops alike);
-      };
-})
+      shows = λ depth whole start before due p taken place offset all.
+          let row = taken_bytes c.args.taken.now in
+          let k = kind_of c.args.kind in
+          let drawn = rw c.header-header.ensures at (c.in_ok-shown.ensures.draws tt) in
+          let used = due.keeps.used in
+          let line = walk_line c.args.strict depth whole start _ _ before row
+          (kind_header k c.args.len) c.level-level.result c.args.place
+          c.args.walk.now due p (string_level k c.args.len due.nests 0) c.level-level.ensures.value place drawn in
+          let rest = c.in_err-rest.ensures.shows depth start due.nests before row
+          (whole, stands_any c.args.strict depth whole due.nests before due.within) p
+          (c.level-level.ensures.value ∙ used) (omega (arith, place, offset, length-append before row)) all in
+          record {
+            bytes = rest.bytes;
+            shows = title_then g.R.Read depth start _ _ _ before row rest.bytes _ _ line rest.shows;
+            due = tt;
+            passed = λ alike. tt;
+            stops = λ alike. rest_stops g.R.Read c.args.strict depth whole k c.args.len c.args.place before _ _
+                error (record { nests = due.nests; within = due.within; is = refl }) (rest.stops alike);
+          };
+    })
 
 pub returns : goal.returns
 returns g c = record {

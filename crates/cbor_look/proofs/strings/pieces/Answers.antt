@@ -83,28 +83,28 @@ returns-in_err-shown-in-Break g c =
     let error = c.in_err-shown-in-Break.field-0.0 in
     let same = exit_is c.from_residual.result error c.from_residual.ensures.1 in
     rw same (record {
-  shows = λ depth start nests items title stands p level at all.
-      let so_far = c.parts.invariant.within depth start nests items title stands p level at in
-      let row = taken_bytes c.read_title.new.self in
-      let keeps = rw c.offset-place.ensures.same at c.read_title.ensures.keeps in
-      let takes = taken_all g.R.Read _ row _ _ c.new-taken.ensures keeps in
-      let place = c.offset-place.ensures.value in
-      let titled : IsTitle row c.in-Ok.header = rw c.in-Ok.is at c.read_title.ensures.title in
-      let is = c.in-Break.ensures in
-      let title_row = subst (λ (x : Header). IsTitle row x) is titled in
-      let inner = so_far.level in
-      record {
-        bytes = so_far.bytes ++ row;
-        shows = within_title g.R.Read c.args.strict depth start _ _ nests items title
-            (kind_of c.args.kind) c.parts.inner _ _ stands
-            so_far at _ row _ c.offset-place.result (c.parts.inner - 1) _ takes place title_row
-            (ap (λ (n : ℕ). n - 1) inner) (rw is at (c.in_err-shown-in-Break.ensures.draws all));
-        whole = tt;
-        passed = λ alike. tt;
-        stops = λ alike. refusal_stops g.R.Read (kind_of c.args.kind) None 0 _ _ error
-            c.in_err-shown-in-Break.ensures.refusal;
-      };
-})
+      shows = λ depth start nests items title stands p level at all.
+          let so_far = c.parts.invariant.within depth start nests items title stands p level at in
+          let row = taken_bytes c.read_title.new.self in
+          let keeps = rw c.offset-place.ensures.same at c.read_title.ensures.keeps in
+          let takes = taken_all g.R.Read _ row _ _ c.new-taken.ensures keeps in
+          let place = c.offset-place.ensures.value in
+          let titled : IsTitle row c.in-Ok.header = rw c.in-Ok.is at c.read_title.ensures.title in
+          let is = c.in-Break.ensures in
+          let title_row = subst (λ (x : Header). IsTitle row x) is titled in
+          let inner = so_far.level in
+          record {
+            bytes = so_far.bytes ++ row;
+            shows = within_title g.R.Read c.args.strict depth start _ _ nests items title
+                (kind_of c.args.kind) c.parts.inner _ _ stands
+                so_far at _ row _ c.offset-place.result (c.parts.inner - 1) _ takes place title_row
+                (ap (λ (n : ℕ). n - 1) inner) (rw is at (c.in_err-shown-in-Break.ensures.draws all));
+            whole = tt;
+            passed = λ alike. tt;
+            stops = λ alike. refusal_stops g.R.Read (kind_of c.args.kind) None 0 _ _ error
+                c.in_err-shown-in-Break.ensures.refusal;
+          };
+    })
 
 pub returns-then-inner-level : goal.returns-then-inner-level
 returns-then-inner-level g c = record {
@@ -169,76 +169,76 @@ returns-in_err-shown-in-Piece g c =
     let error = c.in_err-shown-in-Piece.field-0.0 in
     let same = exit_is c.from_residual-in_err-shown-in-Piece.result error c.from_residual-in_err-shown-in-Piece.ensures.1 in
     rw same (record {
-  shows = λ depth start nests items title stands p level at all.
-      let so_far = c.parts.invariant.within depth start nests items title stands p level at in
-      let row = taken_bytes c.read_title.new.self in
-      let keeps = rw c.offset-place.ensures.same at c.read_title.ensures.keeps in
-      let takes = taken_all g.R.Read _ row _ _ c.new-taken.ensures keeps in
-      let place = c.offset-place.ensures.value in
-      let titled : IsTitle row c.in-Ok.header = rw c.in-Ok.is at c.read_title.ensures.title in
-      let is = c.in-Piece.ensures in
-      let title_row = subst (λ (x : Header). IsTitle row x) is titled in
-      let inner = so_far.level in
-      record {
-        bytes = so_far.bytes ++ row;
-        shows = within_title g.R.Read c.args.strict depth start _ _ nests items title
-            (kind_of c.args.kind) c.parts.inner _ _ stands
-            so_far at _ row _ c.offset-place.result c.parts.inner _ takes place title_row
-            (inner ∙ sym (string_level (kind_of c.args.kind) (Some c.in-Piece.len) nests (suc so_far.opens)))
-            (rw is at (c.in_err-shown-in-Piece.ensures.draws all));
-        whole = tt;
-        passed = λ alike. tt;
-        stops = λ alike. refusal_stops g.R.Read (kind_of c.args.kind) None 0 _ _ error
-            c.in_err-shown-in-Piece.ensures.refusal;
-      };
-})
+      shows = λ depth start nests items title stands p level at all.
+          let so_far = c.parts.invariant.within depth start nests items title stands p level at in
+          let row = taken_bytes c.read_title.new.self in
+          let keeps = rw c.offset-place.ensures.same at c.read_title.ensures.keeps in
+          let takes = taken_all g.R.Read _ row _ _ c.new-taken.ensures keeps in
+          let place = c.offset-place.ensures.value in
+          let titled : IsTitle row c.in-Ok.header = rw c.in-Ok.is at c.read_title.ensures.title in
+          let is = c.in-Piece.ensures in
+          let title_row = subst (λ (x : Header). IsTitle row x) is titled in
+          let inner = so_far.level in
+          record {
+            bytes = so_far.bytes ++ row;
+            shows = within_title g.R.Read c.args.strict depth start _ _ nests items title
+                (kind_of c.args.kind) c.parts.inner _ _ stands
+                so_far at _ row _ c.offset-place.result c.parts.inner _ takes place title_row
+                (inner ∙ sym (string_level (kind_of c.args.kind) (Some c.in-Piece.len) nests (suc so_far.opens)))
+                (rw is at (c.in_err-shown-in-Piece.ensures.draws all));
+            whole = tt;
+            passed = λ alike. tt;
+            stops = λ alike. refusal_stops g.R.Read (kind_of c.args.kind) None 0 _ _ error
+                c.in_err-shown-in-Piece.ensures.refusal;
+          };
+    })
 
 pub returns-in_err-body-in-Piece : goal.returns-in_err-body-in-Piece
 returns-in_err-body-in-Piece g c =
     let error = c.in_err-body-in-Piece.field-0.0 in
     let same = exit_is c.from_residual-in_err-body-in-Piece.result error c.from_residual-in_err-body-in-Piece.ensures.1 in
     rw same (record {
-  shows = λ depth start nests items title stands p level at all.
-      let so_far = c.parts.invariant.within depth start nests items title stands p level at in
-      let row = taken_bytes c.read_title.new.self in
-      let keeps = rw c.offset-place.ensures.same at c.read_title.ensures.keeps in
-      let takes = taken_all g.R.Read _ row _ _ c.new-taken.ensures keeps in
-      let place = c.offset-place.ensures.value in
-      let titled : IsTitle row c.in-Ok.header = rw c.in-Ok.is at c.read_title.ensures.title in
-      let is = c.in-Piece.ensures in
-      let title_row = subst (λ (x : Header). IsTitle row x) is titled in
-      let inner = so_far.level in
-      let due = piece_due g.R.Read c.args.strict depth start _ _ nests items title
-      (kind_of c.args.kind) c.parts.inner _ _ stands
-      so_far at in
-      let rest = c.in_err-body-in-Piece.ensures.shows depth start (suc so_far.opens) nests (items ++ so_far.parts) row
-      c.args.strict due
-      title_row (omega (arith, inner)) (piece_offset g.R.Read c.args.strict depth start _ _ nests items title
-      (kind_of c.args.kind)
-      c.parts.inner _ _ stands so_far at row _ takes) all in
-      record {
-        bytes = so_far.bytes ++ (row ++ rest.bytes);
-        shows = within_piece g.R.Read c.args.strict depth start _ _ nests items title
-            (kind_of c.args.kind) c.parts.inner _ _ stands
-            so_far at _ _ row rest.bytes c.in-Piece.len c.offset-place.result _ _ takes place
-            title_row (rw is at (c.in_ok-shown-in-Piece.ensures.draws tt)) rest.shows;
-        whole = tt;
-        passed = λ alike. tt;
-        stops = λ alike.
-            let here = alike_here g.R.Read c.args.strict depth start _ _ nests items title
-            (kind_of c.args.kind) c.parts.inner _ _
-            stands so_far at alike in
-            let went = (rw (c.offset-place.ensures.same, c.in-Ok.is) at c.read_title.ensures.passes) here.none_waits in
-            let pulls = (rw (c.offset-place.ensures.same, c.in-Ok.is) at c.read_title.ensures.pulls) here place in
-            let pulled = subst (λ (x : Header). PullsTitle g.R.Read c.parts.decoder x c.read_title.new.decoder) is
-            pulls.0 in
-            within_body g.R.Read c.args.strict depth start _ _ nests items title
-            (kind_of c.args.kind) c.parts.inner _ _ stands
-            so_far at p c.in-Piece.len c.offset-place.result _ _ pulled pulls.1 place
-            error
-            (rest.stops (passes_alike g.R.Read c.args.strict _ _ row went here)) alike;
-      };
-})
+      shows = λ depth start nests items title stands p level at all.
+          let so_far = c.parts.invariant.within depth start nests items title stands p level at in
+          let row = taken_bytes c.read_title.new.self in
+          let keeps = rw c.offset-place.ensures.same at c.read_title.ensures.keeps in
+          let takes = taken_all g.R.Read _ row _ _ c.new-taken.ensures keeps in
+          let place = c.offset-place.ensures.value in
+          let titled : IsTitle row c.in-Ok.header = rw c.in-Ok.is at c.read_title.ensures.title in
+          let is = c.in-Piece.ensures in
+          let title_row = subst (λ (x : Header). IsTitle row x) is titled in
+          let inner = so_far.level in
+          let due = piece_due g.R.Read c.args.strict depth start _ _ nests items title
+          (kind_of c.args.kind) c.parts.inner _ _ stands
+          so_far at in
+          let rest = c.in_err-body-in-Piece.ensures.shows depth start (suc so_far.opens) nests (items ++ so_far.parts) row
+          c.args.strict due
+          title_row (omega (arith, inner)) (piece_offset g.R.Read c.args.strict depth start _ _ nests items title
+          (kind_of c.args.kind)
+          c.parts.inner _ _ stands so_far at row _ takes) all in
+          record {
+            bytes = so_far.bytes ++ (row ++ rest.bytes);
+            shows = within_piece g.R.Read c.args.strict depth start _ _ nests items title
+                (kind_of c.args.kind) c.parts.inner _ _ stands
+                so_far at _ _ row rest.bytes c.in-Piece.len c.offset-place.result _ _ takes place
+                title_row (rw is at (c.in_ok-shown-in-Piece.ensures.draws tt)) rest.shows;
+            whole = tt;
+            passed = λ alike. tt;
+            stops = λ alike.
+                let here = alike_here g.R.Read c.args.strict depth start _ _ nests items title
+                (kind_of c.args.kind) c.parts.inner _ _
+                stands so_far at alike in
+                let went = (rw (c.offset-place.ensures.same, c.in-Ok.is) at c.read_title.ensures.passes) here.none_waits in
+                let pulls = (rw (c.offset-place.ensures.same, c.in-Ok.is) at c.read_title.ensures.pulls) here place in
+                let pulled = subst (λ (x : Header). PullsTitle g.R.Read c.parts.decoder x c.read_title.new.decoder) is
+                pulls.0 in
+                within_body g.R.Read c.args.strict depth start _ _ nests items title
+                (kind_of c.args.kind) c.parts.inner _ _ stands
+                so_far at p c.in-Piece.len c.offset-place.result _ _ pulled pulls.1 place
+                error
+                (rest.stops (passes_alike g.R.Read c.args.strict _ _ row went here)) alike;
+          };
+    })
 
 pub parts-smaller-in-Continue-branch-3 : goal.parts-smaller-in-Continue-branch-3
 parts-smaller-in-Continue-branch-3 g c =
@@ -301,29 +301,29 @@ returns-in_err-shown-in-Open g c =
     let error = c.in_err-shown-in-Open.field-0.0 in
     let same = exit_is c.from_residual-in_err-shown-in-Open.result error c.from_residual-in_err-shown-in-Open.ensures.1 in
     rw same (record {
-  shows = λ depth start nests items title stands p level at all.
-      let so_far = c.parts.invariant.within depth start nests items title stands p level at in
-      let row = taken_bytes c.read_title.new.self in
-      let keeps = rw c.offset-place.ensures.same at c.read_title.ensures.keeps in
-      let takes = taken_all g.R.Read _ row _ _ c.new-taken.ensures keeps in
-      let place = c.offset-place.ensures.value in
-      let titled : IsTitle row c.in-Ok.header = rw c.in-Ok.is at c.read_title.ensures.title in
-      let is = c.in-Open.ensures.0 in
-      let title_row = subst (λ (x : Header). IsTitle row x) is titled in
-      let inner = so_far.level in
-      record {
-        bytes = so_far.bytes ++ row;
-        shows = within_title g.R.Read c.args.strict depth start _ _ nests items title
-            (kind_of c.args.kind) c.parts.inner _ _ stands
-            so_far at _ row _ c.offset-place.result c.parts.inner _ takes place title_row
-            (inner ∙ sym (string_level (kind_of c.args.kind) None nests (suc so_far.opens)))
-            (rw is at (c.in_err-shown-in-Open.ensures.draws all));
-        whole = tt;
-        passed = λ alike. tt;
-        stops = λ alike. refusal_stops g.R.Read (kind_of c.args.kind) None 0 _ _ error
-            c.in_err-shown-in-Open.ensures.refusal;
-      };
-})
+      shows = λ depth start nests items title stands p level at all.
+          let so_far = c.parts.invariant.within depth start nests items title stands p level at in
+          let row = taken_bytes c.read_title.new.self in
+          let keeps = rw c.offset-place.ensures.same at c.read_title.ensures.keeps in
+          let takes = taken_all g.R.Read _ row _ _ c.new-taken.ensures keeps in
+          let place = c.offset-place.ensures.value in
+          let titled : IsTitle row c.in-Ok.header = rw c.in-Ok.is at c.read_title.ensures.title in
+          let is = c.in-Open.ensures.0 in
+          let title_row = subst (λ (x : Header). IsTitle row x) is titled in
+          let inner = so_far.level in
+          record {
+            bytes = so_far.bytes ++ row;
+            shows = within_title g.R.Read c.args.strict depth start _ _ nests items title
+                (kind_of c.args.kind) c.parts.inner _ _ stands
+                so_far at _ row _ c.offset-place.result c.parts.inner _ takes place title_row
+                (inner ∙ sym (string_level (kind_of c.args.kind) None nests (suc so_far.opens)))
+                (rw is at (c.in_err-shown-in-Open.ensures.draws all));
+            whole = tt;
+            passed = λ alike. tt;
+            stops = λ alike. refusal_stops g.R.Read (kind_of c.args.kind) None 0 _ _ error
+                c.in_err-shown-in-Open.ensures.refusal;
+          };
+    })
 
 pub parts-preserved : goal.parts-preserved
 parts-preserved g c = record {
