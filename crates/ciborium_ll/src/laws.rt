@@ -18,12 +18,10 @@ pub use self::headers::{pull_again, same_header};
 pub use self::pieces::{Piece, copy_spelled, write_pieces};
 pub use self::strict::strict_run;
 pub use ciborium_ll_decoder::skip::{skip_bytes, skip_text};
-pub use ciborium_ll_grammar::laws::{
-    cut_titles, fewest_segments, no_fault, one_element, one_fault, one_item, one_run, one_string,
-    one_title, refused_first_bytes, run_or_fault, shortest_titles, spelled_run, title_header,
-    title_length, written_values,
-};
-pub use ciborium_ll_text::laws::{
-    damage_by_state, full_cuts, joined_texts, no_rest_of_text, no_text_begins, one_front,
-    rest_of_text, same_text, text_by_state, text_or_front,
+pub use ciborium_ll_laws::{
+    cut_titles, damage_by_state, fewest_segments, full_cuts, joined_texts, no_fault,
+    no_rest_of_text, no_text_begins, one_element, one_fault, one_front, one_item, one_run,
+    one_string, one_title, refused_first_bytes, rest_of_text, run_or_fault, same_text,
+    shortest_titles, spelled_run, text_by_state, text_or_front, title_header, title_length,
+    written_values,
 };

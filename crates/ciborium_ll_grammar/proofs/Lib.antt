@@ -1,15 +1,12 @@
 pub mod AffixLaws
 pub mod AloneLaws
-pub mod Complete
 pub mod ElementLaws
 pub mod FaultLaws
 pub mod HaltLaws
 pub mod ItemLaws
 pub mod LongerLaws
-pub mod OneFault
 pub mod OpenStrings
 pub mod PartsLaws
-pub mod RefusedBytes
 pub mod SpelledLaws
 pub mod StartLaws
 pub mod StepLaws

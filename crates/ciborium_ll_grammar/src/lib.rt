@@ -4,4 +4,3 @@
 #![tactic(auto)]
 
 pub mod hdr;
-pub mod laws;

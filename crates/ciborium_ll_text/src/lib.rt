@@ -5,7 +5,6 @@
 #![tactic(auto)]
 
 mod blocks;
-pub mod laws;
 mod numbers;
 mod rows;
 pub mod state;

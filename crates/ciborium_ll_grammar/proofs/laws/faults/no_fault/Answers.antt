@@ -1,5 +1,0 @@
-use Rattle.ciborium_ll_grammar.proofs.StrictFaultLaws.{no_fault}
-use Rattle.ciborium_ll_grammar.proofs.laws.faults.no_fault.Goals as goal
-
-pub returns : goal.returns
-returns c = no_fault

@@ -1,8 +1,0 @@
-use Rattle.ciborium_ll_grammar.proofs.OneFault.{one_fault, one_answer}
-use Rattle.ciborium_ll_grammar.proofs.laws.faults.one_fault.Goals as goal
-
-pub returns-clause-place : goal.returns-clause-place
-returns-clause-place c = one_fault
-
-pub returns-clause-answer : goal.returns-clause-answer
-returns-clause-answer c = one_answer

@@ -1,0 +1,3 @@
+mod Complete
+mod OneFault
+mod RefusedBytes

@@ -1,5 +1,0 @@
-use Rattle.ciborium_ll_text.proofs.TextLaws.{IsCharacters-append}
-use Rattle.ciborium_ll_text.proofs.laws.text.joined_texts.Goals as goal
-
-pub returns : goal.returns
-returns c = IsCharacters-append

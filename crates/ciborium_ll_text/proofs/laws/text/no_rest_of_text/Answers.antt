@@ -1,5 +1,0 @@
-use Rattle.ciborium_ll_text.proofs.TextLaws.{no_rest_of_text}
-use Rattle.ciborium_ll_text.proofs.laws.text.no_rest_of_text.Goals as goal
-
-pub returns : goal.returns
-returns c = no_rest_of_text

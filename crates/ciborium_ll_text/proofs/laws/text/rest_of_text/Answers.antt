@@ -1,5 +1,0 @@
-use Rattle.ciborium_ll_text.proofs.TextLaws.{IsCharacters-rest}
-use Rattle.ciborium_ll_text.proofs.laws.text.rest_of_text.Goals as goal
-
-pub returns : goal.returns
-returns c = IsCharacters-rest
