@@ -4,7 +4,7 @@ ghost use Rattle.std.specs.Prelude.{◌≡◌, ◌+◌, ◌%◌, IfSome, IfNone,
 ghost use Rattle.ciborium_ll_grammar.specs.Title.{BeginsRefused, IsTitle, affix_len};
 
 use ciborium_ll_grammar::hdr::Header;
-use ciborium_ll_grammar::hdr::whole::title_of;
+use ciborium_ll_titles::title_of;
 
 /// The header of a title, or nothing where no title begins with its first byte. All bytes that this one announces are
 /// there.

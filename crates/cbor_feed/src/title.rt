@@ -10,7 +10,7 @@ ghost use Rattle.cbor_feed.specs.Blocked.{blocked, is_value};
 use crate::phase::{Fault, Within};
 use ciborium_ll_grammar::hdr::Header;
 use ciborium_ll_grammar::hdr::table::{Affix, TitleKind, row_of};
-use ciborium_ll_grammar::hdr::whole::title_of;
+use ciborium_ll_titles::title_of;
 
 /// The header of a title, or nothing where no title that is taken begins so: with no meaning, or where only the
 /// shortest spelling is taken a longer one. All bytes that the first one announces are there.

@@ -12,7 +12,6 @@ ghost use Rattle.ciborium_ll_grammar.specs.TitleRows.{IsTitleKind};
 
 mod start;
 pub mod table;
-pub mod whole;
 
 pub use self::start::Start;
 use crate::hdr::table::TitleKind;

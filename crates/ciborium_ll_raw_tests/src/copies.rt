@@ -1,11 +1,12 @@
 // Copies of raw bytes.
 
 use super::faults::is_printed_as;
-use ciborium_ll::io::{ReadFault, WriteFault};
-use ciborium_ll::{Error, RecodeError};
+use ciborium_ll::io::{ReadFault, StdReader, StdWriter, Write, WriteFault};
+use ciborium_ll::recode::recode;
+use ciborium_ll::{Decoder, Encoder, Error, RecodeError};
 use ciborium_ll_fixtures::streams::{PartReader, PartWriter};
 use ciborium_ll_service::fault::{Fault, fault_of_raw};
-use ciborium_ll_service::raw::{raw, raw_buffered};
+use ciborium_ll_service::raw::raw_buffered;
 use std::alloc::Global;
 use std::io;
 use std::test::Fail;
@@ -69,16 +70,29 @@ fn end_of_flush(outcome: Result<(), WriteFault>) -> End {
     }
 }
 
-// Copies elements by `raw`. What that tells of the flush, it tells as the fault of the copy.
+// How a copy ended with the flush behind it: with its own error, else with that of the flush.
+fn outcome_of(
+    copied: Result<(), RecodeError<ReadFault, WriteFault>>,
+    flushed: Result<(), WriteFault>,
+) -> Result<(), RecodeError<ReadFault, WriteFault>> {
+    copied?;
+    flushed.map_err(RecodeError::Write)
+}
+
+// Copies elements as `raw_buffered` does, but with nothing read ahead or kept back. A fault of the flush is told as
+// that of the copy.
 pub fn copies<R: io::Read, W: io::Write>(source: R, sink: W, count: usize) -> Copied<R, W> {
-    let (source, sink, outcome) = raw(source, sink, count);
-    let (copied, fault) = end_of(outcome);
+    let mut decoder = Decoder::from(StdReader::new(source));
+    let mut encoder = Encoder::from(StdWriter::new(sink));
+    let copied = recode(&mut decoder, &mut encoder, count, &mut [0; 64]);
+    let mut writer = encoder.into_inner();
+    let (copied, fault) = end_of(outcome_of(copied, writer.flush()));
     Copied {
         copied,
         fault,
         flushed: End::Done,
-        source,
-        sink,
+        source: decoder.into_inner().into_inner(),
+        sink: writer.into_inner(),
     }
 }
 

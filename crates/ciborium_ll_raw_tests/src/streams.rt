@@ -31,7 +31,7 @@ struct Ended {
     sink: PartWriter,
 }
 
-// Copies elements. What `raw` tells of the flush, it tells as the fault of the copy.
+// Copies elements. With nothing kept back a fault of the flush is told as that of the copy.
 fn copies(
     is_buffered: bool,
     count: usize,

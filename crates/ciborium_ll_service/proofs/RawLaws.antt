@@ -1,6 +1,6 @@
 -- A copy between a reader and a writer of std, from the copy of elements and the flush behind it.
 use Rattle.std.proofs.Common.{◌≡◌, ℕ, false, ◌+◌, ◌≤◌, ◌^◌, List, [], ◌++◌, length, Option, Some, None, Result}
-use Rattle.std.proofs.Common.{Ok, Err, OnOk, refl, sym, ap, ◌∙◌, inl, inr, arith}
+use Rattle.std.proofs.Common.{Ok, Err, OnOk, refl, sym, ap, ◌∙◌, arith}
 use Rattle.std.specs.Io.KnownBytes.{Keeps, append_known}
 use Rattle.std.proofs.lemmas.List.{append-nil}
 use Rattle.ciborium_ll_io.specs.declared.io.Read.{Ghosts as Reader}
@@ -12,15 +12,12 @@ use Rattle.ciborium_ll_streams.specs.declared.streams.ReadFault.{ReadFault}
 use Rattle.ciborium_ll_streams.specs.declared.streams.WriteFault.{WriteFault}
 use Rattle.ciborium_ll_decoder.specs.declared.copy.RecodeError.{RecodeError}
 use Rattle.ciborium_ll_decoder.specs.declared.copy.RecodeError.TheVariants as r
-use Rattle.ciborium_ll_grammar.specs.Elements.{spelling}
 use Rattle.ciborium_ll_grammar.specs.Faults.{Syntax}
-use Rattle.ciborium_ll_decoder.specs.Decoding.{Passes, view}
-use Rattle.ciborium_ll_recode.specs.Recoding.{CopiesElements}
 use Rattle.ciborium_ll_decoder.specs.BodyCopies.{sides}
 use Rattle.ciborium_ll_recode.specs.RecodingTold.{IsTold, RecodesAnyhow, StopsShort}
 use Rattle.ciborium_ll_decoder.proofs.BodyLaws.{view_none}
 use Rattle.ciborium_ll_service.specs.Restoring.{Restores, RestoresCopy, RestoresFlush}
-use Rattle.ciborium_ll_service.specs.Raw.{CopiesRaw, ReadsShort, TellsFlushed, WritesShort, flushed_outcome}
+use Rattle.ciborium_ll_service.specs.Raw.{CopiesRaw, ReadsShort, TellsFlushed}
 
 -- known bytes that are kept are known still
 pub kept_known : (old new : Option (List ℕ)) (bytes : List ℕ) → Keeps old new → old ≡ Some bytes → new ≡ Some bytes
@@ -41,31 +38,26 @@ whole_known (Some xs) held bytes none told = ap Some (sym (append-nil xs) ∙ ap
     ∙ told
 
 -- what holds of a copy holds with the faults of std in their places
-pub restored_copies : {R W : Type 0} (left : R → List ℕ → Type 0) (got : W → List ℕ → Type 0) (count : ℕ)
-    (due written : List ℕ) (reader : R) (writer : W)
+pub restored_copies : {W : Type 0} (got : W → List ℕ → Type 0) (count : ℕ) (due written : List ℕ) (writer : W)
     (read : Option ReadFault) (write : Option WriteFault) (error : RecodeError FaultKept FaultKept)
     (error' : RecodeError ReadFault WriteFault) → Restores read write error error'
-    → CopiesRaw left got count due written (Err error) reader writer
-    → CopiesRaw left got count due written (Err error') reader writer
-restored_copies left got count due written reader writer read write (r.Read (e.Io failed)) error' is copies =
-    rw is.1 copies
-restored_copies left got count due written reader writer read write (r.Read (e.Syntax place)) error' is copies =
-    rw is copies
-restored_copies left got count due written reader writer read write (r.Read e.TooLong) error' is copies = rw is copies
-restored_copies left got count due written reader writer read write (r.Read e.Waiting) error' is copies = absurd copies
-restored_copies left got count due written reader writer read write (r.Write failed) error' is copies = rw is.1 copies
+    → CopiesRaw got count due written (Err error) writer → CopiesRaw got count due written (Err error') writer
+restored_copies got count due written writer read write (r.Read (e.Io failed)) error' is copies = rw is.1 copies
+restored_copies got count due written writer read write (r.Read (e.Syntax place)) error' is copies = rw is copies
+restored_copies got count due written writer read write (r.Read e.TooLong) error' is copies = rw is copies
+restored_copies got count due written writer read write (r.Read e.Waiting) error' is copies = absurd copies
+restored_copies got count due written writer read write (r.Write failed) error' is copies = rw is.1 copies
 
 -- the same of the outcome of a copy
-pub restored_outcome : {R W : Type 0} (left : R → List ℕ → Type 0) (got : W → List ℕ → Type 0) (count : ℕ)
-    (due written : List ℕ) (reader : R) (writer : W)
+pub restored_outcome : {W : Type 0} (got : W → List ℕ → Type 0) (count : ℕ) (due written : List ℕ) (writer : W)
     (read : Option ReadFault) (write : Option WriteFault)
     (outcome : Result (Unit {0}) (RecodeError FaultKept FaultKept))
     (outcome' : Result (Unit {0}) (RecodeError ReadFault WriteFault))
-    → RestoresCopy read write outcome outcome' → CopiesRaw left got count due written outcome reader writer
-    → CopiesRaw left got count due written outcome' reader writer
-restored_outcome left got count due written reader writer read write (Ok done) outcome' is copies = rw is copies
-restored_outcome left got count due written reader writer read write (Err error) outcome' is copies =
-    rw is.1 (restored_copies left got count due written reader writer read write error is.0 is.2 copies)
+    → RestoresCopy read write outcome outcome' → CopiesRaw got count due written outcome writer
+    → CopiesRaw got count due written outcome' writer
+restored_outcome got count due written writer read write (Ok done) outcome' is copies = rw is copies
+restored_outcome got count due written writer read write (Err error) outcome' is copies =
+    rw is.1 (restored_copies got count due written writer read write error is.0 is.2 copies)
 
 -- what a writer within has behind a flush, of which the bytes that it could not pass on are held back
 pub flushed_known : {W : Type 0} (contents : W → Option (List ℕ)) (write : Option WriteFault)
@@ -91,106 +83,41 @@ module _ {D S E F : Type 0} (source : Reader D E) (sink : Writer S F) where
         none_waits = λ on. none;
       }
 
-  -- where no header waited, none waits behind calls that all succeeded
-  still_none : (old new : Decoder D) (bytes : List ℕ) → Passes source old bytes new → old.waiting ≡ None
-      → new.waiting ≡ None
-  still_none old new bytes passed none =
-      elim passed.waiting [
-        | inl same ↦ ap (λ (d : Decoder D). d.waiting) same.1 ∙ none
-        | inr gone ↦ gone
-      ]
-
-  -- behind a copy that met a syntax no header waits
-  none_behind : (count room place : ℕ) (old new : Decoder D) (writer writer' : S)
-      → CopiesElements source sink count room (sides old writer) (Err (r.Read (e.Syntax place))) (sides new writer')
-      → old.waiting ≡ None → new.waiting ≡ None
-  none_behind count room place old new writer writer' (inl stops) none =
-      elim stops.fails [ inl refused ↦ refused.none_waits | inr longer ↦ longer.none_waits ]
-  none_behind count room place old new writer writer' (inr (inl stops)) none = stops.other.pulled.none_waits
-  none_behind count room place old new writer writer' (inr (inr stops)) none =
-      still_none stops.between.decoder new stops.stopped.ends.1.read stops.stopped.ends.1.passed
-      (still_none old stops.between.decoder stops.bytes stops.copied.passed none)
-
-  module _ {R W : Type 0} (left : R → List ℕ → Type 0) (got : W → List ℕ → Type 0) (count : ℕ)
-      (due written : List ℕ) (old new : Decoder D) (writer writer' : S)
-      (reader : R) (flushed : W) (start : old.offset ≡ 0) (none-waits : old.waiting ≡ None)
-      (leaves : (bytes : List ℕ) → source.ahead new.reader ≡ Some bytes → left reader bytes)
-      (gets : (bytes : List ℕ) → sink.written writer' ≡ Some bytes → got flushed bytes) where
-    -- what is due where no header waits is what the reader has ahead
-    leaves_due : (bytes : List ℕ) → new.waiting ≡ None → view source new ≡ Some bytes → left reader bytes
-    leaves_due bytes none told = leaves bytes (sym (view_none new.waiting (source.ahead new.reader) none) ∙ told)
-
-    abbrev short : StopsShort source sink count due written old (sides new writer') → ReadsShort got count due written
+  module _ {W : Type 0} (got : W → List ℕ → Type 0) (count : ℕ) (due written : List ℕ) (old new : Decoder D)
+      (writer : S) (flushed : W) (start : old.offset ≡ 0)
+      (gets : (bytes : List ℕ) → sink.written writer ≡ Some bytes → got flushed bytes) where
+    abbrev short : StopsShort source sink count due written old (sides new writer) → ReadsShort got count due written
         flushed
     short stops = record { stop = stops.stop; output = gets _ stops.output }
 
     near : (offset consumed : ℕ) → offset ≡ consumed → 2 ^ 64 ≤ offset + 64 → 2 ^ 64 ≤ consumed + 64
     near offset consumed same full = omega (arith, same, full)
 
-    -- all was written, and the flush behind it failed
-    pub raw_unflushed : RecodesAnyhow source sink false count 64 due written old (Ok (tt {0})) (sides new writer')
-        → WritesShort got count due written flushed
-    raw_unflushed told = record {
-      stop = record {
-        before = told.front.elements;
-        marks = told.front.marks;
-        read = [];
-        more = [];
-        rest = told.front.rest;
-        belongs = inl (told.front.run, refl, refl);
-        is = told.front.is ∙ ap (λ (z : List ℕ). z ++ told.front.rest) (sym (append-nil told.front.elements));
-        written = spelling told.front.marks;
-        begun = ([], refl);
-      };
-      output = gets _ told.output;
-    }
-
-    -- all was written, and the flush behind it succeeded
-    pub raw_all : CopiesElements source sink count 64 (sides old writer) (Ok (tt {0})) (sides new writer')
-        → RecodesAnyhow source sink false count 64 due written old (Ok (tt {0})) (sides new writer')
-        → CopiesRaw {E = E} {F = F} left got count due written (Ok (tt {0})) reader flushed
-    raw_all copied told = record {
-      front = told.front;
-      output = gets _ told.output;
-      rest = leaves_due _ (still_none old new copied.elements.bytes copied.elements.copied.passed none-waits) told.left;
-    }
-
     -- the copy stopped: its answer stands, whatever the flush behind it does
-    pub raw_stopped : (error : RecodeError E F) → CopiesElements source sink count 64 (sides old writer) (Err error)
-        (sides new writer') → RecodesAnyhow source sink false count 64 due written old (Err error) (sides new writer')
-        → CopiesRaw left got count due written (Err error) reader flushed
-    raw_stopped (r.Read (e.Io fault)) copied told = short told
-    raw_stopped (r.Read (e.Syntax place)) copied told =
+    pub raw_stopped : (error : RecodeError E F)
+        → RecodesAnyhow source sink false count 64 due written old (Err error) (sides new writer)
+        → CopiesRaw got count due written (Err error) flushed
+    raw_stopped (r.Read (e.Io fault)) told = short told
+    raw_stopped (r.Read (e.Syntax place)) told =
         let met = told.2 in
         let here : place ≡ told.0 = omega (arith, told.1, start) in
         record {
           fault = met.fault;
           answered = met.answered ∙ ap Syntax (sym here);
           output = gets _ met.output;
-          rest = leaves_due _ (none_behind count 64 place old new writer writer' copied none-waits) met.left;
         }
-    raw_stopped (r.Read e.TooLong) copied told =
+    raw_stopped (r.Read e.TooLong) told =
         let stop = told.0.stop in (
           short told.0,
           near new.offset (length stop.before + stop.consumed)
               (omega (arith, start, told.0.offset)) told.1,
         )
-    raw_stopped (r.Read e.Waiting) copied told = absurd told
-    raw_stopped (r.Write fault) copied told = record { stop = told.stop; output = gets _ told.output }
+    raw_stopped (r.Read e.Waiting) told = absurd told
+    raw_stopped (r.Write fault) told = record { stop = told.stop; output = gets _ told.output }
 
     -- whatever the copy answered
     pub raw_any : (outcome : Result (Unit {0}) (RecodeError E F))
-        → CopiesElements source sink count 64 (sides old writer) outcome (sides new writer')
-        → RecodesAnyhow source sink false count 64 due written old outcome (sides new writer')
-        → CopiesRaw left got count due written outcome reader flushed
-    raw_any (Ok done) copied told = raw_all copied told
-    raw_any (Err error) copied told = raw_stopped error copied told
-
-    -- whatever the copy answered, and the flush behind it
-    pub raw_flushed : (outcome : Result (Unit {0}) (RecodeError E F)) (sent : Result (Unit {0}) F)
-        → CopiesElements source sink count 64 (sides old writer) outcome (sides new writer')
-        → RecodesAnyhow source sink false count 64 due written old outcome (sides new writer')
-        → CopiesRaw left got count due written (flushed_outcome outcome sent) reader flushed
-    raw_flushed (Ok done) (Ok sent) copied told = raw_all copied told
-    raw_flushed (Ok done) (Err fault) copied told = raw_unflushed told
-    raw_flushed (Err error) sent copied told = raw_stopped error copied told
+        → RecodesAnyhow source sink false count 64 due written old outcome (sides new writer)
+        → CopiesRaw got count due written outcome flushed
+    raw_any (Ok done) told = record { front = told.front; output = gets _ told.output }
+    raw_any (Err error) told = raw_stopped error told

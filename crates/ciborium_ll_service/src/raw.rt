@@ -1,7 +1,7 @@
 //! Elements copied from one stream of bytes to another.
 
 ghost use Rattle.std.specs.Prelude.{◌≡◌, ℕ, List, Some};
-ghost use Rattle.ciborium_ll_service.specs.Raw.{CopiesRaw, Tells, TellsFlushed, Untold, flushed_outcome};
+ghost use Rattle.ciborium_ll_service.specs.Raw.{CopiesRaw, TellsFlushed};
 ghost use Rattle.ciborium_ll_service.specs.Restoring.{Restores, RestoresCopy, RestoresFlush};
 
 use crate::copy::BUFFER_SIZE;
@@ -9,49 +9,11 @@ use ciborium_ll_decoder::dec::{Decoder, Error};
 use ciborium_ll_encoder::enc::Encoder;
 use ciborium_ll_io::io::Write;
 use ciborium_ll_recode::recode::{RecodeError, recode};
-use ciborium_ll_streams::{
-    BufferedReader, BufferedWriter, FaultKept, ReadFault, StdReader, StdWriter, WriteFault,
-};
+use ciborium_ll_streams::{BufferedReader, BufferedWriter, FaultKept, ReadFault, WriteFault};
 use std::io;
 
 /// How many bytes a buffered copy reads ahead, and how many it keeps back, at most.
 const ROOM: usize = 8192;
-
-/// Copies so many elements, and flushes the writer. It hands back the reader and the writer.
-///
-/// Bytes behind the last element stay with the reader. The flush comes after a failure too. The error is that of the
-/// copy, else `Write` where the flush failed.
-///
-/// Where bytes are told on both sides, `Ok` and `Syntax` mean what they do of `recode`; after another error the writer
-/// got the spelling of a part of the elements, or a beginning of it.
-pub fn raw<R: io::Read, W: io::Write>(
-    reader: R,
-    writer: W,
-    count: usize,
-) -> (R, W, Result<(), RecodeError<ReadFault, WriteFault>>)
-    ensures { (due written : List ℕ) → R.remaining reader ≡ Some due → W.contents writer ≡ Some written
-        → CopiesRaw (Tells R.remaining) (Tells W.contents) count due written result.2 result.0 result.1 }
-{
-    let mut buffer = [0; BUFFER_SIZE];
-    let mut decoder = Decoder::from(StdReader::new(reader));
-    let mut encoder = Encoder::from(StdWriter::new(writer));
-    let copied = recode(&mut decoder, &mut encoder, count, &mut buffer);
-    let reader = decoder.into_inner().into_inner();
-    let mut writer = encoder.into_inner();
-    let outcome = outcome_of(copied, writer.flush());
-    (reader, writer.into_inner(), outcome)
-}
-
-/// How a copy ended with the flush behind it: with its own error, else with that of the flush.
-fn outcome_of(
-    copied: Result<(), RecodeError<ReadFault, WriteFault>>,
-    flushed: Result<(), WriteFault>,
-) -> Result<(), RecodeError<ReadFault, WriteFault>>
-    ensures { result ≡ flushed_outcome copied flushed }
-{
-    copied?;
-    flushed.map_err(RecodeError::Write)
-}
 
 /// How a buffered copy ended.
 #[derive(Drop)]
@@ -66,21 +28,21 @@ pub struct BufferedCopy<R, W> {
     pub flushed: Result<(), WriteFault>,
 }
 
-/// Copies as `raw` does, and reads ahead and keeps back some 8 KiB at a time.
+/// Copies so many elements, and flushes the writer. It reads ahead and keeps back some 8 KiB at a time, and hands back
+/// the reader and the writer.
 ///
 /// The flush comes after a failure too. A write that fails is told by the call that passes it on, which may come behind
 /// a read that failed, or be the flush.
 ///
-/// Where bytes are told on both sides it is the same but for bytes that were read ahead. The faults of the copy and of
-/// the flush are told, and only where the flush failed may the writer lack bytes.
+/// Where bytes are told on both sides, `Ok` and `Syntax` mean what they do of `recode`; after another error the writer
+/// got the spelling of a part of the elements, or a beginning of it. Only where the flush failed may it lack bytes.
 pub fn raw_buffered<R: io::Read, W: io::Write>(
     reader: R,
     writer: W,
     count: usize,
 ) -> BufferedCopy<R, W>
     ensures { (due written : List ℕ) → R.remaining reader ≡ Some due → W.contents writer ≡ Some written
-        → CopiesRaw Untold (TellsFlushed W.contents result.flushed) count due written result.copied result.reader
-        result.writer }
+        → CopiesRaw (TellsFlushed W.contents result.flushed) count due written result.copied result.writer }
 {
     let mut read_ahead = [0; ROOM];
     let mut kept_back = [0; ROOM];

@@ -1,4 +1,8 @@
 //! Titles that are there whole, in memory.
+//!
+//! What is fed in pieces reads titles so; a decoder reads them byte by byte. This crate is a part of `cbor_feed` and
+//! `cbor_copy`.
+#![tactic(auto)]
 
 ghost use Rattle.std.specs.Prelude.{◌≡◌, ◌+◌, ◌%◌, IfSome, IfNone, length, slice_index};
 ghost use Rattle.std.specs.Int.{to_be_bytes, w16, w32, w64};
@@ -6,8 +10,8 @@ ghost use Rattle.ciborium_ll_grammar.specs.Title.{BeginsRefused, IsReserved, aff
 ghost use Rattle.ciborium_ll_grammar.specs.Parts.{IsMinor, IsParts, minor_affix, minor_code, title_bytes};
 ghost use Rattle.ciborium_ll_grammar.specs.TitleRows.{IsAffix, IsTitleKind};
 
-use crate::hdr::table::{Affix, TitleKind, row_of};
-use crate::hdr::{Minor, Title};
+use ciborium_ll_grammar::hdr::table::{Affix, TitleKind, row_of};
+use ciborium_ll_grammar::hdr::{Minor, Title};
 
 /// The minor of a first byte, with the number that it holds or that the bytes behind it are. A reserved one is none.
 #[inline(always)]
