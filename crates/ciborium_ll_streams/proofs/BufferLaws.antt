@@ -8,7 +8,7 @@ use Rattle.std.proofs.lemmas.Slice.{take-put_mid, take-put_mid_below}
 use Rattle.std.proofs.Math.Seq.{take-append-add}
 use Rattle.std.specs.declared.option.Option.{Option}
 use Rattle.std.specs.Io.KnownBytes.{Appends, Consumes, IsAtEnd, Keeps, prepend_known, append_known}
-use Rattle.ciborium_ll_io.specs.Transfer.{AppendsFront, AppendsPart, ConsumesPart}
+use Rattle.ciborium_ll_io.specs.Transfer.{ConsumesPart}
 use borrow.Rule.Slice.PartMut.{put_mid}
 
 -- bytes that are put behind a part
@@ -129,20 +129,3 @@ kept_Appends (Some x) (Some y) (Some z) bs p q = q ∙ ap (λ l. l ++ bs) p
 pub on_err : {X E P : Type 0} (r : Result X E) → P → OnErr r P
 on_err (Ok x) p = tt
 on_err (Err e) p = p
-
--- what holds anyway holds behind an error, whichever it is
-pub on_err_whichever : {X E Q : Type 0} (P : Type 0) (r : Result X E) → Q → OnErr r (P → Q)
-on_err_whichever P (Ok x) q = tt
-on_err_whichever P (Err e) q = λ _. q
-
--- a failed write appended a beginning of the bytes, and not all of them
-pub appended_part : {X E : Type 0} (r : Result X E) (a b : Option (List ℕ)) (bs : List ℕ) (count : ℕ)
-    → Appends a b (take count bs) → count < length bs → OnErr r (AppendsPart a b bs)
-appended_part (Ok x) a b bs count done within = tt
-appended_part (Err e) a b bs count done within = (count, done, within)
-
--- what is a beginning and not all is a beginning
-pub part_front : {X E : Type 0} (r : Result X E) (a b : Option (List ℕ)) (bs : List ℕ)
-    → OnErr r (AppendsPart a b bs) → OnErr r (AppendsFront a b None None bs)
-part_front (Ok x) a b bs part = tt
-part_front (Err e) a b bs part = (part.0, (part.1, tt, omega (arith, part.2)))

@@ -3,7 +3,7 @@ use Rattle.std.proofs.KnownBytes.{Keeps-refl}
 use Rattle.std.proofs.lemmas.List.{take_at}
 use Rattle.std.specs.Io.KnownBytes.{Consumes, Keeps}
 use Rattle.ciborium_ll_streams.specs.Buffers.{buffered_ahead, held}
-use Rattle.ciborium_ll_streams.proofs.BufferLaws.{kept_Consumes, no_bytes, on_err, on_err_whichever}
+use Rattle.ciborium_ll_streams.proofs.BufferLaws.{kept_Consumes, no_bytes}
 use Rattle.ciborium_ll_streams.proofs.BufferLaws.{prepend_known-filled, prepend_known-kept, prepend_known-none}
 use Rattle.ciborium_ll_streams.proofs.BufferLaws.{prepend_known-taken}
 use Rattle.ciborium_ll_streams.proofs.buffered.BufferedReader.read_part.Goals.{else-len-eq0}
@@ -13,19 +13,19 @@ use Rattle.ciborium_ll_streams.proofs.buffered.BufferedReader.read_part.Goals as
 pub returns-in-Ok-eq0-clause-keeps : goal.returns-in-Ok-eq0-clause-keeps
 returns-in-Ok-eq0-clause-keeps g c =
     let none = no_bytes (held c.args.self.now.window) (sym c.len.ensures ∙ c.if-len-eq0.true) in
-    rw c.failed.ensures.ahead (on_err _ (prepend_known-filled _ _ _ _ none c.in-Ok-eq0.ensures.bytes))
+    rw c.failed.ensures.ahead (prepend_known-filled _ _ _ _ none c.in-Ok-eq0.ensures.bytes)
 
 pub returns-in-Ok-eq0-clause-end : goal.returns-in-Ok-eq0-clause-end
 returns-in-Ok-eq0-clause-end g c =
     let none = no_bytes (held c.fill.new.self) (sym c.in-Ok-eq0.ensures.count ∙ c.in-Ok-eq0.field-0-test) in
-    rw c.failed.ensures.ahead (on_err_whichever _ _ (prepend_known-none _ _ none
-    (c.in-Ok-eq0.ensures.end c.in-Ok-eq0.field-0-test)))
+    λ _. rw c.failed.ensures.ahead (prepend_known-none _ _ none
+    (c.in-Ok-eq0.ensures.end c.in-Ok-eq0.field-0-test))
 
 pub returns-in-Err-clause-keeps : goal.returns-in-Err-clause-keeps
 returns-in-Err-clause-keeps g c =
     let none = no_bytes (held c.args.self.now.window) (sym c.len.ensures ∙ c.if-len-eq0.true) in
-    rw c.failed-in-Err.ensures.ahead (on_err _ (prepend_known-kept _ _ _ _ none c.in-Err.ensures.err
-    c.in-Err.ensures.keeps))
+    rw c.failed-in-Err.ensures.ahead (prepend_known-kept _ _ _ _ none c.in-Err.ensures.err
+    c.in-Err.ensures.keeps)
 
 pub returns-clause-bytes : goal.returns-clause-bytes
 returns-clause-bytes g c =
