@@ -12,7 +12,6 @@ use Rattle.ciborium_ll_grammar.specs.Strings.{Kind, Text, kind_header, IsWritabl
 use Rattle.ciborium_ll_grammar.specs.Values.{least_limit, value_limit}
 use Rattle.ciborium_ll_encoder.specs.Encoding.{WritesAll, WritesFront, WritesBytes, WritesPieces, WritesValue}
 use Rattle.ciborium_ll_encoder.specs.Encoding.{WritesFewest}
-use Rattle.ciborium_ll_grammar.proofs.TitleLaws.{shortest_or_longer}
 use Rattle.ciborium_ll_encoder.proofs.PieceLaws.{limit_is, WritesValue-in_one, WritesValue-unopened}
 use Rattle.ciborium_ll_encoder.proofs.PieceLaws.{WritesValue-cut, WritesValue-closed, WritesFewest-of}
 use Rattle.ciborium_ll_encoder.proofs.EncodingLaws.{WritesBytes-of, WritesBytes-stopped, WritesBytes-then}
@@ -107,7 +106,5 @@ module _ {W F : Type 0} (sink : Ghosts W F) where
   in_fewest old new result segment text is_text writes =
       WritesFewest-of sink result segment text old new is_text writes
 
--- what is said of a header and of a byte string
-pub ruleset headers = (same_written, shortest_or_longer)
-
+-- what is said of a byte string
 pub ruleset values = (value_in_one, value_unopened, value_cut, value_closed)

@@ -66,7 +66,6 @@ impl<W: Write> Encoder<W> {
     ///
     /// The error is the writer's. A beginning of the title was then written.
     #[inline(always)]
-    #[tactic(auto, using(crate::proofs::Writes::headers))]
     pub fn push(&mut self, header: Header) -> Result<(), W::Error>
         ensures { Pushes W.Write header (writer_of self.old) result (writer_of self.new) }
     {

@@ -1,30 +1,15 @@
 -- Lemmas on the part of a slice that is held, and on what is told of it.
 use Rattle.std.proofs.Common.{◌≡◌, ℕ, ◌+◌, ◌-◌, ◌≤◌, ◌<◌, List, [], ◌++◌, None, Some, Result, Ok, Err, OnErr, length}
-use Rattle.std.proofs.Common.{length-take-le, take, drop, slice_range, refl, sym, ap, ◌∙◌, arith, append_assoc}
-use Rattle.std.proofs.Common.{append-nil, drop-drop}
-use Rattle.std.proofs.lemmas.List.{drop-take, drop-append-le, take-take}
-use Rattle.std.proofs.lemmas.Slice.{take-put_mid}
+use Rattle.std.proofs.Common.{length-take-le, length-append, take, drop, slice_range, refl, sym, ap, subst, ◌∙◌}
+use Rattle.std.proofs.Common.{append-nil, append_assoc, arith, take-append-drop}
+use Rattle.std.proofs.KnownBytes.{Consumes-kept}
+use Rattle.std.proofs.lemmas.List.{drop-take, drop-append-le, take-take, take_all}
+use Rattle.std.proofs.lemmas.Slice.{take-put_mid, take-put_mid_below}
 use Rattle.std.proofs.Math.Seq.{take-append-add}
 use Rattle.std.specs.declared.option.Option.{Option}
-use Rattle.std.specs.Io.KnownBytes.{Appends, Consumes, Keeps, prepend_known, append_known}
-use Rattle.ciborium_ll_io.specs.Transfer.{AppendsFront, AppendsPart}
+use Rattle.std.specs.Io.KnownBytes.{Appends, Consumes, IsAtEnd, Keeps, prepend_known, append_known}
+use Rattle.ciborium_ll_io.specs.Transfer.{ConsumesPart}
 use borrow.Rule.Slice.PartMut.{put_mid}
-use lib.Seq.{take-add}
-
--- a part is its first n bytes, and then the others
-pub part_split : (xs : List ℕ) (start n end : ℕ) → start + n ≤ end → slice_range xs start end
-    ≡ slice_range xs start (start + n) ++ slice_range xs (start + n) end
-part_split xs start n end within =
-    let rest = drop start xs in
-    let first : n ≡ start + n - start = omega arith in
-    ap (λ k. take k rest) {y = n + (end - (start + n))} (omega arith)
-    ∙ take-add n (end - (start + n)) rest
-    ∙ ap (λ k. take k rest ++ take (end - (start + n)) (drop n rest)) first
-    ∙ ap (λ l. take (start + n - start) rest ++ take (end - (start + n)) l) (drop-drop n start xs)
-
--- a part whose end comes before nothing is empty
-pub part_none : (xs : List ℕ) (start end : ℕ) → end ≤ start → slice_range xs start end ≡ []
-part_none xs start end none = ap (λ n. take n (drop start xs)) {y = 0} (omega arith)
 
 -- bytes that are put behind a part
 pub part_grown : (xs ys : List ℕ) (start end : ℕ) → start ≤ end → end ≤ length xs
@@ -46,6 +31,68 @@ pub prepend_known-taken : (known : Option (List ℕ)) (old new front : List ℕ)
 prepend_known-taken None old new front e = tt
 prepend_known-taken (Some xs) old new front e = ap (λ l. l ++ xs) e ∙ append_assoc front new xs
 
+-- with nothing held, what the reader within gave is held, and all together stays as it was
+pub prepend_known-filled : (a b : Option (List ℕ)) (old new : List ℕ) → old ≡ [] → Consumes a b new
+    → Keeps (prepend_known old a) (prepend_known new b)
+prepend_known-filled None b old new none p = tt
+prepend_known-filled (Some xs) None old new none p = absurd p
+prepend_known-filled (Some xs) (Some ys) old new none p = sym p ∙ ap (λ l. l ++ xs) (sym none)
+
+-- with nothing held before and behind a read that failed, all stays as it was
+pub prepend_known-kept : (a b : Option (List ℕ)) (old new : List ℕ) → old ≡ [] → new ≡ [] → Keeps a b
+    → Keeps (prepend_known old a) (prepend_known new b)
+prepend_known-kept None b old new none none' p = tt
+prepend_known-kept (Some xs) None old new none none' p = absurd p
+prepend_known-kept (Some xs) (Some ys) old new none none' p =
+    ap (λ l. l ++ ys) none' ∙ p ∙ ap (λ l. l ++ xs) (sym none)
+
+-- with nothing held at the end of the reader within, none is left
+pub prepend_known-none : (a : Option (List ℕ)) (held : List ℕ) → held ≡ [] → IsAtEnd a → IsAtEnd (prepend_known held a)
+prepend_known-none None held none end = tt
+prepend_known-none (Some xs) held none end = ap (λ l. l ++ xs) none ∙ end
+
+-- a list of no bytes
+pub no_bytes : (xs : List ℕ) → length xs ≡ 0 → xs ≡ []
+no_bytes xs none = sym (take_all 0 xs (omega arith))
+
+-- a reader that kept its bytes, and then gave some
+pub kept_Consumes : (a b c : Option (List ℕ)) (bs : List ℕ) → Keeps a b → Consumes b c bs → Consumes a c bs
+kept_Consumes None b c bs p q = tt
+kept_Consumes (Some x) None c bs p q = absurd p
+kept_Consumes (Some x) (Some y) None bs p q = absurd q
+kept_Consumes (Some x) (Some y) (Some z) bs p q = sym p ∙ q
+
+-- a reader that gave no byte kept its bytes
+pub Keeps-none_read : (a b : Option (List ℕ)) (bs : List ℕ) (count : ℕ) → count ≡ 0 → Consumes a b (take count bs)
+    → Keeps a b
+Keeps-none_read None b bs count none p = tt
+Keeps-none_read (Some x) None bs count none p = absurd p
+Keeps-none_read (Some x) (Some y) bs count none p = sym (p ∙ ap (λ n. take n bs ++ y) none)
+
+-- what was read is all that there is room for
+pub Consumes-filled : (a b : Option (List ℕ)) (n : ℕ) (bs : List ℕ) → length bs ≤ n → Consumes a b (take n bs)
+    → Consumes a b bs
+Consumes-filled a b n bs all p = subst (Consumes a b) (take_all n bs all) p
+
+-- a read that fails where some are missing leaves a beginning of the bytes
+pub filled_part : (a b c : Option (List ℕ)) (n k : ℕ) (xs ys : List ℕ) → n < length xs
+    → length ys ≡ length (take k (drop n xs)) → Consumes a b (take n xs) → Keeps b c
+    → ConsumesPart a c (put_mid n k xs ys)
+filled_part a b c n k xs ys within size done kept =
+    let rest = drop n xs in
+    let whole = put_mid n k xs ys in
+    let front : take n whole ≡ take n xs = take-put_mid_below n k xs ys n (omega arith) (omega arith) in
+    let same : length whole ≡ length xs = omega (
+      arith,
+      length-append (take n xs) (ys ++ drop k rest),
+      length-append ys (drop k rest),
+      length-append (take k rest) (drop k rest),
+      ap length (take-append-drop k rest),
+      length-append (take n xs) rest,
+      ap length (take-append-drop n xs),
+    ) in
+    (n, subst (Consumes a c) (sym front) (Consumes-kept a b c (take n xs) done kept), omega arith)
+
 -- what was filled so far, and then the bytes of one more read
 pub filled_more : (a k n : ℕ) (xs ys : List ℕ) → a ≤ length xs → n ≤ length ys → take a xs ++ take n ys
     ≡ take (a + n) (put_mid a k xs ys)
@@ -56,6 +103,12 @@ filled_more a k n xs ys within fits =
     ∙ ap (λ m. take (m + n) (take a xs ++ ys)) (length-take-le a xs within)
     ∙ ap (take (a + n)) (sym whole)
     ∙ take-take (a + n) (a + length ys) (put_mid a k xs ys) (omega arith)
+
+-- what is left behind the whole is nothing
+pub rest_none : (xs rest : List ℕ) (n : ℕ) → xs ≡ take n xs ++ rest → n ≡ length xs → rest ≡ []
+rest_none xs rest n split all =
+    let lengths = ap length split in
+    no_bytes rest (omega (arith, lengths, length-append (take n xs) rest, length-take-le n xs (omega arith)))
 
 -- with nothing held, the writer within takes bytes
 pub append_known-sent : (a b : Option (List ℕ)) (held bs : List ℕ) → held ≡ [] → Appends a b bs
@@ -72,14 +125,7 @@ kept_Appends (Some x) None c bs p q = absurd p
 kept_Appends (Some x) (Some y) None bs p q = absurd q
 kept_Appends (Some x) (Some y) (Some z) bs p q = q ∙ ap (λ l. l ++ bs) p
 
--- a failed write appended a beginning of the bytes, and not all of them
-pub appended_part : {X E : Type 0} (r : Result X E) (a b : Option (List ℕ)) (bs : List ℕ) (count : ℕ)
-    → Appends a b (take count bs) → count < length bs → OnErr r (AppendsPart a b bs)
-appended_part (Ok x) a b bs count done within = tt
-appended_part (Err e) a b bs count done within = (count, done, within)
-
--- what is a beginning and not all is a beginning
-pub part_front : {X E : Type 0} (r : Result X E) (a b : Option (List ℕ)) (bs : List ℕ)
-    → OnErr r (AppendsPart a b bs) → OnErr r (AppendsFront a b None None bs)
-part_front (Ok x) a b bs part = tt
-part_front (Err e) a b bs part = (part.0, (part.1, tt, omega (arith, part.2)))
+-- what holds anyway holds behind an error
+pub on_err : {X E P : Type 0} (r : Result X E) → P → OnErr r P
+on_err (Ok x) p = tt
+on_err (Err e) p = p

@@ -3,7 +3,7 @@
 //! An `io::Error` has many bytes, and each function that hands one on clears and copies them. So a fault is kept aside
 //! here, and the call answers only that there is one. What the lent slice holds is moved without a call of std.
 
-ghost use Rattle.std.specs.Prelude.{◌≡◌, ◌+◌, ◌≤◌, ◌<◌, None, Some, IsTrue, IsOk, IsErr, IsSome};
+ghost use Rattle.std.specs.Prelude.{◌≡◌, ◌+◌, ◌≤◌, ◌<◌, None, Some, IsTrue, IsOk, IsSome};
 ghost use Rattle.std.specs.Prelude.{IfSome, IfOk, OnOk, OnErr, [], length, take};
 ghost use Rattle.std.specs.Io.KnownBytes.{Appends, Consumes, IsAtEnd, Keeps};
 ghost use Rattle.std.proofs.Common.{rules};
@@ -131,9 +131,9 @@ impl<'a, T: io::Read> BufferedReader<'a, T> {
                 return self.read_past(data);
             }
             match self.window.fill(&mut self.source) {
-                Ok(0) => return self.failed(ReadFault::End),
+                Ok(0) => return Err(self.failed(ReadFault::End)),
                 Ok(_) => {}
-                Err(error) => return self.failed(ReadFault::Failed(error)),
+                Err(error) => return Err(self.failed(ReadFault::Failed(error))),
             }
         }
         let count = data.len().min(self.window.len());
@@ -159,22 +159,21 @@ impl<'a, T: io::Read> BufferedReader<'a, T> {
             → IsAtEnd (buffered_ahead T.remaining self.new)) }
     {
         match self.source.read(data) {
-            Ok(0) => self.failed(ReadFault::End),
+            Ok(0) => Err(self.failed(ReadFault::End)),
             Ok(count) => Ok(count),
-            Err(error) => self.failed(ReadFault::Failed(error)),
+            Err(error) => Err(self.failed(ReadFault::Failed(error))),
         }
     }
 
     /// Keeps a fault.
-    fn failed(&mut self, fault: ReadFault) -> Result<usize, FaultKept>
-        ensures failed { IsErr result }
+    fn failed(&mut self, fault: ReadFault) -> FaultKept
         ensures kept { buffered_read_fault self.new ≡ Some fault }
         ensures ahead { buffered_ahead T.remaining self.new ≡ buffered_ahead T.remaining self.old }
         ensures failures { buffered_read_failures self.new ≡ buffered_read_failures self.old + 1 }
     {
         self.failures.raise();
         self.fault = Some(fault);
-        Err(FaultKept)
+        FaultKept
     }
 }
 
@@ -317,7 +316,7 @@ impl<'a, T: io::Write> BufferedWriter<'a, T> {
         }
         match write_calls(&mut self.sink, data) {
             (_, Ok(())) => Ok(()),
-            (_, Err(fault)) => self.failed(fault),
+            (_, Err(fault)) => Err(self.failed(fault)),
         }
     }
 
@@ -337,13 +336,12 @@ impl<'a, T: io::Write> BufferedWriter<'a, T> {
                 self.window.restart();
                 Ok(())
             }
-            Err(fault) => self.failed(fault),
+            Err(fault) => Err(self.failed(fault)),
         }
     }
 
     /// Keeps a fault.
-    fn failed(&mut self, fault: WriteFault) -> Result<(), FaultKept>
-        ensures failed { IsErr result }
+    fn failed(&mut self, fault: WriteFault) -> FaultKept
         ensures kept { buffered_write_fault self.new ≡ Some fault }
         ensures written { buffered_written T.contents self.new ≡ buffered_written T.contents self.old }
         ensures kept_back { buffered_kept_back self.new ≡ buffered_kept_back self.old }
@@ -351,7 +349,7 @@ impl<'a, T: io::Write> BufferedWriter<'a, T> {
     {
         self.failures.raise();
         self.fault = Some(fault);
-        Err(FaultKept)
+        FaultKept
     }
 }
 
@@ -425,7 +423,7 @@ impl<'a, T: io::Write> Write for BufferedWriter<'a, T> {
         self.send()?;
         match self.sink.flush() {
             Ok(()) => Ok(()),
-            Err(error) => self.failed(WriteFault::Failed(error)),
+            Err(error) => Err(self.failed(WriteFault::Failed(error))),
         }
     }
 }

@@ -1,7 +1,7 @@
 use Rattle.std.proofs.Common.{◌-◌, rules, length, subst}
 use Rattle.std.specs.Io.KnownBytes.{Consumes}
 use Rattle.std.proofs.KnownBytes.{Consumes-trans}
-use Rattle.ciborium_ll_streams.proofs.BufferLaws.{filled_more}
+use Rattle.ciborium_ll_streams.proofs.BufferLaws.{Consumes-filled, filled_more, filled_part}
 use Rattle.ciborium_ll_streams.proofs.buffered.BufferedReader.read_on.Goals as goal
 
 pub loop-filled-preserved : goal.loop-filled-preserved
@@ -16,3 +16,10 @@ loop-filled-preserved g c =
       fault = search rules;
       bytes = subst (Consumes _ _) joined (Consumes-trans _ _ _ _ _ kept.bytes c.in-Ok.ensures.bytes);
     }
+
+pub returns-in-Err-clause-part : goal.returns-in-Err-clause-part
+returns-in-Err-clause-part g c = filled_part _ _ _ _ _ _ _ c.loop-filled-test.true
+    c.read_part.auto.«data» c.loop-filled.invariant.bytes c.in-Err.ensures.keeps
+
+pub returns-clause-bytes : goal.returns-clause-bytes
+returns-clause-bytes g c = Consumes-filled _ _ _ _ c.loop-filled-test.false c.loop-filled.invariant.bytes
