@@ -165,7 +165,7 @@ impl<'a, T: io::Read> BufferedReader<'a, T> {
         }
     }
 
-    /// Keeps a fault.
+    /// Keeps a fault, and hands out that one is kept.
     fn failed(&mut self, fault: ReadFault) -> FaultKept
         ensures kept { buffered_read_fault self.new ≡ Some fault }
         ensures ahead { buffered_ahead T.remaining self.new ≡ buffered_ahead T.remaining self.old }
@@ -340,7 +340,7 @@ impl<'a, T: io::Write> BufferedWriter<'a, T> {
         }
     }
 
-    /// Keeps a fault.
+    /// Keeps a fault, and hands out that one is kept.
     fn failed(&mut self, fault: WriteFault) -> FaultKept
         ensures kept { buffered_write_fault self.new ≡ Some fault }
         ensures written { buffered_written T.contents self.new ≡ buffered_written T.contents self.old }
