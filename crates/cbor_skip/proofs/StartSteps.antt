@@ -81,9 +81,10 @@ begins_nest source header nest b.Item e begins pulled = absurd begins
 begins_nest source header nest b.Break e begins pulled = absurd begins
 begins_nest source header nest (b.Items count) e begins pulled =
     (nest, begins, rw (nest_same header nest e) at pulled)
-begins_nest source {old = old} {new = new} header nest (b.Nest own) e begins pulled =
-    (subst IsNest (sym begins) (nest_start header nest e),
-    subst (λ (x : Header). PullsTitle source old x new) (nest_same header nest e ∙ sym begins) pulled)
+begins_nest source {old = old} {new = new} header nest (b.Nest own) e begins pulled = (
+  subst IsNest (sym begins) (nest_start header nest e),
+  subst (λ (x : Header). PullsTitle source old x new) (nest_same header nest e ∙ sym begins) pulled,
+)
 
 -- a value is an item by itself
 pub value_start : (strict : Bool) (depth : ℕ) (header : Header) → start_of header ≡ s.Value
