@@ -191,6 +191,11 @@ skip_within-items-preserved g t c =
 
 -- ---- the rest of an item
 
+pub skip_rest-returns-in-Item-clause-skipped : goal.skip_rest-returns-in-Item-clause-skipped
+skip_rest-returns-in-Item-clause-skipped g t c = λ closable before begun moved place stays.
+    let item = rw c.in-Item.is at begun in
+    item c.args.depth
+
 pub skip_rest-returns-in-Break-clause-skipped : goal.skip_rest-returns-in-Break-clause-skipped
 skip_rest-returns-in-Break-clause-skipped g t c = λ closable before begun moved place stays.
     stops_here g.R.Read (record {
@@ -281,3 +286,20 @@ pub skip_within-items-smaller : goal.skip_within-items-smaller
 skip_within-items-smaller g t c =
     nearer_behind c.items.decoder _ c.skip_title.new.decoder c.skip_rest.new.decoder
     c.offset-place.ensures.same (c.in_ok-begun.ensures.rises (search rules)) c.skip_rest.ensures.moves_on.rises
+
+-- ---- what is asked of the calls, which a search finds
+
+pub skip_rest-skip_items-requires : goal.skip_rest-skip_items-requires
+skip_rest-skip_items-requires g t c = search rules
+
+pub skip_rest-skip_within-requires : goal.skip_rest-skip_within-requires
+skip_rest-skip_within-requires g t c = search rules
+
+pub skip_items-skip_rest-requires : goal.skip_items-skip_rest-requires
+skip_items-skip_rest-requires g t c = search rules
+
+pub skip_within-skip_rest-requires : goal.skip_within-skip_rest-requires
+skip_within-skip_rest-requires g t c = search rules
+
+pub skip_within-behind-remaining-requires : goal.skip_within-behind-remaining-requires
+skip_within-behind-remaining-requires g t c = search rules
