@@ -1,12 +1,12 @@
 -- Items that follow one another, over any reader, where only their number is known.
 use Rattle.std.proofs.Common.{◌≡◌, ℕ, suc, ◌*◌, Bool, List, [], ◌++◌, Some, None, Result, Ok, Err}
-use Rattle.std.proofs.Common.{refl, sym, ap, subst, ◌∙◌, arith, append_assoc, append-nil, false}
+use Rattle.std.proofs.Common.{refl, sym, ap, subst, ◌∙◌, arith, append_assoc, append-nil, false, MatchResult}
 use Rattle.ciborium_ll_io.specs.declared.io.Read.{Ghosts}
 use Rattle.ciborium_ll_grammar.specs.declared.hdr.Header.{Header}
 use Rattle.ciborium_ll_grammar.specs.declared.hdr.Header.TheVariants as h
 use Rattle.ciborium_ll_decoder.specs.declared.dec.Decoder.{Decoder}
 use Rattle.ciborium_ll_grammar.specs.Items.{AreItems, IsItem, array, more_items, no_items, pairs, tag}
-use Rattle.ciborium_ll_decoder.specs.Decoding.{IsSteady, Passes, PullsTitle}
+use Rattle.ciborium_ll_decoder.specs.Decoding.{IsSteady, MovesOn, Passes, PullsTitle}
 use Rattle.ciborium_ll_decoder.proofs.DecodingLaws.{Passes-none, Passes-then}
 use Rattle.cbor_skip.specs.declared.SkipError.{SkipError}
 use Rattle.cbor_skip.specs.Due.{IsNest, item_count}
@@ -147,6 +147,15 @@ module _ {R E : Type 0} (source : Ghosts R E) where
   counted_within (h.Bytes len) n d room old is result new skips = absurd cc
   counted_within (h.Text len) n d room old is result new skips = absurd cc
   counted_within h.Break n d room old is result new skips = absurd cc
+
+  -- what a read behind a nest's title does, is what a read of that item does
+  pub rest_read : (outer : Bool) (room : ℕ) {levels d : ℕ} {before titled : Decoder R} {x : Header}
+      → suc levels ≡ d → PullsTitle source before x titled → MovesOn source before titled
+      → (result : Result (Unit {0}) (SkipError E)) (new : Decoder R) → SkipsWithin source x levels room titled result new
+      → MatchResult result (λ done. ReadsItem source d before new)
+      (λ error. StopsItem source outer d room before error new)
+  rest_read outer room level title moved (Ok done) new reads = reads_nest source level title moved.steady reads
+  rest_read outer room level title moved (Err error) new stops = stops_nest source level title moved.steady stops
 
   -- a nest is one item
   nest_alone : (x : Header) (levels d room : ℕ) (old titled : Decoder R) → suc levels ≡ d

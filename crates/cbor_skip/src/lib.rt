@@ -3,12 +3,15 @@
 //! It stands on the contracts of the parts of `ciborium_ll`, and returns over any reader, one that never ends too.
 #![tactic(auto)]
 
-ghost use Rattle.std.specs.Prelude.{◌≡◌, ◌<◌, ◌≤◌, ◌↔◌, ℕ, List, length, IsOk, MatchResult, Some};
+ghost use Rattle.std.specs.Prelude.{◌≡◌, ◌<◌, ◌≤◌, ◌↔◌, ℕ, Bool, false, List, length, IsOk, MatchResult, Some};
+ghost use Rattle.ciborium_ll_grammar.specs.declared.hdr.Header.{Header as AnyHeader};
+ghost use Rattle.ciborium_ll_decoder.specs.declared.dec.Decoder.{Decoder as AnyDecoder};
 ghost use Rattle.ciborium_ll_decoder.specs.Decoding.{MovesOn, offset_of, strict_of, view};
+ghost use Rattle.cbor_skip.specs.declared.Begun.TheVariants.{Break as BegunBreak, Nest as BegunNest};
 ghost use Rattle.cbor_skip.specs.Due.{IsNest};
 ghost use Rattle.cbor_skip.specs.ItemFaults.{ItemInFront};
 ghost use Rattle.cbor_skip.specs.Skipping.{BeginsNest, IsBegun, SkipsCounted, SkipsOne, SkipsWithin, StopsTitle};
-ghost use Rattle.cbor_skip.specs.Skipping.{strictness};
+ghost use Rattle.cbor_skip.specs.Skipping.{ReadsItem, StopsItem, strictness};
 ghost use Rattle.cbor_skip.specs.SkippingTold.{IsReadyToSkip, SkipsFront, SkipsTold};
 
 pub mod laws;
@@ -117,26 +120,12 @@ fn skip_items<R: Read>(
         let place = decoder.offset();
         left -= 1;
         match skip_title(decoder, buffer)? {
-            Begun::Item => {}
-            Begun::Break => return Err(SkipError::Break(place)),
-            Begun::Items(within) => {
-                if levels == 0 {
-                    return Err(SkipError::Deep(place));
-                }
-                if left == 0 {
-                    // Behind the last item nothing is due but what it contains, so no call waits for that.
-                    left = within;
-                    levels -= 1;
-                } else {
-                    skip_items(decoder, within, levels - 1, buffer)?;
-                }
+            // Behind the last item nothing is due but what it contains, so no call waits for that.
+            Begun::Items(within) if left == 0 && levels > 0 => {
+                left = within;
+                levels -= 1;
             }
-            Begun::Nest(nest) => {
-                if levels == 0 {
-                    return Err(SkipError::Deep(place));
-                }
-                skip_within(decoder, nest, levels - 1, buffer)?;
-            }
+            begun => skip_rest(decoder, begun, place, levels, buffer)?,
         }
     }
     Ok(())
@@ -160,30 +149,39 @@ fn skip_within<R: Read>(
     'items: while !remaining.is_done() {
         let place = decoder.offset();
         match skip_title(decoder, buffer)? {
-            Begun::Item => remaining = remaining.after_item(),
-            Begun::Break => {
-                if remaining.closes() {
-                    return Ok(());
-                }
-                return Err(SkipError::Break(place));
-            }
-            Begun::Items(count) => {
-                if depth == 0 {
-                    return Err(SkipError::Deep(place));
-                }
-                skip_items(decoder, count, depth - 1, buffer)?;
-                remaining = remaining.after_item();
-            }
-            Begun::Nest(nest) => {
-                if depth == 0 {
-                    return Err(SkipError::Deep(place));
-                }
-                skip_within(decoder, nest, depth - 1, buffer)?;
-                remaining = remaining.after_item();
-            }
+            Begun::Break if remaining.closes() => return Ok(()),
+            begun => skip_rest(decoder, begun, place, depth, buffer)?,
         }
+        remaining = remaining.after_item();
     }
     Ok(())
+}
+
+/// Skips what is left of an item behind its title, which stands at this place and began that much. A break is none.
+#[cycle(nests)]
+#[inline(always)]
+fn skip_rest<R: Read>(
+    decoder: &mut Decoder<R>,
+    begun: Begun,
+    place: usize,
+    depth: usize,
+    buffer: &mut [u8],
+) -> Result<(), SkipError<R::Error>>
+    requires room { 4 ≤ length buffer.old }
+    requires nest { (header : AnyHeader) → begun ≡ BegunNest header → IsNest header }
+    ensures skipped { (closable : Bool) (before : AnyDecoder R) → IsBegun R.Read begun before decoder.old
+        → MovesOn R.Read before decoder.old → place ≡ offset_of before → (begun ≡ BegunBreak → closable ≡ false)
+        → MatchResult result (λ done. ReadsItem R.Read depth before decoder.new)
+        (λ error. StopsItem R.Read closable depth (length buffer.old) before error decoder.new) }
+    ensures moves_on { MovesOn R.Read decoder.old decoder.new }
+{
+    match begun {
+        Begun::Item => Ok(()),
+        Begun::Break => Err(SkipError::Break(place)),
+        Begun::Items(count) if depth > 0 => skip_items(decoder, count, depth - 1, buffer),
+        Begun::Nest(nest) if depth > 0 => skip_within(decoder, nest, depth - 1, buffer),
+        Begun::Items(_) | Begun::Nest(_) => Err(SkipError::Deep(place)),
+    }
 }
 
 /// Skips one item, with tags, arrays and maps nested at most `depth` levels deep (RFC 7049, 2.1 to 2.4).

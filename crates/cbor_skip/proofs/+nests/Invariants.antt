@@ -1,4 +1,4 @@
-use Rattle.std.proofs.Common.{◌-◌, ◌^◌, ◌≤◌, length}
+use Rattle.std.proofs.Common.{◌+◌, ◌-◌, ◌*◌, ◌^◌, ◌≤◌, length}
 use Rattle.ciborium_ll_decoder.specs.Decoding.{MovesOn}
 use Rattle.cbor_skip.proofs.ItemRuns.{Decides}
 use Rattle.cbor_skip.proofs.ItemSteps.{SoFar}
@@ -6,10 +6,14 @@ use Rattle.cbor_skip.proofs.+nests.Given as goal
 
 -- what a nest contains is a level deeper
 abbrev pub decreases-skip_items : goal.decreases-skip_items
-decreases-skip_items g l = l.depth
+decreases-skip_items g l = 2 * l.depth + 1
 
 abbrev pub decreases-skip_within : goal.decreases-skip_within
-decreases-skip_within g l = l.depth
+decreases-skip_within g l = 2 * l.depth + 1
+
+-- and the rest of an item begins at its own level
+abbrev pub decreases-skip_rest : goal.decreases-skip_rest
+decreases-skip_rest g l = 2 * l.depth
 
 abbrev pub invariant-skip_items-items : goal.invariant-skip_items-items
 invariant-skip_items-items g l = record {

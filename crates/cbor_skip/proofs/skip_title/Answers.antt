@@ -10,7 +10,7 @@ use Rattle.ciborium_ll_decoder.proofs.NestLaws.{title_some}
 use Rattle.ciborium_ll_grammar.proofs.TitleLaws.{shortest_no_longer}
 use Rattle.cbor_skip.specs.Skipping.{strictness}
 use Rattle.cbor_skip.proofs.ItemSteps.{reads_plain, reads_string}
-use Rattle.cbor_skip.proofs.StartSteps.{bytes_start, text_start, value_start}
+use Rattle.cbor_skip.proofs.StartSteps.{begins_nest, break_start, bytes_start, nest_start, text_start, value_start}
 use Rattle.cbor_skip.proofs.skip_title.Goals as goal
 
 -- a title that was pulled has some bytes
@@ -54,6 +54,30 @@ pub returns-in_err-header-clause-begun : goal.returns-in_err-header-clause-begun
 returns-in_err-header-clause-begun g c =
     rw (exit_is c.from_residual.result c.in_err-header.field-0.0 c.from_residual.ensures.1)
     (inl c.in_err-header.ensures.header)
+
+pub returns-in-Break-clause-begun : goal.returns-in-Break-clause-begun
+returns-in-Break-clause-begun g c =
+    rw (break_start c.in_ok-header.header (sym c.start.ensures ∙ c.in-Break.is)) at c.in_ok-header.ensures.header
+
+pub nest_begun-requires : goal.nest_begun-requires
+nest_begun-requires g c = nest_start c.in_ok-header.header c.in-Nest.nest (sym c.start.ensures ∙ c.in-Nest.is)
+
+pub returns-in-Nest-clause-begun : goal.returns-in-Nest-clause-begun
+returns-in-Nest-clause-begun g c =
+    begins_nest g.R.Read c.in_ok-header.header c.in-Nest.nest c.nest_begun.result (sym c.start.ensures ∙ c.in-Nest.is)
+    c.nest_begun.ensures c.in_ok-header.ensures.header
+
+pub returns-in_err-header-clause-moves_on : goal.returns-in_err-header-clause-moves_on
+returns-in_err-header-clause-moves_on g c = c.pull_title.ensures.moves_on
+
+pub returns-in-Value-clause-moves_on : goal.returns-in-Value-clause-moves_on
+returns-in-Value-clause-moves_on g c = c.pull_title.ensures.moves_on
+
+pub returns-in-Break-clause-moves_on : goal.returns-in-Break-clause-moves_on
+returns-in-Break-clause-moves_on g c = c.pull_title.ensures.moves_on
+
+pub returns-in-Nest-clause-moves_on : goal.returns-in-Nest-clause-moves_on
+returns-in-Nest-clause-moves_on g c = c.pull_title.ensures.moves_on
 
 -- ---- strings
 
