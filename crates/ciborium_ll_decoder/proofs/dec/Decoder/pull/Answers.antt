@@ -1,7 +1,7 @@
-use Rattle.std.proofs.Common.{ℕ, ◌+◌, ap, arith, sym, refl, ◌∙◌}
+use Rattle.std.proofs.Common.{ℕ, ◌+◌, ap, arith, refl}
 use Rattle.ciborium_ll_grammar.specs.Title.{shortest_title}
 use Rattle.ciborium_ll_grammar.proofs.TitleLaws.{IsTitle-shortest}
-use Rattle.ciborium_ll_decoder.proofs.DecodingLaws.{Consumes-waiting}
+use Rattle.ciborium_ll_decoder.proofs.DecodingLaws.{Consumes-waiting, waits_for_none}
 use Rattle.ciborium_ll_decoder.proofs.dec.Decoder.pull.Goals as goal
 
 pub returns-in-Some : goal.returns-in-Some
@@ -18,9 +18,9 @@ returns-in-Some g c =
         failures = refl;
         waited = rw waited (refl, refl, refl);
         mode = refl;
-        strict = λ on none. absurd (let some = sym waited ∙ none in cc);
+        strict = λ on none. absurd (waits_for_none _ header waited none);
       };
       covered = omega (arith, c.title_len.ensures.value);
-      full = λ none most. absurd (let some = sym waited ∙ none in cc);
+      full = λ none most. absurd (waits_for_none _ header waited none);
       moves_on = record { steady = λ s. s; mode = refl; refusals = refl; rises = omega arith };
     }
