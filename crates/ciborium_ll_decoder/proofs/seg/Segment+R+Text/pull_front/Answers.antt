@@ -5,7 +5,7 @@ use Rattle.ciborium_ll_decoder.specs.declared.seg.Kept.{Kept}
 use Rattle.ciborium_ll_decoder.specs.Kept.{kept_bytes}
 use Rattle.ciborium_ll_text.specs.Text.{IsStuck, IsFront}
 use Rattle.ciborium_ll_decoder.proofs.DecodingLaws.{exit_is}
-use Rattle.ciborium_ll_decoder.proofs.ChunkLaws.{fill_stopped, none_stopped, ReadsOn-behind, ReadsOn-none, left_behind, rest_consumed, unread_behind}
+use Rattle.ciborium_ll_decoder.proofs.ChunkLaws.{fill_stopped, none_stopped, ReadsOn-behind, ReadsOn-none, chunk_left, chunk_consumed}
 use Rattle.ciborium_ll_text.proofs.FrontLaws.{IsFront-stuck, IsStuck-rest}
 use Rattle.std.proofs.lemmas.List.{take_at}
 use Rattle.ciborium_ll_text.specs.States.{after, IsLastEnd}
@@ -77,19 +77,6 @@ returns-in-None-clause-chunk g c =
       none_kept = inr damage.kept;
     })
 
-pub returns-in-Some-clause-rest : goal.returns-in-Some-clause-rest
-returns-in-Some-clause-rest g c =
-    let fill = c.in_ok-fill.ensures.filled in
-    let text = c.text_front-state.result.0.now in
-    let same = c.fill.ensures.same in
-    let behind = c.in-Some.ensures.some ∙ take_rest c.fill.new.filled (length text) in
-    let fewer = ap (λ (n : ℕ). n - (c.min-size.result - c.len-kept.result)) same.unread in
-    rest_consumed _ _ c.args.self.now.unread _ (kept_bytes c.args.self.now.kept) (kept_bytes c.in-Some.rest) fill.read
-    text fill.reads.bytes
-    (unread_behind (length c.args.buffer.now) c.min-size.result c.len-kept.result c.args.self.now.unread _ _ _
-    fill.read c.len-kept.ensures c.min-size.ensures c.if-size-kept.false (search rules) fill.whole fewer)
-    (sym fill.whole ∙ c.text_front-state.ensures.front.parts ∙ ap (λ z. text ++ z) (sym behind))
-
 pub slice_bounds-keep-count : goal.slice_bounds-keep-count
 slice_bounds-keep-count g c = front_within _ _ _ c.text_front-state.ensures.front
 
@@ -115,14 +102,21 @@ returns-in-Some-clause-chunk g c =
 
 pub returns-in-Some-clause-left : goal.returns-in-Some-clause-left
 returns-in-Some-clause-left g c =
-    let fill = c.in_ok-fill.ensures.filled in
-    let text = c.text_front-state.result.0.now in
-    let behind = c.in-Some.ensures.some ∙ take_rest c.fill.new.filled (length text) in
-    let fewer = ap (λ (n : ℕ). n - (c.min-size.result - c.len-kept.result)) c.fill.ensures.same.unread in
-    left_behind c.args.self.now.unread _ (kept_bytes c.args.self.now.kept) (kept_bytes c.in-Some.rest) fill.read text
-    (unread_behind (length c.args.buffer.now) c.min-size.result c.len-kept.result c.args.self.now.unread _ _ _
-    fill.read c.len-kept.ensures c.min-size.ensures c.if-size-kept.false (search rules) fill.whole fewer)
-    (sym fill.whole ∙ c.text_front-state.ensures.front.parts ∙ ap (λ z. text ++ z) (sym behind))
+    chunk_left g.R.Read (length c.args.buffer.now) c.args.self.now _ c.text_front-state.result.0.now
+    (returns-in-Some-clause-chunk g c)
+
+pub returns-in-Some-clause-rest : goal.returns-in-Some-clause-rest
+returns-in-Some-clause-rest g c =
+    chunk_consumed g.R.Read (length c.args.buffer.now) c.args.self.now _ c.text_front-state.result.0.now
+    (returns-in-Some-clause-chunk g c)
+
+pub returns-then-size-kept-clause-left : goal.returns-then-size-kept-clause-left
+returns-then-size-kept-clause-left g c =
+    chunk_left g.R.Read (length c.args.buffer.now) c.args.self.now _ [] (returns-then-size-kept-clause-chunk g c)
+
+pub returns-then-size-kept-clause-rest : goal.returns-then-size-kept-clause-rest
+returns-then-size-kept-clause-rest g c =
+    chunk_consumed g.R.Read (length c.args.buffer.now) c.args.self.now _ [] (returns-then-size-kept-clause-chunk g c)
 
 -- ---- reads that fail
 
