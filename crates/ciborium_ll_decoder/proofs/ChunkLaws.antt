@@ -8,14 +8,15 @@ use Rattle.ciborium_ll_io.specs.declared.io.Read.{Ghosts}
 use Rattle.ciborium_ll_decoder.specs.declared.seg.Parser.{Ghosts as Parser}
 use Rattle.ciborium_ll_decoder.specs.declared.seg.Segment.{Segment}
 use Rattle.ciborium_ll_decoder.specs.Kept.{kept_bytes}
-use Rattle.std.proofs.Common.{Result, Err, refl, subst}
+use Rattle.std.proofs.Common.{Result, Ok, Err, refl, subst}
 use Rattle.std.specs.Borrow.{Bor}
 use Rattle.ciborium_ll_decoder.specs.declared.dec.Decoder.{Decoder}
 use Rattle.ciborium_ll_decoder.specs.declared.dec.Error.{Error}
 use Rattle.ciborium_ll_decoder.specs.declared.dec.Error.TheVariants as e
-use Rattle.ciborium_ll_decoder.specs.Chunks.{FillsBehind, GivesChunk, IsSame, PullsChunk, ReadsOn, left_of, read_count, rest}
+use Rattle.ciborium_ll_decoder.specs.Chunks.{FillsBehind, GivesChunk, IsPulled, IsSame, PullsChunk, ReadsOn}
+use Rattle.ciborium_ll_decoder.specs.Chunks.{left_of, read_count, rest, segment_reference}
 use Rattle.ciborium_ll_decoder.proofs.BodyLaws.{split_parts}
-use Rattle.ciborium_ll_decoder.specs.Decoding.{IsUntouched, ReadFails, ReadsAll, ReadsBytes, offset_limit}
+use Rattle.ciborium_ll_decoder.specs.Decoding.{IsUntouched, MovesOn, ReadFails, ReadsAll, ReadsBytes, offset_limit}
 
 -- the read of so many bytes failed, or the offset can't take it
 abbrev FailsBehind : {R E : Type 0} → Ghosts R E → ℕ → Decoder R → Error E → Decoder R → Type 0
@@ -153,3 +154,15 @@ module _ {R E P : Type 0} {parser : Parser P} (source : Ghosts R E) where
       rest_consumed (source.ahead segment.decoder.now.reader) (source.ahead new.decoder.now.reader) segment.unread
       new.unread (kept_bytes segment.kept) (kept_bytes new.kept) gives.read chunk gives.reads.reads.bytes
       gives.reads.unread (split_parts parser.kind _ chunk _ gives.split)
+
+  -- a pull that gives a chunk
+  pub chunk_pulled : (room : ℕ) (segment new : Segment R P parser) (chunk : Bor (List ℕ))
+      → GivesChunk source room segment chunk.now new → segment_reference new ≡ segment_reference segment
+      → MovesOn source segment.decoder.now new.decoder.now → IsPulled source room segment (Ok (Some chunk)) new
+  chunk_pulled room segment new chunk gives same moves_on = record {
+    chunk = gives;
+    left = chunk_left room segment new chunk.now gives;
+    rest_due = chunk_consumed room segment new chunk.now gives;
+    same_reference = same;
+    moves_on = moves_on;
+  }
