@@ -117,14 +117,14 @@ module _ {R E P : Type 0} {parser : Parser P} (source : Ghosts R E) where
       (omega arith) same (fill_fails segment new (kept_bytes segment.kept) filled error fails))
 
 -- what is handed out and what is left of a body is as long as what was left
-pub left_behind : (unread unread' : ℕ) (kept kept' read chunk : List ℕ) → unread' + length read ≡ unread
+left_behind : (unread unread' : ℕ) (kept kept' read chunk : List ℕ) → unread' + length read ≡ unread
     → kept ++ read ≡ chunk ++ kept' → length chunk + (unread' + length kept') ≡ unread + length kept
 left_behind unread unread' kept kept' read chunk counted parts =
     let parted = ap length parts in
     omega (arith, parted, length-append kept read, length-append chunk kept')
 
 -- what is left of a body is the chunk, and then what is left behind it
-pub rest_consumed : (ahead ahead' : Option (List ℕ)) (unread unread' : ℕ) (kept kept' read chunk : List ℕ)
+rest_consumed : (ahead ahead' : Option (List ℕ)) (unread unread' : ℕ) (kept kept' read chunk : List ℕ)
     → Consumes ahead ahead' read → unread' + length read ≡ unread
     → kept ++ read ≡ chunk ++ kept'
     → Consumes (prepend_known kept (option_map (take unread) ahead))
