@@ -8,13 +8,15 @@ use Rattle.ciborium_ll_io.specs.declared.io.Read.{Ghosts}
 use Rattle.ciborium_ll_decoder.specs.declared.seg.Parser.{Ghosts as Parser}
 use Rattle.ciborium_ll_decoder.specs.declared.seg.Segment.{Segment}
 use Rattle.ciborium_ll_decoder.specs.Kept.{kept_bytes}
-use Rattle.std.proofs.Common.{Result, Err, refl, subst}
+use Rattle.std.proofs.Common.{Result, Ok, Err, refl, subst}
 use Rattle.std.specs.Borrow.{Bor}
 use Rattle.ciborium_ll_decoder.specs.declared.dec.Decoder.{Decoder}
 use Rattle.ciborium_ll_decoder.specs.declared.dec.Error.{Error}
 use Rattle.ciborium_ll_decoder.specs.declared.dec.Error.TheVariants as e
-use Rattle.ciborium_ll_decoder.specs.Chunks.{FillsBehind, IsSame, PullsChunk, ReadsOn, left_of, read_count}
-use Rattle.ciborium_ll_decoder.specs.Decoding.{IsUntouched, ReadFails, ReadsAll, ReadsBytes, offset_limit}
+use Rattle.ciborium_ll_decoder.specs.Chunks.{FillsBehind, GivesChunk, IsPulled, IsSame, PullsChunk, ReadsOn}
+use Rattle.ciborium_ll_decoder.specs.Chunks.{left_of, read_count, rest, segment_reference}
+use Rattle.ciborium_ll_decoder.proofs.BodyLaws.{split_parts}
+use Rattle.ciborium_ll_decoder.specs.Decoding.{IsUntouched, MovesOn, ReadFails, ReadsAll, ReadsBytes, offset_limit}
 
 -- the read of so many bytes failed, or the offset can't take it
 abbrev FailsBehind : {R E : Type 0} → Ghosts R E → ℕ → Decoder R → Error E → Decoder R → Type 0
@@ -114,22 +116,15 @@ module _ {R E P : Type 0} {parser : Parser P} (source : Ghosts R E) where
       rw is (count_stopped room (length filled - length (kept_bytes segment.kept)) segment new error some sound
       (omega arith) same (fill_fails segment new (kept_bytes segment.kept) filled error fails))
 
--- what is unread behind a read that fills room behind so many kept bytes
-pub unread_behind : (room size count unread unread' : ℕ) (kept filled read : List ℕ) → count ≡ length kept
-    → size ≡ min room (unread + count) → count < size → length filled ≡ size → filled ≡ kept ++ read
-    → unread' ≡ unread - (size - count) → unread' + length read ≡ unread
-unread_behind room size count unread unread' kept filled read counts least more fills whole fewer =
-    let counted = ap length whole in omega (arith, length-append kept read)
-
 -- what is handed out and what is left of a body is as long as what was left
-pub left_behind : (unread unread' : ℕ) (kept kept' read chunk : List ℕ) → unread' + length read ≡ unread
+left_behind : (unread unread' : ℕ) (kept kept' read chunk : List ℕ) → unread' + length read ≡ unread
     → kept ++ read ≡ chunk ++ kept' → length chunk + (unread' + length kept') ≡ unread + length kept
 left_behind unread unread' kept kept' read chunk counted parts =
     let parted = ap length parts in
     omega (arith, parted, length-append kept read, length-append chunk kept')
 
 -- what is left of a body is the chunk, and then what is left behind it
-pub rest_consumed : (ahead ahead' : Option (List ℕ)) (unread unread' : ℕ) (kept kept' read chunk : List ℕ)
+rest_consumed : (ahead ahead' : Option (List ℕ)) (unread unread' : ℕ) (kept kept' read chunk : List ℕ)
     → Consumes ahead ahead' read → unread' + length read ≡ unread
     → kept ++ read ≡ chunk ++ kept'
     → Consumes (prepend_known kept (option_map (take unread) ahead))
@@ -143,3 +138,31 @@ rest_consumed (Some xs) (Some ys) unread unread' kept kept' read chunk c e p =
     let behind = take unread' ys in
     ap (λ (z : List ℕ). kept ++ z) front ∙ sym (append_assoc kept read behind) ∙ ap (λ (z : List ℕ). z ++ behind) p
     ∙ append_assoc chunk kept' behind
+
+module _ {R E P : Type 0} {parser : Parser P} (source : Ghosts R E) where
+  -- a chunk and what is left behind it are as long as what was left
+  pub chunk_left : (room : ℕ) (segment new : Segment R P parser) (chunk : List ℕ)
+      → GivesChunk source room segment chunk new → length chunk + left_of new ≡ left_of segment
+  chunk_left room segment new chunk gives =
+      left_behind segment.unread new.unread (kept_bytes segment.kept) (kept_bytes new.kept) gives.read chunk
+      gives.reads.unread (split_parts parser.kind _ chunk _ gives.split)
+
+  -- a chunk is what was to come of the body, up to what is to come now
+  pub chunk_consumed : (room : ℕ) (segment new : Segment R P parser) (chunk : List ℕ)
+      → GivesChunk source room segment chunk new → Consumes (rest source segment) (rest source new) chunk
+  chunk_consumed room segment new chunk gives =
+      rest_consumed (source.ahead segment.decoder.now.reader) (source.ahead new.decoder.now.reader) segment.unread
+      new.unread (kept_bytes segment.kept) (kept_bytes new.kept) gives.read chunk gives.reads.reads.bytes
+      gives.reads.unread (split_parts parser.kind _ chunk _ gives.split)
+
+  -- a pull that gives a chunk
+  pub chunk_pulled : (room : ℕ) (segment new : Segment R P parser) (chunk : Bor (List ℕ))
+      → GivesChunk source room segment chunk.now new → segment_reference new ≡ segment_reference segment
+      → MovesOn source segment.decoder.now new.decoder.now → IsPulled source room segment (Ok (Some chunk)) new
+  chunk_pulled room segment new chunk gives same moves_on = record {
+    chunk = gives;
+    left = chunk_left room segment new chunk.now gives;
+    rest_due = chunk_consumed room segment new chunk.now gives;
+    same_reference = same;
+    moves_on = moves_on;
+  }

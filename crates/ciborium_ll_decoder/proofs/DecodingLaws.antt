@@ -20,6 +20,11 @@ pub exit_is : {T E : Type 0} (answer : Result T E) (error : E) → IsErrAnd answ
 exit_is (Ok x) error is = absurd is
 exit_is (Err given) error is = ap Err is
 
+-- a header that waits is no header that does not
+pub waits_for_none : (waiting : Option Header) (header : Header) → waiting ≡ Some header → waiting ≡ None → ⊥
+waits_for_none None header waits none = cc
+waits_for_none (Some other) header waits none = cc
+
 -- a decoder that read on is nearer to the last offset
 pub nearer : {R : Type 0} (old between new : Decoder R) → old.offset < between.offset → between.offset ≤ new.offset
     → 2 ^ 64 - new.offset < 2 ^ 64 - old.offset

@@ -11,7 +11,7 @@ use Rattle.ciborium_ll_decoder.specs.declared.dec.Decoder.{Decoder}
 use Rattle.ciborium_ll_decoder.specs.declared.dec.Error.{Error}
 use Rattle.ciborium_ll_decoder.specs.declared.dec.Error.TheVariants as e
 use Rattle.ciborium_ll_decoder.specs.Decoding.{Begins, view, failures_of, IsSteady, PullsHeader, ReadsAll, ReadsMinor}
-use Rattle.ciborium_ll_decoder.specs.Decoding.{HoldsAffix, ReadsBytes, RefusesTitle, strict_of}
+use Rattle.ciborium_ll_decoder.specs.Decoding.{HoldsAffix, ReadsAffix, ReadsBytes, RefusesTitle, strict_of}
 use Rattle.ciborium_ll_decoder.proofs.BodyLaws.{view_none}
 use Rattle.ciborium_ll_grammar.specs.declared.hdr.Minor.{Minor}
 use Rattle.ciborium_ll_grammar.specs.declared.hdr.Minor.TheVariants as m
@@ -215,6 +215,25 @@ module _ {R E : Type 0} (source : Ghosts R E) where
       → ReadsMinor source first old (Ok answer) new
   affix_taken first old new minor answer holds is =
       taken_by first old new minor answer new.strict (longer_parts (first / 32) minor) holds.all.mode refl holds is
+
+  -- a number that stands within the first byte is taken with it
+  pub small_taken : (first number : ℕ) (old new : Decoder R) (read : List ℕ) → first % 32 < 24
+      → number ≡ first % 32 → length read ≡ 0 → ReadsAll source old read new
+      → ReadsAffix source first old (m.Small number) new
+  small_taken first number old new [] small is empty reads = record {
+    holds = record { is_minor = omega (arith, small, is); code = sym is; all = reads };
+    taken = λ _. refl;
+  }
+  small_taken first number old new (x ∷ more) small is empty reads = absurd (omega (arith, empty))
+
+  -- and so is an open
+  pub open_taken : (first : ℕ) (old new : Decoder R) (read : List ℕ) → first % 32 ≡ 31 → length read ≡ 0
+      → ReadsAll source old read new → ReadsAffix source first old m.Open new
+  open_taken first old new [] is empty reads = record {
+    holds = record { is_minor = tt; code = is; all = reads };
+    taken = λ _. refl;
+  }
+  open_taken first old new (x ∷ more) is empty reads = absurd (omega (arith, empty))
 
   empty_unread : (first : ℕ) (old new : Decoder R) (bytes : List ℕ) (error : Error E) → affix_len (first % 32) ≡ 0
       → old.waiting ≡ None → length bytes ≡ 0

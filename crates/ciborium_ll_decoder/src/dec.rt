@@ -151,7 +151,6 @@ impl<R: Read> Decoder<R> {
     /// };
     /// ```
     #[inline(always)]
-    #[tactic(auto, using(ciborium_ll_grammar::proofs::TitleLaws::shortest_no_longer))]
     pub fn pull(&mut self) -> Result<Header, Error<R::Error>>
         ensures { Pulls R.Read self.old result self.new }
     {
@@ -190,6 +189,7 @@ impl<R: Read> Decoder<R> {
             (λ error. PullsHeader R.Read self.old (Err error) self.new) }
         ensures parts { IfOk result (λ pulled. IsParts pulled.1) }
         ensures title { IfOk result (λ pulled. IsTitle (title_bytes pulled.1) pulled.0) }
+        ensures covered { IfOk result (λ pulled. title_len pulled.0 ≤ offset_of self.new) }
         ensures full { offset_of self.old ≡ usize.MAX → IsErrOf result Error.TooLong }
         ensures moves_on { MovesOn R.Read self.old self.new }
     {

@@ -24,7 +24,6 @@ use ciborium_ll_io::io::Read;
 /// begin. What was read before an error is consumed.
 ///
 /// The conditions are those of [`Decoder::bytes`]. The decoder moves on as [`Decoder`] says, and `Waiting` never comes.
-#[tactic(auto, using(crate::proofs::SkipLaws::definite_skipped))]
 pub fn skip_bytes<R: Read>(
     decoder: &mut Decoder<R>,
     len: Option<usize>,
@@ -46,7 +45,6 @@ pub fn skip_bytes<R: Read>(
 /// The conditions are those of [`Decoder::text`], and the answers those of [`skip_bytes`], with each body of the text
 /// UTF-8, and `Syntax` also where a body is no text by itself. It then names the offset of that body's title; where the
 /// body is the whole string, the byte from which the header's shortest title would reach the body.
-#[tactic(auto, using(crate::proofs::SkipLaws::definite_skipped))]
 pub fn skip_text<R: Read>(
     decoder: &mut Decoder<R>,
     len: Option<usize>,

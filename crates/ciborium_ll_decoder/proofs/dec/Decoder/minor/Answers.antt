@@ -3,7 +3,8 @@ use Rattle.ciborium_ll_grammar.specs.TitleRows.{IsAffix}
 use Rattle.ciborium_ll_grammar.specs.declared.hdr.table.Affix.{Affix}
 use Rattle.ciborium_ll_decoder.specs.Decoding.{HoldsAffix}
 use Rattle.ciborium_ll_decoder.proofs.DecodingLaws.{exit_is}
-use Rattle.ciborium_ll_decoder.proofs.StrictLaws.{affix_taken, none_unread, open_affix, small_affix}
+use Rattle.ciborium_ll_decoder.proofs.StrictLaws.{affix_taken, none_unread, open_affix, open_taken}
+use Rattle.ciborium_ll_decoder.proofs.StrictLaws.{small_affix, small_taken}
 use Rattle.ciborium_ll_decoder.proofs.dec.Decoder.minor.Goals as goal
 use Rattle.ciborium_ll_decoder.proofs.dec.Decoder.minor.Goals.{in-One+in_ok-minor-in-One, in-Two+in_ok-minor-in-Two}
 use Rattle.ciborium_ll_decoder.proofs.dec.Decoder.minor.Goals.{in-Four+in_ok-minor-in-Four}
@@ -80,3 +81,17 @@ returns-clause-moves_on g c =
       | in-Four+in_ok-minor-in-Four w ↦ rw w.self-is w.four.ensures.moves_on
       | in-Eight+in_ok-minor-in-Eight w ↦ rw w.self-is w.eight.ensures.moves_on
     ]
+
+pub returns-in-Within-clause-minor : goal.returns-in-Within-clause-minor
+returns-in-Within-clause-minor g c =
+    let small = subst (λ (a : Affix). IsAffix a (c.args.first % 32)) c.in-Within.is c.requires.affix in
+    let empty : length c.read.new.data ≡ 0 = search rules in
+    small_taken g.R.Read c.args.first c.from.result c.args.self.now c.read.new.self c.read.new.data small c.from.ensures
+    empty c.in_ok-read-in-Within.ensures.bytes
+
+pub returns-in-Open-clause-minor : goal.returns-in-Open-clause-minor
+returns-in-Open-clause-minor g c =
+    let is_open = subst (λ (a : Affix). IsAffix a (c.args.first % 32)) c.in-Open.is c.requires.affix in
+    let empty : length c.read-in-Open.new.data ≡ 0 = search rules in
+    open_taken g.R.Read c.args.first c.args.self.now c.read-in-Open.new.self c.read-in-Open.new.data is_open empty
+    c.in_ok-read-in-Open.ensures.bytes

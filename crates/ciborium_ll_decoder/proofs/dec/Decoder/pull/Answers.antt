@@ -1,7 +1,7 @@
-use Rattle.std.proofs.Common.{rules, sym, refl, ◌∙◌}
+use Rattle.std.proofs.Common.{ℕ, ◌+◌, ap, arith, refl}
 use Rattle.ciborium_ll_grammar.specs.Title.{shortest_title}
 use Rattle.ciborium_ll_grammar.proofs.TitleLaws.{IsTitle-shortest}
-use Rattle.ciborium_ll_decoder.proofs.DecodingLaws.{Consumes-waiting}
+use Rattle.ciborium_ll_decoder.proofs.DecodingLaws.{Consumes-waiting, waits_for_none}
 use Rattle.ciborium_ll_decoder.proofs.dec.Decoder.pull.Goals as goal
 
 pub returns-in-Some : goal.returns-in-Some
@@ -13,14 +13,14 @@ returns-in-Some g c =
         title = shortest_title header;
         is_title = IsTitle-shortest header c.title_len.ensures.range;
         bytes = Consumes-waiting _ _ header (g.R.Read.ahead c.args.self.now.reader) waited refl;
-        offset = search rules;
+        offset = ap (λ (n : ℕ). c.args.self.now.offset + n) c.title_len.ensures.value;
         none_waits = refl;
         failures = refl;
         waited = rw waited (refl, refl, refl);
         mode = refl;
-        strict = λ on none. absurd (let some = sym waited ∙ none in cc);
+        strict = λ on none. absurd (waits_for_none _ header waited none);
       };
-      covered = search rules;
-      full = λ none most. absurd (let some = sym waited ∙ none in cc);
-      moves_on = search rules;
+      covered = omega (arith, c.title_len.ensures.value);
+      full = λ none most. absurd (waits_for_none _ header waited none);
+      moves_on = record { steady = λ s. s; mode = refl; refusals = refl; rises = omega arith };
     }

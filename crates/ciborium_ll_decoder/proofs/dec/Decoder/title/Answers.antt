@@ -1,7 +1,8 @@
-use Rattle.std.proofs.Common.{◌≡◌, ◌/◌, length, rules, sym, refl, subst, inl, inr, get_or, ◌<◌, ℕ}
+use Rattle.std.proofs.Common.{◌≡◌, ◌/◌, length, length-append, rules, arith, ap, sym, refl, subst, inl, inr, get_or, ◌<◌, ℕ}
 use Rattle.ciborium_ll_decoder.proofs.DecodingLaws.{exit_is, MovesOn-then}
-use Rattle.ciborium_ll_grammar.specs.Parts.{parts_bytes}
+use Rattle.ciborium_ll_grammar.specs.Parts.{minor_affix, parts_bytes}
 use Rattle.ciborium_ll_grammar.specs.TitleRows.{IsTitleKind}
+use Rattle.ciborium_ll_grammar.proofs.TitleLaws.{shortest_no_longer}
 use Rattle.ciborium_ll_grammar.proofs.LongerLaws.{parts_header, parts_taken, parts_refused}
 use Rattle.ciborium_ll_decoder.proofs.StrictLaws.{affix_stopped, first_parts, first_refused, not_full, open_refused, title_read}
 use Rattle.ciborium_ll_decoder.proofs.dec.Decoder.title.Goals as goal
@@ -72,6 +73,17 @@ returns-in-Some-header-clause-header g c =
       strict = λ on waits. parts_taken _ minor header byte affix.holds.is_minor t
           (affix.taken (rw (sym first.mode) at on));
     }
+
+pub returns-in-Some-header-clause-covered : goal.returns-in-Some-header-clause-covered
+returns-in-Some-header-clause-covered g c =
+    let first = c.in_ok-read.ensures.bytes in
+    let one : length c.read.new.data ≡ 1 = search rules in
+    let affix = rw c.in-Some.is at c.in_ok-minor.ensures.minor in
+    let minor = c.in-Some.minor in
+    let title = parts_bytes (get_or c.read.new.data 0 0 / 32) minor in
+    let least = shortest_no_longer title c.in-Some-header.header c.in-Some-header.ensures.some in
+    let parted = ap length (first_parts c.read.new.data minor one affix.holds.code) in
+    omega (arith, least, parted, length-append c.read.new.data (minor_affix minor), first.offset, affix.holds.all.offset)
 
 pub header-requires-clause-kind : goal.header-requires-clause-kind
 header-requires-clause-kind g c =

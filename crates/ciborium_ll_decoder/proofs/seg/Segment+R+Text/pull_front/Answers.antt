@@ -1,11 +1,11 @@
 use Rattle.std.proofs.Common.{ℕ, List, take, rules, arith, sym, ap, subst, inr, ◌∙◌, ◌≡◌, ◌<◌, ◌≤◌, ◌-◌, [], ◌++◌, length, drop}
-use Rattle.std.proofs.Common.{length-append}
+use Rattle.std.proofs.Common.{length-append, Result, Ok, Err, IfOk, IsErrAnd}
 use Rattle.std.proofs.lemmas.List.{take_rest}
 use Rattle.ciborium_ll_decoder.specs.declared.seg.Kept.{Kept}
 use Rattle.ciborium_ll_decoder.specs.Kept.{kept_bytes}
 use Rattle.ciborium_ll_text.specs.Text.{IsStuck, IsFront}
 use Rattle.ciborium_ll_decoder.proofs.DecodingLaws.{exit_is}
-use Rattle.ciborium_ll_decoder.proofs.ChunkLaws.{fill_stopped, none_stopped, ReadsOn-behind, ReadsOn-none, left_behind, rest_consumed, unread_behind}
+use Rattle.ciborium_ll_decoder.proofs.ChunkLaws.{fill_stopped, none_stopped, ReadsOn-behind, ReadsOn-none, chunk_left, chunk_consumed}
 use Rattle.ciborium_ll_text.proofs.FrontLaws.{IsFront-stuck, IsStuck-rest}
 use Rattle.std.proofs.lemmas.List.{take_at}
 use Rattle.ciborium_ll_text.specs.States.{after, IsLastEnd}
@@ -17,13 +17,42 @@ use Rattle.ciborium_ll_decoder.proofs.seg.Segment+R+Text.pull_front.Goals as goa
 front_within : (bytes front rest : List ℕ) → IsFront bytes front rest → length front ≤ length bytes
 front_within bytes front rest is = let parted = ap length is.parts in omega (arith, parted, length-append front rest)
 
+-- the kept bytes stand in front of what was filled
+kept_in_front : (count : ℕ) (filled kept read : List ℕ) → filled ≡ kept ++ read → count ≡ length kept
+    → take count filled ≡ kept
+kept_in_front count filled kept read whole counted =
+    ap (λ (z : List ℕ). take count z) whole ∙ take_at kept read count (sym counted)
+
+kept_within : (count : ℕ) (filled kept read : List ℕ) → filled ≡ kept ++ read → count ≡ length kept
+    → count ≤ length filled
+kept_within count filled kept read whole counted =
+    let parted = ap length whole in omega (arith, parted, counted, length-append kept read)
+
+-- an error is no chunk
+no_chunk : {T E : Type 0} (answer : Result T E) (error : E) (P : T → Type 0) → IsErrAnd answer (λ given. given ≡ error)
+    → IfOk answer P
+no_chunk (Ok chunk) error P is = absurd is
+no_chunk (Err given) error P is = tt
+
+pub text_front-state-requires-clause-within : goal.text_front-state-requires-clause-within
+text_front-state-requires-clause-within g c =
+    let fill = c.in_ok-fill.ensures.filled in
+    kept_within c.len-kept.result c.fill.new.filled (kept_bytes c.args.self.now.kept) fill.read fill.whole
+    c.len-kept.ensures
+
+pub text_front-state-requires-clause-told : goal.text_front-state-requires-clause-told
+text_front-state-requires-clause-told g c =
+    let fill = c.in_ok-fill.ensures.filled in
+    let kept = kept_bytes c.args.self.now.kept in
+    let front = kept_in_front c.len-kept.result c.fill.new.filled kept fill.read fill.whole c.len-kept.ensures in
+    c.fill.new.self.told ∙ (ap (λ (k : Kept). after Between (kept_bytes k)) c.fill.ensures.same.kept
+    ∙ ap (after Between) (sym front))
+
 pub text_front-state-requires-clause-stuck : goal.text_front-state-requires-clause-stuck
 text_front-state-requires-clause-stuck g c =
     let fill = c.in_ok-fill.ensures.filled in
     let kept = kept_bytes c.args.self.now.kept in
-    let n = c.len-kept.result in
-    let front : take n c.fill.new.filled ≡ kept = ap (λ (z : List ℕ). take n z) fill.whole
-    ∙ take_at kept fill.read n (sym c.len-kept.ensures) in
+    let front = kept_in_front c.len-kept.result c.fill.new.filled kept fill.read fill.whole c.len-kept.ensures in
     subst (λ (z : List ℕ). IsLastEnd z 0) (sym front) (stuck_end kept c.args.self.now.stuck)
 
 pub returns-then-size-kept-clause-chunk : goal.returns-then-size-kept-clause-chunk
@@ -77,19 +106,6 @@ returns-in-None-clause-chunk g c =
       none_kept = inr damage.kept;
     })
 
-pub returns-in-Some-clause-rest : goal.returns-in-Some-clause-rest
-returns-in-Some-clause-rest g c =
-    let fill = c.in_ok-fill.ensures.filled in
-    let text = c.text_front-state.result.0.now in
-    let same = c.fill.ensures.same in
-    let behind = c.in-Some.ensures.some ∙ take_rest c.fill.new.filled (length text) in
-    let fewer = ap (λ (n : ℕ). n - (c.min-size.result - c.len-kept.result)) same.unread in
-    rest_consumed _ _ c.args.self.now.unread _ (kept_bytes c.args.self.now.kept) (kept_bytes c.in-Some.rest) fill.read
-    text fill.reads.bytes
-    (unread_behind (length c.args.buffer.now) c.min-size.result c.len-kept.result c.args.self.now.unread _ _ _
-    fill.read c.len-kept.ensures c.min-size.ensures c.if-size-kept.false (search rules) fill.whole fewer)
-    (sym fill.whole ∙ c.text_front-state.ensures.front.parts ∙ ap (λ z. text ++ z) (sym behind))
-
 pub slice_bounds-keep-count : goal.slice_bounds-keep-count
 slice_bounds-keep-count g c = front_within _ _ _ c.text_front-state.ensures.front
 
@@ -115,14 +131,21 @@ returns-in-Some-clause-chunk g c =
 
 pub returns-in-Some-clause-left : goal.returns-in-Some-clause-left
 returns-in-Some-clause-left g c =
-    let fill = c.in_ok-fill.ensures.filled in
-    let text = c.text_front-state.result.0.now in
-    let behind = c.in-Some.ensures.some ∙ take_rest c.fill.new.filled (length text) in
-    let fewer = ap (λ (n : ℕ). n - (c.min-size.result - c.len-kept.result)) c.fill.ensures.same.unread in
-    left_behind c.args.self.now.unread _ (kept_bytes c.args.self.now.kept) (kept_bytes c.in-Some.rest) fill.read text
-    (unread_behind (length c.args.buffer.now) c.min-size.result c.len-kept.result c.args.self.now.unread _ _ _
-    fill.read c.len-kept.ensures c.min-size.ensures c.if-size-kept.false (search rules) fill.whole fewer)
-    (sym fill.whole ∙ c.text_front-state.ensures.front.parts ∙ ap (λ z. text ++ z) (sym behind))
+    chunk_left g.R.Read (length c.args.buffer.now) c.args.self.now _ c.text_front-state.result.0.now
+    (returns-in-Some-clause-chunk g c)
+
+pub returns-in-Some-clause-rest : goal.returns-in-Some-clause-rest
+returns-in-Some-clause-rest g c =
+    chunk_consumed g.R.Read (length c.args.buffer.now) c.args.self.now _ c.text_front-state.result.0.now
+    (returns-in-Some-clause-chunk g c)
+
+pub returns-then-size-kept-clause-left : goal.returns-then-size-kept-clause-left
+returns-then-size-kept-clause-left g c =
+    chunk_left g.R.Read (length c.args.buffer.now) c.args.self.now _ [] (returns-then-size-kept-clause-chunk g c)
+
+pub returns-then-size-kept-clause-rest : goal.returns-then-size-kept-clause-rest
+returns-then-size-kept-clause-rest g c =
+    chunk_consumed g.R.Read (length c.args.buffer.now) c.args.self.now _ [] (returns-then-size-kept-clause-chunk g c)
 
 -- ---- reads that fail
 
@@ -140,3 +163,34 @@ returns-in_err-fill-clause-chunk g c =
     c.fill.new.self c.fill.new.filled _ _ (exit_is answer.result c.in_err-fill.field-0.0 answer.ensures.1)
     c.if-self-eq0.false c.if-self.false c.len-kept.ensures c.min-size.ensures c.if-size-kept.false (search rules)
     c.fill.ensures.same c.in_err-fill.ensures.filled
+
+pub returns-in_err-read_nothing-clause-left : goal.returns-in_err-read_nothing-clause-left
+returns-in_err-read_nothing-clause-left g c =
+    no_chunk c.from_residual.result c.in_err-read_nothing.field-0.0 _ c.from_residual.ensures.1
+
+pub returns-in_err-read_nothing-clause-rest : goal.returns-in_err-read_nothing-clause-rest
+returns-in_err-read_nothing-clause-rest g c =
+    no_chunk c.from_residual.result c.in_err-read_nothing.field-0.0 _ c.from_residual.ensures.1
+
+pub returns-in_err-fill-clause-left : goal.returns-in_err-fill-clause-left
+returns-in_err-fill-clause-left g c =
+    no_chunk c.from_residual-in_err-fill.result c.in_err-fill.field-0.0 _ c.from_residual-in_err-fill.ensures.1
+
+pub returns-in_err-fill-clause-rest : goal.returns-in_err-fill-clause-rest
+returns-in_err-fill-clause-rest g c =
+    no_chunk c.from_residual-in_err-fill.result c.in_err-fill.field-0.0 _ c.from_residual-in_err-fill.ensures.1
+
+-- ---- what each pull keeps
+
+pub returns-in-Some-clause-same_reference : goal.returns-in-Some-clause-same_reference
+returns-in-Some-clause-same_reference g c = c.fill.ensures.same_reference
+
+pub returns-in-Some-clause-moves_on : goal.returns-in-Some-clause-moves_on
+returns-in-Some-clause-moves_on g c = c.fill.ensures.moves_on
+
+pub returns-in-None-clause-same_reference : goal.returns-in-None-clause-same_reference
+returns-in-None-clause-same_reference g c =
+    c.damage-in-None.ensures.same_reference ∙ c.fill.ensures.same_reference
+
+pub returns-in-None-clause-moves_on : goal.returns-in-None-clause-moves_on
+returns-in-None-clause-moves_on g c = rw c.damage-in-None.ensures.same c.fill.ensures.moves_on
