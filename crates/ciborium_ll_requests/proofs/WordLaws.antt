@@ -1,6 +1,6 @@
 -- When a word has bytes, and that the word of some bytes has them.
-use Rattle.std.proofs.Common.{◌≡◌, ◌≢◌, refl, true, false, ◌==◌, ℕ, List, [], ◌∷◌, length, Some, None, Ok, Err, inl, inr}
-use Rattle.std.proofs.Common.{sym, ap, ◌∙◌, arith}
+use Rattle.std.proofs.Common.{◌≡◌, ◌≢◌, refl, true, false, ◌==◌, ℕ, List, [], ◌∷◌, length, Some, None, Ok, Err}
+use Rattle.std.proofs.Common.{inl, inr, sym, ap, ◌∙◌, arith}
 use Rattle.hex.specs.Hex.{IsBytes, decode_of, encode_lower, lower_digits}
 use Rattle.hex.specs.declared.error.FromHexError.{FromHexError}
 use Rattle.hex.proofs.HexLemmas.{decode_of-digits, decode_of-encode_lower, decode_of-ok, length-encode_with}
