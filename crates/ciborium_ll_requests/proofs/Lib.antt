@@ -1,4 +1,5 @@
 mod ArgumentLaws
+mod LineLaws
 mod NumberLaws
 mod RequestLaws
 mod WordLaws

@@ -1,6 +1,6 @@
 -- When a word has bytes, and that the word of some bytes has them.
-use Rattle.std.proofs.Common.{◌≡◌, ◌≢◌, refl, false, ◌==◌, ℕ, List, [], ◌∷◌, length, Some, None, Ok, Err, inl, inr}
-use Rattle.std.proofs.Common.{sym, ap, ◌∙◌, arith}
+use Rattle.std.proofs.Common.{◌≡◌, ◌≢◌, refl, true, false, ◌==◌, ℕ, List, [], ◌∷◌, length, Some, None, Ok, Err}
+use Rattle.std.proofs.Common.{inl, inr, sym, ap, ◌∙◌, arith}
 use Rattle.hex.specs.Hex.{IsBytes, decode_of, encode_lower, lower_digits}
 use Rattle.hex.specs.declared.error.FromHexError.{FromHexError}
 use Rattle.hex.proofs.HexLemmas.{decode_of-digits, decode_of-encode_lower, decode_of-ok, length-encode_with}
@@ -37,6 +37,16 @@ IsHexWord-refused word e other h hex =
       | inr digits ↦
           let d = decode_of-digits word digits.1 digits.2 in cc (sym h ∙ d.1)
     ]
+
+-- a word of no bytes is none at all
+pub no_word : (word : List ℕ) → true ≡ (length word == 0) → word ≡ []
+no_word [] h = refl
+no_word (byte ∷ rest) h = grind (arith)
+
+-- which is none of digits
+pub IsHexWord-nil : IsHexWord [] → ⊥
+IsHexWord-nil (inl same) = cc same
+IsHexWord-nil (inr digits) = let some = digits.0 in omega (arith, some)
 
 -- a list with a length has an element
 IsFilled : (xs : List ℕ) → false ≡ (length xs == 0) → xs ≢ []

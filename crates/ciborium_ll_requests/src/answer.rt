@@ -110,14 +110,13 @@ pub fn copy_line(
     left: &[u8],
     sink: &mut String,
 ) -> Result<(), AllocError> {
+    if let Some(Last::Room) = last {
+        return last_line(Last::Room, sink);
+    }
+    write_word(alloc, written, sink)?;
     match last {
-        Some(Last::Room) => last_line(Last::Room, sink),
-        Some(last) => {
-            write_word(alloc, written, sink)?;
-            writeln!(sink, " {last}")
-        }
+        Some(last) => writeln!(sink, " {last}"),
         None => {
-            write_word(alloc, written, sink)?;
             sink.push_str(" rest ")?;
             word_line(alloc, left, sink)
         }

@@ -1,8 +1,23 @@
-use Rattle.std.proofs.Common.{◌≡◌, ◌≢◌, Ok, refl, inl, inr}
+use Rattle.std.proofs.Common.{◌≡◌, ◌≢◌, Ok, refl, inl, inr, rules}
 use Rattle.hex.specs.Hex.{decode_of}
 use Rattle.ciborium_ll_requests.specs.Word.{no_bytes}
-use Rattle.ciborium_ll_requests.proofs.WordLaws.{IsHexWord-decoded, IsHexWord-refused, bytes_of_word-none}
+use Rattle.ciborium_ll_requests.proofs.WordLaws.{IsHexWord-decoded, IsHexWord-nil, IsHexWord-refused}
+use Rattle.ciborium_ll_requests.proofs.WordLaws.{bytes_of_word-none, no_word}
 use Rattle.ciborium_ll_requests.proofs.word.bytes_of.Goals as goal
+
+pub returns-then-eq : goal.returns-then-eq
+returns-then-eq c =
+    let same : c.args.word.now ≡ no_bytes = search rules in
+    record { hex = (λ _. inl same, λ _. refl); some = rw same cc; none = _ }
+
+pub returns-then-is_empty : goal.returns-then-is_empty
+returns-then-is_empty c =
+    let none = no_word c.args.word.now c.if-is_empty.ensures in
+    record {
+      hex = (λ some. cc some, λ hex. absurd (IsHexWord-nil (rw none at hex)));
+      some = _;
+      none = rw none refl;
+    }
 
 pub returns-in-Ok-clause-hex : goal.returns-in-Ok-clause-hex
 returns-in-Ok-clause-hex c =
