@@ -50,16 +50,17 @@ typedef struct { uint64_t value; uint8_t kind; uint8_t indefinite; } cll_header;
  * UTF-8, in a string that no open begins, it is the end of the string's title less the length of the shortest one, so
  * it lies inside a title that is longer than that.
  *
- * With CLL_SHORT `place` is no offset. Of cll_recode, cll_strict, cll_skip and the calls of a checker it says how many
- * bytes more are due: whatever follows the bytes so far so that they become what was asked for has at least so many.
+ * With CLL_SHORT `place` is no offset. Of cll_recode, cll_strict, cll_skip and the calls of a checker and of a copier
+ * of an item it says how many bytes more are due: whatever follows the bytes so far so that they become what was asked
+ * for has at least so many.
  * So a reader may ask for as many, and then call again with all of them. They are the rest of the title or of the body
  * that was cut, or 1 where one was about to begin, and never reach behind what was asked for. 0 says that nothing which
  * may follow makes it good: a text that is no UTF-8 was cut, or a title that could not stand there. Of the other calls
  * `place` is 0.
  *
- * Of the calls of a checker the offset is counted from the item's first byte, through all pieces, and with CLL_OK
- * `place` is the item's length. Of those of a copier it is counted from the first byte of the elements, through all
- * pieces.
+ * Of the calls of a checker and of a copier of an item the offset is counted from the item's first byte, through all
+ * pieces, and with CLL_OK of cll_checker_feed and cll_item_copier_feed `place` is the item's length. Of those of a
+ * copier it is counted from the first byte of the elements, through all pieces.
  *
  * Of cll_recode and cll_strict `elements` says how many elements were done whole, whatever the answer, and `whole` the
  * offset in `data` behind the last of them. Of the other calls both are 0.
@@ -105,7 +106,7 @@ typedef enum cll_answer {
     CLL_SHORT,     /* the bytes end too early; `consumed` says where the read stopped; of what is fed: more is due */
     CLL_SYNTAX,    /* at `place` stands no CBOR, or for cll_utf8 no UTF-8, that could stand there */
     CLL_ROOM,      /* what is to be written next does not fit into `out` */
-    CLL_TOO_LONG,  /* an offset would pass the greatest number, which no bytes in memory make it do: never answered */
+    CLL_TOO_LONG,  /* an offset would pass the greatest number, which only bytes that are fed make it do */
     CLL_BREAK_DUE, /* at `place` a break stands where an item is due */
     CLL_TOO_DEEP,  /* at `place` a tag, an array or a map stands deeper than was allowed */
     CLL_ARGUMENT   /* an argument is out of its range, and nothing was done */

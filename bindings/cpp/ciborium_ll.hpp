@@ -124,8 +124,8 @@ constexpr const char *name_of(answer code) noexcept
 /*
  * Why a call has no value, and how far it came. `place` is the offset that the fault names: where `too_short` stopped,
  * and 0 for `room` and `argument`. `elements` is how many elements `recode` and `strict` did whole, and `whole` how many
- * bytes these have. With `too_short` `due` is of `recode`, `strict`, `skip` and a checker how many bytes more are due at
- * least, or 0 where nothing that may follow makes it good; else it is 0.
+ * bytes these have. With `too_short` `due` is of `recode`, `strict`, `skip`, a checker and a copier of an item how many
+ * bytes more are due at least, or 0 where nothing that may follow makes it good; else it is 0.
  */
 struct fault {
     answer code;

@@ -43,8 +43,8 @@ class Error(ValueError):
     ``name`` names the answer, and ``place`` is the offset that it names, in all of the bytes; of ``short`` it is where
     the read stopped. ``consumed`` and ``written`` say how far the call came; ``elements`` how many elements ``recode``
     and ``strict`` did whole, and ``whole`` how many bytes these have. Of a ``Copier`` ``data`` is what it wrote. ``due``
-    is of ``short`` how many bytes more ``recode``, ``strict``, ``skip`` and a ``Checker`` need at least, or 0 where
-    nothing that may follow makes it good; else it is 0.
+    is of ``short`` how many bytes more ``recode``, ``strict``, ``skip``, a ``Checker`` and an ``ItemCopier`` need at
+    least, or 0 where nothing that may follow makes it good; else it is 0.
     """
 
     name = "error"

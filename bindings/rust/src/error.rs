@@ -8,8 +8,8 @@ pub enum Error {
     Short {
         /// There the read stopped.
         place: usize,
-        /// How many bytes more `recode`, `strict`, `skip_item` and a checker need at least, or 0 where nothing that may
-        /// follow makes it good. It is 0 of other calls.
+        /// How many bytes more `recode`, `strict`, `skip_item`, a checker and a copier of an item need at least, or 0
+        /// where nothing that may follow makes it good. It is 0 of other calls.
         due: usize,
     },
     /// There stands no CBOR, or of `utf8` no UTF-8, that could stand there.

@@ -53,8 +53,8 @@ pub struct CllReport {
     pub consumed: u64,
     /// How many bytes it wrote.
     pub written: u64,
-    /// Of `Syntax`, `BreakDue` and `TooDeep` the offset in the bytes that the answer names, and of `Short` how many
-    /// bytes more are due at least, where the call says so; else 0.
+    /// Of `Syntax`, `BreakDue` and `TooDeep` the offset in the bytes that the answer names, of `Short` how many bytes
+    /// more are due at least, and of `Ok` the length of an item that was fed, where the call says so; else 0.
     pub place: u64,
     /// Of a copy and of a strict check how many elements were done whole, else 0.
     pub elements: u64,

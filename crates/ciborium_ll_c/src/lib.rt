@@ -1,5 +1,6 @@
 //! The library for C and C++: a static library, whose header is `include/ciborium_ll.h`. No call takes memory, and
-//! none calls out of this library. What a checker and a copier keep between calls stands in memory of the caller's own.
+//! none calls out of this library but memcpy, memmove and memset. What a checker and a copier keep between calls stands
+//! in memory of the caller's own.
 //!
 //! C passes a slice as a pointer and then a length. Each call answers by a number, which is the code of a
 //! [`CllAnswer`], and says in a [`CllReport`] how far it came. `cll_pull`, which is called for each title, tells a number

@@ -1,9 +1,8 @@
 // Copies of raw bytes.
 
 use super::faults::is_printed_as;
-use ciborium_ll::io::{ReadFault, StdReader, StdWriter, Write, WriteFault};
-use ciborium_ll::recode::recode;
-use ciborium_ll::{Decoder, Encoder, Error, RecodeError};
+use ciborium_ll::io::{ReadFault, WriteFault};
+use ciborium_ll::{Error, RecodeError};
 use ciborium_ll_fixtures::streams::{PartReader, PartWriter};
 use ciborium_ll_service::fault::{Fault, fault_of_raw};
 use ciborium_ll_service::raw::raw_buffered;
@@ -70,38 +69,8 @@ fn end_of_flush(outcome: Result<(), WriteFault>) -> End {
     }
 }
 
-// How a copy ended with the flush behind it: with its own error, else with that of the flush.
-fn outcome_of(
-    copied: Result<(), RecodeError<ReadFault, WriteFault>>,
-    flushed: Result<(), WriteFault>,
-) -> Result<(), RecodeError<ReadFault, WriteFault>> {
-    copied?;
-    flushed.map_err(RecodeError::Write)
-}
-
-// Copies elements as `raw_buffered` does, but with nothing read ahead or kept back. A fault of the flush is told as
-// that of the copy.
+// Copies elements as the program does.
 pub fn copies<R: io::Read, W: io::Write>(source: R, sink: W, count: usize) -> Copied<R, W> {
-    let mut decoder = Decoder::from(StdReader::new(source));
-    let mut encoder = Encoder::from(StdWriter::new(sink));
-    let copied = recode(&mut decoder, &mut encoder, count, &mut [0; 64]);
-    let mut writer = encoder.into_inner();
-    let (copied, fault) = end_of(outcome_of(copied, writer.flush()));
-    Copied {
-        copied,
-        fault,
-        flushed: End::Done,
-        source: decoder.into_inner().into_inner(),
-        sink: writer.into_inner(),
-    }
-}
-
-// Copies elements by `raw_buffered`.
-pub fn copies_buffered<R: io::Read, W: io::Write>(
-    source: R,
-    sink: W,
-    count: usize,
-) -> Copied<R, W> {
     let copy = raw_buffered(source, sink, count);
     let (copied, fault) = end_of(copy.copied);
     Copied {
@@ -113,10 +82,10 @@ pub fn copies_buffered<R: io::Read, W: io::Write>(
     }
 }
 
-// A copy of one element into memory writes this, and leaves this.
-fn is_copied(alloc: Global, bytes: &[u8], written: &[u8], left: &[u8]) -> bool {
+// A copy of one element into memory writes this.
+fn is_copied(alloc: Global, bytes: &[u8], written: &[u8]) -> bool {
     let copy = copies(bytes, Vec::new(alloc), 1);
-    copy.copied == End::Done && copy.sink.as_slice() == written && copy.source == left
+    copy.copied == End::Done && copy.flushed == End::Done && copy.sink.as_slice() == written
 }
 
 // A copy of one element into memory is refused at this place, and writes this.
@@ -135,7 +104,7 @@ fn is_unread(alloc: Global, bytes: &[u8]) -> bool {
 // A copy that always answered that its reader failed would fail here.
 #[test]
 fn raw_copies(rt: HostRuntime) {
-    assert!(rt; is_copied(rt.alloc(), &[0x58, 1, 1, 0], &[0x41, 1], &[0]));
+    assert!(rt; is_copied(rt.alloc(), &[0x58, 1, 1, 0], &[0x41, 1]));
     let bytes = [0x7f, 0x61, 0x61, 0x5f, 0xff];
     assert!(rt; stops_at(rt.alloc(), &bytes, 3, &[0x7f, 0x61, 0x61]));
     assert!(rt; is_unread(rt.alloc(), &[]));
@@ -148,23 +117,9 @@ fn is_copied_slowly(alloc: Global, bytes: &[u8], written: &[u8]) -> bool {
     is_written && copy.copied == End::Done && copy.source.left.is_empty()
 }
 
-// A copy of one element writes it, and its flush fails.
-fn is_unflushed(alloc: Global, bytes: &[u8]) -> bool {
-    let copy = copies(bytes, PartWriter::new(alloc, 1).failing_to_flush(), 1);
-    matches!(copy.copied, End::Write(_)) && copy.sink.taken.as_slice() == bytes
-}
-
-// A copy of one element into a writer that takes no byte fails.
-fn is_unwritten(alloc: Global, bytes: &[u8]) -> bool {
-    let copy = copies(bytes, PartWriter::new(alloc, 0), 1);
-    matches!(&copy.fault, Some(Fault::Write))
-}
-
 #[test]
 fn raw_copies_between_streams(rt: HostRuntime) {
     assert!(rt; is_copied_slowly(rt.alloc(), &[0x58, 1, 1], &[0x41, 1]));
-    assert!(rt; is_unflushed(rt.alloc(), &[0]));
-    assert!(rt; is_unwritten(rt.alloc(), &[0]));
 }
 
 // A string and titles that are longer than a window, in their shortest spelling.
@@ -181,23 +136,23 @@ pub fn long_elements(alloc: Global) -> Result<Vec<u8>, Fail> {
     Ok(bytes)
 }
 
-// A buffered copy into memory gives the same bytes.
+// A copy into memory gives the same bytes.
 fn is_same(alloc: Global, bytes: &[u8]) -> bool {
-    let copy = copies_buffered(bytes, Vec::new(alloc), 5_001);
+    let copy = copies(bytes, Vec::new(alloc), 5_001);
     let is_done = copy.copied == End::Done && copy.flushed == End::Done;
     is_done && copy.sink.as_slice() == bytes
 }
 
 // So it does byte by byte, and flushes them.
 fn is_same_slowly(alloc: Global, bytes: &[u8]) -> bool {
-    let copy = copies_buffered(PartReader::new(bytes, 1), PartWriter::new(alloc, 1), 5_001);
+    let copy = copies(PartReader::new(bytes, 1), PartWriter::new(alloc, 1), 5_001);
     let is_done = copy.copied == End::Done && copy.flushed == End::Done;
     is_done && copy.sink.taken.as_slice() == bytes && copy.sink.flushes == 1
 }
 
 // Where a write fails the first bytes are written and flushed.
 fn is_front(alloc: Global, bytes: &[u8]) -> bool {
-    let copy = copies_buffered(bytes, failing_writer(alloc, 101), 5_001);
+    let copy = copies(bytes, failing_writer(alloc, 101), 5_001);
     let has_failed = copy.copied == End::Write(TIMED_OUT) && copy.flushed == End::Done;
     has_failed && bytes.starts_with(copy.sink.taken.as_slice()) && copy.sink.flushes == 1
 }
@@ -234,21 +189,8 @@ fn flushes_once(
     Ok(is_word && copy.sink.taken.as_slice() == want && copy.sink.flushes == 1)
 }
 
-// A copy writes this and flushes it once, and ends by this word.
+// A copy writes this and flushes it once, and ends by this word, and its flush by whether that fails.
 fn is_flushed(
-    alloc: Global,
-    row: (usize, &[u8]),
-    flush_fails: bool,
-    want: &[u8],
-    word: &str,
-) -> Result<bool, Fail> {
-    let (count, bytes) = row;
-    let copy = copies(bytes, flushed_writer(alloc, flush_fails), count);
-    flushes_once(alloc, copy, want, word)
-}
-
-// The same of a buffered copy, whose flush ends so.
-fn is_flushed_buffered(
     alloc: Global,
     row: (usize, &[u8]),
     flush_fails: bool,
@@ -261,30 +203,14 @@ fn is_flushed_buffered(
     } else {
         End::Done
     };
-    let copy = copies_buffered(bytes, flushed_writer(alloc, flush_fails), count);
+    let copy = copies(bytes, flushed_writer(alloc, flush_fails), count);
     Ok(copy.flushed == end && flushes_once(alloc, copy, want, word)?)
 }
 
-// However a copy ends, its writer is flushed once, behind all that was written. Where the flush fails, its own fault is
-// told, unless the copy has one.
+// However a copy ends, its writer is flushed once, behind all that was written. Where the flush fails, that is told
+// beside how the copy ended.
 #[test]
 fn copies_flush_once(rt: HostRuntime) -> Result<(), Fail> {
-    let rows: [(usize, &[u8], &[u8], &str, &str); 3] = [
-        (1, &[0x42, 1, 2], &[0x42, 1, 2], "ok", "write"),
-        (2, &[0, 0x1f], &[0], "syntax 1", "syntax 1"),
-        (2, &[0, 0x43, 1], &[0, 0x43], "read", "read"),
-    ];
-    for (count, bytes, want, word, word_unflushed) in rows {
-        let is_right = is_flushed(rt.alloc(), (count, bytes), false, want, word)?;
-        assert!(rt; is_right, "at {bytes:?}");
-        let is_right = is_flushed(rt.alloc(), (count, bytes), true, want, word_unflushed)?;
-        assert!(rt; is_right, "at {bytes:?}, unflushed");
-    }
-    Ok(())
-}
-
-#[test]
-fn buffered_copies_flush_once(rt: HostRuntime) -> Result<(), Fail> {
     let rows: [(usize, &[u8], &[u8], &str); 3] = [
         (1, &[0x42, 1, 2], &[0x42, 1, 2], "ok"),
         (2, &[0, 0x1f], &[0], "syntax 1"),
@@ -293,7 +219,7 @@ fn buffered_copies_flush_once(rt: HostRuntime) -> Result<(), Fail> {
     for (count, bytes, want, word) in rows {
         for flush_fails in [false, true] {
             let row = (count, bytes);
-            let is_right = is_flushed_buffered(rt.alloc(), row, flush_fails, want, word)?;
+            let is_right = is_flushed(rt.alloc(), row, flush_fails, want, word)?;
             assert!(rt; is_right, "at {bytes:?}");
         }
     }
@@ -310,38 +236,28 @@ fn failing_writer(alloc: Global, call: usize) -> PartWriter {
     PartWriter::new(alloc, 1).failing_at(call, Some(TIMED_OUT))
 }
 
-// How a copy of one element ended.
-fn end_of_one<R: io::Read + Drop, W: io::Write + Drop>(source: R, sink: W) -> End {
-    copies(source, sink, 1).copied
-}
-
-// The same of a buffered copy, and how its flush ended.
+// How a copy of one element ended, and how its flush did.
 fn ends_of_one<R: io::Read + Drop, W: io::Write + Drop>(source: R, sink: W) -> (End, End) {
-    let copy = copies_buffered(source, sink, 1);
+    let copy = copies(source, sink, 1);
     (copy.copied, copy.flushed)
 }
 
 // Whether a read that fails at this call is told.
 fn tells_read(alloc: Global, call: usize) -> bool {
-    let copied = end_of_one(failing_reader(call), Vec::new(alloc));
-    let (buffered, _) = ends_of_one(failing_reader(call), Vec::new(alloc));
-    copied == End::Read(TIMED_OUT) && buffered == End::Read(TIMED_OUT)
+    let (copied, _) = ends_of_one(failing_reader(call), Vec::new(alloc));
+    copied == End::Read(TIMED_OUT)
 }
 
-// Whether a write that fails at this call is told, of a buffered copy by its flush.
+// Whether a write that fails at this call is told by the flush.
 fn tells_write(alloc: Global, call: usize) -> bool {
-    let writer = failing_writer(alloc, call).failing_to_flush();
-    let copied = end_of_one([0x42, 1, 2].as_slice(), writer);
-    let (buffered, flushed) = ends_of_one([0x42, 1, 2].as_slice(), failing_writer(alloc, call));
-    let is_flush = buffered == End::Done && flushed == End::Write(TIMED_OUT);
-    is_flush && copied == End::Write(TIMED_OUT)
+    let (copied, flushed) = ends_of_one([0x42, 1, 2].as_slice(), failing_writer(alloc, call));
+    copied == End::Done && flushed == End::Write(TIMED_OUT)
 }
 
 // Whether an end of the bytes is told.
 fn tells_end(alloc: Global) -> bool {
-    let copied = end_of_one([0x42, 1].as_slice(), Vec::new(alloc));
-    let (buffered, _) = ends_of_one([0x42, 1].as_slice(), Vec::new(alloc));
-    copied == End::Short && buffered == End::Short
+    let (copied, _) = ends_of_one([0x42, 1].as_slice(), Vec::new(alloc));
+    copied == End::Short
 }
 
 #[test]

@@ -31,19 +31,9 @@ struct Ended {
     sink: PartWriter,
 }
 
-// Copies elements. With nothing kept back a fault of the flush is told as that of the copy.
-fn copies(
-    is_buffered: bool,
-    count: usize,
-    bytes: &[u8],
-    source: PartReader<'_>,
-    sink: PartWriter,
-) -> Ended {
-    let copy = if is_buffered {
-        copies::copies_buffered(source, sink, count)
-    } else {
-        copies::copies(source, sink, count)
-    };
+// Copies elements.
+fn copies(count: usize, bytes: &[u8], source: PartReader<'_>, sink: PartWriter) -> Ended {
+    let copy = copies::copies(source, sink, count);
     Ended {
         copied: copy.copied,
         flushed: copy.flushed,
@@ -88,18 +78,11 @@ fn is_interrupted(ended: &Ended, want: &Copied) -> bool {
     is_short && ended.copied == End::Read(INTERRUPTED)
 }
 
-// A copy ended as a plain reading says, and no byte behind the last element is gone but those that were read ahead.
-fn is_whole(is_buffered: bool, ended: &Ended, want: &Copied) -> bool {
-    let goes_on = is_buffered || ended.copied != End::Done || ended.given == want.offset;
-    goes_on && is_answer(ended.copied, want.fault)
-}
-
 // A reader gives few bytes a call, and is interrupted at one. What is written is just what the bytes give that came
 // before, and the writer is flushed. It tells whether that call came.
 fn stops_reading(
     rt: &impl Abort,
     alloc: Global,
-    is_buffered: bool,
     row: (usize, &[u8]),
     most: usize,
     call: usize,
@@ -107,14 +90,14 @@ fn stops_reading(
     let (count, bytes) = row;
     let source = PartReader::new(bytes, most).failing_at(call, INTERRUPTED);
     let sink = PartWriter::new(alloc, most);
-    let ended = copies(is_buffered, count, bytes, source, sink);
+    let ended = copies(count, bytes, source, sink);
     let has_failed = ended.reads >= call;
     let length = if has_failed { ended.given } else { bytes.len() };
     let want = plain::copy(alloc, false, count, front_of(bytes, length))?;
     let is_right = if has_failed {
         is_interrupted(&ended, &want)
     } else {
-        is_whole(is_buffered, &ended, &want)
+        is_answer(ended.copied, want.fault)
     };
     holds(rt, is_right && is_flushed(&ended, &want), call, bytes);
     Ok(has_failed)
@@ -125,14 +108,10 @@ fn is_front(ended: &Ended, want: &Copied, length: usize) -> bool {
     want.output.as_slice().get(..length) == Some(ended.sink.taken.as_slice())
 }
 
-// A copy whose writer failed tells it. So few bytes are kept back to the end, so that the flush of a buffered copy has
-// the fault, and not the copy.
-fn is_unwritten(is_buffered: bool, ended: &Ended, want: &Copied, fault: End) -> bool {
-    if is_buffered {
-        ended.flushed == fault && is_answer(ended.copied, want.fault)
-    } else {
-        ended.flushed == End::Done && ended.copied == fault
-    }
+// A copy whose writer failed tells it. So few bytes are kept back to the end, so that the flush has the fault, and not
+// the copy.
+fn is_unwritten(ended: &Ended, want: &Copied, fault: End) -> bool {
+    ended.flushed == fault && is_answer(ended.copied, want.fault)
 }
 
 // A writer takes one byte a call, and at one call none, or is interrupted there. What it took are the first bytes of
@@ -140,19 +119,18 @@ fn is_unwritten(is_buffered: bool, ended: &Ended, want: &Copied, fault: End) -> 
 fn stops_writing(
     rt: &impl Abort,
     alloc: Global,
-    is_buffered: bool,
     row: (usize, &[u8]),
     kind: Option<io::ErrorKind>,
     call: usize,
 ) -> Result<bool, Fail> {
     let (count, bytes) = row;
     let sink = PartWriter::new(alloc, 1).failing_at(call, kind);
-    let ended = copies(is_buffered, count, bytes, PartReader::new(bytes, 64), sink);
+    let ended = copies(count, bytes, PartReader::new(bytes, 64), sink);
     let want = plain::copy(alloc, false, count, bytes)?;
     let has_failed = ended.sink.calls >= call;
     let is_right = if has_failed {
         let is_due = is_front(&ended, &want, call.saturating_sub(1));
-        is_due && is_unwritten(is_buffered, &ended, &want, end_of_write(kind))
+        is_due && is_unwritten(&ended, &want, end_of_write(kind))
     } else {
         let is_due = is_front(&ended, &want, want.output.len());
         is_due && ended.flushed == End::Done && is_answer(ended.copied, want.fault)
@@ -165,13 +143,12 @@ fn stops_writing(
 fn interrupts_reads(
     rt: &impl Abort,
     alloc: Global,
-    is_buffered: bool,
     row: (usize, &[u8]),
     most: usize,
 ) -> Result<(), Fail> {
     let mut last = 0usize;
     for call in 1..64usize {
-        if !stops_reading(rt, alloc, is_buffered, row, most, call)? {
+        if !stops_reading(rt, alloc, row, most, call)? {
             break;
         }
         last = call;
@@ -181,12 +158,11 @@ fn interrupts_reads(
     Ok(())
 }
 
-// The same through readers of each kind, buffered or not.
+// The same through readers of each kind.
 fn interrupts_sample(rt: &impl Abort, alloc: Global, count: usize, hex: &str) -> Result<(), Fail> {
     let bytes = decoded(alloc, hex)?;
     for most in [1, 2, 3, 64usize] {
-        interrupts_reads(rt, alloc, false, (count, bytes.as_slice()), most)?;
-        interrupts_reads(rt, alloc, true, (count, bytes.as_slice()), most)?;
+        interrupts_reads(rt, alloc, (count, bytes.as_slice()), most)?;
     }
     Ok(())
 }
@@ -203,13 +179,12 @@ fn each_read_of_a_raw_copy_is_interrupted(rt: HostRuntime) -> Result<(), Fail> {
 fn fails_writes(
     rt: &impl Abort,
     alloc: Global,
-    is_buffered: bool,
     row: (usize, &[u8]),
     kind: Option<io::ErrorKind>,
 ) -> Result<(), Fail> {
     let mut last = 0usize;
     for call in 1..64usize {
-        if !stops_writing(rt, alloc, is_buffered, row, kind, call)? {
+        if !stops_writing(rt, alloc, row, kind, call)? {
             break;
         }
         last = call;
@@ -220,12 +195,11 @@ fn fails_writes(
     Ok(())
 }
 
-// The same in each way, buffered or not.
+// The same in each way.
 fn fails_sample(rt: &impl Abort, alloc: Global, count: usize, hex: &str) -> Result<(), Fail> {
     let bytes = decoded(alloc, hex)?;
     for kind in [None, Some(INTERRUPTED)] {
-        fails_writes(rt, alloc, false, (count, bytes.as_slice()), kind)?;
-        fails_writes(rt, alloc, true, (count, bytes.as_slice()), kind)?;
+        fails_writes(rt, alloc, (count, bytes.as_slice()), kind)?;
     }
     Ok(())
 }
@@ -241,7 +215,7 @@ fn each_write_of_a_raw_copy_fails(rt: HostRuntime) -> Result<(), Fail> {
 // A long copy whose read of this number is interrupted. It tells whether that call came.
 fn stops_reading_on(rt: &impl Abort, alloc: Global, bytes: &[u8], call: usize) -> bool {
     let source = PartReader::new(bytes, 1_000).failing_at(call, INTERRUPTED);
-    let ended = copies(true, 5_001, bytes, source, PartWriter::new(alloc, 1_000));
+    let ended = copies(5_001, bytes, source, PartWriter::new(alloc, 1_000));
     let taken = ended.sink.taken.as_slice();
     let has_failed = ended.reads >= call;
     let is_right = if has_failed {
@@ -268,7 +242,7 @@ fn is_told_once(copied: End, flushed: End) -> bool {
 // The same of a write.
 fn stops_writing_on(rt: &impl Abort, alloc: Global, bytes: &[u8], call: usize) -> bool {
     let sink = PartWriter::new(alloc, 1_000).failing_at(call, Some(INTERRUPTED));
-    let ended = copies(true, 5_001, bytes, PartReader::new(bytes, 1_000), sink);
+    let ended = copies(5_001, bytes, PartReader::new(bytes, 1_000), sink);
     let taken = ended.sink.taken.as_slice();
     let has_failed = ended.sink.calls >= call;
     let is_right = if ended.copied == End::Done && ended.flushed == End::Done {
