@@ -311,7 +311,6 @@ fn copy_or_due(bytes: &[u8], count: usize, out: &mut [u8], report: &mut CllRepor
 /// these are all, and `whole` is `consumed`. With `Short` and `Syntax` one more does not stand in front; with `Room`,
 /// where it does, its spelling and theirs do not fit.
 #[unsafe(no_mangle)]
-#[tactic(auto, using(crate::proofs::PullLaws::code_exactly, crate::proofs::PullLaws::code_short))]
 pub extern "C" fn cll_recode(
     bytes: &[u8],
     count: u64,
@@ -377,7 +376,6 @@ fn check_or_due(bytes: &[u8], count: usize, report: &mut CllReport) -> CllAnswer
 /// than it need be, for such a simple value and for such a string. The last two are those of the first fault, and
 /// `consumed` is the number of bytes consumed up to it. The elements are counted as by `cll_recode`.
 #[unsafe(no_mangle)]
-#[tactic(auto, using(crate::proofs::PullLaws::code_exactly, crate::proofs::PullLaws::code_short))]
 pub extern "C" fn cll_strict(bytes: &[u8], count: u64, report: &mut CllReport) -> u32
     ensures checked { (answer : CllAnswer) × (result ≡ code answer) × Checks count bytes.now answer report.new }
     ensures exactly { result ≡ code a.Ok ↔ RunInFront true count bytes.now }
@@ -447,7 +445,6 @@ fn skip_or_due(bytes: &[u8], depth: usize, report: &mut CllReport) -> CllAnswer
 /// bytes as the place says. Where that is not 0 something does so, and a checker that got the bytes lacks just so many:
 /// the rest of a title or of a body, or 1.
 #[unsafe(no_mangle)]
-#[tactic(auto, using(crate::proofs::PullLaws::code_exactly, crate::proofs::PullLaws::code_short))]
 pub extern "C" fn cll_skip(bytes: &[u8], depth: u32, report: &mut CllReport) -> u32
     ensures skipped { depth ≤ 256
         → (answer : CllAnswer) × (result ≡ code answer) × Skips depth bytes.now answer report.new }
