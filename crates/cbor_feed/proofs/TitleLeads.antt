@@ -109,6 +109,13 @@ fresh_leads (b ∷ y ∷ ys) n s kind header below at some is taken kind_is on f
     (affix_leads u kind header t b o (y ∷ ys) [] (s.offset + 1) n (below_rest b (y ∷ ys) below) refl
     (omega (arith, on)) (omega arith))
 
+-- so many bytes in front as the first one announces are all of a title
+pub front_whole : (xs : List ℕ) (n : ℕ) → n ≤ length xs → n ≡ 1 + affix_len (slice_index xs 0 % 32)
+    → length (take n xs) ≡ 1 + affix_len (slice_index (take n xs) 0 % 32)
+front_whole xs n le whole =
+    let first = get_or-take n xs 0 0 (omega (arith, whole)) in
+    length-take-le n xs le ∙ (whole ∙ ap (λ (z : ℕ). 1 + affix_len (z % 32)) (sym first))
+
 -- a whole title in front
 pub title_leads : (xs : List ℕ) (n : ℕ) (s new : Spot) (kind : TitleKind) (header : Header) → Below xs
     → s.phase ≡ p.Title → length s.front ≡ 0 → 0 < n → n ≤ length xs → IsTitle (take n xs) header

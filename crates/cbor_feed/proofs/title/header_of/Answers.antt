@@ -1,6 +1,8 @@
-use Rattle.std.proofs.Common.{rules, Bool, sym, subst}
+use Rattle.std.proofs.Common.{rules, Bool, Option, sym, subst}
+use Rattle.std.specs.Option.{IfNone}
+use Rattle.ciborium_ll_grammar.specs.declared.hdr.Header.{Header}
 use Rattle.cbor_feed.specs.Steps.{NoneTaken}
-use Rattle.cbor_feed.proofs.LongerBegun.{parts_none, some_taken, none_means}
+use Rattle.cbor_feed.proofs.LongerBegun.{parts_none, refused_none, some_taken, none_means}
 use Rattle.cbor_feed.proofs.title.header_of.Goals as goal
 use Rattle.cbor_feed.proofs.title.header_of.Goals.{else-strict-via-then-strict+else-is_longer}
 use Rattle.cbor_feed.proofs.title.header_of.Goals.{else-strict-via-else-strict}
@@ -32,3 +34,9 @@ pub returns-clause-none : goal.returns-clause-none
 returns-clause-none c =
     none_means c.header.result c.args.strict c.in_ok-title.title.major c.in_ok-title.title.minor c.args.bytes.now
     c.in_ok-title.ensures.bytes c.header.ensures.none
+
+pub returns-in_err-title-clause-none : goal.returns-in_err-title-clause-none
+returns-in_err-title-clause-none c =
+    let bytes = c.args.bytes.now in
+    subst (λ (z : Option Header). IfNone z (NoneTaken c.args.strict bytes)) (sym c.from_residual.ensures)
+    (refused_none c.args.strict bytes c.in_err-title.ensures.none)

@@ -24,3 +24,8 @@ runs-preserved c =
           (spot_at c.run-at.new.self) c.runs.invariant.leads c.run-at.ensures.leads;
       lent = search rules;
     }
+
+pub overflow_add-at : goal.overflow_add-at
+overflow_add-at c =
+    let long = rest_long c.args.bytes.now c.runs.at in
+    omega (arith, long, c.run-at.ensures.within, c.runs.invariant.within, c.requires)

@@ -23,3 +23,11 @@ returns-then-is_short_ascii-clause-leads c =
     text_leads rest len c.args.left s.Between s.Between (spot_at c.args.self.now) (spot_at c.text_taken.new.self) below
     c.requires.phase (search rules) within (search rules) (ascii_stays (take len rest) ascii)
     (between_ends _) c.text_taken.ensures.spot
+
+pub text_taken-requires-clause-room : goal.text_taken-requires-clause-room
+text_taken-requires-clause-room c =
+    let long = rest_long c.args.bytes.now c.args.at in omega (arith, long, c.min-len.ensures, c.requires.room)
+
+pub returns-then-is_short_ascii-clause-within : goal.returns-then-is_short_ascii-clause-within
+returns-then-is_short_ascii-clause-within c =
+    let long = rest_long c.args.bytes.now c.args.at in omega (arith, long, c.min-len.ensures)

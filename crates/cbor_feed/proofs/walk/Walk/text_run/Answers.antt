@@ -1,4 +1,4 @@
-use Rattle.std.proofs.Common.{◌≡◌, ◌≤◌, take, length, rules, arith}
+use Rattle.std.proofs.Common.{◌≡◌, ◌≤◌, take, length, length-take, rules, arith}
 use Rattle.std.proofs.lemmas.List.{length-take-le}
 use Rattle.ciborium_ll_text.specs.declared.state.State.TheVariants as s
 use Rattle.cbor_feed.specs.Walking.{spot_at}
@@ -37,3 +37,9 @@ returns-clause-leads c =
     c.requires.some
     (text_one c.args.left s.Between _ (spot_at c.args.self.now) (spot_at c.text_step.new.self) c.requires.phase
     (search rules) c.text_step.ensures.spot)
+
+pub returns-then-whole-gt0-clause-within : goal.returns-then-whole-gt0-clause-within
+returns-then-whole-gt0-clause-within c =
+    let all = take c.min-len.result c.args.bytes.now in
+    let long = front_long all c.text_front-behind.result.0.now c.text_front-behind.ensures.front in
+    omega (arith, long, length-take c.min-len.result c.args.bytes.now)

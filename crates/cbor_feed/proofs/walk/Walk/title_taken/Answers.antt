@@ -1,7 +1,7 @@
 use Rattle.std.proofs.Common.{rules, arith, ◌≡◌, None}
 use Rattle.cbor_feed.specs.Blocked.{blocked}
 use Rattle.cbor_feed.specs.Walking.{spot_at}
-use Rattle.cbor_feed.proofs.TitleLeads.{title_leads}
+use Rattle.cbor_feed.proofs.TitleLeads.{front_whole, title_leads}
 use Rattle.cbor_feed.proofs.walk.Walk.title_taken.Goals as goal
 use Rattle.cbor_feed.proofs.walk.Walk.title_taken.Goals.{else-len-gt1-via-then-len-gt1+else-is_some}
 use Rattle.cbor_feed.proofs.walk.Walk.title_taken.Goals.{else-len-gt1-via-else-len-gt1}
@@ -18,3 +18,6 @@ returns-in-Some-clause-yes c = λ yes.
       | else-len-gt1-via-else-len-gt1 w ↦ absurd (omega (arith, more, w.if-len-gt1.false))
     ])
     c.enter.ensures.spot
+
+pub header_of-requires : goal.header_of-requires
+header_of-requires c = front_whole c.args.bytes.now c.args.len c.requires.within c.requires.long
