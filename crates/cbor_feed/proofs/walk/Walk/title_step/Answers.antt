@@ -1,8 +1,16 @@
-use Rattle.std.proofs.Common.{rules}
+use Rattle.std.proofs.Common.{◌≡◌, ℕ, ◌+◌, ◌%◌, ◌<◌, ◌≤◌, List, [], ◌∷◌, ◌++◌, length, length-append, slice_index, sym, subst, ◌∙◌, arith, rules}
+use Rattle.ciborium_ll_grammar.specs.Title.{affix_len}
 use Rattle.cbor_feed.specs.Walking.{spot_at}
 use Rattle.cbor_feed.specs.Steps.{with_byte}
 use Rattle.cbor_feed.proofs.BlockedLaws.{step_early, step_cut, step_whole, step_none}
 use Rattle.cbor_feed.proofs.walk.Walk.title_step.Goals as goal
+
+-- one byte more, and no longer too few, are as many as the first one announces
+one_more : (front : List ℕ) (byte : ℕ) → length front ≤ affix_len (slice_index front 0 % 32)
+    → affix_len (slice_index (front ++ byte ∷ []) 0 % 32) < length (front ++ byte ∷ [])
+    → length (front ++ byte ∷ []) ≡ 1 + affix_len (slice_index (front ++ byte ∷ []) 0 % 32)
+one_more [] byte short long = omega (arith, long)
+one_more (first ∷ rest) byte short long = omega (arith, short, long, length-append rest (byte ∷ []))
 
 pub returns-then-begins_none-clause-spot : goal.returns-then-begins_none-clause-spot
 returns-then-begins_none-clause-spot c =
@@ -30,3 +38,14 @@ pub returns-in-None-clause-spot : goal.returns-in-None-clause-spot
 returns-in-None-clause-spot c =
     let spot = with_byte c.args.byte (spot_at c.args.self.now) in
     step_none spot (spot_at c.refuse-in-None.new.self) (search rules) (search rules)
+
+pub header_of-header-requires : goal.header_of-header-requires
+header_of-header-requires c =
+    let is = c.bytes-bytes.ensures ∙ c.push.ensures in
+    let long = c.len.ensures _ c.row_of-row.ensures.affix in
+    let front = c.args.self.now.front in
+    let all : affix_len (slice_index c.bytes-bytes.result.now 0 % 32) < length c.bytes-bytes.result.now =
+    omega (arith, long, c.if-bytes-len.false) in
+    subst (λ (z : List ℕ). length z ≡ 1 + affix_len (slice_index z 0 % 32)) (sym is)
+    (one_more front c.args.byte c.args.self.now.begun
+    (subst (λ (z : List ℕ). affix_len (slice_index z 0 % 32) < length z) is all))
