@@ -4,8 +4,5 @@ use Rattle.cbor_feed.proofs.tell.answer.Goals as goal
 pub returns-in-Bytes : goal.returns-in-Bytes
 returns-in-Bytes c = search rules
 
-pub returns-in-Bytes-2 : goal.returns-in-Bytes-2
-returns-in-Bytes-2 c = search rules
-
 pub returns-in-Faulted : goal.returns-in-Faulted
 returns-in-Faulted c = search rules

@@ -1,4 +1,4 @@
-use Rattle.std.proofs.Common.{◌<◌, ◌∙◌, length, sym, inl, inr, arith}
+use Rattle.std.proofs.Common.{◌<◌, ◌∙◌, length, sym, inl, inr, arith, rules}
 use Rattle.ciborium_ll_text.proofs.Lists.{length_zero}
 use Rattle.cbor_feed.specs.declared.progress.Progress.TheVariants as r
 use Rattle.cbor_feed.specs.Checking.{spot_of}
@@ -33,3 +33,6 @@ returns-in-More-clause-tells c = λ strict depth fed is.
           (sym c.in-More.is ∙ c.answer.ensures) is checker.position.left
           checker.position.begun,
     )
+
+pub returns-in-More-clause-answers : goal.returns-in-More-clause-answers
+returns-in-More-clause-answers c = search rules
