@@ -1,6 +1,7 @@
 -- Where all bytes of a title lead at once, where an element is due.
 use Rattle.std.proofs.Common.{◌≡◌, ℕ, ◌+◌, ◌<◌, ◌≤◌, ◌%◌, List, [], ◌∷◌, ◌++◌, length, take, refl}
-use Rattle.std.proofs.Common.{sym, ap, subst, ◌∙◌, arith, append_assoc, append-nil, length-append, length-take-le, Some, None}
+use Rattle.std.proofs.Common.{sym, ap, subst, ◌∙◌, arith, append_assoc, append-nil, length-append, length-take-le, slice_index, Some, None}
+use Rattle.std.proofs.lemmas.List.{get_or-take}
 use Rattle.ciborium_ll_grammar.specs.declared.hdr.Header.{Header}
 use Rattle.ciborium_ll_grammar.specs.declared.hdr.Header.TheVariants as h
 use Rattle.ciborium_ll_grammar.specs.Title.{IsTitle, IsCutTitle, affix_len}
@@ -164,3 +165,10 @@ title_grows n xs header spot new at end out out' rest le q none clear e before b
       length-append (take end out') rest,
       length-append (take at out) new.put,
     )
+
+-- so many bytes in front as the first one announces are all of a title
+pub front_whole : (xs : List ℕ) (n : ℕ) → n ≤ length xs → n ≡ 1 + affix_len (slice_index xs 0 % 32)
+    → length (take n xs) ≡ 1 + affix_len (slice_index (take n xs) 0 % 32)
+front_whole xs n le all =
+    let first = get_or-take n xs 0 0 (omega (arith, all)) in
+    length-take-le n xs le ∙ (all ∙ ap (λ (z : ℕ). 1 + affix_len (z % 32)) (sym first))

@@ -1,10 +1,13 @@
-use Rattle.std.proofs.Common.{refl, ◌+◌, ◌≤◌, length, take, subst, rules, arith}
+use Rattle.std.proofs.Common.{refl, ◌+◌, ◌-◌, ◌≤◌, length, length-take, take, ap, ◌∙◌, inl, subst, rules, arith}
 use Rattle.std.proofs.lemmas.List.{length-take-le, take-take}
 use Rattle.cbor_copy.specs.Copying.{spot_of}
-use Rattle.cbor_copy.specs.Spots.{IsWhole}
+use Rattle.cbor_copy.specs.Spots.{Spot, IsWhole}
+use Rattle.cbor_copy.specs.Steps.{counted_by}
 use Rattle.cbor_copy.proofs.BodyRuns.{body_given}
+use Rattle.cbor_copy.proofs.EnterLaws.{body_put}
 use Rattle.cbor_copy.proofs.FedLaws.{first_on}
 use Rattle.cbor_copy.proofs.GrowLaws.{given_grows}
+use Rattle.cbor_copy.proofs.KeptLaws.{body_kept}
 use Rattle.cbor_copy.proofs.TitleRuns.{title_given, title_grows}
 use Rattle.cbor_copy.proofs.copier.Copier.advance.Goals as goal
 
@@ -49,3 +52,20 @@ pub returns-clause-grown : goal.returns-clause-grown
 returns-clause-grown c =
     given_grows (spot_of c.args.self.now) (spot_of c.step.new.self) _ c.args.at c.give-2.result c.args.out.now
     c.give-2.new.out c.give-2.new.self c.step.ensures c.requires.room (search rules) c.give-2.ensures.given
+
+pub returns-then-len-gt0-clause-all : goal.returns-then-len-gt0-clause-all
+returns-then-len-gt0-clause-all c =
+    let len = length (take c.whole_len-len.result c.args.bytes.now) in
+    let kept = body_put c.in-Some.kind (c.in-Some.left - len) (counted_by len (spot_of c.args.self.now)) in
+    inl (ap (λ (z : Spot). z.put) c.bytes_put.ensures.put ∙ (kept ∙ c.requires.given))
+
+pub returns-then-len-gt0-clause-grown : goal.returns-then-len-gt0-clause-grown
+returns-then-len-gt0-clause-grown c =
+    let len = length (take c.whole_len-len.result c.args.bytes.now) in
+    let spot = counted_by len (spot_of c.args.self.now) in
+    let left = c.in-Some.left - len in
+    let put = ap (λ (z : Spot). length z.put) c.bytes_put.ensures.put
+    ∙ ap length (body_put c.in-Some.kind left spot ∙ c.requires.given) in
+    let front = ap (λ (z : Spot). length z.front) c.bytes_put.ensures.put
+    ∙ ap length (body_kept c.in-Some.kind left spot).0 in
+    omega (arith, put, front, c.bytes_put.ensures.end, length-take c.whole_len-len.result c.args.bytes.now)

@@ -1,7 +1,8 @@
-use Rattle.std.proofs.Common.{◌≡◌, ◌∙◌, ℕ, [], ◌++◌, take, length, sym, ap, subst, rules, arith}
+use Rattle.std.proofs.Common.{◌≡◌, ◌∙◌, ℕ, List, [], ◌++◌, append-nil, append_assoc, take, length, sym, ap, subst, rules, arith}
 use Rattle.ciborium_ll_text.proofs.Lists.{rest_long}
 use Rattle.cbor_copy.specs.Copying.{spot_of}
 use Rattle.cbor_copy.specs.Spots.{Spot, putting}
+use Rattle.cbor_copy.specs.Steps.{IsFed}
 use Rattle.cbor_copy.specs.Telling.{Tells, is_due}
 use Rattle.cbor_copy.proofs.FedLaws.{is_answer, fed_behind, drop_later, more_given, not_more}
 use Rattle.cbor_copy.proofs.TellLaws.{tells, too_long}
@@ -65,3 +66,29 @@ returns-in_default-clause-answers c =
 pub returns-clause-answers : goal.returns-clause-answers
 returns-clause-answers c =
     is_answer c.progress-2.result c.pieces.self.pending c.pieces.self.phase c.progress-2.ensures
+
+pub pieces-init : goal.pieces-init
+pieces-init c =
+    let gave = c.give-written.ensures in
+    record {
+      within = omega arith;
+      written = search rules;
+      long = search rules;
+      kept = gave.rest;
+      copied = λ count fed given is.
+          let spot : Spot = putting [] (spot_of c.args.self.now) in
+          let front = take c.give-written.result c.give-written.new.out in
+          let rest = c.give-written.new.self in
+          let all = append_assoc given front rest ∙ ap (λ (z : List ℕ). given ++ z) gave.given in
+          subst (λ (z : List ℕ). IsFed count z spot ((given ++ front) ++ rest)) (sym (append-nil fed))
+          (subst (λ (z : List ℕ). IsFed count fed spot z) (sym all) is);
+      full = search rules;
+      grown = search rules;
+      stays = search rules;
+    }
+
+pub returns-clause-copied : goal.returns-clause-copied
+returns-clause-copied c = search rules
+
+pub returns-clause-all : goal.returns-clause-all
+returns-clause-all c = search rules

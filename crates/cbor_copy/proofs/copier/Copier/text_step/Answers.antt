@@ -1,4 +1,4 @@
-use Rattle.std.proofs.Common.{◌≡◌, ◌≤◌, ◌∙◌, [], ◌∷◌, length, true, sym, ap, subst, ℕ, length-append, arith}
+use Rattle.std.proofs.Common.{◌≡◌, ◌≤◌, ◌∙◌, [], ◌∷◌, length, true, sym, ap, subst, ℕ, length-append, arith, rules}
 use Rattle.ciborium_ll_text.specs.declared.state.State.{State}
 use Rattle.ciborium_ll_text.specs.States.{after_byte, may_end}
 use Rattle.cbor_copy.specs.Fronts.{most_cut}
@@ -24,3 +24,6 @@ invariant_of-self-in_default-clause-room c =
     let fits : length c.push.new.self ≤ most_cut (after_byte c.args.state c.args.byte) =
     omega (arith, room, long, length-append front (c.args.byte ∷ [])) in
     subst (λ (z : State). length c.push.new.self ≤ most_cut z) (sym c.step-state.ensures) fits
+
+pub returns-in_default : goal.returns-in_default
+returns-in_default c = search rules
