@@ -164,3 +164,6 @@ show_within-items-preserved g t c =
       moves_on = MovesOn-then g.R.Read _ _ _ c.items.invariant.moves_on
           (MovesOn-then g.R.Read _ _ _ first c.in_ok-show_item.ensures.moves_on);
     }
+
+pub show_item-returns-in-Negative-clause-text : goal.show_item-returns-in-Negative-clause-text
+show_item-returns-in-Negative-clause-text g t c = search rules

@@ -12,3 +12,6 @@ pub returns : goal.returns
 returns g c =
     let none : length c.digits.rest.now ≡ 0 = search rules in
     digits_last g.W.Write c.args.digits.now _ _ _ none c.digits.invariant
+
+pub returns-then-first-eq101 : goal.returns-then-first-eq101
+returns-then-first-eq101 g c = search rules

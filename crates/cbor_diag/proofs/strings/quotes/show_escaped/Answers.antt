@@ -1,0 +1,5 @@
+use Rattle.std.proofs.Common.{rules}
+use Rattle.cbor_diag.proofs.strings.quotes.show_escaped.Goals as goal
+
+pub returns-then-byte-eq8 : goal.returns-then-byte-eq8
+returns-then-byte-eq8 g c = search rules

@@ -1,0 +1,5 @@
+use Rattle.std.proofs.Common.{rules}
+use Rattle.ciborium_ll_decoder.proofs.dec.Decoder.taken.Goals as goal
+
+pub returns-then-is_longer : goal.returns-then-is_longer
+returns-then-is_longer g c = search rules

@@ -1,0 +1,5 @@
+use Rattle.std.proofs.Common.{rules}
+use Rattle.ciborium_ll_decoder.proofs.seg.Segment+R+Text.pull.Goals as goal
+
+pub returns-in_err-front : goal.returns-in_err-front
+returns-in_err-front g c = search rules
