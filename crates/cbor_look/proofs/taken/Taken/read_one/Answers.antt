@@ -1,0 +1,5 @@
+use Rattle.std.proofs.Common.{rules}
+use Rattle.cbor_look.proofs.taken.Taken.read_one.Goals as goal
+
+pub returns-clause-one : goal.returns-clause-one
+returns-clause-one g c = search rules
