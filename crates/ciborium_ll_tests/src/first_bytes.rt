@@ -1,5 +1,6 @@
 // The table of first bytes, counted.
 
+use crate::checks::holds_at;
 use ciborium_ll_grammar::hdr::table::{Affix, Row, TitleKind, row_of};
 
 // How many bytes of its title stand behind a first byte, if one begins with it. A row that says both that a title
@@ -39,6 +40,6 @@ fn first_bytes_by_what_stands_behind_them(rt: HostRuntime) {
         (None, 27),
     ];
     for (length, want) in rows {
-        assert_eq!(rt; rows_with(length), want);
+        holds_at(&rt, rows_with(length) == want, &[want]);
     }
 }

@@ -1,5 +1,5 @@
 use crate::calls::begins_text;
-use crate::drains::{drains_text, next_segment};
+use crate::drains::{drains_text, next_text};
 use ciborium_ll::io::{SliceReader, SliceWriter};
 use ciborium_ll::laws::End;
 use ciborium_ll::{Decoder, Encoder};
@@ -18,9 +18,9 @@ fn ends(rt: &impl Abort, bytes: &[u8], length: usize) -> bool {
     let mut decoder = Decoder::from(SliceReader::new(bytes));
     let mut sink = Encoder::from(SliceWriter::new(&mut written));
     let mut segments = begins_text(rt, &mut decoder, Some(length), 1);
-    let mut segment = next_segment(rt, &mut segments);
+    let mut segment = next_text(rt, &mut segments);
     let drained = drains_text(rt, &mut segment, &[4; 6], &mut sink);
-    matches!(drained, Ok(drained) if drained.end == End::Ended)
+    matches!(drained, Ok((_, End::Ended)))
 }
 
 // The title of a text of this length, at most four, and the bytes that are the digits of a number by 20.
