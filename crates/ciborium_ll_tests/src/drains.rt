@@ -1,7 +1,7 @@
 ghost use Rattle.std.specs.Prelude.{◌≤◌, All, IsTrue};
 
 use crate::calls::{begins_bytes, begins_text};
-use crate::checks::{Stop, copy_stop};
+use crate::checks::{Stop, copy_stop, holds_at};
 use ciborium_ll::io::{SliceReader, SliceWriter};
 use ciborium_ll::laws::{End, drain_bytes, drain_text};
 use ciborium_ll::{Bytes, Decoder, Encoder, Segment, Segments, Text};
@@ -40,7 +40,7 @@ pub fn next_bytes<'a, 'b>(
 }
 
 // Drains a segment of a text. What that does is not known outside.
-pub fn drains_text(
+fn drains_text(
     rt: &impl Abort,
     segment: &mut Segment<'_, SliceReader, Text>,
     sizes: &[usize],
@@ -67,32 +67,30 @@ fn drains_bytes(
     }
 }
 
-// A string of one segment in its bytes, the sizes of the buffers, what the drain answers, and how much of the body is
-// written.
-type Row = (&'static [u8], &'static [usize], Ended, usize);
-
-// Drains a text of a single segment, and compares the answer and what was written.
-fn text_row(rt: &impl Abort, bytes: &[u8], sizes: &[usize], want: &Ended, written: usize) {
-    let mut space = [0; 6];
-    let mut decoder = Decoder::from(SliceReader::new(bytes));
-    let mut sink = Encoder::from(SliceWriter::new(&mut space));
+// Drains a string of a single segment, of text or of bytes.
+pub fn drains_whole(
+    rt: &impl Abort,
+    bytes: &[u8],
+    sizes: &[usize],
+    sink: &mut Encoder<SliceWriter>,
+) -> Ended {
     let length = bytes.len().saturating_sub(1);
-    let mut segments = begins_text(rt, &mut decoder, Some(length), 1);
-    let drained = drains_text(rt, &mut next_text(rt, &mut segments), sizes, &mut sink);
-    let is_written = bytes.get(1..=written) == Some(sink.into_inner().written());
-    assert!(rt; drained == *want && is_written, "at {bytes:?}, {sizes:?}");
+    let mut decoder = Decoder::from(SliceReader::new(bytes));
+    if bytes.first().is_some_and(|first| *first >= 0x60) {
+        let mut segments = begins_text(rt, &mut decoder, Some(length), 1);
+        return drains_text(rt, &mut next_text(rt, &mut segments), sizes, sink);
+    }
+    let mut segments = begins_bytes(rt, &mut decoder, Some(length), 1);
+    drains_bytes(rt, &mut next_bytes(rt, &mut segments), sizes, sink)
 }
 
-// The same of a byte string.
-fn bytes_row(rt: &impl Abort, bytes: &[u8], sizes: &[usize], want: &Ended, written: usize) {
+// Drains a string of a single segment, and compares how that ended, and how much of its body was written.
+fn row(rt: &impl Abort, bytes: &[u8], sizes: &[usize], want: &Ended, written: usize) {
     let mut space = [0; 6];
-    let mut decoder = Decoder::from(SliceReader::new(bytes));
     let mut sink = Encoder::from(SliceWriter::new(&mut space));
-    let length = bytes.len().saturating_sub(1);
-    let mut segments = begins_bytes(rt, &mut decoder, Some(length), 1);
-    let drained = drains_bytes(rt, &mut next_bytes(rt, &mut segments), sizes, &mut sink);
+    let is_ended = drains_whole(rt, bytes, sizes, &mut sink) == *want;
     let is_written = bytes.get(1..=written) == Some(sink.into_inner().written());
-    assert!(rt; drained == *want && is_written, "at {bytes:?}, {sizes:?}");
+    holds_at(rt, is_ended && is_written, bytes);
 }
 
 // The character U+1F600, and the same between two letters.
@@ -100,7 +98,11 @@ const EMOJI: &[u8] = b"\x64\xf0\x9f\x98\x80";
 
 const LETTERS: &[u8] = b"\x66a\xf0\x9f\x98\x80b";
 
-static TEXTS: [Row; 9] = [
+const NUMBERS: &[u8] = b"\x43\x01\x02\x03";
+
+// A string of one segment in its bytes, the sizes of the buffers, how the drain ends, and how much of the body is
+// written.
+static ROWS: [(&[u8], &[usize], Ended, usize); 12] = [
     (EMOJI, &[4], Ok((1, End::OutOfSizes)), 4),
     (EMOJI, &[4, 4], Ok((2, End::Ended)), 4),
     (EMOJI, &[3, 3, 4, 4], Ok((4, End::Ended)), 4),
@@ -111,24 +113,15 @@ static TEXTS: [Row; 9] = [
     (b"\x60", &[], Ok((0, End::OutOfSizes)), 0),
     // a body that is no text
     (b"\x62a\xff", &[4, 4], Err(Stop::Syntax(0)), 1),
+    // bytes
+    (NUMBERS, &[2, 2, 2], Ok((3, End::Ended)), 3),
+    (NUMBERS, &[0, 0], Ok((2, End::OutOfSizes)), 0),
+    (NUMBERS, &[2], Ok((1, End::OutOfSizes)), 2),
 ];
 
 #[test]
-fn texts_by_any_sizes(rt: HostRuntime) {
-    for (bytes, sizes, want, written) in &TEXTS {
-        text_row(&rt, bytes, sizes, want, *written);
-    }
-}
-
-static BYTES: [Row; 3] = [
-    (b"\x43\x01\x02\x03", &[2, 2, 2], Ok((3, End::Ended)), 3),
-    (b"\x43\x01\x02\x03", &[0, 0], Ok((2, End::OutOfSizes)), 0),
-    (b"\x43\x01\x02\x03", &[2], Ok((1, End::OutOfSizes)), 2),
-];
-
-#[test]
-fn bytes_by_any_sizes(rt: HostRuntime) {
-    for (bytes, sizes, want, written) in &BYTES {
-        bytes_row(&rt, bytes, sizes, want, *written);
+fn strings_by_any_sizes(rt: HostRuntime) {
+    for (bytes, sizes, want, written) in &ROWS {
+        row(&rt, bytes, sizes, want, *written);
     }
 }
