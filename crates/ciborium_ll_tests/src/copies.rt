@@ -1,6 +1,6 @@
 use crate::calls::has_left;
 use crate::checks::{Stop, holds, holds_at, stop_of};
-use ciborium_ll::io::{SliceReader, SliceWriter};
+use ciborium_ll::io::{Read, SliceReader, SliceWriter};
 use ciborium_ll::{Decoder, Encoder, Float, Header, laws, simple, tag};
 use std::process::Abort;
 
@@ -55,7 +55,10 @@ fn headers_are_copied(rt: HostRuntime) {
 }
 
 // Pulls a header, gives it back, and pulls it again.
-fn gives_again(decoder: &mut Decoder<SliceReader>, want: Header) -> bool {
+fn gives_again<R: Read>(decoder: &mut Decoder<R>, want: Header) -> bool
+where
+    R::Error: Drop,
+{
     matches!(laws::pull_again(decoder), Ok(header) if header == want)
 }
 

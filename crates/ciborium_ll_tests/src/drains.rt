@@ -1,7 +1,7 @@
 ghost use Rattle.std.specs.Prelude.{◌≤◌, All, IsTrue};
 
 use crate::calls::{begins_bytes, begins_text};
-use crate::checks::{Stop, copy_stop, holds_at};
+use crate::checks::{Stop, copy_stop};
 use ciborium_ll::io::{SliceReader, SliceWriter};
 use ciborium_ll::laws::{End, drain_bytes, drain_text};
 use ciborium_ll::{Bytes, Decoder, Encoder, Segment, Segments, Text};
@@ -84,13 +84,15 @@ pub fn drains_whole(
     drains_bytes(rt, &mut next_bytes(rt, &mut segments), sizes, sink)
 }
 
-// Drains a string of a single segment, and compares how that ended, and how much of its body was written.
+// Drains a string of a single segment into room for its body, of at most six bytes, and compares how that ended, and how
+// much of the body was written.
 fn row(rt: &impl Abort, bytes: &[u8], sizes: &[usize], want: &Ended, written: usize) {
     let mut space = [0; 6];
-    let mut sink = Encoder::from(SliceWriter::new(&mut space));
+    let room = bytes.len().saturating_sub(1).min(6);
+    let mut sink = Encoder::from(SliceWriter::new(&mut space[..room]));
     let is_ended = drains_whole(rt, bytes, sizes, &mut sink) == *want;
     let is_written = bytes.get(1..=written) == Some(sink.into_inner().written());
-    holds_at(rt, is_ended && is_written, bytes);
+    assert!(rt; is_ended && is_written, "at {bytes:?}, {sizes:?}");
 }
 
 // The character U+1F600, and the same between two letters.

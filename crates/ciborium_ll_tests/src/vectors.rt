@@ -20,10 +20,11 @@ fn are_read(bytes: &[u8], headers: &[Header]) -> bool {
     decoder.offset() == bytes.len() && next_header(&mut decoder) == Err(Stop::Short)
 }
 
-// Whether headers, whose titles are in all at most 64 bytes, are written as these.
+// Whether headers, whose titles are in all at most 64 bytes, are written as these, where there is room for no more.
 fn are_written(headers: &[Header], bytes: &[u8]) -> bool {
     let mut space = [0; 64];
-    let mut encoder = Encoder::from(SliceWriter::new(&mut space));
+    let room = bytes.len().min(64);
+    let mut encoder = Encoder::from(SliceWriter::new(&mut space[..room]));
     for header in headers {
         if pushes(&mut encoder, *header).is_err() {
             return false;
