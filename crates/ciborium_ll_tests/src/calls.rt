@@ -107,7 +107,11 @@ fn a_writer_that_keeps_nothing(rt: HostRuntime) {
     let is_right = writes(&mut writer, &[9, 9]).is_err();
     holds(&rt, is_right, "there is room for one");
     holds(&rt, writer.room() == 1, "that room is left");
-    holds(&rt, writes(&mut writer, &[]).is_ok(), "no byte fits");
+    holds(
+        &rt,
+        writes(&mut writer, &[]).is_ok(),
+        "a write of none succeeds",
+    );
     let mut encoder = Encoder::from(writer);
     let is_written = pushes(&mut encoder, Header::Positive(24)).is_ok();
     holds(&rt, !is_written, "a title of two bytes doesn't fit");
@@ -191,9 +195,9 @@ pub fn steps_row(
     steps: &[(Step, usize)],
     left: &[u8],
 ) {
-    for (step, offset) in steps {
+    for (index, (step, offset)) in steps.iter().enumerate() {
         let is_right = is_answered(&mut decoder, step) && decoder.offset() == *offset;
-        assert!(rt; is_right, "{what}, at {offset}");
+        assert!(rt; is_right, "{what}, step {index}");
     }
     assert!(rt; has_left(decoder, left), "{what}, what is left");
 }

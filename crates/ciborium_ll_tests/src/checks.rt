@@ -59,8 +59,8 @@ pub fn stop_of<E, F>(outcome: &Result<(), RecodeError<E, F>>) -> Stop {
     }
 }
 
-// The next header, or why there is none. It ensures nothing, as others below: a contract that says much makes the proof
-// of who makes several such calls long.
+// The next header, or why there is none. It ensures nothing: a contract that says much makes the proof of who makes
+// several such calls long.
 pub fn next_header(decoder: &mut Decoder<SliceReader>) -> Result<Header, Stop> {
     match decoder.pull() {
         Ok(header) => Ok(header),

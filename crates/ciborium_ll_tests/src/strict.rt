@@ -251,7 +251,7 @@ fn opens_and_waiting_headers(rt: HostRuntime) {
     // A string of the indefinite form is asked twice for a segment, where a further open stands.
     let decoder = Decoder::strict(SliceReader::new(&[0x5f, 0x5f, 0x41, 1, 0xff, 0xff]));
     let refused = Err(Stop::Syntax(1));
-    segments_row(&rt, decoder, &[refused, refused], 2);
+    segments_row(&rt, decoder, "a further open", &[refused, refused], 2);
     // A header that a strict decoder would not take is given back, and pulled again.
     let steps = &[
         (Step::Pull(Ok(Header::Positive(24))), 2),

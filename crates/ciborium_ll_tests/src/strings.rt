@@ -164,27 +164,28 @@ fn next_length(segments: &mut Segments<'_, SliceReader, Bytes>) -> Result<Option
 pub fn segments_row(
     rt: &impl Abort,
     mut decoder: Decoder<SliceReader>,
+    what: &str,
     answers: &[Result<Option<usize>, Stop>],
     offset: usize,
 ) {
     let mut segments = begins_bytes(rt, &mut decoder, None, 1);
-    for want in answers {
+    for (index, want) in answers.iter().enumerate() {
         let is_right = next_length(&mut segments) == *want;
-        holds(rt, is_right, "a segment, or why there is none");
+        assert!(rt; is_right, "{what}, answer {index}");
     }
-    let is_right = decoder.offset() == offset;
-    holds(rt, is_right, "the offset behind the segments");
+    assert!(rt; decoder.offset() == offset, "{what}, the offset behind");
 }
 
 #[test]
 fn a_title_that_may_not_stand_in_a_string(rt: HostRuntime) {
     let decoder = Decoder::from(SliceReader::new(&[0x5f, 1]));
     let refused = Err(Stop::Syntax(1));
-    segments_row(&rt, decoder, &[refused, refused], 2);
+    segments_row(&rt, decoder, "a number", &[refused, refused], 2);
     // A segment that is dropped early leaves its body, which is then read as a title.
     let decoder = Decoder::from(SliceReader::new(&[0x5f, 0x43, 1, 2, 3, 0xff]));
     let refused = Err(Stop::Syntax(2));
-    segments_row(&rt, decoder, &[Ok(Some(3)), refused, refused], 3);
+    let answers = &[Ok(Some(3)), refused, refused];
+    segments_row(&rt, decoder, "a body that was left", answers, 3);
 }
 
 // Goes on to the first body of an open text, and reads it in one chunk.

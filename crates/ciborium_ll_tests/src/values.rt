@@ -49,7 +49,7 @@ fn bytes_in_segments(rt: HostRuntime) {
     let mut encoder = Encoder::from(SliceWriter::new(&mut space));
     holds(&rt, counts(&mut encoder), "the segments fit");
     let is_right = writes(&mut encoder, &[]).is_ok();
-    holds(&rt, is_right, "no byte fits behind them");
+    holds(&rt, is_right, "a write of none behind them succeeds");
     let want = [0x5f, 0x42, 1, 2, 0x41, 3, 0xff];
     let is_written = encoder.into_inner().written() == want.as_slice();
     holds(&rt, is_written, "they are written");
