@@ -1,6 +1,6 @@
 // Copies of raw bytes.
 
-use super::faults::is_printed_as;
+use super::faults::{holds, is_printed_as};
 use ciborium_ll::io::{ReadFault, WriteFault};
 use ciborium_ll::{Error, RecodeError};
 use ciborium_ll_fixtures::streams::{PartReader, PartWriter};
@@ -82,32 +82,39 @@ pub fn copies<R: io::Read, W: io::Write>(source: R, sink: W, count: usize) -> Co
     }
 }
 
-// A copy of one element into memory writes this.
-fn is_copied(alloc: Global, bytes: &[u8], written: &[u8]) -> bool {
-    let copy = copies(bytes, Vec::new(alloc), 1);
-    copy.copied == End::Done && copy.flushed == End::Done && copy.sink.as_slice() == written
+// The fault is printed as this word, or is none where it is `ok`.
+fn is_word(alloc: Global, fault: &Option<Fault>, word: &str) -> Result<bool, Fail> {
+    match fault {
+        None => Ok(word == "ok"),
+        Some(fault) => is_printed_as(alloc, fault, word),
+    }
 }
 
-// A copy of one element into memory is refused at this place, and writes this.
-fn stops_at(alloc: Global, bytes: &[u8], place: usize, written: &[u8]) -> bool {
+// A copy of one element into memory writes this, and ends by this word.
+fn is_copied(alloc: Global, bytes: &[u8], written: &[u8], word: &str) -> Result<bool, Fail> {
     let copy = copies(bytes, Vec::new(alloc), 1);
-    let is_there = matches!(&copy.fault, Some(Fault::Syntax(found)) if *found == place);
-    is_there && copy.sink.as_slice() == written
+    let is_written = copy.sink.as_slice() == written && copy.flushed == End::Done;
+    Ok(is_written && is_word(alloc, &copy.fault, word)?)
 }
 
-// A copy of one element into memory has too few bytes.
-fn is_unread(alloc: Global, bytes: &[u8]) -> bool {
-    let copy = copies(bytes, Vec::new(alloc), 1);
-    matches!(&copy.fault, Some(Fault::Read))
-}
+// Bytes, of which one element is copied, what is written, and how the copy ends.
+static COPIED: [(&[u8], &[u8], &str); 3] = [
+    (&[0x58, 1, 1, 0], &[0x41, 1], "ok"),
+    (
+        &[0x7f, 0x61, 0x61, 0x5f, 0xff],
+        &[0x7f, 0x61, 0x61],
+        "syntax 3",
+    ),
+    (&[], &[], "read"),
+];
 
 // A copy that always answered that its reader failed would fail here.
 #[test]
-fn raw_copies(rt: HostRuntime) {
-    assert!(rt; is_copied(rt.alloc(), &[0x58, 1, 1, 0], &[0x41, 1]));
-    let bytes = [0x7f, 0x61, 0x61, 0x5f, 0xff];
-    assert!(rt; stops_at(rt.alloc(), &bytes, 3, &[0x7f, 0x61, 0x61]));
-    assert!(rt; is_unread(rt.alloc(), &[]));
+fn raw_copies(rt: HostRuntime) -> Result<(), Fail> {
+    for &(bytes, written, word) in &COPIED {
+        holds(&rt, is_copied(rt.alloc(), bytes, written, word)?, word);
+    }
+    Ok(())
 }
 
 // A copy of one element, byte by byte, writes this and flushes it.
@@ -119,7 +126,8 @@ fn is_copied_slowly(alloc: Global, bytes: &[u8], written: &[u8]) -> bool {
 
 #[test]
 fn raw_copies_between_streams(rt: HostRuntime) {
-    assert!(rt; is_copied_slowly(rt.alloc(), &[0x58, 1, 1], &[0x41, 1]));
+    let is_right = is_copied_slowly(rt.alloc(), &[0x58, 1, 1], &[0x41, 1]);
+    holds(&rt, is_right, "a string");
 }
 
 // A string and titles that are longer than a window, in their shortest spelling.
@@ -160,9 +168,10 @@ fn is_front(alloc: Global, bytes: &[u8]) -> bool {
 #[test]
 fn raw_copies_through_windows(rt: HostRuntime) -> Result<(), Fail> {
     let bytes = long_elements(rt.alloc())?;
-    assert!(rt; is_same(rt.alloc(), bytes.as_slice()));
-    assert!(rt; is_same_slowly(rt.alloc(), bytes.as_slice()));
-    assert!(rt; is_front(rt.alloc(), bytes.as_slice()));
+    let bytes = bytes.as_slice();
+    holds(&rt, is_same(rt.alloc(), bytes), "into memory");
+    holds(&rt, is_same_slowly(rt.alloc(), bytes), "byte by byte");
+    holds(&rt, is_front(rt.alloc(), bytes), "a write that fails");
     Ok(())
 }
 
@@ -173,20 +182,6 @@ fn flushed_writer(alloc: Global, flush_fails: bool) -> PartWriter {
         return writer.failing_to_flush();
     }
     writer
-}
-
-// The writer took these bytes and was flushed once, and the fault is printed as this word, or is none where it is `ok`.
-fn flushes_once(
-    alloc: Global,
-    copy: Copied<&[u8], PartWriter>,
-    want: &[u8],
-    word: &str,
-) -> Result<bool, Fail> {
-    let is_word = match &copy.fault {
-        None => word == "ok",
-        Some(fault) => is_printed_as(alloc, fault, word)?,
-    };
-    Ok(is_word && copy.sink.taken.as_slice() == want && copy.sink.flushes == 1)
 }
 
 // A copy writes this and flushes it once, and ends by this word, and its flush by whether that fails.
@@ -204,24 +199,27 @@ fn is_flushed(
         End::Done
     };
     let copy = copies(bytes, flushed_writer(alloc, flush_fails), count);
-    Ok(copy.flushed == end && flushes_once(alloc, copy, want, word)?)
+    let is_once = copy.flushed == end && copy.sink.flushes == 1;
+    let is_written = copy.sink.taken.as_slice() == want;
+    Ok(is_once && is_written && is_word(alloc, &copy.fault, word)?)
 }
+
+// How many elements are copied, of which bytes, what is written, and how the copy ends.
+static FLUSHED: [(usize, &[u8], &[u8], &str); 3] = [
+    (1, &[0x42, 1, 2], &[0x42, 1, 2], "ok"),
+    (2, &[0, 0x1f], &[0], "syntax 1"),
+    (2, &[0, 0x43, 1], &[0, 0x43], "read"),
+];
 
 // However a copy ends, its writer is flushed once, behind all that was written. Where the flush fails, that is told
 // beside how the copy ended.
 #[test]
 fn copies_flush_once(rt: HostRuntime) -> Result<(), Fail> {
-    let rows: [(usize, &[u8], &[u8], &str); 3] = [
-        (1, &[0x42, 1, 2], &[0x42, 1, 2], "ok"),
-        (2, &[0, 0x1f], &[0], "syntax 1"),
-        (2, &[0, 0x43, 1], &[0, 0x43], "read"),
-    ];
-    for (count, bytes, want, word) in rows {
-        for flush_fails in [false, true] {
-            let row = (count, bytes);
-            let is_right = is_flushed(rt.alloc(), row, flush_fails, want, word)?;
-            assert!(rt; is_right, "at {bytes:?}");
-        }
+    for &(count, bytes, want, word) in &FLUSHED {
+        let is_right = is_flushed(rt.alloc(), (count, bytes), false, want, word)?;
+        holds(&rt, is_right, word);
+        let is_right = is_flushed(rt.alloc(), (count, bytes), true, want, word)?;
+        holds(&rt, is_right, word);
     }
     Ok(())
 }
@@ -263,10 +261,11 @@ fn tells_end(alloc: Global) -> bool {
 #[test]
 fn raw_hands_faults_on(rt: HostRuntime) {
     for call in 1..=3_usize {
-        assert!(rt; tells_read(rt.alloc(), call));
-        assert!(rt; tells_write(rt.alloc(), call));
+        holds(&rt, tells_read(rt.alloc(), call), "a read");
+        holds(&rt, tells_write(rt.alloc(), call), "a write");
     }
-    assert!(rt; tells_end(rt.alloc()));
+    holds(&rt, tells_end(rt.alloc()), "an end of the bytes");
     let (copied, flushed) = ends_of_one([0].as_slice(), PartWriter::new(rt.alloc(), 0));
-    assert!(rt; copied == End::Done && flushed == End::Zero);
+    let is_right = copied == End::Done && flushed == End::Zero;
+    holds(&rt, is_right, "no byte is taken");
 }

@@ -4,7 +4,13 @@ use ciborium_ll::io::{ReadFault, WriteFault};
 use ciborium_ll::{Error, RecodeError};
 use ciborium_ll_service::fault::{Fault, fault_of_raw};
 use std::alloc::Global;
+use std::process::Abort;
 use std::test::Fail;
+
+// What was looked at holds. The message says what that is: a call tells no line of its caller.
+pub fn holds(rt: &impl Abort, is_right: bool, what: &str) {
+    assert!(rt; is_right, "{what}");
+}
 
 pub fn is_printed_as(alloc: Global, fault: &Fault, want: &str) -> Result<bool, Fail> {
     let printed = fault.to_string(alloc)?;
@@ -29,9 +35,10 @@ fn faults_of_copies_as_printed(rt: HostRuntime) -> Result<(), Fail> {
     ];
     for (error, want) in errors {
         let error = RecodeError::Read(error);
-        assert!(rt; is_copy_printed_as(rt.alloc(), error, want)?, "{want}");
+        holds(&rt, is_copy_printed_as(rt.alloc(), error, want)?, want);
     }
     let error = RecodeError::Write(WriteFault::Zero);
-    assert!(rt; is_copy_printed_as(rt.alloc(), error, "write")?);
+    let is_right = is_copy_printed_as(rt.alloc(), error, "write")?;
+    holds(&rt, is_right, "write");
     Ok(())
 }

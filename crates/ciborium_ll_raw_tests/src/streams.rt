@@ -272,7 +272,7 @@ fn each_call_of_a_long_copy_fails(rt: HostRuntime) -> Result<(), Fail> {
         }
     }
     // Each call came that it takes to move 35,003 bytes.
-    assert!(rt; last_read >= 35 && last_read < 99);
-    assert!(rt; last_write >= 35 && last_write < 99);
+    holds(&rt, last_read >= 35 && last_read < 99, last_read, &[]);
+    holds(&rt, last_write >= 35 && last_write < 99, last_write, &[]);
     Ok(())
 }

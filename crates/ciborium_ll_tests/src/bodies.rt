@@ -1,17 +1,14 @@
-use crate::elements::{Stop, stop_of};
-use ciborium_ll::io::{Read, SliceReader, SliceWriter, Write};
+use crate::calls::{begins_bytes, begins_text};
+use crate::checks::{Stop, holds_at, stop_of};
+use ciborium_ll::io::{SliceReader, SliceWriter};
 use ciborium_ll::{Chunked, Decoder, Header, Segments};
 use std::process::Abort;
 
 // Copies the next body of a string to a writer, through four bytes. What it does is not known outside.
-fn copies_next<R: Read, W: Write, P: Chunked>(
-    segments: &mut Segments<'_, R, P>,
-    writer: &mut W,
-) -> Option<Stop>
-where
-    R::Error: Drop,
-    W::Error: Drop,
-{
+fn copies_next<P: Chunked>(
+    segments: &mut Segments<'_, SliceReader, P>,
+    writer: &mut SliceWriter,
+) -> Option<Stop> {
     match segments.advance() {
         Ok(Some(body)) => Some(stop_of(&segments.copy(body, writer, &mut [0; 4]))),
         _ => None,
@@ -19,17 +16,12 @@ where
 }
 
 // Copies each body of a string, up to its end or up to one that stops: how the last one ended.
-fn copies_all<R: Read, W: Write, P: Chunked>(
-    segments: &mut Segments<'_, R, P>,
-    writer: &mut W,
-    most: usize,
-) -> Option<Stop>
-where
-    R::Error: Drop,
-    W::Error: Drop,
-{
+fn copies_all<P: Chunked>(
+    segments: &mut Segments<'_, SliceReader, P>,
+    writer: &mut SliceWriter,
+) -> Option<Stop> {
     let mut last = None;
-    for _ in 0..=most {
+    for _ in 0..=8 {
         match copies_next(segments, writer) {
             Some(Stop::Never) => last = Some(Stop::Never),
             Some(stop) => return Some(stop),
@@ -39,21 +31,37 @@ where
     last
 }
 
-// A string, the room of the writer, how the last body ended, what is then written, and the offset of the decoder.
-static ROWS: [(&[u8], usize, Option<Stop>, &[u8], usize); 13] = [
+// A string, its header, the room of the writer, how the last body ended, what is then written, and the offset of the decoder.
+static ROWS: [(&[u8], Header, usize, Option<Stop>, &[u8], usize); 13] = [
     // one body, of which the buffer holds less than all
     (
         b"\x46\x01\x02\x03\x04\x05\x06\x00",
+        Header::Bytes(Some(6)),
         8,
         Some(Stop::Never),
         &[1, 2, 3, 4, 5, 6],
         7,
     ),
-    (b"\x65hello\x00", 8, Some(Stop::Never), b"hello", 6),
-    (b"\x40\x00", 0, Some(Stop::Never), b"", 1),
+    (
+        b"\x65hello\x00",
+        Header::Text(Some(5)),
+        8,
+        Some(Stop::Never),
+        b"hello",
+        6,
+    ),
+    (
+        b"\x40\x00",
+        Header::Bytes(Some(0)),
+        0,
+        Some(Stop::Never),
+        b"",
+        1,
+    ),
     // segments, joined, and the break behind them
     (
         b"\x5f\x42\x01\x02\x40\x41\x03\xff\x00",
+        Header::Bytes(None),
         8,
         Some(Stop::Never),
         &[1, 2, 3],
@@ -61,16 +69,18 @@ static ROWS: [(&[u8], usize, Option<Stop>, &[u8], usize); 13] = [
     ),
     (
         b"\x7f\x62ab\x7f\x61c\xff\xff\x00",
+        Header::Text(None),
         8,
         Some(Stop::Never),
         b"abc",
         9,
     ),
     // no body
-    (b"\x7f\xff\x00", 8, None, b"", 2),
+    (b"\x7f\xff\x00", Header::Text(None), 8, None, b"", 2),
     // a character of two bytes on the edge of the buffer
     (
         b"\x66abc\xc3\xa9d",
+        Header::Text(Some(6)),
         8,
         Some(Stop::Never),
         b"abc\xc3\xa9d",
@@ -79,6 +89,7 @@ static ROWS: [(&[u8], usize, Option<Stop>, &[u8], usize); 13] = [
     // no text, in the second body: the first is written, and the front of the second
     (
         b"\x7f\x61a\x62b\xff\xff",
+        Header::Text(None),
         8,
         Some(Stop::Syntax(3)),
         b"ab",
@@ -86,6 +97,7 @@ static ROWS: [(&[u8], usize, Option<Stop>, &[u8], usize); 13] = [
     ),
     (
         b"\x7f\x61a\x64\xff\xff\xff\xff\xff",
+        Header::Text(None),
         8,
         Some(Stop::Syntax(3)),
         b"a",
@@ -94,6 +106,7 @@ static ROWS: [(&[u8], usize, Option<Stop>, &[u8], usize); 13] = [
     // bytes are missing: the whole chunks are written
     (
         b"\x46\x01\x02\x03\x04\x05",
+        Header::Bytes(Some(6)),
         8,
         Some(Stop::Short),
         &[1, 2, 3, 4],
@@ -102,32 +115,49 @@ static ROWS: [(&[u8], usize, Option<Stop>, &[u8], usize); 13] = [
     // no room for the second chunk, which is consumed, nor for the first
     (
         b"\x46\x01\x02\x03\x04\x05\x06",
+        Header::Bytes(Some(6)),
         5,
         Some(Stop::Full),
         &[1, 2, 3, 4],
         7,
     ),
-    (b"\x65hello", 3, Some(Stop::Full), b"", 5),
+    (
+        b"\x65hello",
+        Header::Text(Some(5)),
+        3,
+        Some(Stop::Full),
+        b"",
+        5,
+    ),
     // no room for the second body
-    (b"\x7f\x62ab\x61c\xff", 2, Some(Stop::Full), b"ab", 6),
+    (
+        b"\x7f\x62ab\x61c\xff",
+        Header::Text(None),
+        2,
+        Some(Stop::Full),
+        b"ab",
+        6,
+    ),
 ];
 
 // Copies the bodies of the string in front.
-fn copied<R: Read, W: Write>(decoder: &mut Decoder<R>, writer: &mut W) -> Option<Stop>
-where
-    R::Error: Drop,
-    W::Error: Drop,
-{
-    match decoder.pull() {
-        Ok(Header::Bytes(len)) => copies_all(&mut decoder.bytes(len), writer, 8),
-        Ok(Header::Text(len)) => copies_all(&mut decoder.text(len), writer, 8),
-        _ => None,
+fn copied(
+    rt: &impl Abort,
+    decoder: &mut Decoder<SliceReader>,
+    header: Header,
+    writer: &mut SliceWriter,
+) -> Option<Stop> {
+    match header {
+        Header::Bytes(length) => copies_all(&mut begins_bytes(rt, decoder, length, 1), writer),
+        Header::Text(length) => copies_all(&mut begins_text(rt, decoder, length, 1), writer),
+        _ => panic!(rt; "no string"),
     }
 }
 
 fn row(
     rt: &impl Abort,
     bytes: &[u8],
+    header: Header,
     room: usize,
     end: Option<Stop>,
     written: &[u8],
@@ -136,14 +166,14 @@ fn row(
     let mut space = [0; 8];
     let mut writer = SliceWriter::new(&mut space[..room.min(8)]);
     let mut decoder = Decoder::from(SliceReader::new(bytes));
-    let given = copied(&mut decoder, &mut writer);
+    let is_ended = copied(rt, &mut decoder, header, &mut writer) == end;
     let is_right = writer.written() == written && decoder.offset() == offset;
-    assert!(rt; given == end && is_right, "at {bytes:?}");
+    holds_at(rt, is_ended && is_right, bytes);
 }
 
 #[test]
 fn bodies(rt: HostRuntime) {
-    for &(bytes, room, end, written, offset) in &ROWS {
-        row(&rt, bytes, room, end, written, offset);
+    for &(bytes, header, room, end, written, offset) in &ROWS {
+        row(&rt, bytes, header, room, end, written, offset);
     }
 }

@@ -1,3 +1,4 @@
+use crate::checks::holds;
 use crate::streams::{Failure, read_failure, write_failure};
 use ciborium_ll::io::{BufferedReader, BufferedWriter, Read, Write};
 use ciborium_ll::recode::recode;
@@ -77,23 +78,22 @@ fn reads_row(room: usize, parts: &[&[u8]], calls: usize, ahead: &[u8], left: &[u
 }
 
 // How many bytes are lent, what each read gives, how many calls that is, and what is then ahead and left.
+static READS: [(usize, &[&[u8]], usize, &[u8], &[u8]); 8] = [
+    (4, &[], 0, &[], &[1, 2, 3, 4, 5, 6]),
+    (4, &[&[], &[]], 0, &[], &[1, 2, 3, 4, 5, 6]),
+    (4, &[&[1]], 1, &[2, 3, 4], &[5, 6]),
+    (4, &[&[1], &[2, 3, 4], &[]], 1, &[], &[5, 6]),
+    (4, &[&[1], &[2, 3, 4], &[5]], 2, &[6], &[]),
+    (2, &[&[1], &[2, 3, 4, 5]], 2, &[], &[6]),
+    (2, &[&[1], &[2, 3]], 2, &[4], &[5, 6]),
+    (0, &[&[1], &[2, 3], &[], &[4, 5, 6]], 3, &[], &[]),
+];
+
 #[test]
 fn reads_ahead(rt: HostRuntime) {
-    let rows: [(usize, &[&[u8]], usize, &[u8], &[u8]); 8] = [
-        (4, &[], 0, &[], &[1, 2, 3, 4, 5, 6]),
-        (4, &[&[], &[]], 0, &[], &[1, 2, 3, 4, 5, 6]),
-        (4, &[&[1]], 1, &[2, 3, 4], &[5, 6]),
-        (4, &[&[1], &[2, 3, 4], &[]], 1, &[], &[5, 6]),
-        (4, &[&[1], &[2, 3, 4], &[5]], 2, &[6], &[]),
-        (2, &[&[1], &[2, 3, 4, 5]], 2, &[], &[6]),
-        (2, &[&[1], &[2, 3]], 2, &[4], &[5, 6]),
-        (0, &[&[1], &[2, 3], &[], &[4, 5, 6]], 3, &[], &[]),
-    ];
-    for (room, parts, calls, ahead, left) in rows {
-        assert!(rt;
-            reads_row(room, parts, calls, ahead, left),
-            "at {room}, {parts:?}"
-        );
+    for &(room, parts, calls, ahead, left) in &READS {
+        let is_right = reads_row(room, parts, calls, ahead, left);
+        assert!(rt; is_right, "at {room}, {parts:?}");
     }
 }
 
@@ -114,15 +114,16 @@ fn gives_three<'a>(reader: &mut BufferedReader<'a, PartReader<'a>>) -> bool {
 fn keeps_faults(rt: &impl Abort, room: usize) {
     let mut lent = [0; 8];
     let mut reader = failing_reader(&mut lent, room);
-    assert!(rt; !fills(&mut reader, &mut [0; 2]), "at {room}");
+    holds(rt, !fills(&mut reader, &mut [0; 2]), "the first read fails");
     // A success keeps the fault that there was.
-    assert!(rt; gives(&mut reader, &[1, 2]), "at {room}");
+    holds(rt, gives(&mut reader, &[1, 2]), "the next one succeeds");
     let interrupted = Failure::Failed(io::ErrorKind::Interrupted);
-    assert!(rt; read_fault(&mut reader) == interrupted, "at {room}");
-    assert!(rt; read_fault(&mut reader) == Failure::Never, "at {room}");
-    assert!(rt; gives_three(&mut reader), "at {room}");
+    let is_right = read_fault(&mut reader) == interrupted;
+    holds(rt, is_right, "the fault is kept");
+    holds(rt, read_fault(&mut reader) == Failure::Never, "it is taken");
+    holds(rt, gives_three(&mut reader), "a byte is missing");
     let parts = take_reader_apart(reader);
-    assert!(rt; parts.failure == Failure::Stopped, "at {room}");
+    holds(rt, parts.failure == Failure::Stopped, "that is told");
 }
 
 #[test]
@@ -217,22 +218,21 @@ fn keeps_row(alloc: Global, room: usize, parts: &[&[u8]], written: &[u8], kept: 
 }
 
 // How many bytes are lent, what each write brings, and what is then written and kept back.
+static WRITES: [(usize, &[&[u8]], &[u8], &[u8]); 7] = [
+    (4, &[], &[], &[]),
+    (4, &[&[1], &[2, 3, 4]], &[], &[1, 2, 3, 4]),
+    (4, &[&[1, 2, 3, 4], &[]], &[], &[1, 2, 3, 4]),
+    (4, &[&[1, 2, 3], &[4, 5]], &[1, 2, 3], &[4, 5]),
+    (2, &[&[1], &[2, 3, 4]], &[1, 2, 3, 4], &[]),
+    (2, &[&[1, 2, 3], &[4], &[5]], &[1, 2, 3], &[4, 5]),
+    (0, &[&[1], &[], &[2, 3]], &[1, 2, 3], &[]),
+];
+
 #[test]
 fn keeps_back(rt: HostRuntime) {
-    let rows: [(usize, &[&[u8]], &[u8], &[u8]); 7] = [
-        (4, &[], &[], &[]),
-        (4, &[&[1], &[2, 3, 4]], &[], &[1, 2, 3, 4]),
-        (4, &[&[1, 2, 3, 4], &[]], &[], &[1, 2, 3, 4]),
-        (4, &[&[1, 2, 3], &[4, 5]], &[1, 2, 3], &[4, 5]),
-        (2, &[&[1], &[2, 3, 4]], &[1, 2, 3, 4], &[]),
-        (2, &[&[1, 2, 3], &[4], &[5]], &[1, 2, 3], &[4, 5]),
-        (0, &[&[1], &[], &[2, 3]], &[1, 2, 3], &[]),
-    ];
-    for (room, parts, written, kept) in rows {
-        assert!(rt;
-            keeps_row(rt.alloc(), room, parts, written, kept),
-            "at {room}, {parts:?}"
-        );
+    for &(room, parts, written, kept) in &WRITES {
+        let is_right = keeps_row(rt.alloc(), room, parts, written, kept);
+        assert!(rt; is_right, "at {room}, {parts:?}");
     }
 }
 
@@ -255,7 +255,8 @@ fn flushes_twice(alloc: Global) -> [bool; 4] {
 
 #[test]
 fn a_flush_passes_on_what_was_kept_back(rt: HostRuntime) {
-    assert_eq!(rt; flushes_twice(rt.alloc()), [true; 4]);
+    let steps = flushes_twice(rt.alloc());
+    assert!(rt; steps == [true; 4], "{steps:?}");
 }
 
 // What a failed write could not pass on is kept back still.
@@ -265,14 +266,21 @@ fn nothing_that_was_kept_back_is_lost(rt: HostRuntime) {
     let interrupted = io::ErrorKind::Interrupted;
     let sink = PartWriter::new(rt.alloc(), 1).within(3);
     let mut writer = writer_to(sink.failing_at(2, Some(interrupted)), &mut lent);
-    assert!(rt; takes(&mut writer, &[1, 2, 3, 4]));
-    assert!(rt; !takes(&mut writer, &[5]) && keeps(&writer, &[2, 3, 4]));
-    assert!(rt; write_fault(&mut writer) == Failure::Failed(interrupted));
-    assert!(rt; write_fault(&mut writer) == Failure::Never);
-    assert!(rt; !passes_on(&mut writer));
+    let is_taken = takes(&mut writer, &[1, 2, 3, 4]);
+    holds(&rt, is_taken, "four bytes are kept back");
+    let is_taken = takes(&mut writer, &[5]);
+    let is_kept = keeps(&writer, &[2, 3, 4]);
+    holds(&rt, !is_taken && is_kept, "three stay where a write fails");
+    let is_told = write_fault(&mut writer) == Failure::Failed(interrupted);
+    holds(&rt, is_told, "the fault is kept");
+    let failure = write_fault(&mut writer);
+    holds(&rt, failure == Failure::Never, "it is taken");
+    holds(&rt, !passes_on(&mut writer), "the flush fails");
     let parts = take_apart(writer);
-    assert!(rt; parts.failure == Failure::Stopped);
-    assert!(rt; has_parts(&parts, &[1, 2, 3], &[4], 0));
+    let is_told = parts.failure == Failure::Stopped;
+    holds(&rt, is_told, "no byte was taken");
+    let is_kept = has_parts(&parts, &[1, 2, 3], &[4], 0);
+    holds(&rt, is_kept, "the last byte stays");
 }
 
 #[test]
@@ -280,11 +288,13 @@ fn a_flush_within_that_fails(rt: HostRuntime) {
     let mut lent = [0; 4];
     let sink = PartWriter::new(rt.alloc(), 1).failing_to_flush();
     let mut writer = writer_to(sink, &mut lent);
-    assert!(rt; takes(&mut writer, &[1, 2]));
-    assert!(rt; !passes_on(&mut writer));
+    holds(&rt, takes(&mut writer, &[1, 2]), "two bytes are kept back");
+    holds(&rt, !passes_on(&mut writer), "the flush fails");
     let parts = take_apart(writer);
-    assert!(rt; parts.failure == Failure::Failed(io::ErrorKind::Other));
-    assert!(rt; has_parts(&parts, &[1, 2], &[], 1));
+    let is_told = parts.failure == Failure::Failed(io::ErrorKind::Other);
+    holds(&rt, is_told, "the fault is told");
+    let are_written = has_parts(&parts, &[1, 2], &[], 1);
+    holds(&rt, are_written, "both bytes were written");
 }
 
 // An array's title, a number and a byte string, in their shortest spelling: three elements.
@@ -305,11 +315,10 @@ fn elements() -> [u8; 640] {
 }
 
 // Copies 120 elements, and passes them on. What that does is not known outside.
-fn copies_all<R: Read, W: Write>(decoder: &mut Decoder<R>, encoder: &mut Encoder<W>) -> bool
-where
-    R::Error: Drop,
-    W::Error: Drop,
-{
+fn copies_all<'a>(
+    decoder: &mut Decoder<BufferedReader<'a, PartReader<'a>>>,
+    encoder: &mut Encoder<BufferedWriter<Vec<u8>>>,
+) -> bool {
     recode(decoder, encoder, 120, &mut [0; 4]).is_ok() && encoder.flush().is_ok()
 }
 

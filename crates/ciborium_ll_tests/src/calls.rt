@@ -2,12 +2,10 @@ ghost use Rattle.std.specs.Prelude.{◌≡◌, ◌≤◌, IsTrue, None, length, 
 ghost use Rattle.ciborium_ll.specs.Decoding.{IsSteady, offset_of, waiting_of};
 ghost use Rattle.ciborium_ll.specs.Title.{title_len};
 
-use ciborium_ll::io::{
-    Discard, EndOfFile, Failures, OutOfSpace, Read, SliceReader, SliceWriter, Write,
-};
+use crate::checks::{Stop, holds, next_header, read_end, read_stop};
+use ciborium_ll::io::{Discard, Failures, Read, SliceReader, SliceWriter, Write};
 use ciborium_ll::{Bytes, Decoder, Encoder, Error, Header, Segments, Text};
 use std::process::Abort;
-use std::test::Fail;
 
 // Pulls the header that is wanted.
 pub fn pulls<R: Read>(rt: &impl Abort, decoder: &mut Decoder<R>, want: Header, offset: usize)
@@ -25,63 +23,29 @@ where
 }
 
 // Pulls the title of a byte string, and begins to read it. That the one is enough for the other is proved here.
-pub fn begins_bytes<'a, R: Read>(
+pub fn begins_bytes<'a, 'b>(
     rt: &impl Abort,
-    decoder: &'a mut Decoder<R>,
+    decoder: &'a mut Decoder<SliceReader<'b>>,
     length: Option<usize>,
     title: usize,
-) -> Segments<'a, R, Bytes>
-where
-    R::Error: Drop,
-{
+) -> Segments<'a, SliceReader<'b>, Bytes> {
     pulls(rt, decoder, Header::Bytes(length), title);
     decoder.bytes(length)
 }
 
 // The same of a text.
-pub fn begins_text<'a, R: Read>(
+pub fn begins_text<'a, 'b>(
     rt: &impl Abort,
-    decoder: &'a mut Decoder<R>,
+    decoder: &'a mut Decoder<SliceReader<'b>>,
     length: Option<usize>,
     title: usize,
-) -> Segments<'a, R, Text>
-where
-    R::Error: Drop,
-{
+) -> Segments<'a, SliceReader<'b>, Text> {
     pulls(rt, decoder, Header::Text(length), title);
     decoder.text(length)
 }
 
-// The next header, or why there is none. It ensures nothing, as others below: a contract that says much makes the proof
-// of who makes several such calls long.
-pub fn next_of<R: Read>(decoder: &mut Decoder<R>) -> Result<Header, Error<R::Error>> {
-    decoder.pull()
-}
-
-// Whether a pull gives this header, and comes to this offset.
-pub fn gives<R: Read>(decoder: &mut Decoder<R>, want: Header, offset: usize) -> bool
-where
-    R::Error: Drop,
-{
-    let is_wanted = matches!(next_of(decoder), Ok(header) if header == want);
-    is_wanted && decoder.offset() == offset
-}
-
-// Gives a header back.
-pub fn gives_back<R: Read>(
-    rt: &impl Abort,
-    decoder: &mut Decoder<R>,
-    header: Header,
-    offset: usize,
-) {
-    assert!(rt; !decoder.is_waiting());
-    assert!(rt; header.title_len() <= decoder.offset());
-    decoder.push(header);
-    assert!(rt; decoder.is_waiting());
-    assert_eq!(rt; decoder.offset(), offset);
-}
-
-// Reads the bytes that come next.
+// Reads the bytes that come next. It ensures nothing, as others below: a contract that says much makes the proof of who
+// makes several such calls long.
 pub fn reads<R: Read>(reader: &mut R, data: &mut [u8]) -> Result<(), R::Error> {
     reader.read_exact(data)
 }
@@ -112,58 +76,68 @@ pub fn pushes<W: Write>(encoder: &mut Encoder<W>, header: Header) -> Result<(), 
 }
 
 // Reads from a slice of three bytes, twice two.
-fn reads_a_slice(rt: &impl Abort) {
+#[test]
+fn a_reader_of_a_slice(rt: HostRuntime) {
     let mut reader = SliceReader::new(&[1, 2, 3]);
     let mut two = [0; 2];
-    assert!(rt; reads(&mut reader, &mut two).is_ok());
-    assert_eq!(rt; two, [1, 2]);
-    assert!(rt; matches!(reads(&mut reader, &mut two), Err(EndOfFile)));
-    assert_eq!(rt; reader.left(), [3].as_slice());
+    let is_read = reads(&mut reader, &mut two).is_ok();
+    holds(&rt, is_read && two == [1, 2], "two bytes are read");
+    let is_right = reads(&mut reader, &mut two).is_err();
+    holds(&rt, is_right, "one byte is left");
+    holds(&rt, reader.left() == [3].as_slice(), "the third is left");
 }
 
 // Writes to a slice of three bytes, twice two.
-fn writes_a_slice(rt: &impl Abort) {
+#[test]
+fn a_writer_to_a_slice(rt: HostRuntime) {
     let mut space = [0; 3];
     let mut writer = SliceWriter::new(&mut space);
-    assert!(rt; writes(&mut writer, &[7, 8]).is_ok());
-    assert!(rt; matches!(writes(&mut writer, &[9, 9]), Err(OutOfSpace)));
-    assert_eq!(rt; writer.room(), 1);
-    assert_eq!(rt; writer.written(), [7, 8].as_slice());
+    holds(&rt, writes(&mut writer, &[7, 8]).is_ok(), "two bytes fit");
+    let is_right = writes(&mut writer, &[9, 9]).is_err();
+    holds(&rt, is_right, "there is room for one");
+    holds(&rt, writer.room() == 1, "that room is left");
+    let is_right = writer.written() == [7, 8].as_slice();
+    holds(&rt, is_right, "two bytes are written");
 }
 
 #[test]
-fn slices(rt: HostRuntime) {
-    reads_a_slice(&rt);
-    writes_a_slice(&rt);
-}
-
-#[test]
-fn a_writer_that_keeps_nothing(rt: HostRuntime) -> Result<(), Fail> {
+fn a_writer_that_keeps_nothing(rt: HostRuntime) {
     let mut writer = Discard::new(3);
-    writes(&mut writer, &[7, 8])?;
-    assert!(rt; matches!(writes(&mut writer, &[9, 9]), Err(OutOfSpace)));
-    assert_eq!(rt; writer.room(), 1);
-    writes(&mut writer, &[])?;
+    holds(&rt, writes(&mut writer, &[7, 8]).is_ok(), "two bytes fit");
+    let is_right = writes(&mut writer, &[9, 9]).is_err();
+    holds(&rt, is_right, "there is room for one");
+    holds(&rt, writer.room() == 1, "that room is left");
+    holds(
+        &rt,
+        writes(&mut writer, &[]).is_ok(),
+        "a write of none succeeds",
+    );
     let mut encoder = Encoder::from(writer);
-    assert!(rt; matches!(pushes(&mut encoder, Header::Positive(24)), Err(OutOfSpace)));
-    assert_eq!(rt; encoder.into_inner().room(), 0);
+    let is_written = pushes(&mut encoder, Header::Positive(24)).is_ok();
+    holds(&rt, !is_written, "a title of two bytes doesn't fit");
+    holds(&rt, encoder.into_inner().room() == 0, "its first byte does");
+}
 
-    // It takes no memory, so its room may pass all memory that there is.
+// It takes no memory, so its room may pass all memory that there is.
+#[test]
+fn a_writer_that_keeps_nothing_of_much(rt: HostRuntime) {
     let mut writer = Discard::new(usize::MAX);
     for _ in 0..1000 {
-        writes(&mut writer, &[0; 1000])?;
+        let is_right = writes(&mut writer, &[0; 1000]).is_ok();
+        holds(&rt, is_right, "each write fits");
     }
-    assert_eq!(rt; usize::MAX - writer.room(), 1_000_000);
-    Ok(())
+    let taken = usize::MAX - writer.room();
+    holds(&rt, taken == 1_000_000, "a million bytes are taken");
 }
 
 #[test]
 fn a_slice_behind_its_writer(rt: HostRuntime) {
     let mut space = [0; 3];
-    assert!(rt; fills(&mut space, &[7, 8]));
-    assert_eq!(rt; space, [7, 8, 0]);
-    assert!(rt; !fills(&mut space, &[9; 4]));
-    assert_eq!(rt; space, [7, 8, 0]);
+    let is_filled = fills(&mut space, &[7, 8]);
+    let is_right = is_filled && space == [7, 8, 0];
+    holds(&rt, is_right, "two bytes are written");
+    let is_filled = fills(&mut space, &[9; 4]);
+    holds(&rt, !is_filled && space == [7, 8, 0], "four do not fit");
 }
 
 #[test]
@@ -172,115 +146,158 @@ fn failures(_rt: HostRuntime) {
     failures.raise();
 }
 
-#[test]
-fn the_greatest_number(rt: HostRuntime) {
-    let bytes = [0x3b, 255, 255, 255, 255, 255, 255, 255, 255];
-    let mut decoder = Decoder::from(SliceReader::new(&bytes));
-    assert!(rt; gives(&mut decoder, Header::Negative(u64::MAX), 9));
-    let mut space = [0; 9];
-    let mut encoder = Encoder::from(SliceWriter::new(&mut space));
-    assert!(rt; pushes(&mut encoder, Header::Negative(u64::MAX)).is_ok());
-    assert_eq!(rt; encoder.into_inner().written(), bytes.as_slice());
-}
-
-#[test]
-fn a_cut_title_loses_its_first_byte(rt: HostRuntime) {
-    let mut decoder = Decoder::from(SliceReader::new(&[0x19, 3]));
-    assert!(rt; matches!(next_of(&mut decoder), Err(Error::Io(EndOfFile))));
-    assert!(rt; decoder.offset() == 1 && gives(&mut decoder, Header::Positive(3), 2));
-}
-
 // Whether these bytes are left behind a decoder.
 pub fn has_left(decoder: Decoder<SliceReader>, left: &[u8]) -> bool {
     decoder.into_inner().left() == left
 }
 
+// A call on a decoder, with what it has to answer.
+pub enum Step {
+    // A pull gives a header, or stops so.
+    Pull(Result<Header, Stop>),
+    // A header is given back.
+    Push(Header),
+    // A read of as many bytes ends so, and gives these where it does not stop.
+    Read(&'static [u8], Stop),
+}
+
+// Gives a header back, where that is allowed.
+fn takes_back(decoder: &mut Decoder<SliceReader>, header: Header) -> bool {
+    if decoder.is_waiting() || header.title_len() > decoder.offset() {
+        return false;
+    }
+    decoder.push(header);
+    decoder.is_waiting()
+}
+
+// Reads at most two bytes, and compares how that ends, and them.
+fn reads_so(decoder: &mut Decoder<SliceReader>, want: &[u8], stop: Stop) -> bool {
+    let mut space = [0; 2];
+    let data = &mut space[..want.len().min(2)];
+    let end = read_end(&reads(decoder, data));
+    end == stop && (end != Stop::Never || *data == *want)
+}
+
+// Makes a call, and compares its answer.
+fn is_answered(decoder: &mut Decoder<SliceReader>, step: &Step) -> bool {
+    match step {
+        Step::Pull(want) => next_header(decoder) == *want,
+        Step::Push(header) => takes_back(decoder, *header),
+        Step::Read(want, stop) => reads_so(decoder, want, *stop),
+    }
+}
+
+// Makes calls, and compares each answer, the offset behind it, and what is left in the end.
+pub fn steps_row(
+    rt: &impl Abort,
+    mut decoder: Decoder<SliceReader>,
+    what: &str,
+    steps: &[(Step, usize)],
+    left: &[u8],
+) {
+    for (index, (step, offset)) in steps.iter().enumerate() {
+        let is_right = is_answered(&mut decoder, step) && decoder.offset() == *offset;
+        assert!(rt; is_right, "{what}, step {index}");
+    }
+    assert!(rt; has_left(decoder, left), "{what}, what is left");
+}
+
+// What is tried, the bytes, the offset at which they begin, the calls, each with the offset behind it, and what is left.
+static STEPS: [(&str, &[u8], usize, &[(Step, usize)], &[u8]); 6] = [
+    (
+        "a cut title loses its first byte",
+        &[0x19, 3],
+        0,
+        &[
+            (Step::Pull(Err(Stop::Short)), 1),
+            (Step::Pull(Ok(Header::Positive(3))), 2),
+        ],
+        &[],
+    ),
+    (
+        "a longer title comes back as the shortest one",
+        &[0x18, 5, 0],
+        0,
+        &[
+            (Step::Pull(Ok(Header::Positive(5))), 2),
+            (Step::Push(Header::Positive(5)), 1),
+            (Step::Pull(Ok(Header::Positive(5))), 2),
+        ],
+        &[0],
+    ),
+    (
+        "no bytes while a header waits",
+        &[1, 2],
+        0,
+        &[
+            (Step::Pull(Ok(Header::Positive(1))), 1),
+            (Step::Push(Header::Positive(1)), 0),
+            (Step::Read(&[0], Stop::Waiting), 0),
+            (Step::Read(&[], Stop::Waiting), 0),
+            (Step::Pull(Ok(Header::Positive(1))), 1),
+            (Step::Read(&[2], Stop::Never), 2),
+            (Step::Read(&[0], Stop::Short), 2),
+        ],
+        &[],
+    ),
+    (
+        "no offset is left",
+        &[0],
+        usize::MAX,
+        &[
+            (Step::Pull(Err(Stop::TooLong)), usize::MAX),
+            (Step::Read(&[], Stop::Never), usize::MAX),
+            (Step::Read(&[0], Stop::TooLong), usize::MAX),
+        ],
+        &[0],
+    ),
+    (
+        "no offset is left for an affix",
+        &[0x18, 5],
+        usize::MAX - 1,
+        &[(Step::Pull(Err(Stop::TooLong)), usize::MAX)],
+        &[5],
+    ),
+    (
+        "the last offset is left",
+        &[0, 0],
+        usize::MAX - 1,
+        &[
+            (Step::Pull(Ok(Header::Positive(0))), usize::MAX),
+            (Step::Pull(Err(Stop::TooLong)), usize::MAX),
+        ],
+        &[0],
+    ),
+];
+
 #[test]
-fn a_header_given_back(rt: HostRuntime) {
-    // A longer title comes back as the shortest one.
-    let mut decoder = decoder_over(SliceReader::new(&[0x18, 5, 0]));
-    assert!(rt; gives(&mut decoder, Header::Positive(5), 2));
-    gives_back(&rt, &mut decoder, Header::Positive(5), 1);
-    assert!(rt; gives(&mut decoder, Header::Positive(5), 2));
-    assert!(rt; has_left(decoder, &[0]));
-}
-
-// Whether a header waits in front of the bytes, of which so many are asked for.
-fn finds_waiting<R: Read>(decoder: &mut Decoder<R>, data: &mut [u8]) -> bool
-where
-    R::Error: Drop,
-{
-    matches!(reads(decoder, data), Err(Error::Waiting))
-}
-
-// Reads a byte, and compares it and the offset.
-fn gives_byte(decoder: &mut Decoder<SliceReader>, want: u8, offset: usize) -> bool {
-    let mut one = [0; 1];
-    reads(decoder, &mut one).is_ok() && one[0] == want && decoder.offset() == offset
-}
-
-// Finds no byte, and stays at the offset.
-fn gives_no_byte(decoder: &mut Decoder<SliceReader>, offset: usize) -> bool {
-    let is_end = matches!(reads(decoder, &mut [0; 1]), Err(Error::Io(EndOfFile)));
-    is_end && decoder.offset() == offset
-}
-
-#[test]
-fn no_bytes_while_a_header_waits(rt: HostRuntime) {
-    let mut decoder = decoder_over(SliceReader::new(&[1, 2]));
-    assert!(rt; gives(&mut decoder, Header::Positive(1), 1));
-    gives_back(&rt, &mut decoder, Header::Positive(1), 0);
-    assert!(rt; finds_waiting(&mut decoder, &mut [0; 1]));
-    assert!(rt; finds_waiting(&mut decoder, &mut []));
-    assert!(rt; gives(&mut decoder, Header::Positive(1), 1));
-    assert!(rt; gives_byte(&mut decoder, 2, 2));
-    assert!(rt; gives_no_byte(&mut decoder, 2));
-}
-
-// A decoder of bytes that begin so far behind the beginning of all.
-fn far_decoder(bytes: &[u8], offset: usize) -> Decoder<SliceReader> {
-    Decoder::with_offset(SliceReader::new(bytes), offset)
-}
-
-// Pulls a header for which no offset is left.
-fn pulls_too_far(decoder: &mut Decoder<SliceReader>) -> bool {
-    matches!(next_of(decoder), Err(Error::TooLong))
-}
-
-// Reads a byte for which no offset is left, behind a read of none.
-fn reads_too_far(decoder: &mut Decoder<SliceReader>) -> bool {
-    let is_ok = reads(decoder, &mut []).is_ok();
-    is_ok && matches!(reads(decoder, &mut [0]), Err(Error::TooLong))
-}
-
-// Compares the offset, which is the greatest, and what is left.
-fn is_at_the_end(mut decoder: Decoder<SliceReader>, left: &[u8]) -> bool {
-    decoder.offset() == usize::MAX && decoder.into_inner().left() == left
-}
-
-#[test]
-fn the_greatest_offset(rt: HostRuntime) {
-    let mut decoder = far_decoder(&[0], usize::MAX);
-    assert!(rt; pulls_too_far(&mut decoder));
-    assert!(rt; reads_too_far(&mut decoder));
-    assert!(rt; is_at_the_end(decoder, &[0]));
-
-    let mut decoder = far_decoder(&[0x18, 5], usize::MAX - 1);
-    assert!(rt; pulls_too_far(&mut decoder));
-    assert!(rt; is_at_the_end(decoder, &[5]));
-
-    let mut decoder = far_decoder(&[0, 0], usize::MAX - 1);
-    assert!(rt; gives(&mut decoder, Header::Positive(0), usize::MAX));
-    assert!(rt; pulls_too_far(&mut decoder));
-    assert!(rt; is_at_the_end(decoder, &[0]));
+fn calls_on_decoders(rt: HostRuntime) {
+    for (what, bytes, start, steps, left) in &STEPS {
+        let decoder = Decoder::with_offset(SliceReader::new(bytes), *start);
+        steps_row(&rt, decoder, what, steps, left);
+    }
 }
 
 #[test]
 fn a_title_that_does_not_fit(rt: HostRuntime) {
     let mut space = [0; 1];
     let mut encoder = Encoder::from(SliceWriter::new(&mut space));
-    assert!(rt; matches!(pushes(&mut encoder, Header::Positive(24)), Err(OutOfSpace)));
-    assert_eq!(rt; encoder.into_inner().written(), [0x18].as_slice());
+    let is_written = pushes(&mut encoder, Header::Positive(24)).is_ok();
+    let is_first = encoder.into_inner().written() == [0x18].as_slice();
+    holds(&rt, !is_written && is_first, "its first byte is written");
+}
+
+// What a decoder over a decoder finds: why the one within stopped, if it did.
+fn within_stop(outer: &mut Decoder<Decoder<SliceReader>>) -> Option<Stop> {
+    match outer.pull() {
+        Err(Error::Io(error)) => Some(read_stop(&error)),
+        _ => None,
+    }
+}
+
+// Pulls the header of a number by a decoder over a decoder.
+fn gives_number(outer: &mut Decoder<Decoder<SliceReader>>, want: u64) -> bool {
+    matches!(outer.pull(), Ok(Header::Positive(number)) if number == want)
 }
 
 // A decoder over any reader.
@@ -293,54 +310,39 @@ fn reader_of<R: Read>(decoder: Decoder<R>) -> R {
     decoder.into_inner()
 }
 
-type Outer<'a> = Decoder<Decoder<SliceReader<'a>>>;
-
-// Whether a decoder over a decoder finds the end of the bytes.
-fn finds_the_end(outer: &mut Outer<'_>) -> bool {
-    matches!(next_of(outer), Err(Error::Io(Error::Io(EndOfFile))))
-}
-
-// Whether a decoder over a decoder finds a header that waits in front of the bytes.
-fn finds_a_waiting_header(outer: &mut Outer<'_>) -> bool {
-    matches!(next_of(outer), Err(Error::Io(Error::Waiting)))
-}
-
 #[test]
 fn a_decoder_over_a_decoder(rt: HostRuntime) {
     let mut inner = decoder_over(SliceReader::new(&[0x18, 24, 1]));
-    assert!(rt; gives(&mut inner, Header::Positive(24), 2));
+    let is_first = next_header(&mut inner) == Ok(Header::Positive(24));
+    let is_right = is_first && inner.offset() == 2;
+    holds(&rt, is_right, "the one within gives a header");
     let mut outer = decoder_over(inner);
-    assert!(rt; gives(&mut outer, Header::Positive(1), 1));
-    assert!(rt; finds_the_end(&mut outer));
+    let is_given = gives_number(&mut outer, 1);
+    let is_right = is_given && outer.offset() == 1;
+    holds(&rt, is_right, "the other one gives the next");
+    let is_right = within_stop(&mut outer) == Some(Stop::Short);
+    holds(&rt, is_right, "the bytes have ended");
     let mut inner = reader_of(outer);
-    assert_eq!(rt; inner.offset(), 3);
-    gives_back(&rt, &mut inner, Header::Positive(1), 2);
-    assert!(rt; finds_a_waiting_header(&mut decoder_over(inner)));
-}
-
-// An encoder over any writer.
-fn encoder_over<W: Write>(writer: W) -> Encoder<W> {
-    Encoder::from(writer)
-}
-
-// The writer of an encoder.
-fn writer_of<W: Write>(encoder: Encoder<W>) -> W {
-    encoder.into_inner()
+    holds(&rt, inner.offset() == 3, "the one within has read all");
+    let is_back = takes_back(&mut inner, Header::Positive(1));
+    let is_right = is_back && inner.offset() == 2;
+    holds(&rt, is_right, "it takes a header back");
+    let stop = within_stop(&mut decoder_over(inner));
+    let is_right = stop == Some(Stop::Waiting);
+    holds(&rt, is_right, "no bytes while that waits");
 }
 
 // Writes a string of three bytes in its parts.
-fn writes_a_string<W: Write>(encoder: &mut Encoder<W>) -> bool
-where
-    W::Error: Drop,
-{
+fn writes_a_string(encoder: &mut Encoder<Encoder<SliceWriter>>) -> bool {
     pushes(encoder, Header::Bytes(Some(3))).is_ok() && writes(encoder, &[1, 2, 3]).is_ok()
 }
 
 #[test]
 fn an_encoder_over_an_encoder(rt: HostRuntime) {
     let mut space = [0; 4];
-    let mut encoder = encoder_over(encoder_over(SliceWriter::new(&mut space)));
-    assert!(rt; writes_a_string(&mut encoder));
-    let writer = writer_of(writer_of(encoder));
-    assert!(rt; writer.written() == [0x43, 1, 2, 3].as_slice());
+    let mut encoder = Encoder::from(Encoder::from(SliceWriter::new(&mut space)));
+    holds(&rt, writes_a_string(&mut encoder), "all is written");
+    let writer = encoder.into_inner().into_inner();
+    let is_right = writer.written() == [0x43, 1, 2, 3].as_slice();
+    holds(&rt, is_right, "these bytes");
 }

@@ -1,6 +1,8 @@
-use crate::elements::{Stop, stop_of};
-use ciborium_ll::io::{Read, SliceReader, SliceWriter, Write};
-use ciborium_ll::{Decoder, Encoder, Error, Float, Header, laws, simple, tag};
+use crate::calls::has_left;
+use crate::checks::{Stop, holds, holds_at, stop_of};
+use ciborium_ll::io::{Read, SliceReader, SliceWriter};
+use ciborium_ll::{Decoder, Encoder, Float, Header, laws, simple, tag};
+use std::process::Abort;
 
 // Bytes, how many headers are copied, into how much space, what is written, why it stopped, and the offset behind that.
 type Row = (&'static [u8], usize, usize, &'static [u8], Stop, usize);
@@ -17,73 +19,78 @@ static ROWS: [Row; 5] = [
 ];
 
 // Copies headers. What that does is not known outside.
-fn copies_headers<R: Read, W: Write>(
-    decoder: &mut Decoder<R>,
-    encoder: &mut Encoder<W>,
+fn copies_headers(
+    decoder: &mut Decoder<SliceReader>,
+    encoder: &mut Encoder<SliceWriter>,
     count: usize,
-) -> Stop
-where
-    R::Error: Drop,
-    W::Error: Drop,
-{
+) -> Stop {
     stop_of(&laws::copy_headers(decoder, encoder, count))
 }
 
-// Pulls a header, gives it back, and pulls it again.
-fn pulls_again<R: Read>(decoder: &mut Decoder<R>) -> Result<Header, Error<R::Error>> {
-    laws::pull_again(decoder)
-}
-
 // Copies so many headers into this much space, and compares all that this comes to. What was not read is left.
-fn is_copied(
+fn copy_row(
+    rt: &impl Abort,
     bytes: &[u8],
     count: usize,
     room: usize,
     written: &[u8],
     stop: Stop,
     offset: usize,
-) -> bool {
+) {
     let mut space = [0; 8];
     let mut decoder = Decoder::from(SliceReader::new(bytes));
     let mut encoder = Encoder::from(SliceWriter::new(&mut space[..room.min(8)]));
     let is_stopped = copies_headers(&mut decoder, &mut encoder, count) == stop;
     let is_read = decoder.offset() == offset;
     let is_left = Some(decoder.into_inner().left()) == bytes.get(offset..);
-    encoder.into_inner().written() == written && is_stopped && is_read && is_left
+    let is_written = encoder.into_inner().written() == written;
+    holds_at(rt, is_written && is_stopped && is_read && is_left, bytes);
 }
 
 #[test]
 fn headers_are_copied(rt: HostRuntime) {
     for &(bytes, count, room, written, stop, offset) in &ROWS {
-        let is_right = is_copied(bytes, count, room, written, stop, offset);
-        assert!(rt; is_right, "at {bytes:?}");
+        copy_row(&rt, bytes, count, room, written, stop, offset);
     }
+}
+
+// Pulls a header, gives it back, and pulls it again.
+fn gives_again<R: Read>(decoder: &mut Decoder<R>, want: Header) -> bool
+where
+    R::Error: Drop,
+{
+    matches!(laws::pull_again(decoder), Ok(header) if header == want)
 }
 
 #[test]
 fn a_header_is_pulled_again(rt: HostRuntime) {
     let mut decoder = Decoder::from(SliceReader::new(&[0x18, 5, 0]));
-    let again = pulls_again(&mut decoder);
-    assert!(rt; matches!(again, Ok(Header::Positive(5))));
-    assert!(rt; decoder.offset() == 2 && decoder.into_inner().left() == [0].as_slice());
+    let is_given = gives_again(&mut decoder, Header::Positive(5));
+    holds(&rt, is_given && decoder.offset() == 2, "the header");
+    holds(&rt, has_left(decoder, &[0]), "what is left");
+}
+
+// Two headers are the same, or are not.
+fn same_row(rt: &impl Abort, one: Header, other: Header, want: bool) {
+    assert!(rt; laws::same_header(one, other) == want, "{one:?}, {other:?}");
 }
 
 #[test]
 fn headers_and_floats_as_values(rt: HostRuntime) {
     let zero = Header::Float(Float::Half(0));
-    assert!(rt; laws::same_header(zero, zero));
-    assert!(rt; !laws::same_header(zero, Header::Float(Float::Half(0x8000))));
-    assert!(rt; !laws::same_header(zero, Header::Float(Float::Single(0))));
+    same_row(&rt, zero, zero, true);
+    same_row(&rt, zero, Header::Float(Float::Half(0x8000)), false);
+    same_row(&rt, zero, Header::Float(Float::Single(0)), false);
     let nan = Header::Float(Float::Half(0x7e00));
-    assert!(rt; laws::same_header(nan, nan));
-    assert!(rt; !laws::same_header(Header::Bytes(None), Header::Text(None)));
+    same_row(&rt, nan, nan, true);
+    same_row(&rt, Header::Bytes(None), Header::Text(None), false);
 }
 
 #[test]
 fn values_with_a_name(rt: HostRuntime) {
     let simple = [simple::FALSE, simple::TRUE, simple::NULL, simple::UNDEFINED];
-    assert_eq!(rt; simple, [20, 21, 22, 23]);
-    assert_eq!(rt; [tag::BIGPOS, tag::BIGNEG], [2, 3]);
+    holds(&rt, simple == [20, 21, 22, 23], "simple values");
+    holds(&rt, tag::BIGPOS == 2 && tag::BIGNEG == 3, "tags");
 }
 
 #[test]

@@ -1,11 +1,14 @@
 ghost use Rattle.std.specs.Prelude.{◌≤◌, All, IsTrue};
 
 use crate::calls::{begins_bytes, begins_text};
-use ciborium_ll::io::{EndOfFile, OutOfSpace, Read, SliceReader, SliceWriter, Write};
-use ciborium_ll::laws::{Drained, End, drain_bytes, drain_text};
-use ciborium_ll::recode::RecodeError;
-use ciborium_ll::{Bytes, Chunked, Decoder, Encoder, Error, Segment, Segments, Text};
+use crate::checks::{Stop, copy_stop};
+use ciborium_ll::io::{SliceReader, SliceWriter};
+use ciborium_ll::laws::{End, drain_bytes, drain_text};
+use ciborium_ll::{Bytes, Decoder, Encoder, Segment, Segments, Text};
 use std::process::Abort;
+
+// How a drain ended, and after how many calls, or why it stopped.
+pub type Ended = Result<(usize, End), Stop>;
 
 // Whether a buffer of 64 bytes is enough for each of these sizes.
 fn fit(sizes: &[usize]) -> bool
@@ -14,22 +17,22 @@ fn fit(sizes: &[usize]) -> bool
     sizes.iter().all(|size| *size <= 64)
 }
 
-// A drain ended so, after so many calls.
-fn ends_so<E>(drained: &Result<Drained, E>, calls: usize, end: &End) -> bool {
-    match drained {
-        Ok(drained) => drained.calls == calls && drained.end == *end,
-        Err(_) => false,
+// The segment that a text has next.
+pub fn next_text<'a, 'b>(
+    rt: &impl Abort,
+    segments: &'a mut Segments<'_, SliceReader<'b>, Text>,
+) -> Segment<'a, SliceReader<'b>, Text> {
+    match segments.pull() {
+        Ok(Some(segment)) => segment,
+        _ => panic!(rt; "no segment"),
     }
 }
 
-// The segment that a string has next.
-pub fn next_segment<'a, R: Read, P: Chunked>(
+// The same of a byte string.
+pub fn next_bytes<'a, 'b>(
     rt: &impl Abort,
-    segments: &'a mut Segments<'_, R, P>,
-) -> Segment<'a, R, P>
-where
-    R::Error: Drop,
-{
+    segments: &'a mut Segments<'_, SliceReader<'b>, Bytes>,
+) -> Segment<'a, SliceReader<'b>, Bytes> {
     match segments.pull() {
         Ok(Some(segment)) => segment,
         _ => panic!(rt; "no segment"),
@@ -37,50 +40,59 @@ where
 }
 
 // Drains a segment of a text. What that does is not known outside.
-pub fn drains_text<R: Read, W: Write>(
+fn drains_text(
     rt: &impl Abort,
-    segment: &mut Segment<'_, R, Text>,
+    segment: &mut Segment<'_, SliceReader, Text>,
     sizes: &[usize],
-    sink: &mut Encoder<W>,
-) -> Result<Drained, RecodeError<R::Error, W::Error>> {
+    sink: &mut Encoder<SliceWriter>,
+) -> Ended {
     assert!(rt; fit(sizes));
-    drain_text(segment, sizes, &mut [0; 64], sink)
+    match drain_text(segment, sizes, &mut [0; 64], sink) {
+        Ok(drained) => Ok((drained.calls, drained.end)),
+        Err(error) => Err(copy_stop(&error)),
+    }
 }
 
 // The same of a byte string.
-fn drains_bytes<R: Read, W: Write>(
+fn drains_bytes(
     rt: &impl Abort,
-    segment: &mut Segment<'_, R, Bytes>,
+    segment: &mut Segment<'_, SliceReader, Bytes>,
     sizes: &[usize],
-    sink: &mut Encoder<W>,
-) -> Result<Drained, RecodeError<R::Error, W::Error>> {
+    sink: &mut Encoder<SliceWriter>,
+) -> Ended {
     assert!(rt; fit(sizes));
-    drain_bytes(segment, sizes, &mut [0; 64], sink)
+    match drain_bytes(segment, sizes, &mut [0; 64], sink) {
+        Ok(drained) => Ok((drained.calls, drained.end)),
+        Err(error) => Err(copy_stop(&error)),
+    }
 }
 
-// Drains a text of a single segment.
-fn drains_whole_text(
+// Drains a string of a single segment, of text or of bytes.
+pub fn drains_whole(
     rt: &impl Abort,
     bytes: &[u8],
     sizes: &[usize],
     sink: &mut Encoder<SliceWriter>,
-) -> Result<Drained, RecodeError<EndOfFile, OutOfSpace>> {
-    let mut decoder = Decoder::from(SliceReader::new(bytes));
+) -> Ended {
     let length = bytes.len().saturating_sub(1);
-    let mut segments = begins_text(rt, &mut decoder, Some(length), 1);
-    drains_text(rt, &mut next_segment(rt, &mut segments), sizes, sink)
+    let mut decoder = Decoder::from(SliceReader::new(bytes));
+    if bytes.first().is_some_and(|first| *first >= 0x60) {
+        let mut segments = begins_text(rt, &mut decoder, Some(length), 1);
+        return drains_text(rt, &mut next_text(rt, &mut segments), sizes, sink);
+    }
+    let mut segments = begins_bytes(rt, &mut decoder, Some(length), 1);
+    drains_bytes(rt, &mut next_bytes(rt, &mut segments), sizes, sink)
 }
 
-// Drains a text of a single segment, whose body is written whole, and compares how the drain ended.
-fn text_row(rt: &impl Abort, bytes: &[u8], sizes: &[usize], calls: usize, end: &End) {
+// Drains a string of a single segment into room for its body, of at most six bytes, and compares how that ended, and how
+// much of the body was written.
+fn row(rt: &impl Abort, bytes: &[u8], sizes: &[usize], want: &Ended, written: usize) {
     let mut space = [0; 6];
-    let mut sink = Encoder::from(SliceWriter::new(&mut space));
-    let drained = drains_whole_text(rt, bytes, sizes, &mut sink);
-    let is_written = Some(sink.into_inner().written()) == bytes.get(1..);
-    assert!(rt;
-        ends_so(&drained, calls, end) && is_written,
-        "at {bytes:?}, {sizes:?}"
-    );
+    let room = bytes.len().saturating_sub(1).min(6);
+    let mut sink = Encoder::from(SliceWriter::new(&mut space[..room]));
+    let is_ended = drains_whole(rt, bytes, sizes, &mut sink) == *want;
+    let is_written = bytes.get(1..=written) == Some(sink.into_inner().written());
+    assert!(rt; is_ended && is_written, "at {bytes:?}, {sizes:?}");
 }
 
 // The character U+1F600, and the same between two letters.
@@ -88,50 +100,30 @@ const EMOJI: &[u8] = b"\x64\xf0\x9f\x98\x80";
 
 const LETTERS: &[u8] = b"\x66a\xf0\x9f\x98\x80b";
 
-// A text in its bytes, the sizes of the buffers, how many calls there are, and how the drain ends.
-type Row = (&'static [u8], &'static [usize], usize, End);
+const NUMBERS: &[u8] = b"\x43\x01\x02\x03";
 
-static TEXTS: [Row; 8] = [
-    (EMOJI, &[4], 1, End::OutOfSizes),
-    (EMOJI, &[4, 4], 2, End::Ended),
-    (EMOJI, &[3, 3, 4, 4], 4, End::Ended),
-    (LETTERS, &[4, 4, 4, 4, 4], 4, End::Ended),
-    (LETTERS, &[5, 5, 5, 5, 5], 3, End::Ended),
-    (LETTERS, &[64, 64], 2, End::Ended),
-    (b"\x60", &[4], 1, End::Ended),
-    (b"\x60", &[], 0, End::OutOfSizes),
+// A string of one segment in its bytes, the sizes of the buffers, how the drain ends, and how much of the body is
+// written.
+static ROWS: [(&[u8], &[usize], Ended, usize); 12] = [
+    (EMOJI, &[4], Ok((1, End::OutOfSizes)), 4),
+    (EMOJI, &[4, 4], Ok((2, End::Ended)), 4),
+    (EMOJI, &[3, 3, 4, 4], Ok((4, End::Ended)), 4),
+    (LETTERS, &[4, 4, 4, 4, 4], Ok((4, End::Ended)), 6),
+    (LETTERS, &[5, 5, 5, 5, 5], Ok((3, End::Ended)), 6),
+    (LETTERS, &[64, 64], Ok((2, End::Ended)), 6),
+    (b"\x60", &[4], Ok((1, End::Ended)), 0),
+    (b"\x60", &[], Ok((0, End::OutOfSizes)), 0),
+    // a body that is no text
+    (b"\x62a\xff", &[4, 4], Err(Stop::Syntax(0)), 1),
+    // bytes
+    (NUMBERS, &[2, 2, 2], Ok((3, End::Ended)), 3),
+    (NUMBERS, &[0, 0], Ok((2, End::OutOfSizes)), 0),
+    (NUMBERS, &[2], Ok((1, End::OutOfSizes)), 2),
 ];
 
 #[test]
-fn texts_by_any_sizes(rt: HostRuntime) {
-    for (bytes, sizes, calls, end) in &TEXTS {
-        text_row(&rt, bytes, sizes, *calls, end);
+fn strings_by_any_sizes(rt: HostRuntime) {
+    for (bytes, sizes, want, written) in &ROWS {
+        row(&rt, bytes, sizes, want, *written);
     }
-}
-
-#[test]
-fn a_body_that_is_no_text(rt: HostRuntime) {
-    let mut space = [0; 6];
-    let mut sink = Encoder::from(SliceWriter::new(&mut space));
-    let drained = drains_whole_text(&rt, b"\x62a\xff", &[4, 4], &mut sink);
-    assert!(rt; matches!(drained, Err(RecodeError::Read(Error::Syntax(0)))));
-    assert!(rt; sink.into_inner().written() == b"a".as_slice());
-}
-
-// Drains a byte string of a single segment, and compares how the drain ended, and what was written.
-fn bytes_row(rt: &impl Abort, sizes: &[usize], want: &[u8], calls: usize, end: &End) {
-    let mut space = [0; 3];
-    let mut decoder = Decoder::from(SliceReader::new(b"\x43\x01\x02\x03"));
-    let mut sink = Encoder::from(SliceWriter::new(&mut space));
-    let mut segments = begins_bytes(rt, &mut decoder, Some(3), 1);
-    let drained = drains_bytes(rt, &mut next_segment(rt, &mut segments), sizes, &mut sink);
-    let is_written = sink.into_inner().written() == want;
-    assert!(rt; ends_so(&drained, calls, end) && is_written, "by {sizes:?}");
-}
-
-#[test]
-fn bytes_by_any_sizes(rt: HostRuntime) {
-    bytes_row(&rt, &[2, 2, 2], &[1, 2, 3], 3, &End::Ended);
-    bytes_row(&rt, &[0, 0], &[], 2, &End::OutOfSizes);
-    bytes_row(&rt, &[2], &[1, 2], 1, &End::OutOfSizes);
 }

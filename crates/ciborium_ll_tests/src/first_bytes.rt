@@ -39,6 +39,7 @@ fn first_bytes_by_what_stands_behind_them(rt: HostRuntime) {
         (None, 27),
     ];
     for (length, want) in rows {
-        assert_eq!(rt; rows_with(length), want);
+        let found = rows_with(length);
+        assert!(rt; found == want, "{found} with {length:?} behind");
     }
 }

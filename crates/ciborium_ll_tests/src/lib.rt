@@ -8,6 +8,8 @@ mod buffered;
 #[cfg(test)]
 mod calls;
 #[cfg(test)]
+mod checks;
+#[cfg(test)]
 mod copies;
 #[cfg(test)]
 mod drains;

@@ -1,8 +1,8 @@
-use crate::calls::begins_text;
-use crate::drains::{drains_text, next_segment};
-use ciborium_ll::io::{SliceReader, SliceWriter};
+use crate::checks::holds_at;
+use crate::drains::drains_whole;
+use ciborium_ll::Encoder;
+use ciborium_ll::io::SliceWriter;
 use ciborium_ll::laws::End;
-use ciborium_ll::{Decoder, Encoder};
 use simdutf8::basic;
 use std::process::Abort;
 
@@ -12,15 +12,14 @@ const BYTES: [u8; 20] = [
     0xf0, 0xf1, 0xf4, 0xf5,
 ];
 
-// Whether the text of this length that the bytes are is read to its end, by buffers of four bytes.
-fn ends(rt: &impl Abort, bytes: &[u8], length: usize) -> bool {
+// Whether the text that the bytes are is read to its end, by buffers of four bytes.
+fn ends(rt: &impl Abort, bytes: &[u8]) -> bool {
     let mut written = [0; 4];
-    let mut decoder = Decoder::from(SliceReader::new(bytes));
     let mut sink = Encoder::from(SliceWriter::new(&mut written));
-    let mut segments = begins_text(rt, &mut decoder, Some(length), 1);
-    let mut segment = next_segment(rt, &mut segments);
-    let drained = drains_text(rt, &mut segment, &[4; 6], &mut sink);
-    matches!(drained, Ok(drained) if drained.end == End::Ended)
+    matches!(
+        drains_whole(rt, bytes, &[4; 6], &mut sink),
+        Ok((_, End::Ended))
+    )
 }
 
 // The title of a text of this length, at most four, and the bytes that are the digits of a number by 20.
@@ -35,9 +34,9 @@ fn list_of(length: u8, number: usize) -> [u8; 5] {
 }
 
 // A list of bytes ends as a text where it is one.
-fn list_row(rt: &impl Abort, bytes: &[u8], length: usize) {
+fn list_row(rt: &impl Abort, bytes: &[u8]) {
     let is_text = basic::from_utf8(bytes.get(1..).unwrap_or(&[])).is_ok();
-    assert!(rt; ends(rt, bytes, length) == is_text, "{bytes:?}");
+    holds_at(rt, ends(rt, bytes) == is_text, bytes);
 }
 
 #[test]
@@ -45,7 +44,7 @@ fn short_lists_end_where_they_are_text(rt: HostRuntime) {
     for (length, count) in [(1u8, 20usize), (2, 400), (3, 8_000), (4, 160_000)] {
         let end = usize::from(length);
         for number in 0..count {
-            list_row(&rt, &list_of(length, number)[..=end], end);
+            list_row(&rt, &list_of(length, number)[..=end]);
         }
     }
 }

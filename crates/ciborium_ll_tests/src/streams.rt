@@ -1,5 +1,6 @@
-use crate::calls::{flushes, pulls, pushes, reads, writes};
-use ciborium_ll::io::{ReadFault, StdReader, StdWriter, Write, WriteFault};
+use crate::calls::{flushes, pushes, reads, writes};
+use crate::checks::holds;
+use ciborium_ll::io::{Read, ReadFault, StdReader, StdWriter, Write, WriteFault};
 use ciborium_ll::{Decoder, Encoder, Header};
 use ciborium_ll_fixtures::streams::{PartReader, PartWriter};
 use std::alloc::Global;
@@ -73,16 +74,25 @@ fn flushes_std<T: io::Write>(writer: &mut StdWriter<T>) -> Failure {
     write_failure(flushes(writer).err())
 }
 
+// Pulls the header of a number.
+fn gives_number<R: Read>(decoder: &mut Decoder<R>, want: u64) -> bool
+where
+    R::Error: Drop,
+{
+    matches!(decoder.pull(), Ok(Header::Positive(number)) if number == want)
+}
+
 // No contract says that a read over std succeeds. An adapter that always answered `End` would fail here.
 #[test]
 fn a_reader_in_memory(rt: HostRuntime) {
     let mut decoder = Decoder::from(StdReader::new([0x18, 24, 1, 2].as_slice()));
-    pulls(&rt, &mut decoder, Header::Positive(24), 2);
+    let is_given = gives_number(&mut decoder, 24);
+    holds(&rt, is_given && decoder.offset() == 2, "the header");
     let mut one = [0; 1];
-    assert!(rt; reads(&mut decoder, &mut one).is_ok());
-    assert_eq!(rt; one, [1]);
+    let is_read = reads(&mut decoder, &mut one).is_ok();
+    holds(&rt, is_read && one == [1], "the byte behind it");
     let left = decoder.into_inner().into_inner();
-    assert_eq!(rt; left, [2].as_slice());
+    holds(&rt, left == [2].as_slice(), "what is left");
 }
 
 #[test]
@@ -91,14 +101,18 @@ fn one_byte_a_read(rt: HostRuntime) {
     let inner = PartReader::new(&[1, 2, 3, 4], 1).failing_at(4, interrupted);
     let mut reader = StdReader::new(inner);
     let mut two = [0; 2];
-    assert!(rt; reads_std(&mut reader, &mut two) == Failure::Never);
-    assert!(rt; two == [1, 2]);
-    assert!(rt; reads_std(&mut reader, &mut []) == Failure::Never);
-    assert!(rt; reads_std(&mut reader, &mut two) == Failure::Failed(interrupted));
-    assert!(rt; reads_std(&mut reader, &mut two) == Failure::Stopped);
+    let failure = reads_std(&mut reader, &mut two);
+    holds(&rt, failure == Failure::Never && two == [1, 2], "two bytes");
+    let failure = reads_std(&mut reader, &mut []);
+    holds(&rt, failure == Failure::Never, "no byte");
+    let failure = reads_std(&mut reader, &mut two);
+    let is_right = failure == Failure::Failed(interrupted);
+    holds(&rt, is_right, "an interrupted read");
+    let failure = reads_std(&mut reader, &mut two);
+    holds(&rt, failure == Failure::Stopped, "one byte is left");
     let inner = reader.into_inner();
-    assert_eq!(rt; inner.calls, 6);
-    assert!(rt; inner.left.is_empty());
+    let is_right = inner.calls == 6 && inner.left.is_empty();
+    holds(&rt, is_right, "the calls within");
 }
 
 // A read of a reader that fails, and how many calls came to it.
@@ -126,8 +140,9 @@ fn an_error_of_std_is_handed_on(rt: HostRuntime) {
         io::ErrorKind::Other,
     ] {
         let failed = Failure::Failed(kind);
-        assert!(rt; failed_read(kind) == (failed, 1));
-        assert!(rt; failed_write(kind) == (failed, failed, 2));
+        holds(&rt, failed_read(kind) == (failed, 1), "a read");
+        let is_right = failed_write(kind) == (failed, failed, 2);
+        holds(&rt, is_right, "a write and a flush");
     }
 }
 
@@ -148,9 +163,10 @@ fn writes_all(alloc: Global, bytes: &[u8]) -> bool {
 fn more_than_a_million_bytes(rt: HostRuntime) -> Result<(), Fail> {
     let bytes = vec![in rt.alloc(); 7u8; 1_100_000]?;
     let mut data = vec![in rt.alloc(); 0u8; 1_100_000]?;
-    assert!(rt; reads_all(bytes.as_slice(), data.as_mut_slice()));
-    assert!(rt; data.as_slice() == bytes.as_slice());
-    assert!(rt; writes_all(rt.alloc(), bytes.as_slice()));
+    let is_read = reads_all(bytes.as_slice(), data.as_mut_slice());
+    let is_right = is_read && data.as_slice() == bytes.as_slice();
+    holds(&rt, is_right, "a read");
+    holds(&rt, writes_all(rt.alloc(), bytes.as_slice()), "a write");
     Ok(())
 }
 
@@ -158,10 +174,12 @@ fn more_than_a_million_bytes(rt: HostRuntime) -> Result<(), Fail> {
 #[test]
 fn a_writer_in_memory(rt: HostRuntime) {
     let mut encoder = Encoder::from(StdWriter::new(Vec::new(rt.alloc())));
-    assert!(rt; pushes(&mut encoder, Header::Bytes(Some(2))).is_ok());
-    assert!(rt; writes(&mut encoder, &[1, 2]).is_ok());
+    let is_pushed = pushes(&mut encoder, Header::Bytes(Some(2))).is_ok();
+    let is_written = writes(&mut encoder, &[1, 2]).is_ok();
+    holds(&rt, is_pushed && is_written, "the writes");
     let taken = encoder.into_inner().into_inner();
-    assert_eq!(rt; taken.as_slice(), [0x42, 1, 2].as_slice());
+    let is_right = taken.as_slice() == [0x42, 1, 2].as_slice();
+    holds(&rt, is_right, "what was taken");
 }
 
 // What a writer took, in how many calls and flushes.
@@ -174,21 +192,30 @@ fn one_byte_a_write(rt: HostRuntime) {
     let interrupted = io::ErrorKind::Interrupted;
     let inner = PartWriter::new(rt.alloc(), 1).within(4);
     let mut writer = StdWriter::new(inner.failing_at(4, Some(interrupted)));
-    assert!(rt; writes_std(&mut writer, &[1, 2]) == Failure::Never);
-    assert!(rt; writes_std(&mut writer, &[]) == Failure::Never);
-    assert!(rt; writes_std(&mut writer, &[3, 4]) == Failure::Failed(interrupted));
-    assert!(rt; writes_std(&mut writer, &[5, 6]) == Failure::Stopped);
-    assert!(rt; came_to(&writer.into_inner(), &[1, 2, 3, 5], (6, 0)));
+    let failure = writes_std(&mut writer, &[1, 2]);
+    holds(&rt, failure == Failure::Never, "two bytes");
+    let failure = writes_std(&mut writer, &[]);
+    holds(&rt, failure == Failure::Never, "no byte");
+    let failure = writes_std(&mut writer, &[3, 4]);
+    let is_right = failure == Failure::Failed(interrupted);
+    holds(&rt, is_right, "an interrupted write");
+    let failure = writes_std(&mut writer, &[5, 6]);
+    holds(&rt, failure == Failure::Stopped, "room for one byte");
+    let is_right = came_to(&writer.into_inner(), &[1, 2, 3, 5], (6, 0));
+    holds(&rt, is_right, "what was taken");
 }
 
 #[test]
 fn a_flush_is_passed_on(rt: HostRuntime) {
     let mut writer = StdWriter::new(PartWriter::new(rt.alloc(), 1));
-    assert!(rt; flushes_std(&mut writer) == Failure::Never);
+    let failure = flushes_std(&mut writer);
+    holds(&rt, failure == Failure::Never, "a flush");
     let inner = writer.into_inner();
-    assert_eq!(rt; (inner.calls, inner.flushes), (0, 1));
+    holds(&rt, came_to(&inner, &[], (0, 1)), "what was flushed");
 
     let mut writer = StdWriter::new(inner.failing_to_flush());
-    assert!(rt; flushes_std(&mut writer) == Failure::Failed(io::ErrorKind::Other));
-    assert_eq!(rt; writer.into_inner().flushes, 2);
+    let failure = flushes_std(&mut writer);
+    let is_right = failure == Failure::Failed(io::ErrorKind::Other);
+    holds(&rt, is_right, "a flush that fails");
+    holds(&rt, writer.into_inner().flushes == 2, "the flushes within");
 }

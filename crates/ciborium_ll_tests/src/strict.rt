@@ -1,30 +1,13 @@
-use crate::calls::{begins_bytes, gives, gives_back};
-use crate::elements::{Stop, recodes};
-use crate::strings::refused_at;
-use crate::vectors::{Next, next_header};
+use crate::calls::{Step, steps_row};
+use crate::checks::{Stop, holds, holds_at, next_header};
+use crate::elements::recodes;
+use crate::strings::segments_row;
 use ciborium_ll::io::{SliceReader, SliceWriter};
 use ciborium_ll::recode::strict_len;
 use ciborium_ll::{Decoder, Encoder, Header};
 use ciborium_ll_fixtures::samples::VECTORS;
 use std::process::Abort;
 use std::test::Fail;
-
-// Copies so many elements, each from a strict decoder, and compares what was written, the answer and the offset.
-fn copies_strictly(
-    rt: &impl Abort,
-    bytes: &[u8],
-    count: usize,
-    written: &[u8],
-    end: Stop,
-    offset: usize,
-) -> bool {
-    let mut space = [0; 16];
-    let mut decoder = Decoder::strict(SliceReader::new(bytes));
-    let mut encoder = Encoder::from(SliceWriter::new(&mut space));
-    let stopped = recodes(rt, &mut decoder, &mut encoder, count, &mut [0; 64]);
-    let is_written = encoder.into_inner().written() == written;
-    is_written && stopped == end && decoder.offset() == offset
-}
 
 // Bytes, how many elements are copied, what is written, how the copy ends, and the offset behind it.
 type Row = (&'static [u8], usize, &'static [u8], Stop, usize);
@@ -34,17 +17,20 @@ fn length_of(bytes: &[u8], count: usize) -> Option<usize> {
     strict_len(bytes, count)
 }
 
-// Compares copies, and how long these elements are where each is in its shortest spelling.
-fn copy_rows(rt: &impl Abort, rows: &[Row]) {
-    for &(bytes, count, written, end, offset) in rows {
-        let is_copied = copies_strictly(rt, bytes, count, written, end, offset);
-        let want = (end == Stop::Never).then_some(offset);
-        let is_long = length_of(bytes, count) == want;
-        assert!(rt; is_copied && is_long, "at {bytes:?}");
-    }
+// Copies elements, each from a strict decoder, and compares what was written, the answer and the offset, and how long
+// the elements are where each is in its shortest spelling.
+fn copy_row(rt: &impl Abort, bytes: &[u8], count: usize, written: &[u8], end: Stop, offset: usize) {
+    let mut space = [0; 16];
+    let mut decoder = Decoder::strict(SliceReader::new(bytes));
+    let mut encoder = Encoder::from(SliceWriter::new(&mut space));
+    let is_ended = recodes(rt, &mut decoder, &mut encoder, count, &mut [0; 64]) == end;
+    let is_written = encoder.into_inner().written() == written && decoder.offset() == offset;
+    let length = (end == Stop::Never).then_some(offset);
+    let is_long = length_of(bytes, count) == length;
+    holds_at(rt, is_ended && is_written && is_long, bytes);
 }
 
-static TITLES: [Row; 12] = [
+static ROWS: [Row; 20] = [
     (&[0x18, 5], 1, &[], Stop::Syntax(0), 2),
     (&[0x18, 0x17], 1, &[], Stop::Syntax(0), 2),
     (&[0x18, 0x18], 1, &[0x18, 0x18], Stop::Never, 2),
@@ -57,14 +43,7 @@ static TITLES: [Row; 12] = [
     (&[0x1c], 1, &[], Stop::Syntax(0), 1),
     (&[0x19, 0], 1, &[], Stop::Short, 1),
     (&[0x18, 5], 0, &[], Stop::Never, 0),
-];
-
-#[test]
-fn titles_in_their_shortest_spelling(rt: HostRuntime) {
-    copy_rows(&rt, &TITLES);
-}
-
-static STRINGS: [Row; 8] = [
+    // strings
     (
         &[0x5f, 0x41, 1, 0xff],
         1,
@@ -88,8 +67,10 @@ static STRINGS: [Row; 8] = [
 ];
 
 #[test]
-fn strings_in_their_shortest_spelling(rt: HostRuntime) {
-    copy_rows(&rt, &STRINGS);
+fn elements_in_their_shortest_spelling(rt: HostRuntime) {
+    for &(bytes, count, written, end, offset) in &ROWS {
+        copy_row(&rt, bytes, count, written, end, offset);
+    }
 }
 
 #[test]
@@ -98,10 +79,11 @@ fn a_body_of_many_chunks(rt: HostRuntime) {
     let mut bytes = [0; 300];
     bytes[0] = 0x58;
     bytes[1] = 250;
-    assert!(rt; length_of(&bytes, 1) == Some(252));
-    assert!(rt; length_of(&bytes, 49) == Some(300));
-    assert!(rt; length_of(&bytes, 50).is_none());
-    assert!(rt; length_of(&bytes[..251], 1).is_none());
+    holds(&rt, length_of(&bytes, 1) == Some(252), "the string");
+    holds(&rt, length_of(&bytes, 49) == Some(300), "all of it");
+    holds(&rt, length_of(&bytes, 50).is_none(), "one element more");
+    let is_right = length_of(&bytes[..251], 1).is_none();
+    holds(&rt, is_right, "a string that is cut");
 }
 
 // The numbers of bytes that an affix has, and what the first byte of a title says of each.
@@ -124,30 +106,26 @@ fn longer_title(first: u8, number: &[u8], size: usize) -> [u8; 9] {
     title
 }
 
-// Pulls a title by a decoder of either kind: the header, where it is taken whole.
-fn pulled(rt: &impl Abort, mut decoder: Decoder<SliceReader>, title: &[u8]) -> Option<Header> {
-    let answer = next_header(&mut decoder);
-    assert_eq!(rt; decoder.offset(), title.len(), "at {title:?}");
-    match answer {
-        Next::Header(header) => Some(header),
-        _ => {
-            assert!(rt; answer == Next::Syntax(0), "at {title:?}");
-            None
-        }
-    }
-}
-
-// What a decoder of either kind gives for a title.
-fn both_pulled(rt: &impl Abort, title: &[u8]) -> (Option<Header>, Option<Header>) {
-    let plain = pulled(rt, Decoder::from(SliceReader::new(title)), title);
-    let strict = pulled(rt, Decoder::strict(SliceReader::new(title)), title);
-    (plain, strict)
+// Pulls a title by a decoder of either kind, which takes it whole, and compares the answer.
+fn title_row(
+    rt: &impl Abort,
+    mut decoder: Decoder<SliceReader>,
+    title: &[u8],
+    want: Option<Header>,
+) {
+    let is_right = next_header(&mut decoder) == want.ok_or(Stop::Syntax(0));
+    holds_at(rt, is_right && decoder.offset() == title.len(), title);
 }
 
 // Compares what decoders of both kinds give for a title.
-fn title_row(rt: &impl Abort, title: &[u8], plain: Header, strict: Option<Header>) {
-    let is_right = both_pulled(rt, title) == (Some(plain), strict);
-    assert!(rt; is_right, "at {title:?}");
+fn both_rows(rt: &impl Abort, title: &[u8], plain: Header, strict: Option<Header>) {
+    title_row(
+        rt,
+        Decoder::from(SliceReader::new(title)),
+        title,
+        Some(plain),
+    );
+    title_row(rt, Decoder::strict(SliceReader::new(title)), title, strict);
 }
 
 // No strict decoder takes a longer title of a header, and another one takes each. It tells how many there are.
@@ -162,7 +140,7 @@ fn longer_rows(rt: &impl Abort, first: u8, affix: &[u8], header: Header) -> usiz
     for (code, size) in AFFIXES {
         if has_longer(first, affix.len(), size) {
             let title = longer_title((first & 0xe0) | code, number, size);
-            title_row(rt, title.get(..=size).unwrap_or(&[]), header, None);
+            both_rows(rt, title.get(..=size).unwrap_or(&[]), header, None);
             count = count.saturating_add(1);
         }
     }
@@ -174,7 +152,7 @@ fn longer_rows(rt: &impl Abort, first: u8, affix: &[u8], header: Header) -> usiz
 fn vector_row(rt: &impl Abort, title: &[u8], header: Header) -> usize {
     let is_small = matches!(header, Header::Simple(24..=31));
     let want = if is_small { None } else { Some(header) };
-    title_row(rt, title, header, want);
+    both_rows(rt, title, header, want);
     match title.split_first() {
         Some((first, affix)) => longer_rows(rt, *first, affix, header),
         None => 0,
@@ -189,7 +167,7 @@ fn vectors_and_their_longer_titles(rt: HostRuntime) -> Result<(), Fail> {
         all = all.saturating_add(vector_row(&rt, shortest.as_slice(), header));
     }
     // The titles of numbers that are a byte have four longer ones, and so on; simple values in one byte have one.
-    assert_eq!(rt; all, 80);
+    holds(&rt, all == 80, "how many longer titles there are");
     Ok(())
 }
 
@@ -241,25 +219,21 @@ fn every_list_of_one_and_two_bytes(rt: HostRuntime) {
     }
 }
 
-// What a decoder answers, and how many bytes it takes.
-fn answer_of(mut decoder: Decoder<SliceReader>) -> (Next, usize) {
-    let answer = next_header(&mut decoder);
-    (answer, decoder.offset())
-}
-
 // Whether no decoder takes the title that begins with a byte. Else both do: no number is greater than those here, so
 // each title that is one is the shortest.
 fn neither_takes(rt: &impl Abort, first: u8) -> bool {
     let bytes = [first, 0xff, 0xff, 0xff, 0xff, 0xff, 0xff, 0xff, 0xff];
-    let (plain, offset) = answer_of(Decoder::from(SliceReader::new(&bytes)));
-    let (strict, strict_offset) = answer_of(Decoder::strict(SliceReader::new(&bytes)));
-    let is_taken = matches!(plain, Next::Header(_));
+    let mut plain = Decoder::from(SliceReader::new(&bytes));
+    let mut strict = Decoder::strict(SliceReader::new(&bytes));
+    let is_taken = next_header(&mut plain).is_ok();
+    let answer = next_header(&mut strict);
     let is_told = if is_taken {
-        matches!(strict, Next::Header(_))
+        answer.is_ok()
     } else {
-        strict == Next::Syntax(0)
+        answer == Err(Stop::Syntax(0))
     };
-    assert!(rt; is_told && strict_offset == offset, "at {first}");
+    let is_same = plain.offset() == strict.offset();
+    holds_at(rt, is_told && is_same, &[first]);
     !is_taken
 }
 
@@ -269,30 +243,21 @@ fn first_bytes_that_neither_takes(rt: HostRuntime) {
     for first in 0..=u8::MAX {
         refused = refused.saturating_add(usize::from(neither_takes(&rt, first)));
     }
-    assert_eq!(rt; refused, 27);
-}
-
-// Asks a string of indefinite length twice for a segment, where a further open stands.
-fn refuses_an_open(rt: &impl Abort, bytes: &[u8]) {
-    let mut decoder = Decoder::strict(SliceReader::new(bytes));
-    let mut segments = begins_bytes(rt, &mut decoder, None, 1);
-    for _ in 0..2 {
-        assert!(rt; refused_at(&mut segments) == Some(1));
-    }
-    assert!(rt; decoder.offset() == 2);
-}
-
-// Gives back a header that a strict decoder would not take, and pulls it again.
-fn takes_what_was_pushed(rt: &impl Abort, bytes: &[u8]) {
-    let small = Header::Simple(24);
-    let mut decoder = Decoder::strict(SliceReader::new(bytes));
-    assert!(rt; gives(&mut decoder, Header::Positive(24), 2));
-    gives_back(rt, &mut decoder, small, 0);
-    assert!(rt; gives(&mut decoder, small, 2));
+    holds(&rt, refused == 27, "how many first bytes begin no title");
 }
 
 #[test]
 fn opens_and_waiting_headers(rt: HostRuntime) {
-    refuses_an_open(&rt, &[0x5f, 0x5f, 0x41, 1, 0xff, 0xff]);
-    takes_what_was_pushed(&rt, &[0x18, 0x18]);
+    // A string of the indefinite form is asked twice for a segment, where a further open stands.
+    let decoder = Decoder::strict(SliceReader::new(&[0x5f, 0x5f, 0x41, 1, 0xff, 0xff]));
+    let refused = Err(Stop::Syntax(1));
+    segments_row(&rt, decoder, "a further open", &[refused, refused], 2);
+    // A header that a strict decoder would not take is given back, and pulled again.
+    let steps = &[
+        (Step::Pull(Ok(Header::Positive(24))), 2),
+        (Step::Push(Header::Simple(24)), 0),
+        (Step::Pull(Ok(Header::Simple(24))), 2),
+    ];
+    let decoder = Decoder::strict(SliceReader::new(&[0x18, 0x18]));
+    steps_row(&rt, decoder, "a small simple value comes back", steps, &[]);
 }

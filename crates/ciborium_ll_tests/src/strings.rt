@@ -1,172 +1,138 @@
-use crate::calls::{begins_bytes, begins_text, gives, has_left};
-use crate::drains::next_segment;
-use ciborium_ll::io::{Read, SliceReader};
-use ciborium_ll::{Bytes, Decoder, Error, Header, Segment, Segments, Text};
+use crate::calls::{Step, begins_bytes, begins_text, has_left, steps_row};
+use crate::checks::{Stop, holds, holds_at, read_stop};
+use crate::drains::{next_bytes, next_text};
+use ciborium_ll::io::SliceReader;
+use ciborium_ll::{Bytes, Decoder, Header, Segment, Segments, Text};
 use std::process::Abort;
 
-// What a call on a segment of text answers.
-#[derive(Clone, Copy)]
-enum Answer {
-    Chunk(&'static str),
-    Ended,
-    Syntax(usize),
-}
+// What a pull from a segment of text has to answer: a chunk, the end, or why it stops.
+type Answer = Result<Option<&'static str>, Stop>;
 
-impl Answer {
-    // Whether this chunk is wanted.
-    fn is_chunk(self, chunk: &str) -> bool {
-        matches!(self, Answer::Chunk(text) if text == chunk)
-    }
-
-    // Whether a damage of the body at this place is wanted.
-    fn is_damage(self, place: usize) -> bool {
-        matches!(self, Answer::Syntax(at) if at == place)
-    }
-}
-
-// Pulls from a segment of text by a buffer of at most eight bytes, and compares the answer.
-fn pulls_chunk<R: Read>(segment: &mut Segment<'_, R, Text>, size: usize, want: Answer) -> bool
-where
-    R::Error: Drop,
-{
+// Pulls from a segment of text by a buffer of at most eight bytes, and compares the answer, and what is left.
+fn pulls_chunk(
+    segment: &mut Segment<'_, SliceReader, Text>,
+    size: usize,
+    want: Answer,
+    left: usize,
+) -> bool {
     let mut space = [0; 8];
-    match segment.pull(&mut space[..size.min(8)]) {
-        Ok(Some(chunk)) => want.is_chunk(chunk),
-        Ok(None) => matches!(want, Answer::Ended),
-        Err(Error::Syntax(place)) => want.is_damage(place),
-        Err(_) => false,
-    }
+    let is_right = match segment.pull(&mut space[..size.min(8)]) {
+        Ok(chunk) => want == Ok(chunk),
+        Err(error) => want == Err(read_stop(&error)),
+    };
+    is_right && segment.left() == left
 }
 
 // Reads the only segment of a text by buffers of these sizes, and compares answers and what is left.
-fn text_row(rt: &impl Abort, bytes: &[u8], length: usize, steps: &[(usize, Answer, usize)]) {
+fn text_row(rt: &impl Abort, bytes: &[u8], steps: &[(usize, Answer, usize)]) {
+    let length = bytes.len().saturating_sub(1);
     let mut decoder = Decoder::from(SliceReader::new(bytes));
     let mut segments = begins_text(rt, &mut decoder, Some(length), 1);
-    let mut segment = next_segment(rt, &mut segments);
-    assert!(rt; segment.left() == length, "at {bytes:?}");
+    let mut segment = next_text(rt, &mut segments);
+    holds_at(rt, segment.left() == length, bytes);
     for &(size, want, left) in steps {
-        let is_right = pulls_chunk(&mut segment, size, want) && segment.left() == left;
-        assert!(rt; is_right, "by a buffer of {size}");
+        holds_at(rt, pulls_chunk(&mut segment, size, want, left), bytes);
     }
 }
 
-#[test]
-fn a_text_in_two_chunks(rt: HostRuntime) {
-    let bytes = b"\x6dHello, World!";
-    let steps = [
-        (7, Answer::Chunk("Hello, "), 6),
-        (7, Answer::Chunk("World!"), 0),
-        (7, Answer::Ended, 0),
-        (7, Answer::Ended, 0),
-    ];
-    text_row(&rt, bytes, 13, &steps);
-}
+// Texts of one segment. For each call on it, the size of the buffer, the answer, and what is left behind it.
+static TEXTS: [(&[u8], &[(usize, Answer, usize)]); 6] = [
+    // two chunks
+    (
+        b"\x6dHello, World!",
+        &[
+            (7, Ok(Some("Hello, ")), 6),
+            (7, Ok(Some("World!")), 0),
+            (7, Ok(None), 0),
+            (7, Ok(None), 0),
+        ],
+    ),
+    // a damage that is found late, and one that is found at once
+    (
+        b"\x62a\xff",
+        &[
+            (4, Ok(Some("a")), 1),
+            (4, Err(Stop::Syntax(0)), 0),
+            (4, Err(Stop::Syntax(0)), 0),
+        ],
+    ),
+    (
+        b"\x65a\xffbcd",
+        &[(8, Err(Stop::Syntax(0)), 0), (8, Err(Stop::Syntax(0)), 0)],
+    ),
+    // a character that waits for room
+    (
+        b"\x64\xf0\x9f\x98\x80",
+        &[
+            (3, Ok(Some("")), 4),
+            (3, Ok(Some("")), 4),
+            (4, Ok(Some("\u{1f600}")), 0),
+            (4, Ok(None), 0),
+        ],
+    ),
+    // a rest that is damaged, and one that is none
+    (
+        b"\x64\xff\x61\x62\x63",
+        &[
+            (1, Ok(Some("")), 4),
+            (2, Ok(Some("")), 4),
+            (3, Ok(Some("")), 4),
+            (4, Err(Stop::Syntax(0)), 0),
+            (4, Err(Stop::Syntax(0)), 0),
+        ],
+    ),
+    (
+        b"\x63\xe0\xa0\x80",
+        &[
+            (1, Ok(Some("")), 3),
+            (2, Ok(Some("")), 3),
+            (3, Ok(Some("\u{800}")), 0),
+            (3, Ok(None), 0),
+        ],
+    ),
+];
 
 #[test]
-fn a_damage_comes_late_or_at_once(rt: HostRuntime) {
-    let late = [
-        (4, Answer::Chunk("a"), 1),
-        (4, Answer::Syntax(0), 0),
-        (4, Answer::Syntax(0), 0),
-    ];
-    text_row(&rt, b"\x62a\xff", 2, &late);
-    let at_once = [(8, Answer::Syntax(0), 0), (8, Answer::Syntax(0), 0)];
-    text_row(&rt, b"\x65a\xffbcd", 5, &at_once);
-}
-
-#[test]
-fn a_character_waits_for_room(rt: HostRuntime) {
-    let steps = [
-        (3, Answer::Chunk(""), 4),
-        (3, Answer::Chunk(""), 4),
-        (4, Answer::Chunk("\u{1f600}"), 0),
-        (4, Answer::Ended, 0),
-    ];
-    text_row(&rt, b"\x64\xf0\x9f\x98\x80", 4, &steps);
+fn texts_by_calls(rt: HostRuntime) {
+    for (bytes, steps) in &TEXTS {
+        text_row(&rt, bytes, steps);
+    }
 }
 
 // Begins to read a byte string, and asks for none of its segments.
-fn asks_for_segments<R: Read>(
-    rt: &impl Abort,
-    decoder: &mut Decoder<R>,
-    length: Option<usize>,
-    title: usize,
-)
-where
-    R::Error: Drop,
-{
-    let _segments = begins_bytes(rt, decoder, length, title);
+fn asks_for_segments(rt: &impl Abort, decoder: &mut Decoder<SliceReader>) {
+    let _segments = begins_bytes(rt, decoder, Some(5), 2);
 }
 
 #[test]
 fn segments_that_are_never_asked_for(rt: HostRuntime) {
     let mut decoder = Decoder::from(SliceReader::new(&[0x58, 5, 1, 2, 3, 4, 5]));
-    asks_for_segments(&rt, &mut decoder, Some(5), 2);
-    assert!(rt; decoder.offset() == 1 && decoder.is_waiting());
-    assert!(rt; gives(&mut decoder, Header::Bytes(Some(5)), 2));
+    asks_for_segments(&rt, &mut decoder);
+    let is_back = decoder.offset() == 1 && decoder.is_waiting();
+    holds(&rt, is_back, "the title waits");
+    let again = &[(Step::Pull(Ok(Header::Bytes(Some(5)))), 2)];
+    steps_row(&rt, decoder, "it is pulled", again, &[1, 2, 3, 4, 5]);
 }
 
-// Pulls a byte from a segment by a buffer of one byte, and compares it.
-fn pulls_byte<R: Read>(segment: &mut Segment<'_, R, Bytes>, want: u8) -> bool
-where
-    R::Error: Drop,
-{
+// Pulls from a segment by a buffer of one byte, and compares the chunk, or the end where none is wanted.
+fn pulls_byte(segment: &mut Segment<'_, SliceReader, Bytes>, want: Option<&[u8]>) -> bool {
     let mut one = [0; 1];
-    match segment.pull(&mut one) {
-        Ok(Some(chunk)) => chunk == [want].as_slice(),
-        _ => false,
-    }
-}
-
-// Finds the end of a segment.
-fn segment_ends<R: Read>(segment: &mut Segment<'_, R, Bytes>) -> bool
-where
-    R::Error: Drop,
-{
-    matches!(segment.pull(&mut [0; 1]), Ok(None))
+    matches!(segment.pull(&mut one), Ok(chunk) if chunk == want)
 }
 
 // Reads the next segment of a byte string to its end, byte by byte.
-fn reads_next<R: Read>(rt: &impl Abort, segments: &mut Segments<'_, R, Bytes>, body: &[u8])
-where
-    R::Error: Drop,
-{
-    let mut segment = next_segment(rt, segments);
-    assert!(rt; segment.left() == body.len(), "at {body:?}");
+fn reads_next(rt: &impl Abort, segments: &mut Segments<'_, SliceReader, Bytes>, body: &[u8]) {
+    let mut segment = next_bytes(rt, segments);
+    holds_at(rt, segment.left() == body.len(), body);
     for byte in body {
-        assert!(rt; pulls_byte(&mut segment, *byte), "at {byte}");
+        holds_at(rt, pulls_byte(&mut segment, Some(&[*byte])), body);
     }
-    assert!(rt; segment_ends(&mut segment), "at {body:?}");
-}
-
-// Asks for a segment behind the last one.
-fn has_ended<R: Read>(segments: &mut Segments<'_, R, Bytes>) -> bool
-where
-    R::Error: Drop,
-{
-    matches!(segments.pull(), Ok(None))
+    holds_at(rt, pulls_byte(&mut segment, None), body);
 }
 
 // Asks for a body behind the last one.
-fn has_no_body<R: Read>(segments: &mut Segments<'_, R, Bytes>) -> bool
-where
-    R::Error: Drop,
-{
+fn has_no_body(segments: &mut Segments<'_, SliceReader, Bytes>) -> bool {
     matches!(segments.advance(), Ok(None))
-}
-
-// Reads segments of bytes by a buffer of one byte, and then the string's end, again and again.
-fn reads_bodies<R: Read>(rt: &impl Abort, segments: &mut Segments<'_, R, Bytes>, bodies: &[&[u8]])
-where
-    R::Error: Drop,
-{
-    for body in bodies {
-        reads_next(rt, segments, body);
-    }
-    for _ in 0..2 {
-        assert!(rt; has_ended(segments));
-    }
-    assert!(rt; has_no_body(segments));
 }
 
 #[test]
@@ -174,87 +140,69 @@ fn bodies_of_nested_strings(rt: HostRuntime) {
     let bytes = [0x5f, 0x5f, 0x41, 1, 0xff, 0x41, 2, 0xff, 0];
     let mut decoder = Decoder::from(SliceReader::new(&bytes));
     let mut segments = begins_bytes(&rt, &mut decoder, None, 1);
-    reads_bodies(&rt, &mut segments, &[&[1], &[2]]);
-    assert!(rt; decoder.offset() == 8);
-    assert!(rt; has_left(decoder, &[0]));
-}
-
-// Pulls a segment, and drops it. It tells how long its body is.
-fn dropped_len<R: Read>(segments: &mut Segments<'_, R, Bytes>) -> Option<usize>
-where
-    R::Error: Drop,
-{
-    let found = match segments.pull() {
-        Ok(found) => found,
-        Err(_) => return None,
-    };
-    match found {
-        Some(segment) => Some(segment.left()),
-        None => None,
-    }
-}
-
-// Asks for a segment. It tells where a title stands that may not stand there.
-pub fn refused_at<R: Read>(segments: &mut Segments<'_, R, Bytes>) -> Option<usize>
-where
-    R::Error: Drop,
-{
-    match segments.pull() {
-        Err(Error::Syntax(place)) => Some(place),
-        _ => None,
-    }
-}
-
-// Drops so many segments that have three bytes, and then finds twice a title that may not stand there.
-fn finds_no_segment<R: Read>(
-    rt: &impl Abort,
-    segments: &mut Segments<'_, R, Bytes>,
-    dropped: usize,
-    place: usize,
-)
-where
-    R::Error: Drop,
-{
-    for _ in 0..dropped {
-        assert!(rt; dropped_len(segments) == Some(3));
-    }
+    reads_next(&rt, &mut segments, &[1]);
+    reads_next(&rt, &mut segments, &[2]);
     for _ in 0..2 {
-        assert!(rt; refused_at(segments) == Some(place));
+        let is_right = next_length(&mut segments) == Ok(None);
+        holds(&rt, is_right, "the string has ended");
+    }
+    holds(&rt, has_no_body(&mut segments), "no body is behind it");
+    let is_right = decoder.offset() == 8 && has_left(decoder, &[0]);
+    holds(&rt, is_right, "what is left");
+}
+
+// Asks for a segment, and drops it. It tells how long its body is, if there is one, or why none is given.
+fn next_length(segments: &mut Segments<'_, SliceReader, Bytes>) -> Result<Option<usize>, Stop> {
+    match segments.pull() {
+        Ok(Some(segment)) => Ok(Some(segment.left())),
+        Ok(None) => Ok(None),
+        Err(error) => Err(read_stop(&error)),
     }
 }
 
-// Reads a byte string of the indefinite form as `finds_no_segment` does, and compares the offset behind that.
-fn no_segment_row(rt: &impl Abort, bytes: &[u8], dropped: usize, place: usize, offset: usize) {
-    let mut decoder = Decoder::from(SliceReader::new(bytes));
+// Asks for segments of a byte string of the indefinite form, and compares the answers and the offset behind them.
+pub fn segments_row(
+    rt: &impl Abort,
+    mut decoder: Decoder<SliceReader>,
+    what: &str,
+    answers: &[Result<Option<usize>, Stop>],
+    offset: usize,
+) {
     let mut segments = begins_bytes(rt, &mut decoder, None, 1);
-    finds_no_segment(rt, &mut segments, dropped, place);
-    assert!(rt; decoder.offset() == offset, "at {bytes:?}");
+    for (index, want) in answers.iter().enumerate() {
+        let is_right = next_length(&mut segments) == *want;
+        assert!(rt; is_right, "{what}, answer {index}");
+    }
+    assert!(rt; decoder.offset() == offset, "{what}, the offset behind");
 }
 
 #[test]
 fn a_title_that_may_not_stand_in_a_string(rt: HostRuntime) {
-    no_segment_row(&rt, &[0x5f, 1], 0, 1, 2);
+    let decoder = Decoder::from(SliceReader::new(&[0x5f, 1]));
+    let refused = Err(Stop::Syntax(1));
+    segments_row(&rt, decoder, "a number", &[refused, refused], 2);
     // A segment that is dropped early leaves its body, which is then read as a title.
-    no_segment_row(&rt, &[0x5f, 0x43, 1, 2, 3, 0xff], 1, 2, 3);
+    let decoder = Decoder::from(SliceReader::new(&[0x5f, 0x43, 1, 2, 3, 0xff]));
+    let refused = Err(Stop::Syntax(2));
+    let answers = &[Ok(Some(3)), refused, refused];
+    segments_row(&rt, decoder, "a body that was left", answers, 3);
 }
 
 // Goes on to the first body of an open text, and reads it in one chunk.
-fn reads_body<R: Read>(
+fn reads_body(
     rt: &impl Abort,
-    segments: &mut Segments<'_, R, Text>,
+    segments: &mut Segments<'_, SliceReader, Text>,
     place: usize,
     want: &'static str,
-)
-where
-    R::Error: Drop,
-{
+) {
     let Ok(Some(body)) = segments.advance() else {
         panic!(rt; "no body");
     };
-    assert!(rt; (body.length, body.place) == (want.len(), place));
+    let is_body = body.length == want.len() && body.place == place;
+    holds(rt, is_body, "how long the body is, and where");
     let mut segment = segments.segment(body);
-    assert!(rt; pulls_chunk(&mut segment, 8, Answer::Chunk(want)));
-    assert!(rt; segment.left() == 0);
+    let is_read = pulls_chunk(&mut segment, 8, Ok(Some(want)), 0);
+    holds(rt, is_read, "the body is read");
 }
 
 #[test]
@@ -262,30 +210,11 @@ fn a_body_by_length_and_place(rt: HostRuntime) {
     let mut decoder = Decoder::from(SliceReader::new(b"\x7f\x7f\x62\xc3\xa9\xff\xff"));
     let mut segments = begins_text(&rt, &mut decoder, None, 1);
     reads_body(&rt, &mut segments, 2, "\u{e9}");
-    assert!(rt; decoder.offset() == 5);
+    holds(&rt, decoder.offset() == 5, "the offset behind the body");
 }
 
 #[test]
 fn kinds_of_strings() {
     let _bytes = Bytes::default();
     let _text = Text::default();
-}
-
-#[test]
-fn a_damaged_rest_is_judged_late(rt: HostRuntime) {
-    let steps = [
-        (1, Answer::Chunk(""), 4),
-        (2, Answer::Chunk(""), 4),
-        (3, Answer::Chunk(""), 4),
-        (4, Answer::Syntax(0), 0),
-        (4, Answer::Syntax(0), 0),
-    ];
-    text_row(&rt, b"\x64\xff\x61\x62\x63", 4, &steps);
-    let steps = [
-        (1, Answer::Chunk(""), 3),
-        (2, Answer::Chunk(""), 3),
-        (3, Answer::Chunk("\u{800}"), 0),
-        (3, Answer::Ended, 0),
-    ];
-    text_row(&rt, b"\x63\xe0\xa0\x80", 3, &steps);
 }

@@ -1,181 +1,112 @@
-use crate::calls::next_of;
+use crate::calls::pushes;
+use crate::checks::{Stop, holds, holds_at, next_header};
 use ciborium_ll::io::{SliceReader, SliceWriter};
-use ciborium_ll::{Decoder, Encoder, Error, Header};
+use ciborium_ll::{Decoder, Encoder, Header};
 use ciborium_ll_fixtures::samples::{
     LISTS, LONGER_TITLES, TWENTY_FIVE, TWENTY_FIVE_AND_BREAK, VECTORS,
 };
-use std::alloc::{AllocError, Global};
+use std::alloc::Global;
 use std::process::Abort;
 use std::test::Fail;
 
-// What a decoder of a slice answers.
-#[derive(Clone, Copy, PartialEq, Eq)]
-pub enum Next {
-    Header(Header),
-    Short,
-    Syntax(usize),
-    Other,
-}
-
-// Pulls a header.
-pub fn next_header(decoder: &mut Decoder<SliceReader>) -> Next {
-    match next_of(decoder) {
-        Ok(header) => Next::Header(header),
-        Err(Error::Io(_)) => Next::Short,
-        Err(Error::Syntax(place)) => Next::Syntax(place),
-        Err(_) => Next::Other,
-    }
-}
-
-// Pulls a header, unless the bytes have ended.
-fn next_or_end(rt: &impl Abort, decoder: &mut Decoder<SliceReader>, end: usize) -> Option<Header> {
-    let start = decoder.offset();
-    match next_header(decoder) {
-        Next::Header(header) => Some(header),
-        answer => {
-            assert!(rt;
-                answer == Next::Short && start == end,
-                "no header at {start}"
-            );
-            None
-        }
-    }
-}
-
-// The headers of bytes that end at a title's end.
-fn pulled(rt: &impl Abort, alloc: Global, bytes: &[u8]) -> Result<Vec<Header>, AllocError> {
+// Whether bytes are read as these headers, and have then ended.
+fn are_read(bytes: &[u8], headers: &[Header]) -> bool {
     let mut decoder = Decoder::from(SliceReader::new(bytes));
-    let mut headers = Vec::new(alloc);
-    for _ in 0..=bytes.len() {
-        match next_or_end(rt, &mut decoder, bytes.len()) {
-            Some(header) => headers.push(header)?,
-            None => break,
+    for header in headers {
+        if next_header(&mut decoder) != Ok(*header) {
+            return false;
         }
     }
-    Ok(headers)
+    decoder.offset() == bytes.len() && next_header(&mut decoder) == Err(Stop::Short)
 }
 
-// Whether bytes are read as these headers.
-fn are_read(rt: &impl Abort, alloc: Global, hex: &str, headers: &[Header]) -> Result<bool, Fail> {
-    let bytes = hex::decode(alloc, hex)?;
-    let read = pulled(rt, alloc, bytes.as_slice())?;
-    Ok(read.as_slice() == headers)
-}
-
-// The shortest titles of headers, in all at most 64 bytes.
-fn pushed(alloc: Global, headers: &[Header]) -> Result<String, Fail> {
+// Whether headers, whose titles are in all at most 64 bytes, are written as these, where there is room for no more.
+fn are_written(headers: &[Header], bytes: &[u8]) -> bool {
     let mut space = [0; 64];
-    let mut encoder = Encoder::from(SliceWriter::new(&mut space));
+    let room = bytes.len().min(64);
+    let mut encoder = Encoder::from(SliceWriter::new(&mut space[..room]));
     for header in headers {
-        encoder.push(*header)?;
+        if pushes(&mut encoder, *header).is_err() {
+            return false;
+        }
     }
-    let writer = encoder.into_inner();
-    let text = hex::encode(alloc, writer.written())?;
-    Ok(text)
-}
-
-// Whether headers are written as these titles.
-fn are_written(alloc: Global, headers: &[Header], hex: &str) -> Result<bool, Fail> {
-    let text = pushed(alloc, headers)?;
-    Ok(text.as_str() == hex)
+    encoder.into_inner().written() == bytes
 }
 
 // Reads headers from bytes, and writes their shortest titles.
-fn becomes_shortest(
+fn both_ways(
     rt: &impl Abort,
     alloc: Global,
     hex: &str,
     headers: &[Header],
     shortest: &str,
 ) -> Result<(), Fail> {
-    let are_read = are_read(rt, alloc, hex, headers)?;
-    let are_written = are_written(alloc, headers, shortest)?;
-    assert!(rt; are_read && are_written, "at {hex}");
+    let bytes = hex::decode(alloc, hex)?;
+    let written = hex::decode(alloc, shortest)?;
+    let is_right = are_read(bytes.as_slice(), headers) && are_written(headers, written.as_slice());
+    holds(rt, is_right, hex);
     Ok(())
-}
-
-// Reads headers from bytes, and writes the bytes from the headers.
-fn goes_both_ways(
-    rt: &impl Abort,
-    alloc: Global,
-    hex: &str,
-    headers: &[Header],
-) -> Result<(), Fail> {
-    becomes_shortest(rt, alloc, hex, headers, hex)
 }
 
 #[test]
 fn single_titles(rt: HostRuntime) -> Result<(), Fail> {
     for &(hex, header) in &VECTORS {
-        goes_both_ways(&rt, rt.alloc(), hex, &[header])?;
-        assert!(rt; header.title_len() == hex.len() / 2, "at {hex}");
+        both_ways(&rt, rt.alloc(), hex, &[header], hex)?;
+        holds(&rt, header.title_len() == hex.len() / 2, hex);
     }
     Ok(())
 }
 
 #[test]
 fn titles_in_a_row(rt: HostRuntime) -> Result<(), Fail> {
-    for &(hex, want) in &LISTS {
-        goes_both_ways(&rt, rt.alloc(), hex, want)?;
+    for &(hex, headers) in &LISTS {
+        both_ways(&rt, rt.alloc(), hex, headers, hex)?;
     }
     Ok(())
 }
 
+// The title of an array, the numbers from 1 to 25, and a break: so many of these headers, at most 27.
+fn twenty_five_row(
+    rt: &impl Abort,
+    alloc: Global,
+    hex: &str,
+    length: Option<usize>,
+    count: usize,
+) -> Result<(), Fail> {
+    let mut headers = [Header::Break; 27];
+    headers[0] = Header::Array(length);
+    for n in 1..=25u8 {
+        headers[usize::from(n)] = Header::Positive(u64::from(n));
+    }
+    both_ways(rt, alloc, hex, &headers[..count.min(27)], hex)
+}
+
 #[test]
 fn twenty_five_items(rt: HostRuntime) -> Result<(), Fail> {
-    for (hex, length) in [(TWENTY_FIVE, Some(25)), (TWENTY_FIVE_AND_BREAK, None)] {
-        let mut want = vec![in rt.alloc(); Header::Array(length)]?;
-        for n in 1..=25 {
-            want.push(Header::Positive(n))?;
-        }
-        if length.is_none() {
-            want.push(Header::Break)?;
-        }
-        goes_both_ways(&rt, rt.alloc(), hex, want.as_slice())?;
-    }
-    Ok(())
+    twenty_five_row(&rt, rt.alloc(), TWENTY_FIVE, Some(25), 26)?;
+    twenty_five_row(&rt, rt.alloc(), TWENTY_FIVE_AND_BREAK, None, 27)
 }
 
 #[test]
 fn longer_titles(rt: HostRuntime) -> Result<(), Fail> {
     for &(hex, header, shortest) in &LONGER_TITLES {
-        becomes_shortest(&rt, rt.alloc(), hex, &[header], shortest)?;
+        both_ways(&rt, rt.alloc(), hex, &[header], shortest)?;
     }
     Ok(())
 }
 
-// What is answered to a first byte with nothing but zeros behind it, and how many bytes are taken.
-fn first_answer(first: u8) -> (Next, usize) {
+// How many bytes are taken for the title that begins with a byte that has nothing but zeros behind it. Where none
+// begins with it, it is all that is taken.
+fn taken(rt: &impl Abort, first: u8) -> Option<usize> {
     let bytes = [first, 0, 0, 0, 0, 0, 0, 0, 0];
     let mut decoder = Decoder::from(SliceReader::new(&bytes));
     let answer = next_header(&mut decoder);
-    (answer, decoder.offset())
-}
-
-// Whether no title begins with a byte, which is then all that is taken.
-fn is_refused(rt: &impl Abort, first: u8) -> bool {
-    let (answer, offset) = first_answer(first);
-    let is_refused = !matches!(answer, Next::Header(_));
-    let is_told = answer == Next::Syntax(0) && offset == 1;
-    assert!(rt; !is_refused || is_told, "at {first}");
-    is_refused
-}
-
-#[test]
-fn first_bytes_that_begin_no_title(rt: HostRuntime) {
-    let mut refused = 0u8;
-    for first in 0..=u8::MAX {
-        refused = refused.saturating_add(u8::from(is_refused(&rt, first)));
+    let offset = decoder.offset();
+    if answer.is_ok() {
+        return Some(offset);
     }
-    assert_eq!(rt; refused, 27);
-}
-
-// How many bytes are taken for the title that begins with a byte, if one does.
-fn taken(first: u8) -> Option<usize> {
-    match first_answer(first) {
-        (Next::Header(_), offset) => Some(offset),
-        _ => None,
-    }
+    holds_at(rt, answer == Err(Stop::Syntax(0)) && offset == 1, &bytes);
+    None
 }
 
 // 197 first bytes stand alone, 8 each have 1, 2, 4 and 8 bytes behind them, and with 27 no title begins.
@@ -192,8 +123,8 @@ fn first_bytes_by_their_affix(rt: HostRuntime) {
     for (length, want) in rows {
         let mut count = 0u8;
         for first in 0..=u8::MAX {
-            count = count.saturating_add(u8::from(taken(first) == length));
+            count = count.saturating_add(u8::from(taken(&rt, first) == length));
         }
-        assert_eq!(rt; count, want);
+        assert!(rt; count == want, "{count} with {length:?} taken");
     }
 }

@@ -5,17 +5,15 @@ ghost use Rattle.ciborium_ll.specs.Segments.{string_decoder, string_reference};
 ghost use Rattle.ciborium_ll.specs.Title.{title_len};
 
 use crate::calls::{begins_text, pulls};
-use crate::drains;
-use crate::elements::{Stop, read_end};
+use crate::checks::{Stop, holds, holds_at, read_end};
+use crate::drains::next_text;
 use ciborium_ll::io::{Read, SliceReader};
 use ciborium_ll::laws::{skip_bytes, skip_text};
 use ciborium_ll::{Bytes, Decoder, Error, Header, Segment, Segments, Text};
 use std::process::Abort;
 
 // Reads a byte string to its end.
-fn skips_bytes<R: Read>(decoder: &mut Decoder<R>, length: Option<usize>) -> Stop
-where
-    R::Error: Drop,
+fn skips_bytes(decoder: &mut Decoder<SliceReader>, length: Option<usize>) -> Stop
     requires none_waits { waiting_of decoder.old ≡ None }
     requires covered { title_len (Header.Bytes length) ≤ offset_of decoder.old }
 {
@@ -23,9 +21,7 @@ where
 }
 
 // Reads a text to its end.
-fn skips_text<R: Read>(decoder: &mut Decoder<R>, length: Option<usize>) -> Stop
-where
-    R::Error: Drop,
+fn skips_text(decoder: &mut Decoder<SliceReader>, length: Option<usize>) -> Stop
     requires none_waits { waiting_of decoder.old ≡ None }
     requires covered { title_len (Header.Text length) ≤ offset_of decoder.old }
 {
@@ -33,10 +29,7 @@ where
 }
 
 // Pulls the header of a string, and reads it to its end.
-fn skips<R: Read>(rt: &impl Abort, decoder: &mut Decoder<R>, header: Header) -> Stop
-where
-    R::Error: Drop,
-{
+fn skips(rt: &impl Abort, decoder: &mut Decoder<SliceReader>, header: Header) -> Stop {
     pulls(rt, decoder, header, 1);
     match header {
         Header::Bytes(length) => skips_bytes(decoder, length),
@@ -48,17 +41,16 @@ where
 // A string, its header, how a read of it ends, the offset behind that, and how many bytes are left.
 type Row = (&'static [u8], Header, Stop, usize, usize);
 
-// Reads strings to their ends, and compares how they end, the offset behind, and how many bytes are left.
-fn whole_rows(rt: &impl Abort, rows: &[Row]) {
-    for &(bytes, header, want, offset, left) in rows {
-        let mut decoder = Decoder::from(SliceReader::new(bytes));
-        let is_right = skips(rt, &mut decoder, header) == want && !decoder.is_waiting();
-        let is_read = decoder.offset() == offset && decoder.into_inner().left().len() == left;
-        assert!(rt; is_right && is_read, "at {bytes:?}");
-    }
+// Reads a string to its end, and compares how it ends, the offset behind, and how many bytes are left.
+fn whole_row(rt: &impl Abort, row: &Row) {
+    let &(bytes, header, want, offset, left) = row;
+    let mut decoder = Decoder::from(SliceReader::new(bytes));
+    let is_right = skips(rt, &mut decoder, header) == want && !decoder.is_waiting();
+    let is_read = decoder.offset() == offset && decoder.into_inner().left().len() == left;
+    holds_at(rt, is_right && is_read, bytes);
 }
 
-static WHOLE: [Row; 2] = [
+static ROWS: [Row; 8] = [
     (
         b"\x43\x01\x02\x03\x00",
         Header::Bytes(Some(3)),
@@ -73,27 +65,12 @@ static WHOLE: [Row; 2] = [
         8,
         1,
     ),
-];
-
-static BROKEN: [Row; 4] = [
+    // broken ones
     (b"\x5f\x01", Header::Bytes(None), Stop::Syntax(1), 2, 0),
     (b"\x5f\x61a\xff", Header::Bytes(None), Stop::Syntax(1), 2, 2),
     (b"\x5f\x42\x01", Header::Bytes(None), Stop::Short, 2, 1),
     (b"\x43\x01", Header::Bytes(Some(3)), Stop::Short, 1, 1),
-];
-
-#[test]
-fn whole_byte_strings(rt: HostRuntime) {
-    whole_rows(&rt, &WHOLE);
-}
-
-#[test]
-fn broken_byte_strings(rt: HostRuntime) {
-    whole_rows(&rt, &BROKEN);
-}
-
-// The second one has a character that is cut.
-static TEXTS: [Row; 2] = [
+    // texts, of which the second has a character that is cut
     (
         b"\x7f\x62\xc3\xa9\x64\xf0\x9f\x98\x80\xff",
         Header::Text(None),
@@ -111,24 +88,19 @@ static TEXTS: [Row; 2] = [
 ];
 
 #[test]
-fn whole_texts(rt: HostRuntime) {
-    whole_rows(&rt, &TEXTS);
+fn whole_strings(rt: HostRuntime) {
+    for row in &ROWS {
+        whole_row(&rt, row);
+    }
 }
 
-// Pulls a chunk by a buffer of at most eight bytes.
-fn gives_chunk<R: Read>(segment: &mut Segment<'_, R, Text>, size: usize) -> bool
-where
-    R::Error: Drop,
-{
-    let mut buffer = [0; 8];
-    matches!(segment.pull(&mut buffer[..size.min(8)]), Ok(Some(_)))
+// Pulls a chunk by a buffer of three bytes.
+fn gives_chunk(segment: &mut Segment<'_, SliceReader, Text>) -> bool {
+    matches!(segment.pull(&mut [0; 3]), Ok(Some(_)))
 }
 
 // Reads the rest of a segment.
-fn finishes_segment<R: Read>(segment: Segment<'_, R, Text>) -> Stop
-where
-    R::Error: Drop,
-{
+fn finishes_segment(segment: Segment<'_, SliceReader, Text>) -> Stop {
     read_end(&segment.finish(&mut [0; 8]))
 }
 
@@ -136,10 +108,14 @@ where
 fn finish_row(rt: &impl Abort, bytes: &[u8], want: Stop, offset: usize) {
     let mut decoder = Decoder::from(SliceReader::new(bytes));
     let mut segments = begins_text(rt, &mut decoder, None, 1);
-    let mut segment = drains::next_segment(rt, &mut segments);
-    assert!(rt; gives_chunk(&mut segment, 3), "at {bytes:?}");
-    assert!(rt; finishes_segment(segment) == want, "at {bytes:?}");
-    assert!(rt; decoder.offset() == offset, "at {bytes:?}");
+    let mut segment = next_text(rt, &mut segments);
+    let is_given = gives_chunk(&mut segment);
+    let is_right = finishes_segment(segment) == want;
+    holds_at(
+        rt,
+        is_given && is_right && decoder.offset() == offset,
+        bytes,
+    );
 }
 
 #[test]
@@ -199,25 +175,23 @@ fn reads_first<R: Read>(decoder: &mut Decoder<R>) -> Result<(), Error<R::Error>>
 fn a_segment_of_a_steady_reader(rt: HostRuntime) {
     let mut decoder = Decoder::from(SliceReader::new(b"\x5f\x42\x01\x02\xff"));
     pulls(&rt, &mut decoder, Header::Bytes(None), 1);
-    assert!(rt; reads_first(&mut decoder).is_ok());
-    assert!(rt; decoder.offset() == 4);
+    let is_read = reads_first(&mut decoder).is_ok();
+    holds(&rt, is_read && decoder.offset() == 4, "the segment is read");
 }
 
 #[test]
 fn the_next_segment(rt: HostRuntime) {
     let mut decoder = Decoder::from(SliceReader::new(b"\x7f\x61a\x62bc\xff"));
     pulls(&rt, &mut decoder, Header::Text(None), 1);
-    reads_a_segment(&rt, &mut decoder);
-    assert!(rt; decoder.offset() == 3);
+    let is_read = reads_a_segment(&mut decoder);
+    holds(&rt, is_read && decoder.offset() == 3, "the segment is read");
 }
 
 // Reads one segment of a text that was just begun.
-fn reads_a_segment<R: Read>(rt: &impl Abort, decoder: &mut Decoder<R>)
-where
-    R::Error: Drop,
+fn reads_a_segment(decoder: &mut Decoder<SliceReader>) -> bool
     requires none_waits { waiting_of decoder.old ≡ None }
     requires covered { title_len (Header.Text None) ≤ offset_of decoder.old }
 {
     let mut segments = decoder.text(None);
-    assert!(rt; next_segment(&mut segments, &mut [0; 4]).is_ok());
+    next_segment(&mut segments, &mut [0; 4]).is_ok()
 }

@@ -1,6 +1,6 @@
 // Lines on each beginning of each sample, beside answers that a plain reading of the bytes gives.
 
-use super::answers::is_answered;
+use super::answers::{holds, is_answered};
 use super::every::{add_bytes, add_end, add_line, add_number, add_rest, add_title};
 use ciborium_ll_fixtures::plain::{self, Fault};
 use ciborium_ll_fixtures::samples;
@@ -37,43 +37,41 @@ fn add_copy(alloc: Global, text: &mut String, count: usize, bytes: &[u8]) -> Res
     Ok(())
 }
 
-// The lines on some bytes.
-fn lines_on(alloc: Global, count: usize, bytes: &[u8]) -> Result<String, AllocError> {
-    let mut lines = String::new(alloc);
-    add_line(&mut lines, "heads ", bytes)?;
-    add_line(&mut lines, "recode 1 ", bytes)?;
-    add_number(&mut lines, "recode", count as u64)?;
-    add_line(&mut lines, " ", bytes)?;
-    Ok(lines)
+// Adds the lines on some bytes.
+fn add_lines(lines: &mut String, count: usize, bytes: &[u8]) -> Result<(), AllocError> {
+    add_line(lines, "heads ", bytes)?;
+    add_line(lines, "recode 1 ", bytes)?;
+    add_number(lines, "recode", count as u64)?;
+    add_line(lines, " ", bytes)
 }
 
-// What these lines have to be answered.
-fn answer_on(alloc: Global, count: usize, bytes: &[u8]) -> Result<String, Fail> {
-    let mut want = String::new(alloc);
-    add_heads(&mut want, bytes)?;
-    add_copy(alloc, &mut want, 1, bytes)?;
-    add_copy(alloc, &mut want, count, bytes)?;
-    Ok(want)
+// Adds what these lines have to be answered.
+fn add_answers(alloc: Global, want: &mut String, count: usize, bytes: &[u8]) -> Result<(), Fail> {
+    add_heads(want, bytes)?;
+    add_copy(alloc, want, 1, bytes)?;
+    add_copy(alloc, want, count, bytes)
 }
 
-fn is_plain_answer(alloc: Global, count: usize, bytes: &[u8]) -> Result<bool, Fail> {
-    let input = lines_on(alloc, count, bytes)?;
-    let want = answer_on(alloc, count, bytes)?;
-    is_answered(alloc, input.as_bytes(), want.as_bytes())
-}
-
-fn answers_each_front(
+fn has_plain_answer(
     rt: &impl Abort,
     alloc: Global,
     count: usize,
     bytes: &[u8],
 ) -> Result<(), Fail> {
+    let mut lines = String::new(alloc);
+    let mut want = String::new(alloc);
+    add_lines(&mut lines, count, bytes)?;
+    add_answers(alloc, &mut want, count, bytes)?;
+    let is_right = is_answered(alloc, lines.as_bytes(), want.as_bytes())?;
+    holds(rt, is_right, lines.as_str());
+    Ok(())
+}
+
+fn answers_each_front(rt: &impl Abort, alloc: Global, count: usize, hex: &str) -> Result<(), Fail> {
+    let bytes = hex::decode(alloc, hex)?;
+    let bytes = bytes.as_slice();
     for end in 0..=bytes.len() {
-        let front = bytes.get(..end).unwrap_or(&[]);
-        assert!(rt;
-            is_plain_answer(alloc, count, front)?,
-            "at {count} of {front:?}"
-        );
+        has_plain_answer(rt, alloc, count, bytes.get(..end).unwrap_or(&[]))?;
     }
     Ok(())
 }
@@ -81,8 +79,7 @@ fn answers_each_front(
 #[test]
 fn each_sample_cut_at_each_place(rt: HostRuntime) -> Result<(), Fail> {
     for (count, hex) in samples::all(rt.alloc())? {
-        let bytes = hex::decode(rt.alloc(), hex)?;
-        answers_each_front(&rt, rt.alloc(), count, bytes.as_slice())?;
+        answers_each_front(&rt, rt.alloc(), count, hex)?;
     }
     Ok(())
 }

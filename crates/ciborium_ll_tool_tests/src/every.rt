@@ -1,10 +1,10 @@
 // Every list of one and of two bytes, answered by `run`, beside what is printed here from `pull` and `recode`.
 
-use super::answers::answers;
+use super::answers::{answers, holds};
 use ciborium_ll::io::{SliceReader, SliceWriter};
 use ciborium_ll::recode::recode;
 use ciborium_ll::{Decoder, Encoder, Error, Float, Header, RecodeError};
-use std::alloc::AllocError;
+use std::alloc::{AllocError, Global};
 use std::fmt::Write;
 use std::process::Abort;
 use std::test::Fail;
@@ -21,12 +21,14 @@ fn add_length(text: &mut String, name: &str, length: Option<usize>) -> Result<()
     }
 }
 
+// Adds the width of a float, and its bits in as many digits.
 fn add_float(text: &mut String, float: Float) -> Result<(), AllocError> {
-    match float {
-        Float::Half(bits) => write!(text, "half {bits:04x}"),
-        Float::Single(bits) => write!(text, "single {bits:08x}"),
-        Float::Double(bits) => write!(text, "double {bits:016x}"),
-    }
+    let (name, bits, width) = match float {
+        Float::Half(bits) => ("half", u64::from(bits), 4usize),
+        Float::Single(bits) => ("single", u64::from(bits), 8),
+        Float::Double(bits) => ("double", bits, 16),
+    };
+    write!(text, "{name} {bits:0width$x}")
 }
 
 // Adds what a header is called, with its value.
@@ -139,12 +141,23 @@ fn add_lines_from(input: &mut String, want: &mut String, first: u8) -> Result<()
     Ok(())
 }
 
-// Compares line by line, for a short message.
-fn assert_same(rt: &impl Abort, output: &str, want: &str) {
-    for (got, due) in output.lines().zip(want.lines()) {
-        assert_eq!(rt; got, due);
+// Adds the lines on each list of one and of two bytes, and what they are answered.
+fn add_all_lines(input: &mut String, want: &mut String) -> Result<(), AllocError> {
+    for first in 0..=u8::MAX {
+        add_lines_from(input, want, first)?;
     }
-    assert_eq!(rt; output.len(), want.len());
+    Ok(())
+}
+
+// Runs lines, and compares what is written line by line, for a short message.
+fn run_as(rt: &impl Abort, alloc: Global, input: &str, want: &str) -> Result<(), Fail> {
+    let output = answers(alloc, input.as_bytes())?;
+    let output = std::str::from_utf8(output.as_slice())?;
+    for (got, due) in output.lines().zip(want.lines()) {
+        holds(rt, got == due, due);
+    }
+    holds(rt, output.len() == want.len(), "the length of the output");
+    Ok(())
 }
 
 // A program that only knew some lines by heart would fail here.
@@ -152,15 +165,13 @@ fn assert_same(rt: &impl Abort, output: &str, want: &str) {
 fn every_list_of_one_and_two_bytes(rt: HostRuntime) -> Result<(), Fail> {
     let mut input = String::new(rt.alloc());
     let mut want = String::new(rt.alloc());
-    for first in 0..=u8::MAX {
-        add_lines_from(&mut input, &mut want, first)?;
-    }
-    let output = answers(rt.alloc(), input.as_bytes())?;
-    assert_same(&rt, std::str::from_utf8(output.as_slice())?, want.as_str());
+    add_all_lines(&mut input, &mut want)?;
+    run_as(&rt, rt.alloc(), input.as_str(), want.as_str())?;
     // Of the lists of one byte, 197 are answered by a title and an end, and 32 and 27 by one line. Of those of two, a
     // title may come first, which adds a line, or have the second byte as its affix, or need more, or be refused.
     let of_one = 2 * 197 + 32 + 27;
     let of_two = 197 * (of_one + 256) + 8 * 2 * 256 + 24 * 256 + 27 * 256;
-    assert_eq!(rt; want.lines().count(), of_one + of_two + 256 + 65_536);
+    let is_all = want.lines().count() == of_one + of_two + 256 + 65_536;
+    holds(&rt, is_all, "how many lines are answered");
     Ok(())
 }

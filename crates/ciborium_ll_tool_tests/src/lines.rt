@@ -1,29 +1,22 @@
 // Lines of each kind, each with what it is answered.
 
-use super::answers::answers;
+use super::answers::{answers, holds};
 use std::alloc::Global;
 use std::process::Abort;
 use std::test::Fail;
 
 // Runs the first line of a block, and compares what is written with the lines below it.
-fn is_block_answered(alloc: Global, block: &str) -> Result<bool, Fail> {
+fn answers_block(rt: &impl Abort, alloc: Global, block: &str) -> Result<(), Fail> {
     let (line, want) = block.split_once('\n').unwrap_or((block, ""));
     let output = answers(alloc, line.as_bytes())?;
-    Ok(output.as_slice().strip_suffix(b"\n") == Some(want.as_bytes()))
-}
-
-// Runs the first line of each block. Blank lines part the blocks.
-fn answer_blocks(rt: &impl Abort, alloc: Global, blocks: &str) -> Result<(), Fail> {
-    for block in blocks.split("\n\n") {
-        assert!(rt; is_block_answered(alloc, block)?, "at {block}");
-    }
+    let is_right = output.as_slice().strip_suffix(b"\n") == Some(want.as_bytes());
+    holds(rt, is_right, block);
     Ok(())
 }
 
-// A program that always answered `error: memory`, or printed its input again, would fail here.
-#[test]
-fn heads_of_each_kind(rt: HostRuntime) -> Result<(), Fail> {
-    let blocks = "\
+// Blocks of a line and what it is answered, parted by blank lines: heads of each kind, byte strings and text strings in
+// chunks, values in segments, elements that are copied, copies that stop, strict copies, and items that are skipped.
+static BLOCKS: &str = "\
 heads 9f018202039f0405ffff
 0 array *
 1 positive 1
@@ -81,13 +74,8 @@ end 9
 
 heads 00fb0000
 0 positive 0
-short 2";
-    answer_blocks(&rt, rt.alloc(), blocks)
-}
+short 2
 
-#[test]
-fn byte_strings_in_chunks(rt: HostRuntime) -> Result<(), Fail> {
-    let blocks = "\
 chunks 2 43010203
 segment 3
 chunk 0102
@@ -148,13 +136,8 @@ chunks 65536 5803010203
 segment 3
 chunk 010203
 stop
-end 5";
-    answer_blocks(&rt, rt.alloc(), blocks)
-}
+end 5
 
-#[test]
-fn text_strings_in_chunks(rt: HostRuntime) -> Result<(), Fail> {
-    let blocks = "\
 chunks 4 6661f09f988062
 segment 6
 chunk 61
@@ -192,13 +175,8 @@ segment 13
 chunk 48656c6c6f2c20
 chunk 576f726c6421
 stop
-end 14";
-    answer_blocks(&rt, rt.alloc(), blocks)
-}
+end 14
 
-#[test]
-fn values_in_segments(rt: HostRuntime) -> Result<(), Fail> {
-    let blocks = "\
 bytes 2 0102030405
 5f4201024203044105ff
 
@@ -251,13 +229,8 @@ text 9 -
 60
 
 text 4 e282
-error: text";
-    answer_blocks(&rt, rt.alloc(), blocks)
-}
+error: text
 
-#[test]
-fn elements_are_copied(rt: HostRuntime) -> Result<(), Fail> {
-    let blocks = "\
 recode 1 5f5f580101ffff
 5f4101ff rest -
 
@@ -289,13 +262,8 @@ recode 3 825f4201024103ff7f62c3a963e282acff00
 825f4201024103ff7f62c3a963e282acff rest 00
 
 recode 0 -
-- rest -";
-    answer_blocks(&rt, rt.alloc(), blocks)
-}
+- rest -
 
-#[test]
-fn a_copy_that_stops(rt: HostRuntime) -> Result<(), Fail> {
-    let blocks = "\
 recode 1 7f61615fff
 7f6161 syntax 3
 
@@ -342,13 +310,8 @@ recode 1 7f62c3a965f09f9880ff
 7f62c3a965f09f9880 syntax 4
 
 recode 1 7f62c3a964f09f9880fe
-7f62c3a964f09f9880 syntax 9";
-    answer_blocks(&rt, rt.alloc(), blocks)
-}
+7f62c3a964f09f9880 syntax 9
 
-#[test]
-fn strict_copies(rt: HostRuntime) -> Result<(), Fail> {
-    let blocks = "\
 strict 1 1805
 - syntax 0
 
@@ -404,13 +367,8 @@ strict 1 0500
 05 rest 00
 
 strict 0 1805
-- rest 1805";
-    answer_blocks(&rt, rt.alloc(), blocks)
-}
+- rest 1805
 
-#[test]
-fn items_that_are_skipped(rt: HostRuntime) -> Result<(), Fail> {
-    let blocks = "\
 skip 1 80
 item 1
 
@@ -470,5 +428,12 @@ short 11
 
 skip 0 -
 short 0";
-    answer_blocks(&rt, rt.alloc(), blocks)
+
+// A program that always answered `error: memory`, or printed its input again, would fail here.
+#[test]
+fn lines_of_each_kind(rt: HostRuntime) -> Result<(), Fail> {
+    for block in BLOCKS.split("\n\n") {
+        answers_block(&rt, rt.alloc(), block)?;
+    }
+    Ok(())
 }

@@ -1,6 +1,6 @@
 // What the program is asked for: lines and arguments, those that are no request, and where lines end.
 
-use super::answers::{is_answered, line_of};
+use super::answers::{holds, holds_at, is_answered, line_of};
 use ciborium_ll_requests::arguments::chosen;
 use ciborium_ll_requests::choice::Chosen;
 use ciborium_ll_requests::word::{bytes_of, word_of};
@@ -15,8 +15,10 @@ fn is_deep_answered(alloc: Global, levels: usize, want: &[u8]) -> Result<bool, F
 
 #[test]
 fn the_deepest_item(rt: HostRuntime) -> Result<(), Fail> {
-    assert!(rt; is_deep_answered(rt.alloc(), 256, b"item 257\n")?);
-    assert!(rt; is_deep_answered(rt.alloc(), 257, b"deep 256\n")?);
+    let is_right = is_deep_answered(rt.alloc(), 256, b"item 257\n")?;
+    holds(&rt, is_right, "as many arrays as are taken");
+    let is_right = is_deep_answered(rt.alloc(), 257, b"deep 256\n")?;
+    holds(&rt, is_right, "one more");
     Ok(())
 }
 
@@ -46,23 +48,25 @@ const NO_REQUESTS: &[u8] = b"\
 #[test]
 fn lines_that_are_no_request(rt: HostRuntime) -> Result<(), Fail> {
     for line in NO_REQUESTS.split(|byte| *byte == b'|') {
-        assert!(rt; is_refused(rt.alloc(), line)?, "at {line:?}");
+        holds_at(&rt, is_refused(rt.alloc(), line)?, line);
     }
     Ok(())
 }
 
+// Inputs, and what they are answered.
+static ENDS: [(&str, &str); 5] = [
+    ("", ""),
+    ("\n", "error: line\n"),
+    ("heads -", "end 0\n"),
+    ("heads -\n", "end 0\n"),
+    ("heads -\n\nheads -\n", "end 0\nerror: line\nend 0\n"),
+];
+
 #[test]
 fn where_lines_end(rt: HostRuntime) -> Result<(), Fail> {
-    let rows = [
-        ("", ""),
-        ("\n", "error: line\n"),
-        ("heads -", "end 0\n"),
-        ("heads -\n", "end 0\n"),
-        ("heads -\n\nheads -\n", "end 0\nerror: line\nend 0\n"),
-    ];
-    for (input, want) in rows {
+    for (input, want) in &ENDS {
         let is_right = is_answered(rt.alloc(), input.as_bytes(), want.as_bytes())?;
-        assert!(rt; is_right, "at {input:?}");
+        holds(&rt, is_right, input);
     }
     Ok(())
 }
@@ -80,7 +84,8 @@ fn answer_of_breaks(alloc: Global) -> Result<String, Fail> {
 fn a_line_longer_than_a_read(rt: HostRuntime) -> Result<(), Fail> {
     let input = line_of(rt.alloc(), b"heads 59", b"ff", 10_000, b"")?;
     let want = answer_of_breaks(rt.alloc())?;
-    assert!(rt; is_answered(rt.alloc(), input.as_slice(), want.as_bytes())?);
+    let is_right = is_answered(rt.alloc(), input.as_slice(), want.as_bytes())?;
+    holds(&rt, is_right, "a line of 10,000 bytes");
     Ok(())
 }
 
@@ -103,36 +108,55 @@ fn is_written_as(alloc: Global, bytes: &[u8], want: &str) -> Result<bool, AllocE
     Ok(word.as_str() == want)
 }
 
+// Words, and the bytes that they are.
+static WORDS: [(&str, Option<&[u8]>); 8] = [
+    ("-", Some(&[])),
+    ("00", Some(&[0])),
+    ("0aFf", Some(&[10, 255])),
+    ("", None),
+    ("--", None),
+    ("0", None),
+    ("0g", None),
+    ("-0", None),
+];
+
 #[test]
 fn words_of_bytes(rt: HostRuntime) -> Result<(), Fail> {
-    assert!(rt; is_read_as(rt.alloc(), "-", Some(&[]))?);
-    assert!(rt; is_read_as(rt.alloc(), "00", Some(&[0]))?);
-    assert!(rt; is_read_as(rt.alloc(), "0aFf", Some(&[10, 255]))?);
-    for word in ["", "--", "0", "0g", "-0"] {
-        assert!(rt; is_read_as(rt.alloc(), word, None)?, "at {word:?}");
+    for &(word, want) in &WORDS {
+        holds(&rt, is_read_as(rt.alloc(), word, want)?, word);
     }
-    assert!(rt; is_written_as(rt.alloc(), &[], "-")?);
-    assert!(rt; is_written_as(rt.alloc(), &[10, 255], "0aff")?);
+    holds(&rt, is_written_as(rt.alloc(), &[], "-")?, "no bytes");
+    let is_right = is_written_as(rt.alloc(), &[10, 255], "0aff")?;
+    holds(&rt, is_right, "two bytes");
     Ok(())
 }
 
 // Whether words parted by spaces ask for this.
-fn asks_for(alloc: Global, text: &str, want: Chosen) -> Result<bool, Fail> {
+fn asks_for(alloc: Global, text: &str, want: &Chosen) -> Result<bool, Fail> {
     let mut words = Vec::new(alloc);
     for word in text.split_whitespace() {
         words.push(String::from_str(alloc, word)?)?;
     }
-    Ok(chosen(words.as_slice()) == want)
+    Ok(chosen(words.as_slice()) == *want)
 }
+
+// Arguments, and what they ask for.
+static ARGUMENTS: [(&str, Chosen); 9] = [
+    ("", Chosen::Lines),
+    ("recode 0", Chosen::Raw(0)),
+    ("recode 4294967295", Chosen::Raw(4_294_967_295)),
+    ("recode 01", Chosen::Usage),
+    ("recode 4294967296", Chosen::Usage),
+    ("recode", Chosen::Usage),
+    ("recode 1 2", Chosen::Usage),
+    ("heads 1", Chosen::Usage),
+    ("1 recode", Chosen::Usage),
+];
 
 #[test]
 fn choices_of_arguments(rt: HostRuntime) -> Result<(), Fail> {
-    assert!(rt; asks_for(rt.alloc(), "", Chosen::Lines)?);
-    assert!(rt; asks_for(rt.alloc(), "recode 0", Chosen::Raw(0))?);
-    let most = Chosen::Raw(4_294_967_295);
-    assert!(rt; asks_for(rt.alloc(), "recode 4294967295", most)?);
-    for text in "recode 01|recode 4294967296|recode|recode 1 2|heads 1|1 recode".split('|') {
-        assert!(rt; asks_for(rt.alloc(), text, Chosen::Usage)?, "at {text}");
+    for (text, want) in &ARGUMENTS {
+        holds(&rt, asks_for(rt.alloc(), text, want)?, text);
     }
     Ok(())
 }

@@ -1,5 +1,6 @@
 // Runs over readers and writers that move few bytes a call or fail, and where an allocation is refused.
 
+use super::answers::{holds, holds_at};
 use ciborium_ll::io::Write;
 use ciborium_ll_fixtures::streams::{PartReader, PartWriter};
 use ciborium_ll_service::fault::{ToolError, fault_of_run};
@@ -10,20 +11,27 @@ use std::io;
 use std::test::Fail;
 
 // Writes bytes, and passes them on.
-fn writes<W: Write>(writer: &mut W, data: &[u8]) -> Result<(), W::Error> {
+fn writes(writer: &mut VecWriter, data: &[u8]) -> Result<(), OutOfMemory> {
     writer.write_all(data)?;
     writer.flush()
+}
+
+// Writes three bytes in three parts.
+fn counts(writer: &mut VecWriter) -> Result<(), OutOfMemory> {
+    writes(writer, &[1, 2])?;
+    writes(writer, &[])?;
+    writes(writer, &[3])
 }
 
 #[test]
 fn a_writer_in_memory(rt: HostRuntime) -> Result<(), Fail> {
     let mut writer = VecWriter::new(rt.alloc());
-    writes(&mut writer, &[1, 2])?;
-    writes(&mut writer, &[])?;
-    writes(&mut writer, &[3])?;
-    assert_eq!(rt; writer.into_vec().as_slice(), [1, 2, 3].as_slice());
+    counts(&mut writer)?;
+    let is_written = writer.into_vec().as_slice() == [1, 2, 3].as_slice();
+    holds(&rt, is_written, "three bytes in three parts");
     let refused = ToolError::from(OutOfMemory);
-    assert!(rt; matches!(refused, ToolError::Memory));
+    let is_told = matches!(refused, ToolError::Memory);
+    holds(&rt, is_told, "a refusal");
     Ok(())
 }
 
@@ -43,9 +51,9 @@ struct Ended {
     flushes: usize,
 }
 
-fn run_between<R: io::Read + Drop>(
+fn run_between(
     alloc: Global,
-    reader: R,
+    reader: PartReader<'_>,
     mut writer: PartWriter,
 ) -> Result<Ended, ToolError> {
     let (read, write) = match run(alloc, reader, &mut writer) {
@@ -68,9 +76,10 @@ fn run_between<R: io::Read + Drop>(
 fn one_byte_a_call(rt: HostRuntime) -> Result<(), Fail> {
     let reader = PartReader::new(INPUT, 1);
     let ended = run_between(rt.alloc(), reader, PartWriter::new(rt.alloc(), 1))?;
-    assert!(rt; ended.read.is_none() && ended.write.is_none());
-    assert!(rt; ended.written == Some(OUTPUT.len()));
-    assert_eq!(rt; ended.flushes, 1);
+    let is_right = ended.read.is_none() && ended.write.is_none();
+    holds(&rt, is_right, "no call fails");
+    holds(&rt, ended.written == Some(OUTPUT.len()), "all is written");
+    holds(&rt, ended.flushes == 1, "it is flushed once");
     Ok(())
 }
 
@@ -103,8 +112,9 @@ fn stops_at_write(
     kind: Option<io::ErrorKind>,
     call: usize,
 ) -> Result<bool, ToolError> {
+    let reader = PartReader::new(INPUT, 64);
     let writer = PartWriter::new(alloc, 1).failing_at(call, kind);
-    let ended = run_between(alloc, INPUT, writer)?;
+    let ended = run_between(alloc, reader, writer)?;
     let want = kind.unwrap_or(io::ErrorKind::WriteZero);
     Ok(ended.write == Some(want) && ended.written == Some(call.saturating_sub(1)))
 }
@@ -126,10 +136,11 @@ fn a_write_that_fails(rt: HostRuntime) -> Result<(), Fail> {
 
 #[test]
 fn a_flush_that_fails(rt: HostRuntime) -> Result<(), Fail> {
+    let reader = PartReader::new(INPUT, 64);
     let writer = PartWriter::new(rt.alloc(), 1).failing_to_flush();
-    let ended = run_between(rt.alloc(), INPUT, writer)?;
-    assert!(rt; ended.write.is_some());
-    assert!(rt; ended.written == Some(OUTPUT.len()));
+    let ended = run_between(rt.alloc(), reader, writer)?;
+    holds(&rt, ended.write.is_some(), "the flush fails");
+    holds(&rt, ended.written == Some(OUTPUT.len()), "all is written");
     Ok(())
 }
 
@@ -181,11 +192,12 @@ fn whole_or_out_of_memory(rt: HostRuntime) -> Result<(), Fail> {
     let has_memory = script_has_memory(rt.alloc(), &mut room)?;
     let length = 256usize.saturating_sub(room.len());
     let written = space.get(..length).unwrap_or(&[]);
-    if has_memory {
-        assert_eq!(rt; written, SCRIPT_OUTPUT.as_bytes());
+    let is_right = if has_memory {
+        written == SCRIPT_OUTPUT.as_bytes()
     } else {
-        assert!(rt; is_out_of_memory(written));
-    }
+        is_out_of_memory(written)
+    };
+    holds_at(&rt, is_right, written);
     Ok(())
 }
 
@@ -197,9 +209,11 @@ fn is_run_printed_as(alloc: Global, error: ToolError, want: &str) -> Result<bool
 #[test]
 fn faults_as_printed(rt: HostRuntime) -> Result<(), Fail> {
     let read = ToolError::Read(io::Error::other("gone"));
-    assert!(rt; is_run_printed_as(rt.alloc(), read, "read")?);
+    holds(&rt, is_run_printed_as(rt.alloc(), read, "read")?, "a read");
     let write = ToolError::Write(io::Error::other("gone"));
-    assert!(rt; is_run_printed_as(rt.alloc(), write, "write")?);
-    assert!(rt; is_run_printed_as(rt.alloc(), ToolError::Memory, "memory")?);
+    let is_right = is_run_printed_as(rt.alloc(), write, "write")?;
+    holds(&rt, is_right, "a write");
+    let is_printed = is_run_printed_as(rt.alloc(), ToolError::Memory, "memory")?;
+    holds(&rt, is_printed, "memory");
     Ok(())
 }

@@ -4,6 +4,7 @@
 ghost use Rattle.std.specs.Prelude.{◌≡◌, IfOk, Some};
 ghost use Rattle.ciborium_ll.specs.Decoding.{waiting_of};
 
+use crate::checks::{holds, holds_at};
 use ciborium_ll::io::{EndOfFile, OutOfSpace, Read, SliceReader, SliceWriter};
 use ciborium_ll::{Decoder, Encoder, Error, Header, RecodeError, Segment, Text};
 use ciborium_ll_uses::{
@@ -15,7 +16,7 @@ use std::process::Abort;
 use std::test::Fail;
 
 // What a sum is, with the offset behind it.
-#[derive(Clone, Copy, Debug, PartialEq, Eq, Drop)]
+#[derive(Clone, Copy, PartialEq, Eq)]
 enum Sum {
     Total(i64, usize),
     NoArray(usize),
@@ -41,178 +42,182 @@ fn sum_of(bytes: &[u8]) -> Sum {
     }
 }
 
+// Bytes, and what `sum_numbers` answers.
+static SUMS: [(&[u8], Sum); 16] = [
+    // 1, -1 and 255, behind which more stands
+    (&[0x83, 0x01, 0x20, 0x18, 0xff, 0x00], Sum::Total(255, 5)),
+    // no numbers
+    (&[0x80], Sum::Total(0, 1)),
+    (&[0x9f, 0xff], Sum::Total(0, 2)),
+    // of indefinite length, with longer titles than needed
+    (
+        &[0x9f, 0x19, 0x00, 0x07, 0x38, 0x64, 0xff, 0xff],
+        Sum::Total(-94, 7),
+    ),
+    // the greatest and the least sum, and one more
+    (
+        &[0x81, 0x1b, 0x7f, 0xff, 0xff, 0xff, 0xff, 0xff, 0xff, 0xff],
+        Sum::Total(i64::MAX, 10),
+    ),
+    (
+        &[
+            0x82, 0x1b, 0x7f, 0xff, 0xff, 0xff, 0xff, 0xff, 0xff, 0xff, 0x01,
+        ],
+        Sum::OutOfRange(10),
+    ),
+    (
+        &[0x81, 0x3b, 0x7f, 0xff, 0xff, 0xff, 0xff, 0xff, 0xff, 0xff],
+        Sum::Total(i64::MIN, 10),
+    ),
+    (&[0x81, 0x3b, 0x80, 0, 0, 0, 0, 0, 0, 0], Sum::OutOfRange(1)),
+    // -1 and then 2^63, which alone would be out of range
+    (
+        &[0x82, 0x20, 0x1b, 0x80, 0, 0, 0, 0, 0, 0, 0],
+        Sum::Total(i64::MAX, 11),
+    ),
+    // a text, a break where numbers are counted, an array within, a float
+    (&[0x82, 0x01, 0x61, 0x31], Sum::NoNumber(2)),
+    (&[0x82, 0x01, 0xff], Sum::NoNumber(2)),
+    (&[0x9f, 0x80, 0xff], Sum::NoNumber(1)),
+    (&[0x9f, 0xf9, 0x3c, 0x00, 0xff], Sum::NoNumber(1)),
+    // no array, no title, and bytes that end too early
+    (&[0xa0], Sum::NoArray(0)),
+    (&[0x81, 0x1c], Sum::Syntax(1)),
+    (&[0x82, 0x01], Sum::Short(2)),
+];
+
 #[test]
 fn sums(rt: HostRuntime) {
-    let rows: [(&[u8], Sum); 16] = [
-        // 1, -1 and 255, behind which more stands
-        (&[0x83, 0x01, 0x20, 0x18, 0xff, 0x00], Sum::Total(255, 5)),
-        // no numbers
-        (&[0x80], Sum::Total(0, 1)),
-        (&[0x9f, 0xff], Sum::Total(0, 2)),
-        // of indefinite length, with longer titles than needed
-        (
-            &[0x9f, 0x19, 0x00, 0x07, 0x38, 0x64, 0xff, 0xff],
-            Sum::Total(-94, 7),
-        ),
-        // the greatest and the least sum, and one more
-        (
-            &[0x81, 0x1b, 0x7f, 0xff, 0xff, 0xff, 0xff, 0xff, 0xff, 0xff],
-            Sum::Total(i64::MAX, 10),
-        ),
-        (
-            &[
-                0x82, 0x1b, 0x7f, 0xff, 0xff, 0xff, 0xff, 0xff, 0xff, 0xff, 0x01,
-            ],
-            Sum::OutOfRange(10),
-        ),
-        (
-            &[0x81, 0x3b, 0x7f, 0xff, 0xff, 0xff, 0xff, 0xff, 0xff, 0xff],
-            Sum::Total(i64::MIN, 10),
-        ),
-        (&[0x81, 0x3b, 0x80, 0, 0, 0, 0, 0, 0, 0], Sum::OutOfRange(1)),
-        // -1 and then 2^63, which alone would be out of range
-        (
-            &[0x82, 0x20, 0x1b, 0x80, 0, 0, 0, 0, 0, 0, 0],
-            Sum::Total(i64::MAX, 11),
-        ),
-        // a text, a break where numbers are counted, an array within, a float
-        (&[0x82, 0x01, 0x61, 0x31], Sum::NoNumber(2)),
-        (&[0x82, 0x01, 0xff], Sum::NoNumber(2)),
-        (&[0x9f, 0x80, 0xff], Sum::NoNumber(1)),
-        (&[0x9f, 0xf9, 0x3c, 0x00, 0xff], Sum::NoNumber(1)),
-        // no array, no title, and bytes that end too early
-        (&[0xa0], Sum::NoArray(0)),
-        (&[0x81, 0x1c], Sum::Syntax(1)),
-        (&[0x82, 0x01], Sum::Short(2)),
-    ];
-    for (bytes, want) in rows {
-        assert_eq!(rt; sum_of(bytes), want);
+    for &(bytes, want) in &SUMS {
+        holds_at(&rt, sum_of(bytes) == want, bytes);
     }
 }
 
-#[test]
-fn a_map_of_strings(rt: HostRuntime) -> Result<(), Fail> {
-    let entries = [
-        Entry {
-            key: "a",
-            value: "Grüße",
-        },
-        Entry {
-            key: "",
-            value: "The quick brown fox jumps",
-        },
-    ];
-    let wanted = b"\xa2\x61a\x67Gr\xc3\xbc\xc3\x9fe\x60\x78\x19The quick brown fox jumps";
+const ENTRIES: &[Entry] = &[
+    Entry {
+        key: "a",
+        value: "Grüße",
+    },
+    Entry {
+        key: "",
+        value: "The quick brown fox jumps",
+    },
+];
+
+const MAP: &[u8] = b"\xa2\x61a\x67Gr\xc3\xbc\xc3\x9fe\x60\x78\x19The quick brown fox jumps";
+
+// Writes a map into so much space, at most 64 bytes, and compares whether that succeeds, and what was written.
+fn map_row(rt: &impl Abort, room: usize, entries: &[Entry], is_ok: bool, want: &[u8]) {
     let mut space = [0; 64];
-    let mut encoder = Encoder::from(SliceWriter::new(&mut space));
-    write_strings(&mut encoder, &entries)?;
-    assert_eq!(rt; encoder.into_inner().written(), wanted.as_slice());
-    let mut encoder = Encoder::from(SliceWriter::new(&mut []));
-    assert!(rt; write_strings(&mut encoder, &[]).is_err());
-    Ok(())
+    let mut encoder = Encoder::from(SliceWriter::new(&mut space[..room.min(64)]));
+    let is_right = write_strings(&mut encoder, entries).is_ok() == is_ok;
+    holds_at(rt, is_right && encoder.into_inner().written() == want, want);
 }
 
 #[test]
-fn a_map_without_room(rt: HostRuntime) {
+fn maps_of_strings(rt: HostRuntime) {
+    map_row(&rt, 64, ENTRIES, true, MAP);
+    map_row(&rt, 0, &[], false, &[]);
     // The title and the key fit, and the value's title.
-    let mut space = [0; 4];
-    let mut encoder = Encoder::from(SliceWriter::new(&mut space));
     let entry = Entry {
         key: "k",
         value: "v",
     };
-    assert!(rt; matches!(write_strings(&mut encoder, &[entry]), Err(OutOfSpace)));
-    assert_eq!(rt;
-        encoder.into_inner().written(),
-        [0xa1, 0x61, b'k', 0x61].as_slice()
-    );
+    map_row(&rt, 4, &[entry], false, &[0xa1, 0x61, b'k', 0x61]);
 }
 
-#[test]
-fn a_stream(rt: HostRuntime) {
-    // An array of 1 in nine bytes, and a text of two pieces, within which another one stands.
-    let bytes = [
-        0x98, 0x01, 0x1b, 0, 0, 0, 0, 0, 0, 0, 1, 0x7f, 0x7f, 0x78, 0x01, b'a', 0xff, 0x61, b'b',
-        0xff, 0x05,
-    ];
-    let mut space = [0; 32];
-    let (reader, writer, outcome) = normalise(
-        SliceReader::new(&bytes),
-        SliceWriter::new(&mut space),
+// How a stream ends.
+#[derive(Clone, Copy)]
+enum End {
+    Done,
+    Syntax(usize),
+    Full,
+}
+
+fn ends_so(outcome: &Result<(), RecodeError<EndOfFile, OutOfSpace>>, want: End) -> bool {
+    match outcome {
+        Ok(()) => matches!(want, End::Done),
+        Err(RecodeError::Read(Error::Syntax(place))) => {
+            matches!(want, End::Syntax(wanted) if wanted == *place)
+        }
+        Err(RecodeError::Read(_)) => false,
+        Err(RecodeError::Write(OutOfSpace)) => matches!(want, End::Full),
+    }
+}
+
+// Bytes, how many elements are copied, into how much space, how that ends, what is written, and how much is read.
+static STREAMS: [(&[u8], usize, usize, End, &[u8], usize); 4] = [
+    // an array of 1 in nine bytes, and a text of two pieces, within which another one stands
+    (
+        b"\x98\x01\x1b\x00\x00\x00\x00\x00\x00\x00\x01\x7f\x7f\x78\x01a\xff\x61b\xff\x05",
         3,
-    );
-    assert!(rt; outcome.is_ok());
-    assert_eq!(rt; reader.left(), [0x05].as_slice());
-    assert_eq!(rt;
-        writer.written(),
-        [0x81, 0x01, 0x7f, 0x61, b'a', 0x61, b'b', 0xff].as_slice()
-    );
-}
+        32,
+        End::Done,
+        b"\x81\x01\x7f\x61a\x61b\xff",
+        20,
+    ),
+    (&[0x18, 1, 0x1f, 2], 2, 32, End::Syntax(2), &[1], 3),
+    (&[0x18, 0x18], 1, 1, End::Full, &[0x18], 2),
+    // the room need not be more than the spelling, whatever is due
+    (&[0x18, 1, 0x18, 2], 1, 1, End::Done, &[1], 2),
+];
 
-#[test]
-fn a_stream_with_a_fault(rt: HostRuntime) {
+fn stream_row(
+    rt: &impl Abort,
+    bytes: &[u8],
+    count: usize,
+    room: usize,
+    end: End,
+    written: &[u8],
+    read: usize,
+) {
     let mut space = [0; 32];
-    let (reader, writer, outcome) = normalise(
-        SliceReader::new(&[0x18, 0x01, 0x1f, 0x02]),
-        SliceWriter::new(&mut space),
-        2,
-    );
-    assert!(rt; matches!(outcome, Err(RecodeError::Read(Error::Syntax(2)))));
-    assert_eq!(rt; writer.written(), [0x01].as_slice());
-    assert_eq!(rt; reader.left(), [0x02].as_slice());
-    let (reader, _, outcome) = normalise(
-        SliceReader::new(&[0x18, 0x18]),
-        SliceWriter::new(&mut [0; 1]),
-        1,
-    );
-    assert!(rt; matches!(outcome, Err(RecodeError::Write(OutOfSpace))));
-    assert_eq!(rt; reader.left(), [].as_slice());
+    let writer = SliceWriter::new(&mut space[..room.min(32)]);
+    let (reader, writer, outcome) = normalise(SliceReader::new(bytes), writer, count);
+    let is_written = writer.written() == written;
+    let is_read = Some(reader.left()) == bytes.get(read..);
+    holds_at(rt, ends_so(&outcome, end) && is_written && is_read, bytes);
 }
 
-// The room need not be more than the spelling, whatever is due.
 #[test]
-fn a_stream_into_just_its_room(rt: HostRuntime) {
-    let mut space = [0; 1];
-    let (reader, writer, outcome) = normalise(
-        SliceReader::new(&[0x18, 0x01, 0x18, 0x02]),
-        SliceWriter::new(&mut space),
-        1,
-    );
-    assert!(rt; outcome.is_ok());
-    assert_eq!(rt; writer.written(), [0x01].as_slice());
-    assert_eq!(rt; reader.left(), [0x18, 0x02].as_slice());
+fn streams(rt: HostRuntime) {
+    for &(bytes, count, room, end, written, read) in &STREAMS {
+        stream_row(&rt, bytes, count, room, end, written, read);
+    }
 }
+
+// Bytes, and how long the first item is where it is in its shortest spelling.
+static SHORTEST: [(&[u8], Option<usize>); 18] = [
+    (&[0x00], Some(1)),
+    (&[0x00, 0xff, 0xff], Some(1)),
+    (&[0x18, 0x18], Some(2)),
+    // a title that is longer than needed, in front and within
+    (&[0x18, 0x17], None),
+    (&[0x82, 0x01, 0x19, 0x00, 0xff], None),
+    (&[0x98, 0x01, 0x01], None),
+    // a map of a text to an array of indefinite length
+    (&[0xa1, 0x61, b'a', 0x9f, 0x01, 0x02, 0xff, 0x00], Some(7)),
+    // a text of indefinite length, and one with another one inside
+    (&[0x7f, 0x61, b'a', 0x60, 0xff, 0x60], Some(5)),
+    (&[0x7f, 0x7f, 0x61, b'a', 0xff, 0xff], None),
+    // a body that is no text, and bytes that are none
+    (&[0x61, 0xff], None),
+    (&[0x41, 0xff], Some(2)),
+    // simple values: the one of 31 has no meaning
+    (&[0xf8, 0x20], Some(2)),
+    (&[0xf8, 0x1f], None),
+    // no whole item: nothing, a break, a pair without its value, a tag alone
+    (&[], None),
+    (&[0xff], None),
+    (&[0xbf, 0x01, 0xff], None),
+    (&[0xc1], None),
+    (&[0xc1, 0xf9, 0x00, 0x00], Some(4)),
+];
 
 #[test]
 fn shortest_items(rt: HostRuntime) {
-    let rows: [(&[u8], Option<usize>); 18] = [
-        (&[0x00], Some(1)),
-        (&[0x00, 0xff, 0xff], Some(1)),
-        (&[0x18, 0x18], Some(2)),
-        // a title that is longer than needed, in front and within
-        (&[0x18, 0x17], None),
-        (&[0x82, 0x01, 0x19, 0x00, 0xff], None),
-        (&[0x98, 0x01, 0x01], None),
-        // a map of a text to an array of indefinite length
-        (&[0xa1, 0x61, b'a', 0x9f, 0x01, 0x02, 0xff, 0x00], Some(7)),
-        // a text of indefinite length, and one with another one inside
-        (&[0x7f, 0x61, b'a', 0x60, 0xff, 0x60], Some(5)),
-        (&[0x7f, 0x7f, 0x61, b'a', 0xff, 0xff], None),
-        // a body that is no text, and bytes that are none
-        (&[0x61, 0xff], None),
-        (&[0x41, 0xff], Some(2)),
-        // simple values: the one of 31 has no meaning
-        (&[0xf8, 0x20], Some(2)),
-        (&[0xf8, 0x1f], None),
-        // no whole item: nothing, a break, a pair without its value, a tag alone
-        (&[], None),
-        (&[0xff], None),
-        (&[0xbf, 0x01, 0xff], None),
-        (&[0xc1], None),
-        (&[0xc1, 0xf9, 0x00, 0x00], Some(4)),
-    ];
-    for (bytes, want) in rows {
-        assert_eq!(rt; shortest_item_len(bytes), want);
+    for &(bytes, want) in &SHORTEST {
+        holds_at(&rt, shortest_item_len(bytes) == want, bytes);
     }
 }
 
@@ -221,14 +226,15 @@ fn nested_items(rt: HostRuntime) {
     // Arrays of one item each, the innermost without any.
     let mut bytes = [0x81; 65];
     bytes[63] = 0x80;
-    assert_eq!(rt; shortest_item_len(&bytes), Some(64));
+    let is_right = shortest_item_len(&bytes) == Some(64);
+    holds(&rt, is_right, "as many as are taken");
     bytes[63] = 0x81;
     bytes[64] = 0x80;
-    assert_eq!(rt; shortest_item_len(&bytes), None);
+    holds(&rt, shortest_item_len(&bytes).is_none(), "one more");
 }
 
 // Why no text was read.
-#[derive(Clone, Copy, Debug, PartialEq, Eq, Drop)]
+#[derive(Clone, Copy, PartialEq, Eq)]
 enum Fault {
     NoText(usize),
     TooLong,
@@ -280,7 +286,7 @@ fn is_read_as(given: &Result<String, Fault>, want: Result<&str, Fault>) -> bool 
 fn text_row(rt: &impl Abort, alloc: Global, bytes: &[u8], limit: usize, want: Result<&str, Fault>) {
     let mut decoder = Decoder::from(SliceReader::new(bytes));
     let given = read_string(alloc, &mut decoder, limit).map_err(fault_of);
-    assert!(rt; is_read_as(&given, want), "at {bytes:?}");
+    holds_at(rt, is_read_as(&given, want), bytes);
 }
 
 #[test]
@@ -300,8 +306,8 @@ fn a_text_longer_than_the_buffer(rt: HostRuntime) -> Result<(), Fail> {
     bytes[66] = 0xa9;
     let mut decoder = Decoder::from(SliceReader::new(&bytes));
     let text = read_string(rt.alloc(), &mut decoder, 66)?;
-    assert_eq!(rt; text.as_bytes(), &bytes[2..]);
-    assert_eq!(rt; decoder.offset(), 68);
+    holds(&rt, text.as_bytes() == &bytes[2..], "the text");
+    holds(&rt, decoder.offset() == 68, "the offset behind it");
     Ok(())
 }
 
@@ -314,20 +320,31 @@ fn peek<R: Read>(decoder: &mut Decoder<R>) -> Result<Header, Error<R::Error>>
     Ok(header)
 }
 
+// What comes next stays next, and is pulled.
+fn peeks(decoder: &mut Decoder<SliceReader>, want: Header) -> bool {
+    matches!(peek(decoder), Ok(header) if header == want)
+}
+
+fn pulls(decoder: &mut Decoder<SliceReader>, want: Header) -> bool {
+    matches!(decoder.pull(), Ok(header) if header == want)
+}
+
 #[test]
 fn a_header_ahead(rt: HostRuntime) {
     let mut decoder = Decoder::from(SliceReader::new(&[0x18, 5, 0x80]));
     // The title is longer than needed, and waits as the shortest one.
+    let five = Header::Positive(5);
     for _ in 0..2 {
-        assert!(rt; matches!(peek(&mut decoder), Ok(Header::Positive(5))));
-        assert_eq!(rt; decoder.offset(), 1);
+        let is_ahead = peeks(&mut decoder, five);
+        holds(&rt, is_ahead && decoder.offset() == 1, "a number is ahead");
     }
-    assert!(rt; matches!(decoder.pull(), Ok(Header::Positive(5))));
-    assert_eq!(rt; decoder.offset(), 2);
-    assert!(rt; matches!(peek(&mut decoder), Ok(Header::Array(Some(0)))));
-    assert!(rt; matches!(decoder.pull(), Ok(Header::Array(Some(0)))));
-    assert!(rt; matches!(peek(&mut decoder), Err(Error::Io(EndOfFile))));
-    assert_eq!(rt; decoder.offset(), 3);
+    let is_pulled = pulls(&mut decoder, five);
+    holds(&rt, is_pulled && decoder.offset() == 2, "it is pulled");
+    let empty = Header::Array(Some(0));
+    holds(&rt, peeks(&mut decoder, empty), "an array is ahead");
+    holds(&rt, pulls(&mut decoder, empty), "it is pulled");
+    let is_end = matches!(peek(&mut decoder), Err(Error::Io(EndOfFile)));
+    holds(&rt, is_end && decoder.offset() == 3, "the bytes have ended");
 }
 
 // The first chunk of a text.
@@ -380,7 +397,8 @@ fn characters(rt: HostRuntime) {
     ];
     for (bytes, want) in rows {
         let mut decoder = Decoder::from(SliceReader::new(bytes));
-        assert!(rt; matches!(first_count(&mut decoder), Ok(count) if count == want));
+        let is_right = matches!(first_count(&mut decoder), Ok(count) if count == want);
+        holds_at(&rt, is_right, bytes);
     }
 }
 
@@ -397,6 +415,7 @@ fn first_chunks(rt: HostRuntime) {
     for (bytes, want) in rows {
         let mut decoder = Decoder::from(SliceReader::new(bytes));
         let mut buffer = [0; 4];
-        assert!(rt; matches!(first_chunk(&mut decoder, &mut buffer), Ok(chunk) if chunk == want));
+        let is_right = matches!(first_chunk(&mut decoder, &mut buffer), Ok(chunk) if chunk == want);
+        holds_at(&rt, is_right, bytes);
     }
 }

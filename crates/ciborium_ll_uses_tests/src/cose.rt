@@ -1,5 +1,6 @@
 //! Signed messages: an example of RFC 9052, and messages that were worked by hand.
 
+use crate::checks::{holds, holds_at};
 use cbor_skip::SkipError;
 use ciborium_ll::Error;
 use ciborium_ll::io::EndOfFile;
@@ -14,7 +15,7 @@ static SINGLE_SIGNATURE: &[u8] =
     \x44\x54\x7e\x01\xf1\x1d\x3b\x09\x16\xe5\xa4\xc3\x45\xca\xcb\x36";
 
 // What a read answers, as a plain value.
-#[derive(Clone, Copy, Debug, PartialEq, Eq, Drop)]
+#[derive(Clone, Copy, PartialEq, Eq)]
 enum Outcome {
     Parts(Sign1),
     Unexpected(usize),
@@ -54,86 +55,105 @@ fn outcome_of_map(error: SkipError<EndOfFile>) -> Outcome {
     }
 }
 
-fn parts(protected: Span, unprotected: Span, payload: Option<Span>, signature: Span) -> Outcome {
-    Outcome::Parts(Sign1 {
-        protected,
-        unprotected,
-        payload,
-        signature,
-    })
-}
-
-fn span(start: usize, end: usize) -> Span {
-    Span { start, end }
-}
-
 #[test]
 fn an_example_of_the_standard(rt: HostRuntime) {
-    let payload = Some(span(12, 32));
-    let want = parts(span(3, 6), span(6, 11), payload, span(34, 98));
-    assert_eq!(rt; SINGLE_SIGNATURE.len(), 98);
-    assert_eq!(rt; outcome_of(SINGLE_SIGNATURE), want);
+    let want = Outcome::Parts(Sign1 {
+        protected: Span { start: 3, end: 6 },
+        unprotected: Span { start: 6, end: 11 },
+        payload: Some(Span { start: 12, end: 32 }),
+        signature: Span { start: 34, end: 98 },
+    });
+    holds(&rt, SINGLE_SIGNATURE.len() == 98, "the length");
+    holds(&rt, outcome_of(SINGLE_SIGNATURE) == want, "the parts");
 }
+
+// Messages, and their parts.
+static MESSAGES: [(&[u8], Sign1); 3] = [
+    // empty strings and an empty map, and a byte behind the message
+    (
+        b"\xd2\x84\x40\xa0\x40\x40\xff",
+        Sign1 {
+            protected: Span { start: 3, end: 3 },
+            unprotected: Span { start: 3, end: 4 },
+            payload: Some(Span { start: 5, end: 5 }),
+            signature: Span { start: 6, end: 6 },
+        },
+    ),
+    // a detached payload
+    (
+        b"\xd2\x84\x40\xa0\xf6\x41s",
+        Sign1 {
+            protected: Span { start: 3, end: 3 },
+            unprotected: Span { start: 3, end: 4 },
+            payload: None,
+            signature: Span { start: 6, end: 7 },
+        },
+    ),
+    // a map of indefinite length, which holds an array
+    (
+        b"\xd2\x84\x41\xa0\xbf\x01\x81\x02\xff\xf6\x42ok",
+        Sign1 {
+            protected: Span { start: 3, end: 4 },
+            unprotected: Span { start: 4, end: 9 },
+            payload: None,
+            signature: Span { start: 11, end: 13 },
+        },
+    ),
+];
 
 #[test]
 fn messages(rt: HostRuntime) {
-    // Empty strings and an empty map, and a byte behind the message.
-    let empty = parts(span(3, 3), span(3, 4), Some(span(5, 5)), span(6, 6));
-    assert_eq!(rt; outcome_of(b"\xd2\x84\x40\xa0\x40\x40\xff"), empty);
-    // A detached payload.
-    let detached = parts(span(3, 3), span(3, 4), None, span(6, 7));
-    assert_eq!(rt; outcome_of(b"\xd2\x84\x40\xa0\xf6\x41s"), detached);
-    // A map of indefinite length, which holds an array.
-    let open = parts(span(3, 4), span(4, 9), None, span(11, 13));
-    assert_eq!(rt;
-        outcome_of(b"\xd2\x84\x41\xa0\xbf\x01\x81\x02\xff\xf6\x42ok"),
-        open
-    );
+    for &(bytes, parts) in &MESSAGES {
+        holds_at(&rt, outcome_of(bytes) == Outcome::Parts(parts), bytes);
+    }
 }
+
+// What is no message, and why.
+static REFUSED: [(&[u8], Outcome); 19] = [
+    // another tag, none, and an array of three and of any number
+    (b"\xd1\x84\x40\xa0\xf6\x41s", Outcome::Unexpected(0)),
+    (b"\x84\x40\xa0\xf6\x41s", Outcome::Unexpected(0)),
+    (b"\xd2\x83\x40\xa0\xf6", Outcome::Unexpected(1)),
+    (b"\xd2\x9f\x40\xa0\xf6\x41s\xff", Outcome::Unexpected(1)),
+    // each part as something else, and a byte string of indefinite length
+    (b"\xd2\x84\xf6\xa0\xf6\x41s", Outcome::Unexpected(2)),
+    (b"\xd2\x84\x5f\xff\xa0\xf6\x41s", Outcome::Unexpected(2)),
+    (b"\xd2\x84\x40\x80\xf6\x41s", Outcome::Unexpected(3)),
+    (b"\xd2\x84\x40\xa0\xf7\x41s", Outcome::Unexpected(4)),
+    (b"\xd2\x84\x40\xa0\xf6\xf6", Outcome::Unexpected(5)),
+    // titles that are not the shortest, and one that is none
+    (b"\xd2\x84\x58\x00\xa0\xf6\x41s", Outcome::Syntax(2)),
+    (b"\xd8\x12\x84\x40\xa0\xf6\x41s", Outcome::Syntax(0)),
+    (b"\xd2\x84\x40\xa0\x5c", Outcome::Syntax(4)),
+    // bytes that end within a body, and in front of a title
+    (b"\xd2\x84\x40\xa0\xf6\x42s", Outcome::Short),
+    (b"", Outcome::Short),
+    // a map with a key alone, that holds no title or a longer one, that is nested too deep, and that ends too early
+    (b"\xd2\x84\x40\xbf\x01\xff\xf6\x41s", Outcome::MapBreak(5)),
+    (b"\xd2\x84\x40\xa1\x1c\x01", Outcome::MapSyntax(4)),
+    (
+        b"\xd2\x84\x40\xa1\x18\x01\x02\xf6\x41s",
+        Outcome::MapSyntax(4),
+    ),
+    (
+        b"\xd2\x84\x40\xa1\x81\x81\x81\x81\x81\x81\x81\x81\x81\x81\x81\x81\x81\x81\x81\x81\x01\x02",
+        Outcome::MapDeep(19),
+    ),
+    (b"\xd2\x84\x40\xa1\x01", Outcome::MapShort),
+];
 
 #[test]
 fn what_is_refused(rt: HostRuntime) {
-    let rows: [(&[u8], Outcome); 19] = [
-        // another tag, none, and an array of three and of any number
-        (b"\xd1\x84\x40\xa0\xf6\x41s", Outcome::Unexpected(0)),
-        (b"\x84\x40\xa0\xf6\x41s", Outcome::Unexpected(0)),
-        (b"\xd2\x83\x40\xa0\xf6", Outcome::Unexpected(1)),
-        (b"\xd2\x9f\x40\xa0\xf6\x41s\xff", Outcome::Unexpected(1)),
-        // each part as something else, and a byte string of indefinite length
-        (b"\xd2\x84\xf6\xa0\xf6\x41s", Outcome::Unexpected(2)),
-        (b"\xd2\x84\x5f\xff\xa0\xf6\x41s", Outcome::Unexpected(2)),
-        (b"\xd2\x84\x40\x80\xf6\x41s", Outcome::Unexpected(3)),
-        (b"\xd2\x84\x40\xa0\xf7\x41s", Outcome::Unexpected(4)),
-        (b"\xd2\x84\x40\xa0\xf6\xf6", Outcome::Unexpected(5)),
-        // titles that are not the shortest, and one that is none
-        (b"\xd2\x84\x58\x00\xa0\xf6\x41s", Outcome::Syntax(2)),
-        (b"\xd8\x12\x84\x40\xa0\xf6\x41s", Outcome::Syntax(0)),
-        (b"\xd2\x84\x40\xa0\x5c", Outcome::Syntax(4)),
-        // bytes that end within a body, and in front of a title
-        (b"\xd2\x84\x40\xa0\xf6\x42s", Outcome::Short),
-        (b"", Outcome::Short),
-        // a map with a key alone, that holds no title or a longer one, that is nested too deep, and that ends too early
-        (b"\xd2\x84\x40\xbf\x01\xff\xf6\x41s", Outcome::MapBreak(5)),
-        (b"\xd2\x84\x40\xa1\x1c\x01", Outcome::MapSyntax(4)),
-        (
-            b"\xd2\x84\x40\xa1\x18\x01\x02\xf6\x41s",
-            Outcome::MapSyntax(4),
-        ),
-        (
-            b"\xd2\x84\x40\xa1\x81\x81\x81\x81\x81\x81\x81\x81\x81\x81\x81\x81\x81\x81\x81\x81\x01\x02",
-            Outcome::MapDeep(19),
-        ),
-        (b"\xd2\x84\x40\xa1\x01", Outcome::MapShort),
-    ];
-    for (bytes, want) in rows {
-        assert_eq!(rt; outcome_of(bytes), want);
+    for &(bytes, want) in &REFUSED {
+        holds_at(&rt, outcome_of(bytes) == want, bytes);
     }
 }
 
 #[test]
 fn a_message_that_is_cut(rt: HostRuntime) {
     for len in 0..SINGLE_SIGNATURE.len() {
-        let outcome = outcome_of(&SINGLE_SIGNATURE[..len]);
-        assert!(rt; matches!(outcome, Outcome::Short | Outcome::MapShort));
+        let front = &SINGLE_SIGNATURE[..len];
+        let is_short = matches!(outcome_of(front), Outcome::Short | Outcome::MapShort);
+        holds_at(&rt, is_short, front);
     }
 }

@@ -1,0 +1,69 @@
+// What tests look at, as plain values: what a call answered, and whether that is what was wanted.
+
+use ciborium_ll::io::SliceReader;
+use ciborium_ll::{Decoder, Error, Header, RecodeError};
+use std::process::Abort;
+
+// What was looked at holds. The message says what that is: a call tells no line of its caller.
+pub fn holds(rt: &impl Abort, is_right: bool, what: &str) {
+    assert!(rt; is_right, "{what}");
+}
+
+// The same of a row, which its bytes name.
+pub fn holds_at(rt: &impl Abort, is_right: bool, bytes: &[u8]) {
+    assert!(rt; is_right, "at {bytes:?}");
+}
+
+// Why a call between slices stopped, if it did.
+#[derive(Clone, Copy, PartialEq, Eq)]
+pub enum Stop {
+    Never,
+    Syntax(usize),
+    TooLong,
+    Waiting,
+    Short,
+    Full,
+}
+
+// What an error of a decoder says.
+pub fn read_stop<E>(error: &Error<E>) -> Stop {
+    match error {
+        Error::Syntax(place) => Stop::Syntax(*place),
+        Error::TooLong => Stop::TooLong,
+        Error::Waiting => Stop::Waiting,
+        Error::Io(_) => Stop::Short,
+    }
+}
+
+// How a read of a string ended.
+pub fn read_end<E>(outcome: &Result<(), Error<E>>) -> Stop {
+    match outcome {
+        Ok(()) => Stop::Never,
+        Err(error) => read_stop(error),
+    }
+}
+
+// What an error of a copy says.
+pub fn copy_stop<E, F>(error: &RecodeError<E, F>) -> Stop {
+    match error {
+        RecodeError::Read(error) => read_stop(error),
+        RecodeError::Write(_) => Stop::Full,
+    }
+}
+
+// What the outcome of a copy says.
+pub fn stop_of<E, F>(outcome: &Result<(), RecodeError<E, F>>) -> Stop {
+    match outcome {
+        Ok(()) => Stop::Never,
+        Err(error) => copy_stop(error),
+    }
+}
+
+// The next header, or why there is none. It ensures nothing: a contract that says much makes the proof of who makes
+// several such calls long.
+pub fn next_header(decoder: &mut Decoder<SliceReader>) -> Result<Header, Stop> {
+    match decoder.pull() {
+        Ok(header) => Ok(header),
+        Err(error) => Err(read_stop(&error)),
+    }
+}
