@@ -66,6 +66,13 @@ pub fn failing_decoder_as(
     }
 }
 
+// Where a reading ended, how many bytes are left behind that, and whether the call came that was to fail.
+pub fn reading_of(mut decoder: Decoder<FailingReader<'_>>) -> (usize, usize, bool) {
+    let offset = decoder.offset();
+    let reader = decoder.into_inner();
+    (offset, reader.left().len(), reader.has_failed())
+}
+
 // An encoder whose writer fails where it is told to.
 pub fn failing_encoder(space: &mut [u8], failing: Failing) -> Encoder<FailingWriter<'_>> {
     Encoder::from(FailingWriter::new(space, failing))
@@ -245,8 +252,5 @@ pub fn holds(rt: &impl Abort, is_right: bool, call: usize, bytes: &[u8]) {
 
 // All steps of a test hold. The message says which ones do, and the number of the row or the place.
 pub fn all_hold(rt: &impl Abort, place: usize, steps: &[bool]) {
-    assert!(rt;
-        steps.iter().all(|step| *step),
-        "at {place} the steps {steps:?}"
-    );
+    assert!(rt; !steps.contains(&false), "at {place} the steps {steps:?}");
 }

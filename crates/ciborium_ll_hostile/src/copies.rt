@@ -1,5 +1,5 @@
 use crate::calls::{
-    MOST, all_hold, decoded, failing_decoder, failing_decoder_as, failing_encoder, front_of, holds,
+    MOST, all_hold, decoded, failing_decoder_as, failing_encoder, front_of, holds, reading_of,
     recodes,
 };
 use ciborium_ll::io::{EndOfFile, OutOfSpace, SliceReader, SliceWriter};
@@ -38,7 +38,7 @@ pub enum Side {
 }
 
 // The call of a number fails, of this side.
-pub fn failing_at(side: Side, call: usize) -> (Failing, Failing) {
+fn failing_at(side: Side, call: usize) -> (Failing, Failing) {
     match side {
         Side::Reader => (Failing::Call(call), Failing::Never),
         Side::Writer => (Failing::Never, Failing::Call(call)),
@@ -59,10 +59,11 @@ pub enum Answer {
     Wrong,
 }
 
-// What a copy gave. What it wrote are the first bytes of the space, so many.
+// What a copy gave, made once or twice. What it wrote are the first bytes of the space, so many.
 #[derive(Clone, Copy)]
-struct Outcome {
-    answer: Answer,
+pub struct Outcome {
+    pub first: Answer,
+    pub answer: Answer,
     space: [u8; MOST],
     length: usize,
     offset: usize,
@@ -118,7 +119,7 @@ fn copies_headers(
 }
 
 // The copy of elements.
-pub fn copies_elements(
+fn copies_elements(
     rt: &impl Abort,
     decoder: &mut Decoder<FailingReader<'_>>,
     encoder: &mut Encoder<FailingWriter<'_>>,
@@ -128,7 +129,7 @@ pub fn copies_elements(
     answer_of(recodes(rt, decoder, encoder, count, buffer))
 }
 
-// The copy that a task is.
+// The copy that a task is, made once.
 fn answer_by(
     rt: &impl Abort,
     decoder: &mut Decoder<FailingReader<'_>>,
@@ -143,24 +144,34 @@ fn answer_by(
     }
 }
 
-// Copies by a reader and a writer that fail where they are told to.
-fn copies(rt: &impl Abort, task: Task<'_>, failing: (Failing, Failing)) -> Outcome {
+// Copies by a reader and a writer that fail where they are told to, and where it is asked for once more.
+pub fn copies(
+    rt: &impl Abort,
+    task: Task<'_>,
+    failing: (Failing, Failing),
+    is_twice: bool,
+) -> Outcome {
     let mut space = [0; MOST];
     let is_strict = matches!(task.kind, Kind::StrictElements);
     let mut decoder = failing_decoder_as(is_strict, task.bytes, failing.0);
     let mut encoder = failing_encoder(&mut space, failing.1);
-    let answer = answer_by(rt, &mut decoder, &mut encoder, task);
-    let offset = decoder.offset();
-    let reader = decoder.into_inner();
+    let first = answer_by(rt, &mut decoder, &mut encoder, task);
+    let answer = if is_twice {
+        answer_by(rt, &mut decoder, &mut encoder, task)
+    } else {
+        first
+    };
+    let (offset, left, has_read_failed) = reading_of(decoder);
     let writer = encoder.into_inner();
     let length = writer.written().len();
-    let has_failed = reader.has_failed() || writer.has_failed();
+    let has_failed = has_read_failed || writer.has_failed();
     Outcome {
+        first,
         answer,
         space,
         length,
         offset,
-        left: reader.left().len(),
+        left,
         has_failed,
     }
 }
@@ -209,11 +220,22 @@ fn is_whole(got: &Outcome, want: &Copied) -> bool {
 
 // What is written is what a plain reading of the bytes gives, and so is the answer. It tells what that reading gives.
 pub fn agrees(rt: &impl Abort, alloc: Global, task: Task<'_>) -> Copied {
-    let got = copies(rt, task, (Failing::Never, Failing::Never));
+    let got = copies(rt, task, (Failing::Never, Failing::Never), false);
     let want = copies_plainly(rt, alloc, task, task.bytes.len());
     let is_right = is_whole(&got, &want) && keeps(&got, task.bytes.len());
     holds(rt, is_right, task.count, task.bytes);
     want
+}
+
+// A copy fails at a call of a side, as it was told to, and the next one finds a fault at this place.
+pub fn fails_and_stops(rt: &impl Abort, task: Task<'_>, side: Side, call: usize, place: usize) {
+    let got = copies(rt, task, failing_at(side, call), true);
+    let has_failed = match side {
+        Side::Reader => matches!(got.first, Answer::Unread),
+        Side::Writer => matches!(got.first, Answer::Unwritten),
+    };
+    let has_stopped = is_fault(got.answer, Some(Fault::Syntax(place)));
+    holds(rt, has_failed && has_stopped, call, task.bytes);
 }
 
 // Behind a read that failed, what was written is just what the bytes in front of that call give.
@@ -238,7 +260,7 @@ fn stops(
     side: Side,
     call: usize,
 ) -> bool {
-    let got = copies(rt, task, failing_at(side, call));
+    let got = copies(rt, task, failing_at(side, call), false);
     if got.has_failed {
         let due = copies_plainly(rt, alloc, task, got.offset);
         let has_stopped = match side {
@@ -340,14 +362,18 @@ static STRING_ROWS: [(Side, usize, usize, usize); 10] = [
     (Side::Writer, 5, 5, 5),
 ];
 
-// Whether a copy of that string where a call fails, or no call is left to fail, comes so far.
-fn comes_to(rt: &impl Abort, side: Side, call: usize, length: usize, offset: usize) -> bool {
-    let task = Task {
+// A copy of that string.
+fn string_task() -> Task<'static> {
+    Task {
         kind: Kind::Elements,
         count: 1,
         bytes: &STRING,
-    };
-    let got = copies(rt, task, failing_at(side, call));
+    }
+}
+
+// Whether a copy of that string where a call fails, or no call is left to fail, comes so far.
+fn comes_to(rt: &impl Abort, side: Side, call: usize, length: usize, offset: usize) -> bool {
+    let got = copies(rt, string_task(), failing_at(side, call), false);
     let is_done = matches!(got.answer, Answer::Done) == (length == 5);
     is_done && got.offset == offset && got.written() == front_of(&STRING, length)
 }
@@ -363,13 +389,12 @@ fn a_string_by_hand(rt: HostRuntime) {
 // A copy that failed at its first read has lost nothing, and is made once more.
 #[test]
 fn a_copy_is_asked_for_once_more(rt: HostRuntime) {
-    let mut space = [0; 8];
-    let mut decoder = failing_decoder(&STRING, Failing::Call(1));
-    let mut encoder = failing_encoder(&mut space, Failing::Never);
-    let first = copies_elements(&rt, &mut decoder, &mut encoder, 1, &mut [0; 4]);
-    let second = copies_elements(&rt, &mut decoder, &mut encoder, 1, &mut [0; 4]);
-    let has_failed = matches!(first, Answer::Unread);
-    let is_done = matches!(second, Answer::Done);
-    let is_written = encoder.into_inner().written() == STRING.as_slice();
-    all_hold(&rt, 1, &[has_failed, is_done, is_written]);
+    let got = copies(&rt, string_task(), failing_at(Side::Reader, 1), true);
+    let has_failed = matches!(got.first, Answer::Unread);
+    let is_done = matches!(got.answer, Answer::Done);
+    all_hold(
+        &rt,
+        1,
+        &[has_failed, is_done, got.written() == STRING.as_slice()],
+    );
 }

@@ -126,7 +126,8 @@ fn is_right(ending: Ending, sizes: usize, body: &[u8], written: &[u8], left: usi
     }
 }
 
-// Drains a text of this length through buffers of these sizes, which are at most 4: how that ends, and how much is left.
+// Drains a text of this length through buffers of these sizes, which are at most 4: how that ends, and how much is
+// left.
 fn drains_text_of(
     rt: &impl Abort,
     decoder: &mut Decoder<SliceReader<'_>>,

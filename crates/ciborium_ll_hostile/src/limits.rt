@@ -87,10 +87,16 @@ fn a_body_that_passes_the_greatest_offset(rt: HostRuntime) {
     let mut decoder = decoder_from(SliceReader::new(&[0x41, 1]), usize::MAX - 1);
     let mut segments = bytes_in(&rt, &mut decoder, Some(1));
     let mut segment = next_segment(&rt, &mut segments);
-    let first = chunk_is_too_long(&mut segment, &mut [0; 1]) && segment.left() == 1;
-    let second = chunk_is_too_long(&mut segment, &mut [0; 1]) && segment.left() == 1;
-    let third = chunk_is_empty(&mut segment) && segment.left() == 1;
-    all_hold(&rt, 1, &[first, second, third, has_left(decoder, &[1])]);
+    let steps = [
+        chunk_is_too_long(&mut segment, &mut [0; 1]),
+        segment.left() == 1,
+        chunk_is_too_long(&mut segment, &mut [0; 1]),
+        segment.left() == 1,
+        chunk_is_empty(&mut segment),
+        segment.left() == 1,
+        has_left(decoder, &[1]),
+    ];
+    all_hold(&rt, 1, &steps);
 }
 
 // Whether a copy of elements passes the greatest offset.

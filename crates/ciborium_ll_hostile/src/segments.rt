@@ -1,7 +1,7 @@
 use crate::calls::{
     MOST, bytes_of, chunk_of_bytes, chunk_of_text, decoded, drains_bytes, drains_text,
     failing_decoder, failing_encoder, holds, is_pulled, is_refused, is_stop, next_segment,
-    segment_of, text_of,
+    reading_of, segment_of, text_of,
 };
 use ciborium_ll::laws::{self, End};
 use ciborium_ll::{
@@ -91,7 +91,7 @@ type Chunk<'a> = Result<Option<&'a [u8]>, Error<DeviceFault>>;
 pub type Due<'a> = Result<Option<&'a [u8]>, Stop>;
 
 // A chunk is the one that is due, or there is none for the reason that is due.
-pub fn is_due(chunk: &Chunk<'_>, due: &Due<'_>) -> bool {
+fn is_due(chunk: &Chunk<'_>, due: &Due<'_>) -> bool {
     match chunk {
         Ok(bytes) => matches!(due, Ok(want) if want == bytes),
         Err(error) => matches!(due, Err(stop) if is_stop(error, *stop)),
@@ -167,6 +167,16 @@ impl Kind for Text {
     }
 }
 
+// Whether a pull of a chunk by a buffer of this size, at most 64, gives what is due.
+pub fn gives<K: Kind>(
+    segment: &mut Segment<'_, FailingReader<'_>, K>,
+    size: usize,
+    due: &Due<'_>,
+) -> bool {
+    let mut space = [0; 64];
+    is_due(&K::pulls(segment, &mut space[..size.min(64)]), due)
+}
+
 // Reads a chunk by a buffer of this size, at most 64.
 fn reads_chunk<K: Kind>(
     rt: &impl Abort,
@@ -175,10 +185,8 @@ fn reads_chunk<K: Kind>(
     run: &mut Run<'_>,
     size: usize,
 ) -> Step {
-    let mut space = [0; 64];
-    let buffer = &mut space[..size.min(64)];
-    let due = body.pull(&mut run.tape, buffer.len());
-    let is_right = is_due(&K::pulls(segment, buffer), &due);
+    let due = body.pull(&mut run.tape, size.min(64));
+    let is_right = gives(segment, size, &due);
     agrees(rt, run, is_right && segment.left() == body.left(), "chunk");
     match due {
         Ok(Some(_)) => Step::Done,
@@ -357,6 +365,16 @@ fn reads_elements(
     }
 }
 
+// Behind a run the bytes that are left are all that were not read, those that were written are due, and a call was seen
+// to fail just where one did.
+fn is_end(reading: (usize, usize, bool), writer: &FailingWriter<'_>, run: &Run<'_>) -> bool {
+    let (offset, left, has_read_failed) = reading;
+    let has_failed = has_read_failed || writer.has_failed();
+    offset.saturating_add(left) == run.bytes.len()
+        && writer.written() == run.sink.taken()
+        && has_failed == (run.seen != NOWHERE)
+}
+
 // Reads bytes by a reader that fails at one call, and a writer that fails at one. Each answer is that of a plain
 // reading, and so are the offset, the bytes that are left and those that were written. It tells how often those calls
 // came, and where.
@@ -374,14 +392,8 @@ fn reads(rt: &impl Abort, alloc: Global, bytes: &[u8], failing: [usize; 2], way:
         seen: NOWHERE,
     };
     reads_elements(rt, &mut decoder, &mut run, &mut encoder);
-    let offset = decoder.offset();
-    let reader = decoder.into_inner();
-    let writer = encoder.into_inner();
-    let is_left = offset.saturating_add(reader.left().len()) == bytes.len();
-    let is_written = writer.written() == run.sink.taken();
-    let has_failed = reader.has_failed() || writer.has_failed();
-    let is_seen = has_failed == (run.seen != NOWHERE);
-    agrees(rt, &run, is_left && is_written && is_seen, "end");
+    let is_right = is_end(reading_of(decoder), &encoder.into_inner(), &run);
+    agrees(rt, &run, is_right, "end");
     run.seen
 }
 
@@ -427,10 +439,8 @@ fn each_fails(rt: &impl Abort, alloc: Global, bytes: &[u8], are_writes: bool, wa
     panic!(rt; "the calls of {bytes:?} have no end")
 }
 
-// Each call fails in turn over a sample, by buffers of all sizes.
-fn each_fails_in_sample(rt: &impl Abort, alloc: Global, drains: bool, hex: &str) {
-    let mut space = [0; MOST];
-    let bytes = decoded(rt, hex, &mut space);
+// Each call fails in turn over bytes, by buffers of all sizes.
+fn each_fails_by_sizes(rt: &impl Abort, alloc: Global, drains: bool, bytes: &[u8]) {
     for sizes in SIZES {
         let way = Way {
             sizes,
@@ -442,20 +452,19 @@ fn each_fails_in_sample(rt: &impl Abort, alloc: Global, drains: bool, hex: &str)
     }
 }
 
-#[test]
-fn each_read_fails_under_strings(rt: HostRuntime) -> Result<(), AllocError> {
-    let all = samples::all(rt.alloc())?;
-    for &(_, hex) in &all {
-        each_fails_in_sample(&rt, rt.alloc(), false, hex);
-    }
-    Ok(())
+// The same over a sample, chunk by chunk and by drains.
+fn each_fails_in_sample(rt: &impl Abort, alloc: Global, hex: &str) {
+    let mut space = [0; MOST];
+    let bytes = decoded(rt, hex, &mut space);
+    each_fails_by_sizes(rt, alloc, false, bytes);
+    each_fails_by_sizes(rt, alloc, true, bytes);
 }
 
 #[test]
-fn each_call_fails_under_drains_of_segments(rt: HostRuntime) -> Result<(), AllocError> {
+fn each_call_fails_under_strings(rt: HostRuntime) -> Result<(), AllocError> {
     let all = samples::all(rt.alloc())?;
     for &(_, hex) in &all {
-        each_fails_in_sample(&rt, rt.alloc(), true, hex);
+        each_fails_in_sample(&rt, rt.alloc(), hex);
     }
     Ok(())
 }

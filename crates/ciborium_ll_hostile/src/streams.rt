@@ -1,4 +1,5 @@
 use crate::calls::{MOST, decoded, front_of, holds, recodes};
+use crate::copies::{Answer, is_fault};
 use ciborium_ll::io::{ReadFault, StdReader, StdWriter, WriteFault};
 use ciborium_ll::{Decoder, Encoder, Error, RecodeError};
 use ciborium_ll_fixtures::plain::{self, Copied, Fault};
@@ -8,23 +9,24 @@ use std::alloc::Global;
 use std::io;
 use std::process::Abort;
 
-// What a copy through a reader that may be interrupted answers, where a plain reading has this fault.
-fn is_read_answer(
-    outcome: Result<(), RecodeError<ReadFault, WriteFault>>,
-    has_failed: bool,
-    want: Option<Fault>,
-) -> bool {
+// What a copy through a reader answers that may be interrupted.
+fn answer_of(outcome: Result<(), RecodeError<ReadFault, WriteFault>>) -> Answer {
     match outcome {
-        Err(RecodeError::Read(Error::Io(ReadFault::Failed(error)))) => {
-            has_failed && error.kind() == io::ErrorKind::Interrupted
-        }
-        _ if has_failed => false,
-        Ok(()) => want.is_none(),
-        Err(RecodeError::Read(Error::Syntax(place))) => want == Some(Fault::Syntax(place)),
-        Err(RecodeError::Read(Error::Io(ReadFault::End))) => {
-            matches!(want, Some(Fault::Short | Fault::ShortAndDamaged(_)))
-        }
-        Err(_) => false,
+        Ok(()) => Answer::Done,
+        Err(RecodeError::Read(Error::Syntax(place))) => Answer::Syntax(place),
+        Err(RecodeError::Read(Error::Io(ReadFault::End))) => Answer::Short,
+        Err(RecodeError::Read(Error::Io(ReadFault::Failed(error))))
+            if error.kind() == io::ErrorKind::Interrupted => { Answer::Unread }
+        Err(_) => Answer::Wrong,
+    }
+}
+
+// Whether it is that of a read that failed, or of a plain reading with this fault.
+fn is_read_answer(answer: Answer, has_failed: bool, want: Option<Fault>) -> bool {
+    if has_failed {
+        matches!(answer, Answer::Unread)
+    } else {
+        is_fault(answer, want)
     }
 }
 
@@ -82,11 +84,12 @@ fn stops_reading(
     let mut decoder = decoder_over(source);
     let mut encoder = encoder_over(PartWriter::new(alloc, most));
     let outcome = recodes(rt, &mut decoder, &mut encoder, count, &mut [0; 64]);
+    let answer = answer_of(outcome);
     let offset = decoder.offset();
     let has_failed = source_of(decoder).calls >= call;
     let length = if has_failed { offset } else { bytes.len() };
     let want = copies_plainly(rt, alloc, count, front_of(bytes, length));
-    let is_answer = is_read_answer(outcome, has_failed, want.fault);
+    let is_answer = is_read_answer(answer, has_failed, want.fault);
     let is_taken = sink_of(encoder).taken.as_slice() == want.output.as_slice();
     let is_right = is_answer && is_taken && offset == want.offset;
     holds(rt, is_right, call, bytes);

@@ -1,12 +1,12 @@
 // A strict decoder that goes on behind a failure is strict as before.
 
 use crate::calls::{
-    all_hold, bytes_in, chunk_of_bytes, failing_decoder_as, failing_encoder, holds, is_pulled,
-    is_refused, is_stop, next_segment,
+    all_hold, bytes_in, failing_decoder_as, holds, is_pulled, is_refused, is_stop, next_segment,
 };
-use crate::copies::{Answer, Side, copies_elements, failing_at};
+use crate::copies::{Kind, Side, Task, fails_and_stops};
+use crate::segments::gives;
 use ciborium_ll::io::Read;
-use ciborium_ll::{Body, Bytes, Decoder, Error, Header, Segment, Segments};
+use ciborium_ll::{Body, Bytes, Decoder, Error, Header, Segments};
 use ciborium_ll_fixtures::devices::{DeviceFault, Failing, FailingReader};
 use ciborium_ll_fixtures::tape::Stop;
 use std::process::Abort;
@@ -110,26 +110,13 @@ fn behind_an_advance(rt: HostRuntime) {
     }
 }
 
-// Whether a pull of a chunk fails as it was told to.
-fn chunk_fails(segment: &mut Segment<'_, FailingReader<'_>, Bytes>) -> bool {
-    matches!(
-        chunk_of_bytes(segment, &mut [0; 4]),
-        Err(Error::Io(DeviceFault::Planned))
-    )
-}
-
-// Whether a pull of a chunk gives the bytes 1 and 2.
-fn chunk_is_there(segment: &mut Segment<'_, FailingReader<'_>, Bytes>) -> bool {
-    matches!(chunk_of_bytes(segment, &mut [0; 4]), Ok(Some([1, 2])))
-}
-
 // Whether a body is read once more.
 fn is_read_once_more(
     rt: &impl Abort,
     segments: &mut Segments<'_, FailingReader<'_>, Bytes>,
 ) -> bool {
     let mut segment = next_segment(rt, segments);
-    chunk_fails(&mut segment) && chunk_is_there(&mut segment)
+    gives(&mut segment, 4, &Err(Stop::Planned)) && gives(&mut segment, 4, &Ok(Some(&[1, 2])))
 }
 
 #[test]
@@ -161,27 +148,21 @@ static WRITES: [Row; 3] = [
 ];
 
 // A copy of two elements fails as it was told to, and the next one refuses a title.
-fn copy_row(rt: &impl Abort, bytes: &[u8], side: Side, call: usize, place: usize) {
-    let mut space = [0; 8];
-    let failing = failing_at(side, call);
-    let mut decoder = failing_decoder_as(true, bytes, failing.0);
-    let mut encoder = failing_encoder(&mut space, failing.1);
-    let first = copies_elements(rt, &mut decoder, &mut encoder, 2, &mut [0; 4]);
-    let second = copies_elements(rt, &mut decoder, &mut encoder, 2, &mut [0; 4]);
-    let has_failed = match side {
-        Side::Reader => matches!(first, Answer::Unread),
-        Side::Writer => matches!(first, Answer::Unwritten),
+fn copy_row(rt: &impl Abort, (bytes, call, place): Row, side: Side) {
+    let task = Task {
+        kind: Kind::StrictElements,
+        count: 2,
+        bytes,
     };
-    let is_refused = matches!(second, Answer::Syntax(at) if at == place);
-    holds(rt, has_failed && is_refused, call, bytes);
+    fails_and_stops(rt, task, side, call, place);
 }
 
 #[test]
 fn behind_a_copy(rt: HostRuntime) {
-    for &(bytes, call, place) in &COPIES {
-        copy_row(&rt, bytes, Side::Reader, call, place);
+    for &row in &COPIES {
+        copy_row(&rt, row, Side::Reader);
     }
-    for &(bytes, call, place) in &WRITES {
-        copy_row(&rt, bytes, Side::Writer, call, place);
+    for &row in &WRITES {
+        copy_row(&rt, row, Side::Writer);
     }
 }

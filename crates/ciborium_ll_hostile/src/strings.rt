@@ -1,7 +1,6 @@
 use crate::calls::{all_hold, bytes_in, failing_decoder, holds, next_segment, text_in};
-use crate::segments::{Due, Kind, is_due, segment_fails};
-use ciborium_ll::{Segment, Text};
-use ciborium_ll_fixtures::devices::{Failing, FailingReader};
+use crate::segments::{Due, gives, segment_fails};
+use ciborium_ll_fixtures::devices::Failing;
 use ciborium_ll_fixtures::tape::Stop;
 use std::process::Abort;
 
@@ -18,12 +17,6 @@ fn an_affix_fails_in_a_string(rt: HostRuntime) {
 
 // The size of a buffer, what a pull of a chunk by it gives, and how many bytes are left then.
 type Step = (usize, Due<'static>, usize);
-
-// Whether a pull of a chunk by a buffer of this size, at most 4, gives what is wanted.
-fn gives(segment: &mut Segment<'_, FailingReader<'_>, Text>, size: usize, want: &Due<'_>) -> bool {
-    let mut space = [0; 4];
-    is_due(&Text::pulls(segment, &mut space[..size.min(4)]), want)
-}
 
 // Reads a text of two bytes step by step.
 fn text_row(rt: &impl Abort, bytes: &[u8], failing: Failing, steps: &[Step]) {

@@ -1,6 +1,6 @@
 use crate::calls::{
     MOST, decoded, decoder, failing_decoder, failing_decoder_as, failing_encoder, holds, is_pulled,
-    is_refused, pulls,
+    is_refused, pulls, reading_of,
 };
 use ciborium_ll::io::Write;
 use ciborium_ll::{Decoder, Encoder, Error, Header};
@@ -118,11 +118,14 @@ fn reads_on(
 pub fn reads_titles(rt: &impl Abort, is_strict: bool, bytes: &[u8], failing: usize) -> bool {
     let mut decoder = failing_decoder_as(is_strict, bytes, Failing::Call(failing));
     reads_on(rt, &mut decoder, is_strict, bytes, failing);
-    let offset = decoder.offset();
-    let reader = decoder.into_inner();
-    let is_left = offset.saturating_add(reader.left().len()) == bytes.len();
-    holds(rt, is_left, failing, bytes);
-    reader.has_failed()
+    let (offset, left, has_failed) = reading_of(decoder);
+    holds(
+        rt,
+        offset.saturating_add(left) == bytes.len(),
+        failing,
+        bytes,
+    );
+    has_failed
 }
 
 // The call of each number fails in turn, until none does. Nothing but that one answer is another one.

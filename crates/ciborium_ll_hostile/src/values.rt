@@ -33,7 +33,9 @@ fn writes(encoder: &mut Encoder<FailingWriter<'_>>, call: Call) -> Result<(), De
 }
 
 // The writes of a call, each one that moves a byte at least.
-static ROWS: [(Call, &[&[u8]]); 15] = [
+type Row = (Call, &'static [&'static [u8]]);
+
+static ROWS: [Row; 15] = [
     (Call::Push(Header::Positive(1000)), &[b"\x19", b"\x03\xe8"]),
     (Call::Push(Header::Break), &[b"\xff"]),
     (
@@ -153,9 +155,14 @@ fn each_write_fails(rt: &impl Abort, call: Call, parts: &[&[u8]]) {
     }
 }
 
+// The table comes as a slice: a proof of who goes over a table that it names looks at each of its rows.
+fn each_row(rt: &impl Abort, rows: &[Row]) {
+    for &(call, parts) in rows {
+        each_write_fails(rt, call, parts);
+    }
+}
+
 #[test]
 fn each_write_fails_under_values(rt: HostRuntime) {
-    for &(call, parts) in &ROWS {
-        each_write_fails(&rt, call, parts);
-    }
+    each_row(&rt, &ROWS);
 }
