@@ -154,16 +154,15 @@ pub fn begins(out: &[u8; MOST], whole: &Answer) -> bool {
 // Whether both say the same. Where the bytes end too early, `recode` doesn't look whether any elements begin so, and
 // where they end within a body it may have written less of it.
 fn agree(fed: &Answer, whole: &Answer) -> bool {
-    let is_so = match whole.progress {
-        Progress::Ended => {
-            fed.progress == Progress::Ended
-                && fed.taken == whole.taken
-                && fed.written == whole.written
-        }
+    let is_same = match whole.progress {
         Progress::More => matches!(fed.progress, Progress::More | Progress::Syntax(_)),
         progress => fed.progress == progress,
     };
-    is_so && whole.written <= fed.written && begins(&fed.out, whole)
+    let is_whole = match whole.progress {
+        Progress::Ended => fed.taken == whole.taken && fed.written == whole.written,
+        _ => whole.written <= fed.written,
+    };
+    is_same && is_whole && begins(&fed.out, whole)
 }
 
 // Copies bytes in all ways, and compares the answers with that of `recode`.

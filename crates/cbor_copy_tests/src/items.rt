@@ -298,7 +298,6 @@ fn row(rt: &impl Abort, strict: bool, depth: usize, bytes: &[u8], out: &[u8], pr
     }
 }
 
-// The table comes as a slice: a proof of who goes over a table that it names looks at each of its rows.
 fn rows(rt: &impl Abort, rows: &[Written]) {
     for &(strict, depth, bytes, out, progress) in rows {
         row(rt, strict, depth, bytes, out, progress);

@@ -91,10 +91,15 @@ fn no_states(rt: HostRuntime) {
     all_hold(&rt, &[is_one, !has_a_front, !has_strings, !has_a_phase]);
 }
 
-// Whether a copier takes a piece and has come to this end behind it.
+// Whether that is what an end means now.
+fn is_at(copier: &Copier, end: End) -> bool {
+    copier.end() == end
+}
+
+// Whether it is behind a piece.
 fn has_come(copier: &mut Copier, piece: &[u8], out: &mut [u8], end: End) -> bool {
     let _ = fed(copier, piece, out);
-    copier.end() == end
+    is_at(copier, end)
 }
 
 // What an end means: of no elements, of one that is cut, with bytes to write, behind both and behind a fault.
@@ -103,12 +108,12 @@ fn ends(rt: HostRuntime) {
     let mut out = [0; 4];
     let mut copier = Copier::new(2);
     let steps = [
-        Copier::new(0).end() == End::Ended,
-        copier.end() == End::Short,
+        is_at(&Copier::new(0), End::Ended),
+        is_at(&copier, End::Short),
         has_come(&mut copier, &[0x05, 0x19, 0x03], &mut out, End::Short),
         has_come(&mut copier, &[0xe8], &mut out[..1], End::Room),
         fed(&mut copier, &[], &mut out).progress == Progress::Ended,
-        copier.end() == End::Ended,
+        is_at(&copier, End::Ended),
         has_come(&mut Copier::new(2), &[0x05, 0x1c], &mut out, End::Syntax(1)),
     ];
     all_hold(&rt, &steps);

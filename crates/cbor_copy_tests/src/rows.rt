@@ -75,7 +75,6 @@ fn row(rt: &impl Abort, count: usize, bytes: &[u8], out: &[u8], progress: Progre
     }
 }
 
-// The table comes as a slice: a proof of who goes over a table that it names looks at each of its rows.
 fn rows(rt: &impl Abort, rows: &[Written]) {
     for &(count, bytes, out, progress) in rows {
         row(rt, count, bytes, out, progress);

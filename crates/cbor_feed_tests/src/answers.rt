@@ -127,14 +127,14 @@ fn agrees_strictly(progress: Progress, bytes: &[u8]) -> bool {
     }
 }
 
-// Whether bytes in two pieces have this answer, cut at each place.
-fn are_cuts(bytes: &[u8], whole: Progress) -> bool {
+// Where bytes in two pieces have another answer, if they do anywhere.
+fn wrong_cut(bytes: &[u8], whole: Progress) -> Option<usize> {
     for cut in 0..bytes.len() {
         if in_two(bytes, cut) != whole {
-            return false;
+            return Some(cut);
         }
     }
-    true
+    None
 }
 
 // Feeds bytes in all ways to checkers of both kinds, and compares the answers with one another and with a skip. The
@@ -142,14 +142,18 @@ fn are_cuts(bytes: &[u8], whole: Progress) -> bool {
 pub fn all_ways(rt: &impl Abort, bytes: &[u8]) {
     let whole = at_once(false, bytes);
     let strictly = at_once(true, bytes);
+    let cut = wrong_cut(bytes, whole);
     let ways = [
         agrees(whole, bytes),
         one_by_one(false, bytes) == whole,
         kept_between(bytes) == Some(whole),
         fed_in_place(bytes) == Some(whole),
-        are_cuts(bytes, whole),
+        cut.is_none(),
         agrees_strictly(strictly, bytes),
         one_by_one(true, bytes) == strictly,
     ];
-    assert!(rt; !ways.contains(&false), "the ways {ways:?}, at {bytes:?}");
+    assert!(rt;
+        !ways.contains(&false),
+        "the ways {ways:?}, at {bytes:?}, cut at {cut:?}"
+    );
 }

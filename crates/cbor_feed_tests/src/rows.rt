@@ -74,7 +74,6 @@ fn row(rt: &impl Abort, strict: bool, digits: &str, want: Progress) {
     all_ways(rt, bytes);
 }
 
-// The table comes as a slice: a proof of who goes over a table that it names looks at each of its rows.
 pub fn each_row(rt: &impl Abort, strict: bool, rows: &[(&str, Progress)]) {
     for &(digits, want) in rows {
         row(rt, strict, digits, want);

@@ -155,7 +155,6 @@ fn each_write_fails(rt: &impl Abort, call: Call, parts: &[&[u8]]) {
     }
 }
 
-// The table comes as a slice: a proof of who goes over a table that it names looks at each of its rows.
 fn each_row(rt: &impl Abort, rows: &[Row]) {
     for &(call, parts) in rows {
         each_write_fails(rt, call, parts);
