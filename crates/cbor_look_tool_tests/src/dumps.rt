@@ -39,9 +39,9 @@ pub fn are_digits(rt: &impl Abort, alloc: Global, digits: &str) -> bool {
     is_all && all.as_slice().starts_with(shown.as_slice())
 }
 
-// Behind `=` digits, and below them the dump of their bytes. From the fifth one on they end within an affix of two bytes
-// and of eight, within bodies, and within a character behind 12 others. All are one text, since a proof of who names a
-// table of long texts takes far longer.
+// Behind `=` digits, and below them the dump of their bytes. From the fifth one on they end within an affix of two
+// bytes and of eight, within bodies, and within a character behind 12 others. All are one text, since a proof of who
+// names a table of long texts takes far longer.
 static DUMPS: &str = "\
 = 82 1903e8 6161
 82                                  # array 2

@@ -2,8 +2,8 @@ use crate::dumps::each_dumped;
 use cbor_look_service::arguments::Options;
 
 // Behind `=` digits, and below them the dump of their bytes: the examples of RFC 8949, section 3, as its pictures have
-// them, but that a break stands at the level of what it ends, and those of its appendix A by their notation there, floats
-// by their bits. Left out are two whose texts are longer than a line.
+// them, but that a break stands at the level of what it ends, and those of its appendix A by their notation there,
+// floats by their bits. Left out are two whose texts are longer than a line.
 static PICTURES: &str = "\
 = 0a 1901f4 3901f3 45 0102030405 8a 00000000000000000000
 0a                                  # 10
