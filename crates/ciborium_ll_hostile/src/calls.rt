@@ -155,7 +155,11 @@ pub fn bytes_in<'a, R: Read>(
 where
     R::Error: Drop,
 {
-    assert!(rt; is_pulled(decoder, Header::Bytes(length)), "no bytes");
+    let place = decoder.offset();
+    assert!(rt;
+        is_pulled(decoder, Header::Bytes(length)),
+        "no bytes at {place}"
+    );
     bytes_of(rt, decoder, length)
 }
 
@@ -168,7 +172,11 @@ pub fn text_in<'a, R: Read>(
 where
     R::Error: Drop,
 {
-    assert!(rt; is_pulled(decoder, Header::Text(length)), "no text");
+    let place = decoder.offset();
+    assert!(rt;
+        is_pulled(decoder, Header::Text(length)),
+        "no text at {place}"
+    );
     text_of(rt, decoder, length)
 }
 

@@ -135,16 +135,18 @@ fn answer_by(
     decoder: &mut Decoder<FailingReader<'_>>,
     encoder: &mut Encoder<FailingWriter<'_>>,
     task: Task<'_>,
+    buffer: &mut [u8],
 ) -> Answer {
     match task.kind {
         Kind::Headers => copies_headers(decoder, encoder, task.count),
         Kind::Elements | Kind::StrictElements => {
-            copies_elements(rt, decoder, encoder, task.count, &mut [0; 64])
+            copies_elements(rt, decoder, encoder, task.count, buffer)
         }
     }
 }
 
-// Copies by a reader and a writer that fail where they are told to, and where it is asked for once more.
+// Copies by a reader and a writer that fail where they are told to, through a buffer of 64 bytes, or where it is asked
+// for once more, and then through one of 4.
 pub fn copies(
     rt: &impl Abort,
     task: Task<'_>,
@@ -155,9 +157,11 @@ pub fn copies(
     let is_strict = matches!(task.kind, Kind::StrictElements);
     let mut decoder = failing_decoder_as(is_strict, task.bytes, failing.0);
     let mut encoder = failing_encoder(&mut space, failing.1);
-    let first = answer_by(rt, &mut decoder, &mut encoder, task);
+    let mut buffer = [0; 64];
+    let buffer = &mut buffer[..if is_twice { 4 } else { 64 }];
+    let first = answer_by(rt, &mut decoder, &mut encoder, task, buffer);
     let answer = if is_twice {
-        answer_by(rt, &mut decoder, &mut encoder, task)
+        answer_by(rt, &mut decoder, &mut encoder, task, buffer)
     } else {
         first
     };

@@ -26,7 +26,7 @@ fn has_left(decoder: Decoder<SliceReader<'_>>, bytes: &[u8]) -> bool {
 }
 
 // Copies an element through this buffer. It is to end by this fault, if one is told, at this offset, and with these
-// bytes written.
+// bytes written, two at most.
 fn copies(
     rt: &impl Abort,
     bytes: &[u8],
@@ -35,7 +35,7 @@ fn copies(
     offset: usize,
     output: &[u8],
 ) {
-    let mut space = [0; 8];
+    let mut space = [0; 2];
     let mut decoder = calls::decoder(bytes);
     let mut encoder = calls::encoder(&mut space);
     let is_answer = is_fault(copies_slice(rt, &mut decoder, &mut encoder, buffer), want);

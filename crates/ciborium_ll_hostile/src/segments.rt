@@ -35,12 +35,12 @@ fn add_planned(count: &mut usize, stop: Stop) {
     *count = count.saturating_add(usize::from(stop == Stop::Planned));
 }
 
-// How bytes are read: each segment by buffers of two sizes in turn, chunk by chunk or by drains of two chunks, and on
-// behind the call that fails, or no further.
+// How bytes are read: each segment by two sizes in turn, and on behind the call that fails, or no further. A drain has
+// both sizes so many rounds, at most 4. Without rounds it is read chunk by chunk.
 #[derive(Clone, Copy)]
 struct Way {
     sizes: [usize; 2],
-    drains: bool,
+    rounds: usize,
     goes_on: bool,
 }
 
@@ -72,8 +72,8 @@ impl Run<'_> {
 fn agrees(rt: &impl Abort, run: &Run<'_>, is_right: bool, what: &str) {
     assert!(rt;
         is_right,
-        "another {what} at {} of {:?}",
-        run.call, run.bytes
+        "another {what} at {} of {:?}, by {:?} in {} rounds",
+        run.call, run.bytes, run.way.sizes, run.way.rounds
     );
 }
 
@@ -112,7 +112,7 @@ fn is_drained(drain: &Drain, want: Drained) -> bool {
     }
 }
 
-// What is done with a segment of either kind: its `pull` and its drain. No size is above 64.
+// What is done with a segment of either kind: its `pull` and its drain. The buffer has room for each size.
 pub trait Kind: Chunked {
     fn pulls<'a>(
         segment: &mut Segment<'_, FailingReader<'_>, Self>,
@@ -122,7 +122,8 @@ pub trait Kind: Chunked {
     fn drains<A: Abort>(
         rt: &A,
         segment: &mut Segment<'_, FailingReader<'_>, Self>,
-        sizes: [usize; 2],
+        sizes: &[usize],
+        buffer: &mut [u8],
         sink: &mut Encoder<FailingWriter<'_>>,
     ) -> Drain;
 }
@@ -138,10 +139,11 @@ impl Kind for Bytes {
     fn drains<A: Abort>(
         rt: &A,
         segment: &mut Segment<'_, FailingReader<'_>, Bytes>,
-        sizes: [usize; 2],
+        sizes: &[usize],
+        buffer: &mut [u8],
         sink: &mut Encoder<FailingWriter<'_>>,
     ) -> Drain {
-        drains_bytes(rt, segment, &sizes, &mut [0; 64], sink)
+        drains_bytes(rt, segment, sizes, buffer, sink)
     }
 }
 
@@ -160,33 +162,35 @@ impl Kind for Text {
     fn drains<A: Abort>(
         rt: &A,
         segment: &mut Segment<'_, FailingReader<'_>, Text>,
-        sizes: [usize; 2],
+        sizes: &[usize],
+        buffer: &mut [u8],
         sink: &mut Encoder<FailingWriter<'_>>,
     ) -> Drain {
-        drains_text(rt, segment, &sizes, &mut [0; 64], sink)
+        drains_text(rt, segment, sizes, buffer, sink)
     }
 }
 
-// Whether a pull of a chunk by a buffer of this size, at most 64, gives what is due.
+// Whether a pull of a chunk gives what is due.
 pub fn gives<K: Kind>(
     segment: &mut Segment<'_, FailingReader<'_>, K>,
-    size: usize,
+    buffer: &mut [u8],
     due: &Due<'_>,
 ) -> bool {
-    let mut space = [0; 64];
-    is_due(&K::pulls(segment, &mut space[..size.min(64)]), due)
+    is_due(&K::pulls(segment, buffer), due)
 }
 
-// Reads a chunk by a buffer of this size, at most 64.
+// Reads a chunk by the first bytes of a space, so many, in which older chunks stand.
 fn reads_chunk<K: Kind>(
     rt: &impl Abort,
     segment: &mut Segment<'_, FailingReader<'_>, K>,
     body: &mut Body,
     run: &mut Run<'_>,
+    space: &mut [u8; 64],
     size: usize,
 ) -> Step {
-    let due = body.pull(&mut run.tape, size.min(64));
-    let is_right = gives(segment, size, &due);
+    let buffer = &mut space[..size.min(64)];
+    let due = body.pull(&mut run.tape, buffer.len());
+    let is_right = gives(segment, buffer, &due);
     agrees(rt, run, is_right && segment.left() == body.left(), "chunk");
     match due {
         Ok(Some(_)) => Step::Done,
@@ -198,15 +202,34 @@ fn reads_chunk<K: Kind>(
     }
 }
 
-// What a drain of a plain reading gives.
+// What a drain of a plain reading gives, round by round.
 fn due_drain(rt: &impl Abort, body: &mut Body, run: &mut Run<'_>) -> Drained {
-    match body.drain(&mut run.tape, run.way.sizes, &mut run.sink) {
-        Ok(drained) => drained,
-        Err(_) => panic!(rt; "no memory"),
+    for _ in 0..run.way.rounds {
+        match body.drain(&mut run.tape, run.way.sizes, &mut run.sink) {
+            Ok(Drained::OutOfSizes) => {}
+            Ok(drained) => return drained,
+            Err(_) => panic!(rt; "no memory"),
+        }
     }
+    Drained::OutOfSizes
 }
 
-// Drains two chunks.
+// Drains a segment through a buffer of 4 bytes where all sizes are at most that, and of 64 where one is greater.
+fn drained<K: Kind>(
+    rt: &impl Abort,
+    segment: &mut Segment<'_, FailingReader<'_>, K>,
+    way: Way,
+    writer: &mut Encoder<FailingWriter<'_>>,
+) -> Drain {
+    let [one, two] = way.sizes;
+    let sizes = [one, two, one, two, one, two, one, two];
+    let count = way.rounds.min(4) * 2;
+    let room = if one.max(two) <= 4 { 4 } else { 64 };
+    let mut space = [0; 64];
+    K::drains(rt, segment, &sizes[..count], &mut space[..room], writer)
+}
+
+// Drains chunks.
 fn drains_chunks<K: Kind>(
     rt: &impl Abort,
     segment: &mut Segment<'_, FailingReader<'_>, K>,
@@ -215,7 +238,7 @@ fn drains_chunks<K: Kind>(
     writer: &mut Encoder<FailingWriter<'_>>,
 ) -> Step {
     let want = due_drain(rt, body, run);
-    let is_right = is_drained(&K::drains(rt, segment, run.way.sizes, writer), want);
+    let is_right = is_drained(&drained(rt, segment, run.way, writer), want);
     agrees(rt, run, is_right && segment.left() == body.left(), "drain");
     match want {
         Drained::Ended => Step::Ended,
@@ -239,13 +262,14 @@ fn reads_segment<K: Kind>(
     run: &mut Run<'_>,
     writer: &mut Encoder<FailingWriter<'_>>,
 ) {
+    let mut space = [0; 64];
     let mut errors = 0usize;
     for call in 0..256usize {
         let size = run.way.sizes[call % 2];
-        let step = if run.way.drains {
+        let step = if run.way.rounds > 0 {
             drains_chunks(rt, segment, &mut body, run, writer)
         } else {
-            reads_chunk(rt, segment, &mut body, run, size)
+            reads_chunk(rt, segment, &mut body, run, &mut space, size)
         };
         if run.ends(step, &mut errors) {
             break;
@@ -401,6 +425,8 @@ const NEVER: usize = usize::MAX;
 
 const SIZES: [[usize; 2]; 6] = [[1, 4], [2, 5], [3, 4], [4, 4], [7, 7], [64, 64]];
 
+const ROUNDS: [usize; 3] = [0, 1, 4];
+
 // Adds up where calls failed.
 fn add_seen(all: &mut Seen, seen: Seen) {
     all.titles = all.titles.saturating_add(seen.titles);
@@ -440,11 +466,11 @@ fn each_fails(rt: &impl Abort, alloc: Global, bytes: &[u8], are_writes: bool, wa
 }
 
 // Each call fails in turn over bytes, by buffers of all sizes.
-fn each_fails_by_sizes(rt: &impl Abort, alloc: Global, drains: bool, bytes: &[u8]) {
+fn each_fails_by_sizes(rt: &impl Abort, alloc: Global, rounds: usize, bytes: &[u8]) {
     for sizes in SIZES {
         let way = Way {
             sizes,
-            drains,
+            rounds,
             goes_on: true,
         };
         let _ = each_fails(rt, alloc, bytes, false, way);
@@ -452,12 +478,13 @@ fn each_fails_by_sizes(rt: &impl Abort, alloc: Global, drains: bool, bytes: &[u8
     }
 }
 
-// The same over a sample, chunk by chunk and by drains.
+// The same over a sample, chunk by chunk and by drains of two chunks and of eight.
 fn each_fails_in_sample(rt: &impl Abort, alloc: Global, hex: &str) {
     let mut space = [0; MOST];
     let bytes = decoded(rt, hex, &mut space);
-    each_fails_by_sizes(rt, alloc, false, bytes);
-    each_fails_by_sizes(rt, alloc, true, bytes);
+    for rounds in ROUNDS {
+        each_fails_by_sizes(rt, alloc, rounds, bytes);
+    }
 }
 
 #[test]
@@ -510,7 +537,7 @@ fn fails_so_often(
         writes: 0,
     };
     let writes = Seen {
-        writes: if way.drains { writes } else { 0 },
+        writes: if way.rounds > 0 { writes } else { 0 },
         ..NOWHERE
     };
     let are_reads = each_fails(rt, alloc, bytes, false, way) == reads;
@@ -520,14 +547,17 @@ fn fails_so_often(
 #[test]
 fn the_calls_of_strings(rt: HostRuntime) {
     for &(bytes, sizes, counts) in &ROWS {
-        for drains in [false, true] {
+        for rounds in ROUNDS {
             let way = Way {
                 sizes,
-                drains,
+                rounds,
                 goes_on: true,
             };
             let is_right = fails_so_often(&rt, rt.alloc(), bytes, way, counts);
-            holds(&rt, is_right, usize::from(drains), bytes);
+            assert!(&rt;
+                is_right,
+                "other calls of {bytes:?}, by {sizes:?} in {rounds} rounds"
+            );
         }
     }
 }

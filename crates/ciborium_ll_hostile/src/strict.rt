@@ -116,7 +116,9 @@ fn is_read_once_more(
     segments: &mut Segments<'_, FailingReader<'_>, Bytes>,
 ) -> bool {
     let mut segment = next_segment(rt, segments);
-    gives(&mut segment, 4, &Err(Stop::Planned)) && gives(&mut segment, 4, &Ok(Some(&[1, 2])))
+    let mut buffer = [0; 4];
+    let is_unread = gives(&mut segment, &mut buffer, &Err(Stop::Planned));
+    is_unread && gives(&mut segment, &mut buffer, &Ok(Some(&[1, 2])))
 }
 
 #[test]

@@ -1,4 +1,4 @@
-use crate::calls::{failing_encoder, front_of, holds};
+use crate::calls::{failing_encoder, front_of};
 use ciborium_ll::laws::{Piece, write_pieces};
 use ciborium_ll::{Encoder, Float, Header};
 use ciborium_ll_fixtures::devices::{DeviceFault, Failing, FailingWriter};
@@ -145,7 +145,7 @@ fn fails_at(rt: &impl Abort, call: Call, parts: &[&[u8]], failing: usize) {
     let writer = encoder.into_inner();
     let written = writer.written();
     let is_due = is_right && goes_on && stands(written, parts, failing);
-    holds(rt, is_due, number, written);
+    assert!(rt; is_due, "write {number} of {parts:?} gave {written:?}");
 }
 
 // Each write of a row fails in turn, then the break behind it, and then none.
