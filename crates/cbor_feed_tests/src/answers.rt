@@ -49,12 +49,14 @@ fn in_two(bytes: &[u8], cut: usize) -> Progress
     checker.feed(&bytes[cut..]).progress
 }
 
-// Feeds each byte by itself, with an empty piece behind it.
-fn one_by_one(strict: bool, bytes: &[u8]) -> Progress {
+// Feeds each byte by itself, and behind each one an empty piece if that is asked for.
+fn one_by_one(strict: bool, bytes: &[u8], empties: bool) -> Progress {
     let mut checker = checker_of(strict);
     for byte in bytes {
         let _ = checker.feed(&[*byte]);
-        let _ = checker.feed(&[]);
+        if empties {
+            let _ = checker.feed(&[]);
+        }
     }
     checker.progress()
 }
@@ -145,12 +147,13 @@ pub fn all_ways(rt: &impl Abort, bytes: &[u8]) {
     let cut = wrong_cut(bytes, whole);
     let ways = [
         agrees(whole, bytes),
-        one_by_one(false, bytes) == whole,
+        one_by_one(false, bytes, true) == whole,
         kept_between(bytes) == Some(whole),
         fed_in_place(bytes) == Some(whole),
         cut.is_none(),
         agrees_strictly(strictly, bytes),
-        one_by_one(true, bytes) == strictly,
+        one_by_one(true, bytes, true) == strictly,
+        one_by_one(true, bytes, false) == strictly,
     ];
     assert!(rt;
         !ways.contains(&false),
