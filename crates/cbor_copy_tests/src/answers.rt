@@ -1,13 +1,46 @@
 ghost use Rattle.std.specs.Prelude.{◌≤◌, length};
 
 use cbor_copy::{Copied, Copier, Progress};
-use ciborium_ll::io::{SliceReader, SliceWriter};
+use ciborium_ll::io::{EndOfFile, OutOfSpace, SliceReader, SliceWriter};
 use ciborium_ll::recode::{RecodeError, recode};
 use ciborium_ll::{Decoder, Encoder, Error};
 use std::process::Abort;
 
-// As many bytes as a test writes at most.
+// As many bytes as a row or a sample has at most, and as a test writes.
 pub const MOST: usize = 64;
+
+// The bytes that digits say.
+pub fn decoded<'a>(rt: &impl Abort, digits: &str, space: &'a mut [u8; MOST]) -> &'a [u8] {
+    let length = (digits.len() / 2).min(MOST);
+    let bytes = &mut space[..length];
+    assert!(rt; hex::decode_to_slice(digits, bytes).is_ok(), "at {digits}");
+    bytes
+}
+
+// A copy holds. The number is that of its elements or levels.
+pub fn holds(
+    rt: &impl Abort,
+    is_right: bool,
+    number: usize,
+    bytes: &[u8],
+    cut: usize,
+    room: usize,
+) {
+    assert!(rt;
+        is_right,
+        "{number}, {bytes:?}, cut at {cut}, room for {room}"
+    );
+}
+
+// All steps of a test hold. The message says which ones do.
+pub fn all_hold(rt: &impl Abort, steps: &[bool]) {
+    assert!(rt; !steps.contains(&false), "of the steps {steps:?}");
+}
+
+// Feeds a piece. What that ensures is much, and no test needs it.
+pub fn fed(copier: &mut Copier, piece: &[u8], out: &mut [u8]) -> Copied {
+    copier.feed(piece, out)
+}
 
 // How far a copy has come, and what it wrote.
 #[derive(Drop)]
@@ -78,18 +111,31 @@ pub fn copied(count: usize, bytes: &[u8], cut: usize, room: usize) -> Answer
     }
 }
 
-// What a copy of the whole by `recode` answers. Bytes that end too early are due.
-pub fn recoded(count: usize, bytes: &[u8]) -> Answer {
-    let mut out = [0; MOST];
-    let mut decoder = Decoder::from(SliceReader::new(bytes));
-    let mut encoder = Encoder::from(SliceWriter::new(&mut out));
-    let outcome = recode(&mut decoder, &mut encoder, count, &mut [0; MOST]);
-    let progress = match outcome {
+// What the end of a copy by `recode` says. Bytes that end too early are due.
+fn progress_of(outcome: Result<(), RecodeError<EndOfFile, OutOfSpace>>) -> Progress {
+    match outcome {
         Ok(()) => Progress::Ended,
         Err(RecodeError::Read(Error::Syntax(place))) => Progress::Syntax(place),
         Err(RecodeError::Read(_)) => Progress::More,
         Err(RecodeError::Write(_)) => Progress::Room,
-    };
+    }
+}
+
+// Copies elements by `recode`. What that ensures is much, and no test needs it.
+fn recodes(
+    decoder: &mut Decoder<SliceReader<'_>>,
+    encoder: &mut Encoder<SliceWriter<'_>>,
+    count: usize,
+) -> Progress {
+    progress_of(recode(decoder, encoder, count, &mut [0; MOST]))
+}
+
+// What a copy of the whole by `recode` answers.
+pub fn recoded(count: usize, bytes: &[u8]) -> Answer {
+    let mut out = [0; MOST];
+    let mut decoder = Decoder::from(SliceReader::new(bytes));
+    let mut encoder = Encoder::from(SliceWriter::new(&mut out));
+    let progress = recodes(&mut decoder, &mut encoder, count);
     let taken = decoder.offset();
     let written = encoder.into_inner().written().len();
     Answer {
@@ -100,31 +146,23 @@ pub fn recoded(count: usize, bytes: &[u8]) -> Answer {
     }
 }
 
-// Whether the one begins with what the other wrote.
-fn begins(fed: &Answer, whole: &Answer) -> bool {
-    for at in 0..whole.written.min(MOST) {
-        if fed.out[at] != whole.out[at] {
-            return false;
-        }
-    }
-    whole.written <= fed.written
+// Whether what stands begins with what the other one wrote.
+pub fn begins(out: &[u8; MOST], whole: &Answer) -> bool {
+    out.starts_with(&whole.out[..whole.written.min(MOST)])
 }
 
 // Whether both say the same. Where the bytes end too early, `recode` doesn't look whether any elements begin so, and
 // where they end within a body it may have written less of it.
 fn agree(fed: &Answer, whole: &Answer) -> bool {
-    match whole.progress {
-        Progress::Ended => {
-            fed.progress == Progress::Ended
-                && fed.taken == whole.taken
-                && fed.written == whole.written
-                && begins(fed, whole)
-        }
-        Progress::More => {
-            matches!(fed.progress, Progress::More | Progress::Syntax(_)) && begins(fed, whole)
-        }
-        progress => fed.progress == progress && begins(fed, whole),
-    }
+    let is_same = match whole.progress {
+        Progress::More => matches!(fed.progress, Progress::More | Progress::Syntax(_)),
+        progress => fed.progress == progress,
+    };
+    let is_whole = match whole.progress {
+        Progress::Ended => fed.taken == whole.taken && fed.written == whole.written,
+        _ => whole.written <= fed.written,
+    };
+    is_same && is_whole && begins(&fed.out, whole)
 }
 
 // Copies bytes in all ways, and compares the answers with that of `recode`.
@@ -132,11 +170,8 @@ pub fn all_ways(rt: &impl Abort, count: usize, bytes: &[u8]) {
     let whole = recoded(count, bytes);
     for cut in 0..=bytes.len() {
         for room in [1, 2, MOST] {
-            let fed = copied(count, bytes, cut, room);
-            assert!(rt;
-                agree(&fed, &whole),
-                "{count} of {bytes:?}, cut at {cut}, room for {room}"
-            );
+            let is_right = agree(&copied(count, bytes, cut, room), &whole);
+            holds(rt, is_right, count, bytes, cut, room);
         }
     }
 }

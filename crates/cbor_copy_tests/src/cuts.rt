@@ -1,15 +1,27 @@
-use crate::answers::all_ways;
+use crate::answers::{MOST, all_ways, decoded};
+use crate::items::to_depths;
+use crate::memory::each_damaged;
 use ciborium_ll_fixtures::samples;
-use std::test::Fail;
+use std::alloc::AllocError;
+use std::process::Abort;
 
-// Each sample that there is, whole or broken, and each front of it.
+// Copies elements of each front of a sample and damages what is kept behind it, and copies items of the whole.
+fn sample(rt: &impl Abort, count: usize, digits: &str) {
+    let mut space = [0; MOST];
+    let bytes = decoded(rt, digits, &mut space);
+    for end in 0..=bytes.len() {
+        all_ways(rt, count, &bytes[..end]);
+        each_damaged(rt, &bytes[..end]);
+    }
+    to_depths(rt, bytes);
+}
+
+// Each sample that there is, whole or broken.
 #[test]
-fn each_cut_of_each_sample(rt: HostRuntime) -> Result<(), Fail> {
-    for (count, digits) in samples::all(rt.alloc())? {
-        let bytes = hex::decode(rt.alloc(), digits)?;
-        for end in 0..=bytes.len() {
-            all_ways(&rt, count, &bytes[..end]);
-        }
+fn each_sample(rt: HostRuntime) -> Result<(), AllocError> {
+    let all = samples::all(rt.alloc())?;
+    for &(count, digits) in &all {
+        sample(&rt, count, digits);
     }
     Ok(())
 }

@@ -1,11 +1,9 @@
 ghost use Rattle.std.specs.Prelude.{◌≤◌, length};
 
-use crate::answers::{Answer as Recoded, MOST, recoded};
+use crate::answers::{Answer as Recoded, MOST, begins, holds, recoded};
 use cbor_copy_item::{Copied, End, ItemCopier, Progress};
 use cbor_feed::{Checker, Fault, Feed, Progress as Checked};
-use ciborium_ll_fixtures::samples;
 use std::process::Abort;
-use std::test::Fail;
 
 // How far the copy of an item has come, and what it wrote.
 #[derive(Drop)]
@@ -137,47 +135,41 @@ fn agree(answer: &Answer, whole: Feed) -> bool {
 }
 
 // Whether what is written begins with that, and is that of a whole item. Of a body that is cut `recode` may write less.
-fn begins(answer: &Answer, whole: &Recoded) -> bool {
-    for at in 0..whole.written.min(MOST) {
-        if answer.out[at] != whole.out[at] {
-            return false;
-        }
-    }
-    match answer.progress {
+fn goes_on_from(answer: &Answer, whole: &Recoded) -> bool {
+    let is_enough = match answer.progress {
         Progress::Ended(_) => answer.written == whole.written,
         _ => answer.written >= whole.written,
-    }
+    };
+    is_enough && begins(&answer.out, whole)
+}
+
+// What `recode` writes of the bytes that a checker takes: all of them but the one at fault.
+fn recoded_of(whole: Feed, bytes: &[u8]) -> Recoded {
+    let fault = usize::from(matches!(whole.progress, Checked::Fault(_)));
+    let taken = whole.taken.min(bytes.len()).saturating_sub(fault);
+    recoded(usize::MAX, &bytes[..taken])
 }
 
 // Copies an item in all ways, and compares the answers with that of a checker of the whole, and what is written with
-// what `recode` writes of the bytes that it takes: all of them but the one at fault.
+// what `recode` writes.
 fn all_ways(rt: &impl Abort, strict: bool, depth: usize, bytes: &[u8]) {
     let whole = checked(strict, depth, bytes);
-    let fault = usize::from(matches!(whole.progress, Checked::Fault(_)));
-    let taken = whole.taken.min(bytes.len()).saturating_sub(fault);
-    let elements = recoded(usize::MAX, &bytes[..taken]);
+    let elements = recoded_of(whole, bytes);
     for cut in 0..=bytes.len() {
         for room in [1, 2, MOST] {
             let answer = copied(strict, depth, bytes, cut, room);
-            assert!(rt;
-                agree(&answer, whole) && begins(&answer, &elements),
-                "{bytes:?}, to {depth}, cut at {cut}, room for {room}"
-            );
+            let is_right = agree(&answer, whole) && goes_on_from(&answer, &elements);
+            holds(rt, is_right, depth, bytes, cut, room);
         }
     }
 }
 
-// Each sample that there is, whole or broken, to some depths.
-#[test]
-fn each_cut_of_each_sample(rt: HostRuntime) -> Result<(), Fail> {
-    for (_, digits) in samples::all(rt.alloc())? {
-        let bytes = hex::decode(rt.alloc(), digits)?;
-        for depth in [0, 1, 8] {
-            all_ways(&rt, false, depth, &bytes);
-            all_ways(&rt, true, depth, &bytes);
-        }
+// The same to some depths, of any spelling and of the shortest alone.
+pub fn to_depths(rt: &impl Abort, bytes: &[u8]) {
+    for depth in [0, 1, 8] {
+        all_ways(rt, false, depth, bytes);
+        all_ways(rt, true, depth, bytes);
     }
-    Ok(())
 }
 
 // Each byte by itself, and with one behind it.
@@ -192,66 +184,127 @@ fn each_first_byte(rt: HostRuntime) {
     }
 }
 
-// To a depth, in these digits: the digits that are written, and what is found. A fault is found with the first byte
+// To a depth, in these bytes: the bytes that are written, and what is found. A fault is found with the first byte
 // behind which there is no such item (RFC 8949, appendix F, and RFC 3629, 3).
-static ROWS: [(bool, usize, &str, &str, Progress); 20] = [
-    (false, 0, "01", "01", Progress::Ended(1)),
-    (false, 0, "1b0000000000000018", "1818", Progress::Ended(9)),
-    (
-        false,
-        1,
-        "98025801015f420203ff",
-        "8241015f420203ff",
-        Progress::Ended(10),
-    ),
-    (false, 1, "bf780161f4ff", "bf6161f4ff", Progress::Ended(6)),
-    (false, 1, "d9000101", "c101", Progress::Ended(4)),
-    (
-        false,
-        2,
-        "8201b9000202030405",
-        "8201a202030405",
-        Progress::Ended(9),
-    ),
-    (false, 0, "7f7fffff", "7fff", Progress::Ended(4)),
-    (false, 0, "", "", Progress::More(1)),
-    (false, 1, "8219", "82", Progress::More(2)),
-    (false, 1, "9f", "9f", Progress::More(1)),
+type Written = (bool, usize, &'static [u8], &'static [u8], Progress);
+
+static ROWS: [Written; 20] = [
+    (false, 0, b"\x01", b"\x01", Progress::Ended(1)),
     (
         false,
         0,
-        "78036162e2",
-        "636162",
+        b"\x1b\x00\x00\x00\x00\x00\x00\x00\x18",
+        b"\x18\x18",
+        Progress::Ended(9),
+    ),
+    (
+        false,
+        1,
+        b"\x98\x02\x58\x01\x01\x5f\x42\x02\x03\xff",
+        b"\x82\x41\x01\x5f\x42\x02\x03\xff",
+        Progress::Ended(10),
+    ),
+    (
+        false,
+        1,
+        b"\xbf\x78\x01\x61\xf4\xff",
+        b"\xbf\x61\x61\xf4\xff",
+        Progress::Ended(6),
+    ),
+    (
+        false,
+        1,
+        b"\xd9\x00\x01\x01",
+        b"\xc1\x01",
+        Progress::Ended(4),
+    ),
+    (
+        false,
+        2,
+        b"\x82\x01\xb9\x00\x02\x02\x03\x04\x05",
+        b"\x82\x01\xa2\x02\x03\x04\x05",
+        Progress::Ended(9),
+    ),
+    (
+        false,
+        0,
+        b"\x7f\x7f\xff\xff",
+        b"\x7f\xff",
+        Progress::Ended(4),
+    ),
+    (false, 0, b"", b"", Progress::More(1)),
+    (false, 1, b"\x82\x19", b"\x82", Progress::More(2)),
+    (false, 1, b"\x9f", b"\x9f", Progress::More(1)),
+    (
+        false,
+        0,
+        b"\x78\x03\x61\x62\xe2",
+        b"\x63\x61\x62",
         Progress::Fault(Fault::Syntax(1)),
     ),
-    (false, 0, "62c341", "62", Progress::Fault(Fault::Syntax(0))),
-    (false, 0, "80", "", Progress::Fault(Fault::Deep(0))),
-    (false, 1, "d9000181", "c1", Progress::Fault(Fault::Deep(3))),
-    (false, 1, "ff", "", Progress::Fault(Fault::Break(0))),
-    (false, 1, "a1ff", "a1", Progress::Fault(Fault::Break(1))),
-    (false, 1, "821c", "82", Progress::Fault(Fault::Syntax(1))),
-    (false, 0, "5f18", "5f", Progress::Fault(Fault::Syntax(1))),
-    (true, 0, "1817", "", Progress::Fault(Fault::Syntax(0))),
-    (true, 0, "7f7fffff", "7f", Progress::Fault(Fault::Syntax(1))),
+    (
+        false,
+        0,
+        b"\x62\xc3\x41",
+        b"\x62",
+        Progress::Fault(Fault::Syntax(0)),
+    ),
+    (false, 0, b"\x80", b"", Progress::Fault(Fault::Deep(0))),
+    (
+        false,
+        1,
+        b"\xd9\x00\x01\x81",
+        b"\xc1",
+        Progress::Fault(Fault::Deep(3)),
+    ),
+    (false, 1, b"\xff", b"", Progress::Fault(Fault::Break(0))),
+    (
+        false,
+        1,
+        b"\xa1\xff",
+        b"\xa1",
+        Progress::Fault(Fault::Break(1)),
+    ),
+    (
+        false,
+        1,
+        b"\x82\x1c",
+        b"\x82",
+        Progress::Fault(Fault::Syntax(1)),
+    ),
+    (
+        false,
+        0,
+        b"\x5f\x18",
+        b"\x5f",
+        Progress::Fault(Fault::Syntax(1)),
+    ),
+    (true, 0, b"\x18\x17", b"", Progress::Fault(Fault::Syntax(0))),
+    (
+        true,
+        0,
+        b"\x7f\x7f\xff\xff",
+        b"\x7f",
+        Progress::Fault(Fault::Syntax(1)),
+    ),
 ];
 
 fn row(rt: &impl Abort, strict: bool, depth: usize, bytes: &[u8], out: &[u8], progress: Progress) {
     for cut in 0..=bytes.len() {
         let answer = copied(strict, depth, bytes, cut, 1);
-        let same = answer.written == out.len() && answer.out.starts_with(out);
-        assert!(rt;
-            same && answer.progress == progress,
-            "{bytes:?}, cut at {cut}"
-        );
+        let is_written = answer.written == out.len() && answer.out.starts_with(out);
+        let is_right = is_written && answer.progress == progress;
+        holds(rt, is_right, depth, bytes, cut, 1);
+    }
+}
+
+fn rows(rt: &impl Abort, rows: &[Written]) {
+    for &(strict, depth, bytes, out, progress) in rows {
+        row(rt, strict, depth, bytes, out, progress);
     }
 }
 
 #[test]
-fn each_row(rt: HostRuntime) -> Result<(), Fail> {
-    for (strict, depth, digits, out, progress) in &ROWS {
-        let bytes = hex::decode(rt.alloc(), digits)?;
-        let out = hex::decode(rt.alloc(), out)?;
-        row(&rt, *strict, *depth, &bytes, &out, *progress);
-    }
-    Ok(())
+fn each_row(rt: HostRuntime) {
+    rows(&rt, &ROWS);
 }

@@ -1,8 +1,6 @@
-use crate::answers::MOST;
+use crate::answers::{MOST, all_hold, fed};
 use cbor_copy::{Copier, End, Progress, Snapshot};
-use ciborium_ll_fixtures::samples;
 use std::process::Abort;
-use std::test::Fail;
 
 // Numbers that stand at the edge of what one may be.
 static EDGES: [u64; 10] = [0, 1, 3, 4, 8, 9, 10, 255, u64::MAX - 1, u64::MAX];
@@ -11,7 +9,7 @@ static EDGES: [u64; 10] = [0, 1, 3, 4, 8, 9, 10, 255, u64::MAX - 1, u64::MAX];
 fn behind(bytes: &[u8], room: usize) -> Snapshot {
     let mut copier = Copier::new(2);
     let mut out = [0; MOST];
-    let _ = copier.feed(bytes, &mut out[..room.min(MOST)]);
+    let _ = fed(&mut copier, bytes, &mut out[..room.min(MOST)]);
     copier.save()
 }
 
@@ -21,14 +19,15 @@ fn goes_on(memory: &Snapshot) -> bool {
         return true;
     };
     let mut out = [0; 4];
-    let _ = copier.feed(&[0x5f, 0x41, 0x01, 0xff, 0x62, 0xc3, 0xa9, 0x19], &mut out);
+    let piece = [0x5f, 0x41, 0x01, 0xff, 0x62, 0xc3, 0xa9, 0x19];
+    let _ = fed(&mut copier, &piece, &mut out);
     let Some(mut again) = Copier::restore(&copier.save()) else {
         return false;
     };
     let mut other = out;
-    copier.feed(&[0x05, 0x06], &mut out) == again.feed(&[0x05, 0x06], &mut other)
-        && out == other
-        && copier.end() == again.end()
+    let is_same = fed(&mut copier, &[0x05, 0x06], &mut out)
+        == fed(&mut again, &[0x05, 0x06], &mut other);
+    is_same && out == other && copier.end() == again.end()
 }
 
 // Puts a number into one of the fields.
@@ -51,62 +50,71 @@ fn damage(memory: &mut Snapshot, field: u32, number: u64) {
     }
 }
 
-// Damages each field of what is kept behind some bytes, with room for all and for few.
-fn damaged(rt: &impl Abort, bytes: &[u8]) {
+// Damages one field of what is kept behind some bytes.
+fn damaged(rt: &impl Abort, bytes: &[u8], room: usize, field: u32, number: u64) {
+    let mut memory = behind(bytes, room);
+    damage(&mut memory, field, number);
+    assert!(rt;
+        goes_on(&memory),
+        "at {bytes:?}, field {field}, number {number}"
+    );
+}
+
+// Damages each of them, with room for all and for few.
+pub fn each_damaged(rt: &impl Abort, bytes: &[u8]) {
     for field in 0..13 {
-        for number in &EDGES {
-            for room in [1, MOST] {
-                let mut memory = behind(bytes, room);
-                damage(&mut memory, field, *number);
-                assert!(rt;
-                    goes_on(&memory),
-                    "at {bytes:?}, field {field}, number {number}"
-                );
-            }
+        for &number in &EDGES {
+            damaged(rt, bytes, 1, field, number);
+            damaged(rt, bytes, MOST, field, number);
         }
     }
 }
 
-#[test]
-fn damaged_numbers(rt: HostRuntime) -> Result<(), Fail> {
-    for (_, digits) in samples::all(rt.alloc())? {
-        let bytes = hex::decode(rt.alloc(), digits)?;
-        for cut in 0..bytes.len() {
-            damaged(&rt, &bytes[..cut]);
-        }
-    }
-    Ok(())
+// Whether numbers are a state.
+fn is_state(memory: &Snapshot) -> bool {
+    Copier::restore(memory).is_some()
 }
 
 // No kind of what is due, one string more than bytes came, and more bytes than a title or a character has.
 #[test]
 fn no_states(rt: HostRuntime) {
     let mut memory = behind(&[0x7f, 0x62, 0xc3], MOST);
-    assert!(&rt; Copier::restore(&memory).is_some());
+    let is_one = is_state(&memory);
     memory.front_len = 4;
-    assert!(&rt; Copier::restore(&memory).is_none());
+    let has_a_front = is_state(&memory);
     memory.front_len = 1;
     memory.more = 3;
-    assert!(&rt; Copier::restore(&memory).is_none());
+    let has_strings = is_state(&memory);
     memory.more = 0;
     memory.phase = 0;
-    assert!(&rt; Copier::restore(&memory).is_none());
+    let has_a_phase = is_state(&memory);
+    all_hold(&rt, &[is_one, !has_a_front, !has_strings, !has_a_phase]);
+}
+
+// Whether that is what an end means now.
+fn is_at(copier: &Copier, end: End) -> bool {
+    copier.end() == end
+}
+
+// Whether it is behind a piece.
+fn has_come(copier: &mut Copier, piece: &[u8], out: &mut [u8], end: End) -> bool {
+    let _ = fed(copier, piece, out);
+    is_at(copier, end)
 }
 
 // What an end means: of no elements, of one that is cut, with bytes to write, behind both and behind a fault.
 #[test]
 fn ends(rt: HostRuntime) {
     let mut out = [0; 4];
-    assert!(&rt; Copier::new(0).end() == End::Ended);
     let mut copier = Copier::new(2);
-    assert!(&rt; copier.end() == End::Short);
-    let _ = copier.feed(&[0x05, 0x19, 0x03], &mut out);
-    assert!(&rt; copier.end() == End::Short);
-    let _ = copier.feed(&[0xe8], &mut out[..1]);
-    assert!(&rt; copier.end() == End::Room);
-    let copied = copier.feed(&[], &mut out);
-    assert!(&rt; copied.progress == Progress::Ended && copier.end() == End::Ended);
-    let mut copier = Copier::new(2);
-    let _ = copier.feed(&[0x05, 0x1c], &mut out);
-    assert!(&rt; copier.end() == End::Syntax(1));
+    let steps = [
+        is_at(&Copier::new(0), End::Ended),
+        is_at(&copier, End::Short),
+        has_come(&mut copier, &[0x05, 0x19, 0x03], &mut out, End::Short),
+        has_come(&mut copier, &[0xe8], &mut out[..1], End::Room),
+        fed(&mut copier, &[], &mut out).progress == Progress::Ended,
+        is_at(&copier, End::Ended),
+        has_come(&mut Copier::new(2), &[0x05, 0x1c], &mut out, End::Syntax(1)),
+    ];
+    all_hold(&rt, &steps);
 }

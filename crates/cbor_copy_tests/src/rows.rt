@@ -1,53 +1,89 @@
-use crate::answers::copied;
-use cbor_copy::{Copier, Progress};
+use crate::answers::{all_hold, copied, fed, holds};
+use cbor_copy::{Copied, Copier, Progress};
 use std::mem::size_of;
 use std::process::Abort;
-use std::test::Fail;
 
-// Of so many elements, in these digits: the digits that are written, and what is found of them. A fault is found with
+// Of so many elements in these bytes: the bytes that are written, and what is found of them. A fault is found with
 // the first byte behind which there are no such elements (RFC 8949, appendix F, and RFC 3629, 3).
-static ROWS: [(usize, &str, &str, Progress); 20] = [
-    (0, "01", "", Progress::Ended),
-    (1, "1b0000000000000018", "1818", Progress::Ended),
-    (2, "5801015f5f420203ffff", "41015f420203ff", Progress::Ended),
-    (3, "820102", "820102", Progress::Ended),
-    (1, "7f780261625f", "7f626162", Progress::Syntax(5)),
-    (1, "f9", "", Progress::More),
-    (1, "5f18", "5f", Progress::Syntax(1)),
-    (1, "5f78", "5f", Progress::Syntax(1)),
-    (1, "5f5818", "5f5818", Progress::More),
-    (1, "7f5b", "7f", Progress::Syntax(1)),
-    (1, "1c", "", Progress::Syntax(0)),
-    (2, "00ff", "00ff", Progress::Ended),
-    (1, "61c3", "61", Progress::Syntax(0)),
-    (1, "62c3", "62", Progress::More),
-    (1, "62c341", "62", Progress::Syntax(0)),
-    (1, "7803616263", "63616263", Progress::Ended),
-    (1, "78036162e2", "636162", Progress::Syntax(1)),
-    (1, "65f09f988061", "65f09f988061", Progress::Ended),
-    (1, "65f09f9880f0", "65f09f9880", Progress::Syntax(0)),
-    (1, "63eda0", "63", Progress::Syntax(0)),
+type Written = (usize, &'static [u8], &'static [u8], Progress);
+
+static ROWS: [Written; 20] = [
+    (0, b"\x01", b"", Progress::Ended),
+    (
+        1,
+        b"\x1b\x00\x00\x00\x00\x00\x00\x00\x18",
+        b"\x18\x18",
+        Progress::Ended,
+    ),
+    (
+        2,
+        b"\x58\x01\x01\x5f\x5f\x42\x02\x03\xff\xff",
+        b"\x41\x01\x5f\x42\x02\x03\xff",
+        Progress::Ended,
+    ),
+    (3, b"\x82\x01\x02", b"\x82\x01\x02", Progress::Ended),
+    (
+        1,
+        b"\x7f\x78\x02\x61\x62\x5f",
+        b"\x7f\x62\x61\x62",
+        Progress::Syntax(5),
+    ),
+    (1, b"\xf9", b"", Progress::More),
+    (1, b"\x5f\x18", b"\x5f", Progress::Syntax(1)),
+    (1, b"\x5f\x78", b"\x5f", Progress::Syntax(1)),
+    (1, b"\x5f\x58\x18", b"\x5f\x58\x18", Progress::More),
+    (1, b"\x7f\x5b", b"\x7f", Progress::Syntax(1)),
+    (1, b"\x1c", b"", Progress::Syntax(0)),
+    (2, b"\x00\xff", b"\x00\xff", Progress::Ended),
+    (1, b"\x61\xc3", b"\x61", Progress::Syntax(0)),
+    (1, b"\x62\xc3", b"\x62", Progress::More),
+    (1, b"\x62\xc3\x41", b"\x62", Progress::Syntax(0)),
+    (
+        1,
+        b"\x78\x03\x61\x62\x63",
+        b"\x63\x61\x62\x63",
+        Progress::Ended,
+    ),
+    (
+        1,
+        b"\x78\x03\x61\x62\xe2",
+        b"\x63\x61\x62",
+        Progress::Syntax(1),
+    ),
+    (
+        1,
+        b"\x65\xf0\x9f\x98\x80\x61",
+        b"\x65\xf0\x9f\x98\x80\x61",
+        Progress::Ended,
+    ),
+    (
+        1,
+        b"\x65\xf0\x9f\x98\x80\xf0",
+        b"\x65\xf0\x9f\x98\x80",
+        Progress::Syntax(0),
+    ),
+    (1, b"\x63\xed\xa0", b"\x63", Progress::Syntax(0)),
 ];
 
+// A copy of bytes that come in two pieces, cut at each place, with room for one byte at a time.
 fn row(rt: &impl Abort, count: usize, bytes: &[u8], out: &[u8], progress: Progress) {
     for cut in 0..=bytes.len() {
         let answer = copied(count, bytes, cut, 1);
-        let same = answer.written == out.len() && answer.out.starts_with(out);
-        assert!(rt;
-            same && answer.progress == progress,
-            "{count} of {bytes:?}, cut at {cut}"
-        );
+        let is_written = answer.written == out.len() && answer.out.starts_with(out);
+        let is_right = is_written && answer.progress == progress;
+        holds(rt, is_right, count, bytes, cut, 1);
+    }
+}
+
+fn rows(rt: &impl Abort, rows: &[Written]) {
+    for &(count, bytes, out, progress) in rows {
+        row(rt, count, bytes, out, progress);
     }
 }
 
 #[test]
-fn each_row(rt: HostRuntime) -> Result<(), Fail> {
-    for (count, digits, out, progress) in &ROWS {
-        let bytes = hex::decode(rt.alloc(), digits)?;
-        let out = hex::decode(rt.alloc(), out)?;
-        row(&rt, *count, &bytes, &out, *progress);
-    }
-    Ok(())
+fn each_row(rt: HostRuntime) {
+    rows(&rt, &ROWS);
 }
 
 // It has room for a title, a character and a few numbers.
@@ -56,17 +92,33 @@ fn small(rt: HostRuntime) {
     assert!(&rt; size_of::<Copier>() <= 192, "{}", size_of::<Copier>());
 }
 
+// Whether a piece is taken so far, and so much is written.
+fn is_fed(copier: &mut Copier, piece: &[u8], room: &mut [u8; 2], want: Copied) -> bool {
+    fed(copier, piece, room) == want
+}
+
 // A string whose bytes come in two pieces, into rooms for two bytes each.
 #[test]
 fn two_pieces(rt: HostRuntime) {
     let mut copier = Copier::new(1);
     let mut room = [0; 2];
-    let first = copier.feed(&[0x58, 0x02, 0x0a], &mut room);
-    assert!(&rt; first.taken == 3 && first.written == 2 && first.progress == Progress::More);
-    assert!(&rt; room == [0x42, 0x0a]);
-    let second = copier.feed(&[0x0b, 0x00], &mut room);
-    assert!(&rt; second.taken == 1 && second.written == 1 && second.progress == Progress::Ended);
-    assert!(&rt; room == [0x0b, 0x0a]);
-    let third = copier.feed(&[0x00], &mut room);
-    assert!(&rt; third.taken == 0 && third.written == 0 && third.progress == Progress::Ended);
+    let want = Copied {
+        taken: 3,
+        written: 2,
+        progress: Progress::More,
+    };
+    let first = is_fed(&mut copier, &[0x58, 0x02, 0x0a], &mut room, want) && room == [0x42, 0x0a];
+    let want = Copied {
+        taken: 1,
+        written: 1,
+        progress: Progress::Ended,
+    };
+    let second = is_fed(&mut copier, &[0x0b, 0x00], &mut room, want) && room == [0x0b, 0x0a];
+    let want = Copied {
+        taken: 0,
+        written: 0,
+        progress: Progress::Ended,
+    };
+    let third = is_fed(&mut copier, &[0x00], &mut room, want);
+    all_hold(&rt, &[first, second, third]);
 }

@@ -2,21 +2,46 @@ ghost use Rattle.std.specs.Prelude.{◌≤◌, length};
 
 use cbor_feed::{Checker, Fault, Progress, Snapshot};
 use cbor_skip::{SkipError, skip_item};
-use ciborium_ll::io::SliceReader;
+use ciborium_ll::io::{EndOfFile, SliceReader};
 use ciborium_ll::{Decoder, Error};
 use std::process::Abort;
 
 // How many levels the tests allow.
 pub const DEPTH: usize = 4;
 
+// How many bytes a row or a sample has at most.
+pub const MOST: usize = 64;
+
+// The bytes that digits say.
+pub fn decoded<'a>(rt: &impl Abort, digits: &str, space: &'a mut [u8; MOST]) -> &'a [u8] {
+    let length = (digits.len() / 2).min(MOST);
+    let bytes = &mut space[..length];
+    assert!(rt; hex::decode_to_slice(digits, bytes).is_ok(), "at {digits}");
+    bytes
+}
+
+// All steps of a test hold. The message says which ones do.
+pub fn all_hold(rt: &impl Abort, steps: &[bool]) {
+    assert!(rt; !steps.contains(&false), "of the steps {steps:?}");
+}
+
+// A checker, which may take the shortest spelling alone.
+fn checker_of(strict: bool) -> Checker {
+    if strict {
+        Checker::strict(DEPTH)
+    } else {
+        Checker::new(DEPTH)
+    }
+}
+
 // Feeds bytes in one piece.
-pub fn at_once(bytes: &[u8]) -> Progress {
-    let mut checker = Checker::new(DEPTH);
+pub fn at_once(strict: bool, bytes: &[u8]) -> Progress {
+    let mut checker = checker_of(strict);
     checker.feed(bytes).progress
 }
 
 // Feeds bytes in two pieces, cut there.
-pub fn in_two(bytes: &[u8], cut: usize) -> Progress
+fn in_two(bytes: &[u8], cut: usize) -> Progress
     requires { cut ≤ length bytes.now }
 {
     let mut checker = Checker::new(DEPTH);
@@ -24,18 +49,20 @@ pub fn in_two(bytes: &[u8], cut: usize) -> Progress
     checker.feed(&bytes[cut..]).progress
 }
 
-// Feeds each byte by itself, with an empty piece behind it.
-pub fn one_by_one(bytes: &[u8]) -> Progress {
-    let mut checker = Checker::new(DEPTH);
+// Feeds each byte by itself, and behind each one an empty piece if that is asked for.
+fn one_by_one(strict: bool, bytes: &[u8], empties: bool) -> Progress {
+    let mut checker = checker_of(strict);
     for byte in bytes {
         let _ = checker.feed(&[*byte]);
-        let _ = checker.feed(&[]);
+        if empties {
+            let _ = checker.feed(&[]);
+        }
     }
     checker.progress()
 }
 
 // Feeds each byte by itself to a checker that is made of plain numbers, and kept as such behind it.
-pub fn kept_between(bytes: &[u8]) -> Option<Progress> {
+fn kept_between(bytes: &[u8]) -> Option<Progress> {
     let mut memory = Snapshot::new();
     Checker::new(DEPTH).save(&mut memory);
     for byte in bytes {
@@ -47,7 +74,7 @@ pub fn kept_between(bytes: &[u8]) -> Option<Progress> {
 }
 
 // Feeds each byte by itself to the plain numbers of a checker, where they stand.
-pub fn fed_in_place(bytes: &[u8]) -> Option<Progress> {
+fn fed_in_place(bytes: &[u8]) -> Option<Progress> {
     let mut memory = Snapshot::new();
     Checker::new(DEPTH).save(&mut memory);
     for byte in bytes {
@@ -56,30 +83,80 @@ pub fn fed_in_place(bytes: &[u8]) -> Option<Progress> {
     Some(Checker::restore(&memory)?.progress())
 }
 
-// Whether a skip of the bytes says the same. A skip of bytes that end within a title or a body answers that they do,
-// also where no item begins so.
-pub fn agrees(progress: Progress, bytes: &[u8]) -> bool {
-    let mut decoder = Decoder::from(SliceReader::new(bytes));
-    let outcome = skip_item(&mut decoder, DEPTH, &mut [0; 4]);
+// What a skip answers: no fault where the bytes end too early.
+pub type Skipped = Result<(), Option<Fault>>;
+
+// The answer that is in an outcome.
+pub fn skipped_of(outcome: Result<(), SkipError<EndOfFile>>) -> Skipped {
     match outcome {
-        Ok(()) => progress == Progress::Ended(decoder.offset()),
-        Err(SkipError::Break(place)) => progress == Progress::Fault(Fault::Break(place)),
-        Err(SkipError::Deep(place)) => progress == Progress::Fault(Fault::Deep(place)),
-        Err(SkipError::Read(Error::Syntax(place))) => {
-            progress == Progress::Fault(Fault::Syntax(place))
-        }
-        Err(SkipError::Read(_)) => matches!(progress, Progress::More(_) | Progress::Fault(_)),
+        Ok(()) => Ok(()),
+        Err(SkipError::Break(place)) => Err(Some(Fault::Break(place))),
+        Err(SkipError::Deep(place)) => Err(Some(Fault::Deep(place))),
+        Err(SkipError::Read(Error::Syntax(place))) => Err(Some(Fault::Syntax(place))),
+        Err(SkipError::Read(_)) => Err(None),
     }
 }
 
-// Feeds bytes in all ways, and compares the answers with one another and with a skip.
-pub fn all_ways(rt: &impl Abort, bytes: &[u8]) {
-    let whole = at_once(bytes);
-    assert!(rt; agrees(whole, bytes), "at {bytes:?}");
-    assert!(rt; one_by_one(bytes) == whole, "at {bytes:?}");
-    assert!(rt; kept_between(bytes) == Some(whole), "at {bytes:?}");
-    assert!(rt; fed_in_place(bytes) == Some(whole), "at {bytes:?}");
-    for cut in 0..bytes.len() {
-        assert!(rt; in_two(bytes, cut) == whole, "at {bytes:?}, cut at {cut}");
+// What a skip of the bytes answers, and how far it comes.
+fn skips(strict: bool, bytes: &[u8]) -> (Skipped, usize) {
+    let reader = SliceReader::new(bytes);
+    let mut decoder = if strict {
+        Decoder::strict(reader)
+    } else {
+        Decoder::from(reader)
+    };
+    let outcome = skip_item(&mut decoder, DEPTH, &mut [0; 4]);
+    (skipped_of(outcome), decoder.offset())
+}
+
+// Whether a skip of the bytes says the same. A skip of bytes that end within a title or a body answers that they do,
+// also where no item begins so.
+fn agrees(progress: Progress, bytes: &[u8]) -> bool {
+    let (skipped, offset) = skips(false, bytes);
+    match skipped {
+        Ok(()) => progress == Progress::Ended(offset),
+        Err(Some(fault)) => progress == Progress::Fault(fault),
+        Err(None) => matches!(progress, Progress::More(_) | Progress::Fault(_)),
     }
+}
+
+// Whether a skip by a strict decoder takes the bytes too, or refuses them too.
+fn agrees_strictly(progress: Progress, bytes: &[u8]) -> bool {
+    let (skipped, offset) = skips(true, bytes);
+    match progress {
+        Progress::Ended(length) => skipped.is_ok() && length == offset,
+        _ => skipped.is_err(),
+    }
+}
+
+// Where bytes in two pieces have another answer, if they do anywhere.
+fn wrong_cut(bytes: &[u8], whole: Progress) -> Option<usize> {
+    for cut in 0..bytes.len() {
+        if in_two(bytes, cut) != whole {
+            return Some(cut);
+        }
+    }
+    None
+}
+
+// Feeds bytes in all ways to checkers of both kinds, and compares the answers with one another and with a skip. The
+// message says in which ways they are right.
+pub fn all_ways(rt: &impl Abort, bytes: &[u8]) {
+    let whole = at_once(false, bytes);
+    let strictly = at_once(true, bytes);
+    let cut = wrong_cut(bytes, whole);
+    let ways = [
+        agrees(whole, bytes),
+        one_by_one(false, bytes, true) == whole,
+        kept_between(bytes) == Some(whole),
+        fed_in_place(bytes) == Some(whole),
+        cut.is_none(),
+        agrees_strictly(strictly, bytes),
+        one_by_one(true, bytes, true) == strictly,
+        one_by_one(true, bytes, false) == strictly,
+    ];
+    assert!(rt;
+        !ways.contains(&false),
+        "the ways {ways:?}, at {bytes:?}, cut at {cut:?}"
+    );
 }

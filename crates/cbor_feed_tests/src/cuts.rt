@@ -1,13 +1,23 @@
-use crate::answers::all_ways;
+use crate::answers::{MOST, all_ways, decoded};
+use crate::memory::damaged_fronts;
 use ciborium_ll_fixtures::samples;
-use std::test::Fail;
+use std::alloc::AllocError;
+use std::process::Abort;
+
+// Feeds a sample, and damages what is kept within it.
+fn sample(rt: &impl Abort, digits: &str) {
+    let mut space = [0; MOST];
+    let bytes = decoded(rt, digits, &mut space);
+    all_ways(rt, bytes);
+    damaged_fronts(rt, bytes);
+}
 
 // Each sample that there is, whole or broken.
 #[test]
-fn each_cut_of_each_sample(rt: HostRuntime) -> Result<(), Fail> {
-    for (_, digits) in samples::all(rt.alloc())? {
-        let bytes = hex::decode(rt.alloc(), digits)?;
-        all_ways(&rt, &bytes);
+fn each_sample(rt: HostRuntime) -> Result<(), AllocError> {
+    let all = samples::all(rt.alloc())?;
+    for &(_, digits) in &all {
+        sample(&rt, digits);
     }
     Ok(())
 }

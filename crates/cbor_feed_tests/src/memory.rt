@@ -1,8 +1,6 @@
-use crate::answers::DEPTH;
+use crate::answers::{DEPTH, all_hold};
 use cbor_feed::{Checker, Progress, Snapshot};
-use ciborium_ll_fixtures::samples;
 use std::process::Abort;
-use std::test::Fail;
 
 // Numbers that stand at the edge of what one may be.
 static EDGES: [u64; 12] = [
@@ -66,42 +64,44 @@ fn damage(memory: &mut Snapshot, field: u32, number: u64) {
     }
 }
 
-// Damages each field of what is kept behind some bytes.
-fn damaged(rt: &impl Abort, bytes: &[u8]) {
-    for field in 0..14 {
-        for number in &EDGES {
-            let mut memory = behind(bytes);
-            damage(&mut memory, field, *number);
-            assert!(rt;
-                goes_on(&memory),
-                "at {bytes:?}, field {field}, number {number}"
-            );
+// Damages a field of what is kept behind some bytes.
+fn damaged(rt: &impl Abort, bytes: &[u8], field: u32, number: u64) {
+    let mut memory = behind(bytes);
+    damage(&mut memory, field, number);
+    assert!(rt;
+        goes_on(&memory),
+        "at {bytes:?}, field {field}, number {number}"
+    );
+}
+
+// Damages each field of what is kept behind each front of some bytes.
+pub fn damaged_fronts(rt: &impl Abort, bytes: &[u8]) {
+    for cut in 0..bytes.len() {
+        for field in 0..14 {
+            for &number in &EDGES {
+                damaged(rt, &bytes[..cut], field, number);
+            }
         }
     }
 }
 
-#[test]
-fn damaged_numbers(rt: HostRuntime) -> Result<(), Fail> {
-    for (_, digits) in samples::all(rt.alloc())? {
-        let bytes = hex::decode(rt.alloc(), digits)?;
-        for cut in 0..bytes.len() {
-            damaged(&rt, &bytes[..cut]);
-        }
-    }
-    Ok(())
+// Whether numbers are a state.
+fn is_state(memory: &Snapshot) -> bool {
+    Checker::restore(memory).is_some()
 }
 
 // Numbers that are all 0, or all the greatest, are no state, and neither is one more nest than there may be.
 #[test]
 fn no_states(rt: HostRuntime) {
-    assert!(&rt; Checker::restore(&Snapshot::new()).is_none());
     let mut memory = behind(&[0x9f, 0x81]);
-    assert!(&rt; Checker::restore(&memory).is_some());
+    let is_one = is_state(&memory);
     memory.nests = 257;
-    assert!(&rt; Checker::restore(&memory).is_none());
+    let has_more = is_state(&memory);
     memory.nests = 256;
-    assert!(&rt; Checker::restore(&memory).is_none());
+    let has_most = is_state(&memory);
     memory = behind(&[0x9f, 0x81]);
     memory.kinds[0] = 6;
-    assert!(&rt; Checker::restore(&memory).is_none());
+    let has_a_kind = is_state(&memory);
+    let is_empty = is_state(&Snapshot::new());
+    all_hold(&rt, &[is_one, !has_more, !has_most, !has_a_kind, !is_empty]);
 }

@@ -8,6 +8,8 @@ mod diags;
 #[cfg(test)]
 mod dumps;
 #[cfg(test)]
+mod ends;
+#[cfg(test)]
 mod pictures;
 #[cfg(test)]
 mod rows;

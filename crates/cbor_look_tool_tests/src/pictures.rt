@@ -1,14 +1,12 @@
-use crate::dumps::is_dumped;
+use crate::dumps::each_dumped;
 use cbor_look_service::arguments::Options;
-use std::test::Fail;
 
-// Digits, and the dump of their bytes: the examples of RFC 8949, section 3, as its pictures have them, but that a break
-// stands at the level of what it ends, and those of its appendix A by their notation there, floats by their bits. Left
-// out are two whose texts are longer than a line.
-static PICTURES: [(&str, &str); 27] = [
-    (
-        "0a 1901f4 3901f3 45 0102030405 8a 00000000000000000000",
-        "0a                                  # 10
+// Behind `=` digits, and below them the dump of their bytes: the examples of RFC 8949, section 3, as its pictures have
+// them, but that a break stands at the level of what it ends, and those of its appendix A by their notation there,
+// floats by their bits. Left out are two whose texts are longer than a line.
+static PICTURES: &str = "\
+= 0a 1901f4 3901f3 45 0102030405 8a 00000000000000000000
+0a                                  # 10
 19 01 f4                            # 500
 39 01 f3                            # -500
 45                                  # bytes 5
@@ -24,11 +22,8 @@ static PICTURES: [(&str, &str); 27] = [
    00                               #   0
    00                               #   0
    00                               #   0
-",
-    ),
-    (
-        "8301820203820405",
-        "83                                  # array 3
+= 8301820203820405
+83                                  # array 3
    01                               #   1
    82                               #   array 2
       02                            #     2
@@ -36,11 +31,8 @@ static PICTURES: [(&str, &str); 27] = [
    82                               #   array 2
       04                            #     4
       05                            #     5
-",
-    ),
-    (
-        "9f018202039f0405ffff",
-        "9f                                  # array *
+= 9f018202039f0405ffff
+9f                                  # array *
    01                               #   1
    82                               #   array 2
       02                            #     2
@@ -50,11 +42,8 @@ static PICTURES: [(&str, &str); 27] = [
       05                            #     5
    ff                               #   break
 ff                                  # break
-",
-    ),
-    (
-        "9f01820203820405ff",
-        "9f                                  # array *
+= 9f01820203820405ff
+9f                                  # array *
    01                               #   1
    82                               #   array 2
       02                            #     2
@@ -63,11 +52,8 @@ ff                                  # break
       04                            #     4
       05                            #     5
 ff                                  # break
-",
-    ),
-    (
-        "83018202039f0405ff",
-        "83                                  # array 3
+= 83018202039f0405ff
+83                                  # array 3
    01                               #   1
    82                               #   array 2
       02                            #     2
@@ -76,11 +62,8 @@ ff                                  # break
       04                            #     4
       05                            #     5
    ff                               #   break
-",
-    ),
-    (
-        "83019f0203ff820405",
-        "83                                  # array 3
+= 83019f0203ff820405
+83                                  # array 3
    01                               #   1
    9f                               #   array *
       02                            #     2
@@ -89,11 +72,8 @@ ff                                  # break
    82                               #   array 2
       04                            #     4
       05                            #     5
-",
-    ),
-    (
-        "bf6346756ef563416d7421ff",
-        "bf                                  # map *
+= bf6346756ef563416d7421ff
+bf                                  # map *
    63                               #   text 3
       46 75 6e                      #     \"Fun\"
    f5                               #   true
@@ -101,28 +81,19 @@ ff                                  # break
       41 6d 74                      #     \"Amt\"
    21                               #   -2
 ff                                  # break
-",
-    ),
-    (
-        "5f44aabbccdd43eeff99ff",
-        "5f                                  # bytes *
+= 5f44aabbccdd43eeff99ff
+5f                                  # bytes *
    44                               #   bytes 4
       aa bb cc dd
    43                               #   bytes 3
       ee ff 99
 ff                                  # break
-",
-    ),
-    (
-        "c249010000000000000000",
-        "c2                                  # tag 2
+= c249010000000000000000
+c2                                  # tag 2
    49                               #   bytes 9
       01 00 00 00 00 00 00 00 00
-",
-    ),
-    (
-        "c48221196ab3 c5822003",
-        "c4                                  # tag 4
+= c48221196ab3 c5822003
+c4                                  # tag 4
    82                               #   array 2
       21                            #     -2
       19 6a b3                      #     27315
@@ -130,17 +101,11 @@ c5                                  # tag 5
    82                               #   array 2
       20                            #     -1
       03                            #     3
-",
-    ),
-    (
-        "d9d9f700",
-        "d9 d9 f7                            # tag 55799
+= d9d9f700
+d9 d9 f7                            # tag 55799
    00                               #   0
-",
-    ),
-    (
-        "00 01 0a 17 1818 1819 1864 1903e8 1a000f4240 1b000000e8d4a51000 1bffffffffffffffff 3bffffffffffffffff 20 29 3863 3903e7",
-        "00                                  # 0
+= 00 01 0a 17 1818 1819 1864 1903e8 1a000f4240 1b000000e8d4a51000 1bffffffffffffffff 3bffffffffffffffff 20 29 3863 3903e7
+00                                  # 0
 01                                  # 1
 0a                                  # 10
 17                                  # 23
@@ -156,21 +121,15 @@ c5                                  # tag 5
 29                                  # -10
 38 63                               # -100
 39 03 e7                            # -1000
-",
-    ),
-    (
-        "f4 f5 f6 f7 f0 f8ff",
-        "f4                                  # false
+= f4 f5 f6 f7 f0 f8ff
+f4                                  # false
 f5                                  # true
 f6                                  # null
 f7                                  # undefined
 f0                                  # simple 16
 f8 ff                               # simple 255
-",
-    ),
-    (
-        "f90000 f98000 f93c00 fb3ff199999999999a f93e00 f97bff fa47c35000 fa7f7fffff fb7e37e43c8800759c f90001 f90400 f9c400 fbc010666666666666 f97c00 f97e00 f9fc00 fa7f800000 fa7fc00000 faff800000 fb7ff0000000000000 fb7ff8000000000000 fbfff0000000000000",
-        "f9 00 00                            # half 0000
+= f90000 f98000 f93c00 fb3ff199999999999a f93e00 f97bff fa47c35000 fa7f7fffff fb7e37e43c8800759c f90001 f90400 f9c400 fbc010666666666666 f97c00 f97e00 f9fc00 fa7f800000 fa7fc00000 faff800000 fb7ff0000000000000 fb7ff8000000000000 fbfff0000000000000
+f9 00 00                            # half 0000
 f9 80 00                            # half 8000
 f9 3c 00                            # half 3c00
 fb 3f f1 99 99 99 99 99 9a          # double 3ff199999999999a
@@ -192,36 +151,24 @@ fa ff 80 00 00                      # single ff800000
 fb 7f f0 00 00 00 00 00 00          # double 7ff0000000000000
 fb 7f f8 00 00 00 00 00 00          # double 7ff8000000000000
 fb ff f0 00 00 00 00 00 00          # double fff0000000000000
-",
-    ),
-    (
-        "c349010000000000000000",
-        "c3                                  # tag 3
+= c349010000000000000000
+c3                                  # tag 3
    49                               #   bytes 9
       01 00 00 00 00 00 00 00 00
-",
-    ),
-    (
-        "c11a514b67b0 c1fb41d452d9e8200000",
-        "c1                                  # tag 1
+= c11a514b67b0 c1fb41d452d9e8200000
+c1                                  # tag 1
    1a 51 4b 67 b0                   #   1363896240
 c1                                  # tag 1
    fb 41 d4 52 d9 e8 20 00 00       #   double 41d452d9e8200000
-",
-    ),
-    (
-        "d74401020304 d818456449455446",
-        "d7                                  # tag 23
+= d74401020304 d818456449455446
+d7                                  # tag 23
    44                               #   bytes 4
       01 02 03 04
 d8 18                               # tag 24
    45                               #   bytes 5
       64 49 45 54 46
-",
-    ),
-    (
-        "40 4401020304 60 6161 6449455446 62225c 62c3bc 63e6b0b4 64f0908591",
-        "40                                  # bytes 0
+= 40 4401020304 60 6161 6449455446 62225c 62c3bc 63e6b0b4 64f0908591
+40                                  # bytes 0
 44                                  # bytes 4
    01 02 03 04
 60                                  # text 0
@@ -237,11 +184,8 @@ d8 18                               # tag 24
    e6 b0 b4                         #   \"水\"
 64                                  # text 4
    f0 90 85 91                      #   \"𐅑\"
-",
-    ),
-    (
-        "80 83010203 a0 a201020304",
-        "80                                  # array 0
+= 80 83010203 a0 a201020304
+80                                  # array 0
 83                                  # array 3
    01                               #   1
    02                               #   2
@@ -252,11 +196,8 @@ a2                                  # map 2
    02                               #   2
    03                               #   3
    04                               #   4
-",
-    ),
-    (
-        "98190102030405060708090a0b0c0d0e0f101112131415161718181819",
-        "98 19                               # array 25
+= 98190102030405060708090a0b0c0d0e0f101112131415161718181819
+98 19                               # array 25
    01                               #   1
    02                               #   2
    03                               #   3
@@ -282,11 +223,8 @@ a2                                  # map 2
    17                               #   23
    18 18                            #   24
    18 19                            #   25
-",
-    ),
-    (
-        "9f0102030405060708090a0b0c0d0e0f101112131415161718181819ff",
-        "9f                                  # array *
+= 9f0102030405060708090a0b0c0d0e0f101112131415161718181819ff
+9f                                  # array *
    01                               #   1
    02                               #   2
    03                               #   3
@@ -313,11 +251,8 @@ a2                                  # map 2
    18 18                            #   24
    18 19                            #   25
 ff                                  # break
-",
-    ),
-    (
-        "a26161016162820203",
-        "a2                                  # map 2
+= a26161016162820203
+a2                                  # map 2
    61                               #   text 1
       61                            #     \"a\"
    01                               #   1
@@ -326,11 +261,8 @@ ff                                  # break
    82                               #   array 2
       02                            #     2
       03                            #     3
-",
-    ),
-    (
-        "826161a161626163",
-        "82                                  # array 2
+= 826161a161626163
+82                                  # array 2
    61                               #   text 1
       61                            #     \"a\"
    a1                               #   map 1
@@ -338,11 +270,8 @@ ff                                  # break
          62                         #       \"b\"
       61                            #     text 1
          63                         #       \"c\"
-",
-    ),
-    (
-        "a56161614161626142616361436164614461656145",
-        "a5                                  # map 5
+= a56161614161626142616361436164614461656145
+a5                                  # map 5
    61                               #   text 1
       61                            #     \"a\"
    61                               #   text 1
@@ -363,11 +292,8 @@ ff                                  # break
       65                            #     \"e\"
    61                               #   text 1
       45                            #     \"E\"
-",
-    ),
-    (
-        "5f42010243030405ff 7f657374726561646d696e67ff",
-        "5f                                  # bytes *
+= 5f42010243030405ff 7f657374726561646d696e67ff
+5f                                  # bytes *
    42                               #   bytes 2
       01 02
    43                               #   bytes 3
@@ -379,11 +305,8 @@ ff                                  # break
    64                               #   text 4
       6d 69 6e 67                   #     \"ming\"
 ff                                  # break
-",
-    ),
-    (
-        "9fff bf61610161629f0203ffff",
-        "9f                                  # array *
+= 9fff bf61610161629f0203ffff
+9f                                  # array *
 ff                                  # break
 bf                                  # map *
    61                               #   text 1
@@ -396,11 +319,8 @@ bf                                  # map *
       03                            #     3
    ff                               #   break
 ff                                  # break
-",
-    ),
-    (
-        "826161bf61626163ff",
-        "82                                  # array 2
+= 826161bf61626163ff
+82                                  # array 2
    61                               #   text 1
       61                            #     \"a\"
    bf                               #   map *
@@ -409,17 +329,9 @@ ff                                  # break
       61                            #     text 1
          63                         #       \"c\"
    ff                               #   break
-",
-    ),
-];
+";
 
 #[test]
-fn pictures_of_the_standard(rt: HostRuntime) -> Result<(), Fail> {
-    for (digits, want) in PICTURES.iter() {
-        assert!(rt;
-            is_dumped(rt.alloc(), digits, Options::new(), want),
-            "{digits}"
-        );
-    }
-    Ok(())
+fn pictures_of_the_standard(rt: HostRuntime) {
+    each_dumped(&rt, rt.alloc(), Options::new(), PICTURES, 27);
 }

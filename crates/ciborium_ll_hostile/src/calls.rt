@@ -10,13 +10,18 @@ use ciborium_ll::{
     Bytes, Chunked, Decoder, Encoder, Error, Header, RecodeError, Segment, Segments, Text,
 };
 use ciborium_ll_fixtures::devices::{DeviceFault, Failing, FailingReader, FailingWriter};
-use std::alloc::Global;
+use ciborium_ll_fixtures::tape::Stop;
 use std::process::Abort;
-use std::test::Fail;
+
+// How many bytes a sample has at most, and the copy of one.
+pub const MOST: usize = 64;
 
 // The bytes that digits say.
-pub fn decoded(alloc: Global, hex: &str) -> Result<Vec<u8>, Fail> {
-    Ok(hex::decode(alloc, hex)?)
+pub fn decoded<'a>(rt: &impl Abort, hex: &str, space: &'a mut [u8; MOST]) -> &'a [u8] {
+    let length = (hex.len() / 2).min(MOST);
+    let bytes = &mut space[..length];
+    assert!(rt; hex::decode_to_slice(hex, bytes).is_ok(), "at {hex}");
+    bytes
 }
 
 // The first bytes, as many as are told. There are as many.
@@ -61,6 +66,13 @@ pub fn failing_decoder_as(
     }
 }
 
+// Where a reading ended, how many bytes are left behind that, and whether the call came that was to fail.
+pub fn reading_of(mut decoder: Decoder<FailingReader<'_>>) -> (usize, usize, bool) {
+    let offset = decoder.offset();
+    let reader = decoder.into_inner();
+    (offset, reader.left().len(), reader.has_failed())
+}
+
 // An encoder whose writer fails where it is told to.
 pub fn failing_encoder(space: &mut [u8], failing: Failing) -> Encoder<FailingWriter<'_>> {
     Encoder::from(FailingWriter::new(space, failing))
@@ -83,9 +95,33 @@ pub fn pulls<R: Read>(decoder: &mut Decoder<R>) -> Result<Header, Error<R::Error
     decoder.pull()
 }
 
-// Whether the reader fails, as it was told to, under the next title.
-pub fn pull_fails(decoder: &mut Decoder<FailingReader<'_>>) -> bool {
-    matches!(pulls(decoder), Err(Error::Io(DeviceFault::Planned)))
+// Whether a pull gives this title.
+pub fn is_pulled<R: Read>(decoder: &mut Decoder<R>, want: Header) -> bool
+where
+    R::Error: Drop,
+{
+    match pulls(decoder) {
+        Ok(header) => header == want,
+        Err(_) => false,
+    }
+}
+
+// An error is the one that is wanted.
+pub fn is_stop(error: &Error<DeviceFault>, want: Stop) -> bool {
+    match error {
+        Error::Syntax(place) => want == Stop::Syntax(*place),
+        Error::Io(DeviceFault::Planned) => want == Stop::Planned,
+        Error::Io(DeviceFault::Short) => want == Stop::Short,
+        Error::TooLong | Error::Waiting => false,
+    }
+}
+
+// Whether a pull of a title fails as is wanted.
+pub fn is_refused(decoder: &mut Decoder<FailingReader<'_>>, want: Stop) -> bool {
+    match pulls(decoder) {
+        Ok(_) => false,
+        Err(error) => is_stop(&error, want),
+    }
 }
 
 // The byte string whose title was read.
@@ -94,8 +130,8 @@ pub fn bytes_of<'a, R: Read>(
     decoder: &'a mut Decoder<R>,
     length: Option<usize>,
 ) -> Segments<'a, R, Bytes> {
-    assert!(rt; !decoder.is_waiting());
-    assert!(rt; Header::Bytes(length).title_len() <= decoder.offset());
+    let least = Header::Bytes(length).title_len();
+    assert!(rt; !decoder.is_waiting() && least <= decoder.offset());
     decoder.bytes(length)
 }
 
@@ -105,9 +141,43 @@ pub fn text_of<'a, R: Read>(
     decoder: &'a mut Decoder<R>,
     length: Option<usize>,
 ) -> Segments<'a, R, Text> {
-    assert!(rt; !decoder.is_waiting());
-    assert!(rt; Header::Text(length).title_len() <= decoder.offset());
+    let least = Header::Text(length).title_len();
+    assert!(rt; !decoder.is_waiting() && least <= decoder.offset());
     decoder.text(length)
+}
+
+// The byte string of this length whose title comes next.
+pub fn bytes_in<'a, R: Read>(
+    rt: &impl Abort,
+    decoder: &'a mut Decoder<R>,
+    length: Option<usize>,
+) -> Segments<'a, R, Bytes>
+where
+    R::Error: Drop,
+{
+    let place = decoder.offset();
+    assert!(rt;
+        is_pulled(decoder, Header::Bytes(length)),
+        "no bytes at {place}"
+    );
+    bytes_of(rt, decoder, length)
+}
+
+// The text of this length whose title comes next.
+pub fn text_in<'a, R: Read>(
+    rt: &impl Abort,
+    decoder: &'a mut Decoder<R>,
+    length: Option<usize>,
+) -> Segments<'a, R, Text>
+where
+    R::Error: Drop,
+{
+    let place = decoder.offset();
+    assert!(rt;
+        is_pulled(decoder, Header::Text(length)),
+        "no text at {place}"
+    );
+    text_of(rt, decoder, length)
 }
 
 // The next segment of a string, which has one.
@@ -186,4 +256,9 @@ pub fn drains_text<R: Read, W: Write>(
 // A row holds. The message says at which call, and in which bytes.
 pub fn holds(rt: &impl Abort, is_right: bool, call: usize, bytes: &[u8]) {
     assert!(rt; is_right, "at {call} of {bytes:?}");
+}
+
+// All steps of a test hold. The message says which ones do, and the number of the row or the place.
+pub fn all_hold(rt: &impl Abort, place: usize, steps: &[bool]) {
+    assert!(rt; !steps.contains(&false), "at {place} the steps {steps:?}");
 }

@@ -1,5 +1,6 @@
 use crate::calls::{
-    decoded, failing_decoder, failing_decoder_as, failing_encoder, front_of, holds, recodes,
+    MOST, all_hold, decoded, failing_decoder_as, failing_encoder, front_of, holds, reading_of,
+    recodes,
 };
 use ciborium_ll::io::{EndOfFile, OutOfSpace, SliceReader, SliceWriter};
 use ciborium_ll::laws::copy_headers;
@@ -11,7 +12,6 @@ use ciborium_ll_fixtures::samples::{
 };
 use std::alloc::Global;
 use std::process::Abort;
-use std::test::Fail;
 
 // What is copied: titles alone, or elements.
 #[derive(Clone, Copy)]
@@ -20,6 +20,29 @@ pub enum Kind {
     Elements,
     // Elements, as a strict decoder gives them.
     StrictElements,
+}
+
+// A copy of so many titles or elements of some bytes.
+#[derive(Clone, Copy)]
+pub struct Task<'a> {
+    pub kind: Kind,
+    pub count: usize,
+    pub bytes: &'a [u8],
+}
+
+// Which side of a copy fails.
+#[derive(Clone, Copy)]
+pub enum Side {
+    Reader,
+    Writer,
+}
+
+// The call of a number fails, of this side.
+fn failing_at(side: Side, call: usize) -> (Failing, Failing) {
+    match side {
+        Side::Reader => (Failing::Call(call), Failing::Never),
+        Side::Writer => (Failing::Never, Failing::Call(call)),
+    }
 }
 
 // How a copy ended.
@@ -36,14 +59,22 @@ pub enum Answer {
     Wrong,
 }
 
-// What a copy gave.
-#[derive(Drop)]
+// What a copy gave, made once or twice. What it wrote are the first bytes of the space, so many.
+#[derive(Clone, Copy)]
 pub struct Outcome {
+    pub first: Answer,
     pub answer: Answer,
-    pub written: Vec<u8>,
-    pub offset: usize,
-    pub left: usize,
-    pub has_failed: bool,
+    space: [u8; MOST],
+    length: usize,
+    offset: usize,
+    left: usize,
+    has_failed: bool,
+}
+
+impl Outcome {
+    fn written(&self) -> &[u8] {
+        front_of(&self.space, self.length)
+    }
 }
 
 // The answer that is in an outcome.
@@ -88,7 +119,7 @@ fn copies_headers(
 }
 
 // The copy of elements.
-pub fn copies_elements(
+fn copies_elements(
     rt: &impl Abort,
     decoder: &mut Decoder<FailingReader<'_>>,
     encoder: &mut Encoder<FailingWriter<'_>>,
@@ -98,43 +129,68 @@ pub fn copies_elements(
     answer_of(recodes(rt, decoder, encoder, count, buffer))
 }
 
-// Copies by a reader and a writer that fail where they are told to.
-pub fn copies(
+// The copy that a task is, made once.
+fn answer_by(
     rt: &impl Abort,
-    alloc: Global,
-    kind: Kind,
-    count: usize,
-    bytes: &[u8],
-    failing: (Failing, Failing),
-) -> Result<Outcome, Fail> {
-    let mut space = [0; 64];
-    let is_strict = matches!(kind, Kind::StrictElements);
-    let mut decoder = failing_decoder_as(is_strict, bytes, failing.0);
-    let mut encoder = failing_encoder(&mut space, failing.1);
-    let answer = match kind {
-        Kind::Headers => copies_headers(&mut decoder, &mut encoder, count),
+    decoder: &mut Decoder<FailingReader<'_>>,
+    encoder: &mut Encoder<FailingWriter<'_>>,
+    task: Task<'_>,
+    buffer: &mut [u8],
+) -> Answer {
+    match task.kind {
+        Kind::Headers => copies_headers(decoder, encoder, task.count),
         Kind::Elements | Kind::StrictElements => {
-            copies_elements(rt, &mut decoder, &mut encoder, count, &mut [0; 64])
+            copies_elements(rt, decoder, encoder, task.count, buffer)
         }
-    };
-    let offset = decoder.offset();
-    let reader = decoder.into_inner();
-    let writer = encoder.into_inner();
-    Ok(Outcome {
-        answer,
-        written: writer.written().to_vec(alloc)?,
-        offset,
-        left: reader.left().len(),
-        has_failed: reader.has_failed() || writer.has_failed(),
-    })
+    }
 }
 
-// What a plain reading of bytes gives.
-fn copies_plainly(alloc: Global, kind: Kind, count: usize, bytes: &[u8]) -> Result<Copied, Fail> {
-    match kind {
-        Kind::Headers => plain::copy(alloc, true, count, bytes),
-        Kind::Elements => plain::copy(alloc, false, count, bytes),
-        Kind::StrictElements => plain::strict_copy(alloc, count, bytes),
+// Copies by a reader and a writer that fail where they are told to, through a buffer of 64 bytes, or where it is asked
+// for once more, and then through one of 4.
+pub fn copies(
+    rt: &impl Abort,
+    task: Task<'_>,
+    failing: (Failing, Failing),
+    is_twice: bool,
+) -> Outcome {
+    let mut space = [0; MOST];
+    let is_strict = matches!(task.kind, Kind::StrictElements);
+    let mut decoder = failing_decoder_as(is_strict, task.bytes, failing.0);
+    let mut encoder = failing_encoder(&mut space, failing.1);
+    let mut buffer = [0; 64];
+    let buffer = &mut buffer[..if is_twice { 4 } else { 64 }];
+    let first = answer_by(rt, &mut decoder, &mut encoder, task, buffer);
+    let answer = if is_twice {
+        answer_by(rt, &mut decoder, &mut encoder, task, buffer)
+    } else {
+        first
+    };
+    let (offset, left, has_read_failed) = reading_of(decoder);
+    let writer = encoder.into_inner();
+    let length = writer.written().len();
+    let has_failed = has_read_failed || writer.has_failed();
+    Outcome {
+        first,
+        answer,
+        space,
+        length,
+        offset,
+        left,
+        has_failed,
+    }
+}
+
+// What a plain reading gives of the first bytes of a task, so many.
+fn copies_plainly(rt: &impl Abort, alloc: Global, task: Task<'_>, length: usize) -> Copied {
+    let bytes = front_of(task.bytes, length);
+    let copied = match task.kind {
+        Kind::Headers => plain::copy(alloc, true, task.count, bytes),
+        Kind::Elements => plain::copy(alloc, false, task.count, bytes),
+        Kind::StrictElements => plain::strict_copy(alloc, task.count, bytes),
+    };
+    match copied {
+        Ok(copied) => copied,
+        Err(_) => panic!(rt; "no memory"),
     }
 }
 
@@ -153,229 +209,196 @@ fn keeps(got: &Outcome, length: usize) -> bool {
     got.offset.saturating_add(got.left) == length
 }
 
-// All that is due was written.
-fn is_written(got: &Outcome, want: &Copied) -> bool {
-    got.written.as_slice() == want.output.as_slice()
-}
-
 // What was written begins what is due, and is not all of it.
 fn is_begun(got: &Outcome, want: &Copied) -> bool {
-    let written = got.written.as_slice();
+    let written = got.written();
     written.len() < want.output.len() && want.output.as_slice().starts_with(written)
 }
 
-// What is written is what a plain reading of the bytes gives, and so is the answer.
-pub fn agrees(
-    rt: &impl Abort,
-    alloc: Global,
-    kind: Kind,
-    count: usize,
-    bytes: &[u8],
-) -> Result<(), Fail> {
-    let got = copies(
-        rt,
-        alloc,
-        kind,
-        count,
-        bytes,
-        (Failing::Never, Failing::Never),
-    )?;
-    let want = copies_plainly(alloc, kind, count, bytes)?;
-    let is_right = is_written(&got, &want) && is_fault(got.answer, want.fault);
-    let is_read = got.offset == want.offset && keeps(&got, bytes.len());
-    assert!(rt; is_right && is_read, "answer to {bytes:?}");
-    Ok(())
+// All is as in a plain reading: what is written, how far it reads, and the answer.
+fn is_whole(got: &Outcome, want: &Copied) -> bool {
+    got.written() == want.output.as_slice()
+        && is_fault(got.answer, want.fault)
+        && got.offset == want.offset
 }
 
-// The reader fails at one call. What was written is just what the bytes in front of that call give, and no byte behind
-// them is gone. It tells whether that call came.
-fn stops_reading(
+// What is written is what a plain reading of the bytes gives, and so is the answer. It tells what that reading gives.
+pub fn agrees(rt: &impl Abort, alloc: Global, task: Task<'_>) -> Copied {
+    let got = copies(rt, task, (Failing::Never, Failing::Never), false);
+    let want = copies_plainly(rt, alloc, task, task.bytes.len());
+    let is_right = is_whole(&got, &want) && keeps(&got, task.bytes.len());
+    holds(rt, is_right, task.count, task.bytes);
+    want
+}
+
+// A copy fails at a call of a side, as it was told to, and the next one finds a fault at this place.
+pub fn fails_and_stops(rt: &impl Abort, task: Task<'_>, side: Side, call: usize, place: usize) {
+    let got = copies(rt, task, failing_at(side, call), true);
+    let has_failed = match side {
+        Side::Reader => matches!(got.first, Answer::Unread),
+        Side::Writer => matches!(got.first, Answer::Unwritten),
+    };
+    let has_stopped = is_fault(got.answer, Some(Fault::Syntax(place)));
+    holds(rt, has_failed && has_stopped, call, task.bytes);
+}
+
+// Behind a read that failed, what was written is just what the bytes in front of that call give.
+fn has_stopped_reading(got: &Outcome, due: &Copied) -> bool {
+    matches!(got.answer, Answer::Unread)
+        && matches!(due.fault, Some(Fault::Short))
+        && got.written() == due.output.as_slice()
+}
+
+// Behind a write that failed, what was written begins what is written where nothing fails, and is due for the bytes
+// that were read.
+fn has_stopped_writing(got: &Outcome, due: &Copied, whole: &Copied) -> bool {
+    matches!(got.answer, Answer::Unwritten) && is_begun(got, due) && is_begun(got, whole)
+}
+
+// The call of a side fails. No byte behind those that were read is gone. It tells whether that call came.
+fn stops(
     rt: &impl Abort,
     alloc: Global,
-    kind: Kind,
-    count: usize,
-    bytes: &[u8],
+    task: Task<'_>,
+    whole: &Copied,
+    side: Side,
     call: usize,
-) -> Result<bool, Fail> {
-    let failing = (Failing::Call(call), Failing::Never);
-    let got = copies(rt, alloc, kind, count, bytes, failing)?;
-    if !got.has_failed {
-        return Ok(false);
+) -> bool {
+    let got = copies(rt, task, failing_at(side, call), false);
+    if got.has_failed {
+        let due = copies_plainly(rt, alloc, task, got.offset);
+        let has_stopped = match side {
+            Side::Reader => has_stopped_reading(&got, &due),
+            Side::Writer => has_stopped_writing(&got, &due, whole),
+        };
+        let is_right = has_stopped && keeps(&got, task.bytes.len());
+        holds(rt, is_right, call, task.bytes);
     }
-    let want = copies_plainly(alloc, kind, count, front_of(bytes, got.offset))?;
-    let has_stopped = matches!(got.answer, Answer::Unread) && keeps(&got, bytes.len());
-    let is_due = matches!(want.fault, Some(Fault::Short)) && is_written(&got, &want);
-    holds(rt, has_stopped && is_due, call, bytes);
-    Ok(true)
+    got.has_failed
 }
 
-// The writer fails at one call. What was written begins what is written where nothing fails, and is due for the bytes
-// that were read; no byte behind them is gone. It tells whether that call came.
-fn stops_writing(
-    rt: &impl Abort,
-    alloc: Global,
-    kind: Kind,
-    count: usize,
-    bytes: &[u8],
-    call: usize,
-) -> Result<bool, Fail> {
-    let failing = (Failing::Never, Failing::Call(call));
-    let got = copies(rt, alloc, kind, count, bytes, failing)?;
-    if !got.has_failed {
-        return Ok(false);
-    }
-    let due = copies_plainly(alloc, kind, count, front_of(bytes, got.offset))?;
-    let whole = copies_plainly(alloc, kind, count, bytes)?;
-    let has_stopped = matches!(got.answer, Answer::Unwritten) && keeps(&got, bytes.len());
-    let is_right = has_stopped && is_begun(&got, &due) && is_begun(&got, &whole);
-    holds(rt, is_right, call, bytes);
-    Ok(true)
-}
-
-// The last call of the reader that came, of those that failed in turn.
-fn last_read(
-    rt: &impl Abort,
-    alloc: Global,
-    kind: Kind,
-    count: usize,
-    bytes: &[u8],
-) -> Result<usize, Fail> {
+// The last call of a side that came, of those that failed in turn.
+fn last_call(rt: &impl Abort, alloc: Global, task: Task<'_>, whole: &Copied, side: Side) -> usize {
     let mut last = 0usize;
     for call in 1..100usize {
-        if !stops_reading(rt, alloc, kind, count, bytes, call)? {
+        if !stops(rt, alloc, task, whole, side, call) {
             break;
         }
         last = call;
     }
-    Ok(last)
+    last
 }
 
-// The same of the writer.
-fn last_write(
-    rt: &impl Abort,
-    alloc: Global,
-    kind: Kind,
-    count: usize,
-    bytes: &[u8],
-) -> Result<usize, Fail> {
-    let mut last = 0usize;
-    for call in 1..100usize {
-        if !stops_writing(rt, alloc, kind, count, bytes, call)? {
-            break;
-        }
-        last = call;
-    }
-    Ok(last)
-}
-
-// Each call of the reader fails in turn, and then each call of the writer, until none does.
-fn each_call_fails(
-    rt: &impl Abort,
-    alloc: Global,
-    kind: Kind,
-    count: usize,
-    hex: &str,
-) -> Result<(), Fail> {
-    let bytes = decoded(alloc, hex)?;
-    let bytes = bytes.as_slice();
-    agrees(rt, alloc, kind, count, bytes)?;
-    let read = last_read(rt, alloc, kind, count, bytes)?;
-    let write = last_write(rt, alloc, kind, count, bytes)?;
-    // The last calls came, and each one that was to move a byte failed.
-    let want = copies_plainly(alloc, kind, count, bytes)?;
+// Each call of the reader fails in turn, and then each call of the writer, until none does. The last calls came, and
+// each one that was to move a byte failed.
+fn each_call_fails(rt: &impl Abort, alloc: Global, kind: Kind, count: usize, hex: &str) {
+    let mut space = [0; MOST];
+    let bytes = decoded(rt, hex, &mut space);
+    let task = Task { kind, count, bytes };
+    let whole = agrees(rt, alloc, task);
+    let read = last_call(rt, alloc, task, &whole, Side::Reader);
+    let write = last_call(rt, alloc, task, &whole, Side::Writer);
     let have_ended = read < 99 && write < 99;
-    let have_failed = (read > 0) == (count > 0) && (write > 0) == !want.output.is_empty();
-    assert!(rt; have_ended && have_failed, "at {hex}");
-    Ok(())
+    let is_read = (read > 0) == (count > 0);
+    let is_written = (write > 0) == !whole.output.is_empty();
+    holds(rt, have_ended && is_read && is_written, read, bytes);
 }
 
 // Each call fails in turn over titles alone and in a row.
-fn each_call_fails_in_titles(rt: &impl Abort, alloc: Global, kind: Kind) -> Result<(), Fail> {
+fn each_call_fails_in_titles(rt: &impl Abort, alloc: Global, kind: Kind) {
     for &(hex, _) in &VECTORS {
-        each_call_fails(rt, alloc, kind, 1, hex)?;
+        each_call_fails(rt, alloc, kind, 1, hex);
     }
     for &(hex, headers) in &LISTS {
-        each_call_fails(rt, alloc, kind, headers.len(), hex)?;
+        each_call_fails(rt, alloc, kind, headers.len(), hex);
     }
-    each_call_fails(rt, alloc, kind, 27, TWENTY_FIVE)?;
-    each_call_fails(rt, alloc, kind, 27, TWENTY_FIVE_AND_BREAK)
+    each_call_fails(rt, alloc, kind, 27, TWENTY_FIVE);
+    each_call_fails(rt, alloc, kind, 27, TWENTY_FIVE_AND_BREAK);
 }
 
-#[test]
-fn each_call_fails_under_copies_of_headers(rt: HostRuntime) -> Result<(), Fail> {
+// The same over titles that are longer than they need be.
+fn each_call_fails_in_longer_titles(rt: &impl Abort, alloc: Global, kind: Kind) {
     for &(hex, _, _) in &LONGER_TITLES {
-        each_call_fails(&rt, rt.alloc(), Kind::Headers, 2, hex)?;
+        each_call_fails(rt, alloc, kind, 2, hex);
     }
-    each_call_fails_in_titles(&rt, rt.alloc(), Kind::Headers)
+}
+
+// The same over a table of copies.
+fn each_call_fails_in_copies(rt: &impl Abort, alloc: Global, kind: Kind) {
+    for &(count, hex) in &COPIES {
+        each_call_fails(rt, alloc, kind, count, hex);
+    }
 }
 
 #[test]
-fn each_call_fails_under_copies_of_elements(rt: HostRuntime) -> Result<(), Fail> {
-    for &(count, hex) in &COPIES {
-        each_call_fails(&rt, rt.alloc(), Kind::Elements, count, hex)?;
-    }
-    each_call_fails_in_titles(&rt, rt.alloc(), Kind::Elements)
+fn each_call_fails_under_copies_of_headers(rt: HostRuntime) {
+    each_call_fails_in_longer_titles(&rt, rt.alloc(), Kind::Headers);
+    each_call_fails_in_titles(&rt, rt.alloc(), Kind::Headers);
 }
 
 #[test]
-fn each_call_fails_under_strict_copies(rt: HostRuntime) -> Result<(), Fail> {
-    for &(count, hex) in &COPIES {
-        each_call_fails(&rt, rt.alloc(), Kind::StrictElements, count, hex)?;
-    }
-    for &(hex, _, _) in &LONGER_TITLES {
-        each_call_fails(&rt, rt.alloc(), Kind::StrictElements, 2, hex)?;
-    }
-    each_call_fails_in_titles(&rt, rt.alloc(), Kind::StrictElements)
+fn each_call_fails_under_copies_of_elements(rt: HostRuntime) {
+    each_call_fails_in_copies(&rt, rt.alloc(), Kind::Elements);
+    each_call_fails_in_titles(&rt, rt.alloc(), Kind::Elements);
+}
+
+#[test]
+fn each_call_fails_under_strict_copies(rt: HostRuntime) {
+    each_call_fails_in_copies(&rt, rt.alloc(), Kind::StrictElements);
+    each_call_fails_in_longer_titles(&rt, rt.alloc(), Kind::StrictElements);
+    each_call_fails_in_titles(&rt, rt.alloc(), Kind::StrictElements);
 }
 
 // A string of indefinite length, whose one body is "ab".
-const STRING: [u8; 5] = [0x7f, 0x62, 0x61, 0x62, 0xff];
+static STRING: [u8; 5] = [0x7f, 0x62, 0x61, 0x62, 0xff];
 
-// A copy of that string where the reader and the writer fail, or don't: how much was written and read.
-fn string_row(
-    rt: &impl Abort,
-    alloc: Global,
-    failing: (Failing, Failing),
-    want: (usize, usize),
-) -> Result<(), Fail> {
-    let got = copies(rt, alloc, Kind::Elements, 1, &STRING, failing)?;
-    let is_whole = matches!(got.answer, Answer::Done) == (want.0 == 5);
-    let is_front = STRING.starts_with(got.written.as_slice());
-    let came_to = (got.written.len(), got.offset);
-    assert!(rt; came_to == want && is_whole && is_front, "to {want:?}");
-    Ok(())
+// The call of the reader or of the writer that fails, and how much was written and read then.
+static STRING_ROWS: [(Side, usize, usize, usize); 10] = [
+    (Side::Reader, 1, 0, 0),
+    (Side::Reader, 2, 1, 1),
+    (Side::Reader, 3, 2, 2),
+    (Side::Reader, 4, 4, 4),
+    (Side::Reader, 5, 5, 5),
+    (Side::Writer, 1, 0, 1),
+    (Side::Writer, 2, 1, 2),
+    (Side::Writer, 3, 3, 4),
+    (Side::Writer, 4, 4, 5),
+    (Side::Writer, 5, 5, 5),
+];
+
+// A copy of that string.
+fn string_task() -> Task<'static> {
+    Task {
+        kind: Kind::Elements,
+        count: 1,
+        bytes: &STRING,
+    }
+}
+
+// Whether a copy of that string where a call fails, or no call is left to fail, comes so far.
+fn comes_to(rt: &impl Abort, side: Side, call: usize, length: usize, offset: usize) -> bool {
+    let got = copies(rt, string_task(), failing_at(side, call), false);
+    let is_done = matches!(got.answer, Answer::Done) == (length == 5);
+    is_done && got.offset == offset && got.written() == front_of(&STRING, length)
 }
 
 #[test]
-fn a_string_by_hand(rt: HostRuntime) -> Result<(), Fail> {
-    let never = Failing::Never;
-    for (call, written, offset) in [(1, 0, 0), (2, 1, 1), (3, 2, 2), (4, 4, 4), (5, 5, 5)] {
-        string_row(
-            &rt,
-            rt.alloc(),
-            (Failing::Call(call), never),
-            (written, offset),
-        )?;
+fn a_string_by_hand(rt: HostRuntime) {
+    for (number, &(side, call, length, offset)) in STRING_ROWS.iter().enumerate() {
+        let is_right = comes_to(&rt, side, call, length, offset);
+        holds(&rt, is_right, number, &STRING);
     }
-    for (call, written, offset) in [(1, 0, 1), (2, 1, 2), (3, 3, 4), (4, 4, 5), (5, 5, 5)] {
-        string_row(
-            &rt,
-            rt.alloc(),
-            (never, Failing::Call(call)),
-            (written, offset),
-        )?;
-    }
-    Ok(())
 }
 
 // A copy that failed at its first read has lost nothing, and is made once more.
 #[test]
 fn a_copy_is_asked_for_once_more(rt: HostRuntime) {
-    let mut space = [0; 8];
-    let mut decoder = failing_decoder(&STRING, Failing::Call(1));
-    let mut encoder = failing_encoder(&mut space, Failing::Never);
-    let first = copies_elements(&rt, &mut decoder, &mut encoder, 1, &mut [0; 4]);
-    let second = copies_elements(&rt, &mut decoder, &mut encoder, 1, &mut [0; 4]);
-    assert!(rt; matches!((first, second), (Answer::Unread, Answer::Done)));
-    assert!(rt; encoder.into_inner().written() == STRING.as_slice());
+    let got = copies(&rt, string_task(), failing_at(Side::Reader, 1), true);
+    let has_failed = matches!(got.first, Answer::Unread);
+    let is_done = matches!(got.answer, Answer::Done);
+    all_hold(
+        &rt,
+        1,
+        &[has_failed, is_done, got.written() == STRING.as_slice()],
+    );
 }

@@ -1,12 +1,11 @@
-use crate::calls::{self, drains_text, next_segment, pulls, text_of};
+use crate::calls::{self, drains_text, holds, next_segment, text_in};
 use crate::copies::{Answer, copies_slice, is_fault};
 use ciborium_ll::io::{EndOfFile, OutOfSpace, SliceReader, SliceWriter};
 use ciborium_ll::laws::{Drained, End};
-use ciborium_ll::{Decoder, Encoder, Error, Header, RecodeError, Segment, Text};
+use ciborium_ll::{Decoder, Encoder, Error, RecodeError};
 use ciborium_ll_fixtures::plain::{self, Fault};
 use std::alloc::Global;
 use std::process::Abort;
-use std::test::Fail;
 
 // How a copy of one element by this decoder through this buffer ends.
 fn answer_by(rt: &impl Abort, mut decoder: Decoder<SliceReader<'_>>, buffer: &mut [u8]) -> Answer {
@@ -39,47 +38,60 @@ struct Wrong {
     strictly: usize,
 }
 
-// Compares the answers to a text, of both kinds of decoders, with those of plain readings: whether each is a fault.
-fn compares(rt: &impl Abort, alloc: Global, bytes: &[u8]) -> Result<(bool, bool), Fail> {
-    let want = plain::copy(alloc, false, 1, bytes)?.fault;
-    let want_strictly = plain::strict_copy(alloc, 1, bytes)?.fault;
-    let is_right = all_end(rt, false, bytes, want) && all_end(rt, true, bytes, want_strictly);
-    assert!(rt; is_right, "at {bytes:?}");
-    Ok((want.is_some(), want_strictly.is_some()))
+// The fault that a plain reading finds in a copy of one element.
+fn fault_of(rt: &impl Abort, alloc: Global, is_strict: bool, bytes: &[u8]) -> Option<Fault> {
+    let copied = if is_strict {
+        plain::strict_copy(alloc, 1, bytes)
+    } else {
+        plain::copy(alloc, false, 1, bytes)
+    };
+    match copied {
+        Ok(copied) => copied.fault,
+        Err(_) => panic!(rt; "no memory"),
+    }
+}
+
+// Compares the answers to a text, of one kind of decoders, with that of a plain reading. It tells whether that is a
+// fault, as 0 or 1.
+fn compares(rt: &impl Abort, alloc: Global, is_strict: bool, bytes: &[u8]) -> usize {
+    let want = fault_of(rt, alloc, is_strict, bytes);
+    let is_right = all_end(rt, is_strict, bytes, want);
+    holds(rt, is_right, usize::from(is_strict), bytes);
+    usize::from(want.is_some())
 }
 
 // Reads a text with each byte replaced by each other one. Buffers of all sizes give the answer of a plain reading, on a
 // strict decoder that of a strict one. Only where a damaged body is cut may one find the damage, and another the end.
-fn replaces_each_byte(rt: &impl Abort, alloc: Global, text: [u8; 10]) -> Result<Wrong, Fail> {
-    let mut wrong = Wrong {
-        texts: 0,
-        strictly: 0,
-    };
+fn replaces_each_byte(rt: &impl Abort, alloc: Global, text: [u8; 10]) -> Wrong {
+    let mut texts = 0usize;
+    let mut strictly = 0usize;
     for index in 0..text.len() {
         for byte in 0..=u8::MAX {
             let mut bytes = text;
             bytes[index] = byte;
-            let (is_wrong, is_wrong_strictly) = compares(rt, alloc, &bytes)?;
-            wrong.texts = wrong.texts.saturating_add(usize::from(is_wrong));
-            wrong.strictly = wrong
-                .strictly
-                .saturating_add(usize::from(is_wrong_strictly));
+            texts = texts.saturating_add(compares(rt, alloc, false, &bytes));
+            strictly = strictly.saturating_add(compares(rt, alloc, true, &bytes));
         }
     }
-    Ok(wrong)
+    Wrong { texts, strictly }
 }
 
 // Most are broken, and some are not, as a letter for a letter.
 #[test]
-fn each_byte_is_replaced(rt: HostRuntime) -> Result<(), Fail> {
+fn each_byte_is_replaced(rt: HostRuntime) {
     let two_bodies = [0x7f, 0x62, 0xc3, 0xa9, 0x64, 0xf0, 0x9f, 0x98, 0x80, 0xff];
-    let wrong = replaces_each_byte(&rt, rt.alloc(), two_bodies)?;
-    assert!(rt; wrong.texts > 2000 && wrong.texts < 2550, "{}", wrong.texts);
+    let wrong = replaces_each_byte(&rt, rt.alloc(), two_bodies);
+    let is_right = wrong.texts > 2000 && wrong.texts < 2550;
+    holds(&rt, is_right, wrong.texts, &two_bodies);
     // By one byte more here, a title becomes a longer one, and another one an open inside the string.
     let three_bodies = [0x7f, 0x61, 0x01, 0x60, 0x62, 0x01, 0x01, 0xff, 0xff, 0x00];
-    let wrong = replaces_each_byte(&rt, rt.alloc(), three_bodies)?;
-    assert!(rt; wrong.texts < wrong.strictly, "{}", wrong.texts);
-    Ok(())
+    let wrong = replaces_each_byte(&rt, rt.alloc(), three_bodies);
+    holds(
+        &rt,
+        wrong.texts < wrong.strictly,
+        wrong.texts,
+        &three_bodies,
+    );
 }
 
 // How a drain ended, and after how many calls or at which place.
@@ -101,16 +113,6 @@ fn ending_of(outcome: Result<Drained, RecodeError<EndOfFile, OutOfSpace>>) -> En
     }
 }
 
-// Drains a text through buffers of these sizes, which are at most 4.
-fn ending_by(
-    rt: &impl Abort,
-    segment: &mut Segment<'_, SliceReader<'_>, Text>,
-    sizes: &[usize],
-    sink: &mut Encoder<SliceWriter<'_>>,
-) -> Ending {
-    ending_of(drains_text(rt, segment, sizes, &mut [0; 4], sink))
-}
-
 // A drain of a body by so many sizes ended as it may where this is written and so much is left.
 fn is_right(ending: Ending, sizes: usize, body: &[u8], written: &[u8], left: usize) -> bool {
     match ending {
@@ -124,23 +126,19 @@ fn is_right(ending: Ending, sizes: usize, body: &[u8], written: &[u8], left: usi
     }
 }
 
-// Drains the only segment of a text through buffers of these sizes: how that ends, and how much is left.
-fn drains_segment(
+// Drains a text of this length through buffers of these sizes, which are at most 4: how that ends, and how much is
+// left.
+fn drains_text_of(
     rt: &impl Abort,
     decoder: &mut Decoder<SliceReader<'_>>,
     length: usize,
     sizes: &[usize],
     sink: &mut Encoder<SliceWriter<'_>>,
 ) -> (Ending, usize) {
-    let mut segments = text_of(rt, decoder, Some(length));
+    let mut segments = text_in(rt, decoder, Some(length));
     let mut segment = next_segment(rt, &mut segments);
-    let ending = ending_by(rt, &mut segment, sizes, sink);
+    let ending = ending_of(drains_text(rt, &mut segment, sizes, &mut [0; 4], sink));
     (ending, segment.left())
-}
-
-// Whether the next title is that of a text of this length.
-fn begins_text(decoder: &mut Decoder<SliceReader<'_>>, length: usize) -> bool {
-    matches!(pulls(decoder), Ok(Header::Text(Some(told))) if told == length)
 }
 
 // Drains a text of a short length through buffers of these sizes, and compares what was written and what is left.
@@ -149,12 +147,11 @@ fn drains(rt: &impl Abort, bytes: &[u8], sizes: &[usize]) {
     let body = bytes.get(1..).unwrap_or(&[]);
     let mut decoder = calls::decoder(bytes);
     let mut sink = calls::encoder(&mut space);
-    let is_begun = begins_text(&mut decoder, body.len());
-    let (ending, left) = drains_segment(rt, &mut decoder, body.len(), sizes, &mut sink);
+    let (ending, left) = drains_text_of(rt, &mut decoder, body.len(), sizes, &mut sink);
     let writer = sink.into_inner();
     let written = writer.written();
     let is_front = body.starts_with(written) && std::str::from_utf8(written).is_ok();
-    let is_right = is_begun && is_front && is_right(ending, sizes.len(), body, written, left);
+    let is_right = is_front && is_right(ending, sizes.len(), body, written, left);
     assert!(rt; is_right, "{bytes:?} by {sizes:?}");
 }
 
@@ -172,20 +169,21 @@ fn by_small_buffers(rt: &impl Abort, text: &[u8]) {
     }
 }
 
+static TEXTS: [&[u8]; 9] = [
+    b"\x60",
+    b"\x61a",
+    b"\x63abc",
+    b"\x62\xc3\xa9",
+    b"\x64\xf0\x9f\x98\x80",
+    b"\x66a\xe2\x82\xacbc",
+    b"\x62a\xff",
+    b"\x63\xe2\x82a",
+    b"\x65\xff\xff\xff\xffa",
+];
+
 #[test]
 fn buffers_that_hold_no_character(rt: HostRuntime) {
-    let texts: [&[u8]; 9] = [
-        b"\x60",
-        b"\x61a",
-        b"\x63abc",
-        b"\x62\xc3\xa9",
-        b"\x64\xf0\x9f\x98\x80",
-        b"\x66a\xe2\x82\xacbc",
-        b"\x62a\xff",
-        b"\x63\xe2\x82a",
-        b"\x65\xff\xff\xff\xffa",
-    ];
-    for text in texts {
+    for text in &TEXTS {
         by_small_buffers(&rt, text);
         // With room for a character the end is seen.
         drains(&rt, text, &[4, 4, 4, 4, 4, 4]);

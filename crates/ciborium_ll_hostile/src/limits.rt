@@ -1,14 +1,13 @@
 use crate::calls::{
-    self, bytes_of, chunk_of_bytes, decoder_from, next_segment, pulls, recodes, segment_of,
+    self, all_hold, bytes_in, chunk_of_bytes, decoder_from, next_segment, recodes, segment_of,
 };
-use crate::copies::{Answer, copies_slice, is_fault};
+use crate::copies::{copies_slice, is_fault};
 use ciborium_ll::io::{Read, SliceReader, Write};
-use ciborium_ll::{Bytes, Decoder, Encoder, Error, Header, RecodeError, Segment, Segments};
+use ciborium_ll::{Bytes, Decoder, Encoder, Error, RecodeError, Segment, Segments};
 use ciborium_ll_fixtures::devices::EndlessReader;
 use ciborium_ll_fixtures::plain::Fault;
 use std::alloc::{AllocError, Global};
 use std::process::Abort;
-use std::test::Fail;
 
 // So many opens, and as many breaks.
 fn opens(alloc: Global, count: usize) -> Result<Vec<u8>, AllocError> {
@@ -26,24 +25,51 @@ fn has_left(decoder: Decoder<SliceReader<'_>>, bytes: &[u8]) -> bool {
     decoder.into_inner().left() == bytes
 }
 
-// Copies a string of 100,000 opens, and as many breaks.
-fn copies_opens(rt: &impl Abort, bytes: &[u8]) {
+// Copies an element through this buffer. It is to end by this fault, if one is told, at this offset, and with these
+// bytes written, two at most.
+fn copies(
+    rt: &impl Abort,
+    bytes: &[u8],
+    buffer: &mut [u8],
+    want: Option<Fault>,
+    offset: usize,
+    output: &[u8],
+) {
     let mut space = [0; 2];
     let mut decoder = calls::decoder(bytes);
     let mut encoder = calls::encoder(&mut space);
-    let answer = copies_slice(rt, &mut decoder, &mut encoder, &mut [0; 64]);
-    assert!(rt;
-        matches!(answer, Answer::Done) && encoder.into_inner().written() == [0x5f, 0xff].as_slice()
+    let is_answer = is_fault(copies_slice(rt, &mut decoder, &mut encoder, buffer), want);
+    let is_written = encoder.into_inner().written() == output;
+    let is_read = decoder.offset() == offset;
+    let rest = bytes.get(offset..).unwrap_or(&[]);
+    all_hold(
+        rt,
+        offset,
+        &[is_answer, is_written, is_read, has_left(decoder, rest)],
     );
-    assert!(rt; decoder.offset() == 200_000 && has_left(decoder, &[]));
 }
 
 // Opens within opens take no memory: they are counted.
 #[test]
-fn a_hundred_thousand_opens(rt: HostRuntime) -> Result<(), Fail> {
+fn a_hundred_thousand_opens(rt: HostRuntime) -> Result<(), AllocError> {
     let bytes = opens(rt.alloc(), 100_000)?;
-    copies_opens(&rt, bytes.as_slice());
+    copies(
+        &rt,
+        bytes.as_slice(),
+        &mut [0; 64],
+        None,
+        200_000,
+        &[0x5f, 0xff],
+    );
     Ok(())
+}
+
+// Where a damaged body is cut, a small buffer finds the damage, and a great one the end.
+#[test]
+fn a_damaged_body_that_is_cut(rt: HostRuntime) {
+    let bytes = b"\x66\xffabc";
+    copies(&rt, bytes, &mut [0; 64], Some(Fault::Short), 1, &[0x66]);
+    copies(&rt, bytes, &mut [0; 4], Some(Fault::Syntax(0)), 5, &[0x66]);
 }
 
 // Whether a pull of a chunk passes the greatest offset.
@@ -59,14 +85,18 @@ fn chunk_is_empty(segment: &mut Segment<'_, SliceReader<'_>, Bytes>) -> bool {
 #[test]
 fn a_body_that_passes_the_greatest_offset(rt: HostRuntime) {
     let mut decoder = decoder_from(SliceReader::new(&[0x41, 1]), usize::MAX - 1);
-    assert!(rt; matches!(pulls(&mut decoder), Ok(Header::Bytes(Some(1)))));
-    let mut segments = bytes_of(&rt, &mut decoder, Some(1));
+    let mut segments = bytes_in(&rt, &mut decoder, Some(1));
     let mut segment = next_segment(&rt, &mut segments);
-    for _ in 0..2 {
-        assert!(rt; chunk_is_too_long(&mut segment, &mut [0; 1]) && segment.left() == 1);
-    }
-    assert!(rt; chunk_is_empty(&mut segment) && segment.left() == 1);
-    assert!(rt; has_left(decoder, &[1]));
+    let steps = [
+        chunk_is_too_long(&mut segment, &mut [0; 1]),
+        segment.left() == 1,
+        chunk_is_too_long(&mut segment, &mut [0; 1]),
+        segment.left() == 1,
+        chunk_is_empty(&mut segment),
+        segment.left() == 1,
+        has_left(decoder, &[1]),
+    ];
+    all_hold(&rt, 1, &steps);
 }
 
 // Whether a copy of elements passes the greatest offset.
@@ -89,9 +119,12 @@ fn a_copy_that_passes_the_greatest_offset(rt: HostRuntime) {
     let mut space = [0; 4];
     let mut decoder = decoder_from(SliceReader::new(&[0x43]), usize::MAX - 1);
     let mut encoder = calls::encoder(&mut space);
-    assert!(rt; copy_is_too_long(&rt, &mut decoder, &mut encoder, 1));
-    assert!(rt;
-        encoder.into_inner().written() == [0x43].as_slice() && decoder.offset() == usize::MAX
+    let is_too_long = copy_is_too_long(&rt, &mut decoder, &mut encoder, 1);
+    let is_written = encoder.into_inner().written() == [0x43].as_slice();
+    all_hold(
+        &rt,
+        1,
+        &[is_too_long, is_written, decoder.offset() == usize::MAX],
     );
 }
 
@@ -108,12 +141,10 @@ fn has_come_to_an_end(mut decoder: Decoder<EndlessReader>) -> bool {
 #[test]
 fn opens_without_an_end(rt: HostRuntime) {
     let mut decoder = decoder_from(EndlessReader::new(0x5f), usize::MAX - 1000);
-    assert!(rt; matches!(pulls(&mut decoder), Ok(Header::Bytes(None))));
-    let mut segments = bytes_of(&rt, &mut decoder, None);
-    for _ in 0..2 {
-        assert!(rt; segment_is_too_long(&mut segments));
-    }
-    assert!(rt; has_come_to_an_end(decoder));
+    let mut segments = bytes_in(&rt, &mut decoder, None);
+    let first = segment_is_too_long(&mut segments);
+    let second = segment_is_too_long(&mut segments);
+    all_hold(&rt, 1000, &[first, second, has_come_to_an_end(decoder)]);
 }
 
 #[test]
@@ -121,25 +152,11 @@ fn numbers_without_an_end(rt: HostRuntime) {
     let mut space = [1; 2000];
     let mut decoder = decoder_from(EndlessReader::new(0), usize::MAX - 1000);
     let mut encoder = calls::encoder(&mut space);
-    assert!(rt; copy_is_too_long(&rt, &mut decoder, &mut encoder, usize::MAX));
-    assert!(rt; encoder.into_inner().written() == [0; 1000].as_slice());
-    assert!(rt; has_come_to_an_end(decoder));
-}
-
-// A copy of a damaged body that is cut stops through this buffer by this fault, at this offset.
-fn cut_body(rt: &impl Abort, buffer: &mut [u8], want: Fault, offset: usize) {
-    let mut space = [0; 8];
-    let mut decoder = calls::decoder(b"\x66\xffabc");
-    let mut encoder = calls::encoder(&mut space);
-    let answer = copies_slice(rt, &mut decoder, &mut encoder, buffer);
-    assert!(rt; is_fault(answer, Some(want)), "not {offset}");
-    let is_written = encoder.into_inner().written() == [0x66].as_slice();
-    assert!(rt; is_written && decoder.offset() == offset, "not {offset}");
-}
-
-// Where a damaged body is cut, a small buffer finds the damage, and a great one the end.
-#[test]
-fn a_damaged_body_that_is_cut(rt: HostRuntime) {
-    cut_body(&rt, &mut [0; 64], Fault::Short, 1);
-    cut_body(&rt, &mut [0; 4], Fault::Syntax(0), 5);
+    let is_too_long = copy_is_too_long(&rt, &mut decoder, &mut encoder, usize::MAX);
+    let is_written = encoder.into_inner().written() == [0; 1000].as_slice();
+    all_hold(
+        &rt,
+        1000,
+        &[is_too_long, is_written, has_come_to_an_end(decoder)],
+    );
 }

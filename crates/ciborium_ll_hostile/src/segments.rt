@@ -1,16 +1,18 @@
 use crate::calls::{
-    bytes_of, chunk_of_bytes, chunk_of_text, decoded, drains_bytes, drains_text, failing_decoder,
-    failing_encoder, holds, next_segment, pulls, segment_of, text_of,
+    MOST, bytes_of, chunk_of_bytes, chunk_of_text, decoded, drains_bytes, drains_text,
+    failing_decoder, failing_encoder, holds, is_pulled, is_refused, is_stop, next_segment,
+    reading_of, segment_of, text_of,
 };
 use ciborium_ll::laws::{self, End};
-use ciborium_ll::{Bytes, Decoder, Encoder, Error, Header, RecodeError, Segment, Segments, Text};
+use ciborium_ll::{
+    Bytes, Chunked, Decoder, Encoder, Error, Header, RecodeError, Segment, Segments, Text,
+};
 use ciborium_ll_fixtures::devices::{DeviceFault, Failing, FailingReader, FailingWriter};
 use ciborium_ll_fixtures::plain::Title;
 use ciborium_ll_fixtures::samples;
 use ciborium_ll_fixtures::tape::{Body, Drained, Sink, Stop, Tape, Walk};
-use std::alloc::Global;
+use std::alloc::{AllocError, Global};
 use std::process::Abort;
-use std::test::Fail;
 
 // How often the read that fails came under a pull of a title, of a string and of a segment, and the write that fails.
 #[derive(Clone, Copy, PartialEq, Eq)]
@@ -33,18 +35,20 @@ fn add_planned(count: &mut usize, stop: Stop) {
     *count = count.saturating_add(usize::from(stop == Stop::Planned));
 }
 
-// How bytes are read: each segment by buffers of two sizes in turn, chunk by chunk or by drains of two chunks, and on
-// behind the call that fails, or no further.
+// How bytes are read: each segment by two sizes in turn, and on behind the call that fails, or no further. A drain has
+// both sizes so many rounds, at most 4. Without rounds it is read chunk by chunk.
 #[derive(Clone, Copy)]
 struct Way {
     sizes: [usize; 2],
-    drains: bool,
+    rounds: usize,
     goes_on: bool,
 }
 
-// A read of bytes, beside a plain one.
+// A read of bytes in which a call of a number fails, beside a plain one.
 #[derive(Drop)]
 struct Run<'a> {
+    bytes: &'a [u8],
+    call: usize,
     way: Way,
     tape: Tape<'a>,
     sink: Sink,
@@ -56,31 +60,42 @@ impl Run<'_> {
     fn stops(&self, errors: usize) -> bool {
         errors > 1 || !self.way.goes_on && (self.tape.has_failed() || self.sink.has_failed())
     }
+
+    // Whether a string or a segment is read no further behind this step. It counts errors.
+    fn ends(&self, step: Step, errors: &mut usize) -> bool {
+        *errors = errors.saturating_add(usize::from(matches!(step, Step::Failed)));
+        matches!(step, Step::Ended) || self.stops(*errors)
+    }
 }
 
-// An error is the one that is wanted.
-fn is_stop(error: &Error<DeviceFault>, want: Stop) -> bool {
-    match error {
-        Error::Syntax(place) => want == Stop::Syntax(*place),
-        Error::Io(DeviceFault::Planned) => want == Stop::Planned,
-        Error::Io(DeviceFault::Short) => want == Stop::Short,
-        Error::TooLong | Error::Waiting => false,
-    }
+// A call answered what is due. The message says which one, and of which run.
+fn agrees(rt: &impl Abort, run: &Run<'_>, is_right: bool, what: &str) {
+    assert!(rt;
+        is_right,
+        "another {what} at {} of {:?}, by {:?} in {} rounds",
+        run.call, run.bytes, run.way.sizes, run.way.rounds
+    );
+}
+
+// How a call went on.
+#[derive(Clone, Copy)]
+enum Step {
+    Done,
+    Ended,
+    Failed,
 }
 
 type Chunk<'a> = Result<Option<&'a [u8]>, Error<DeviceFault>>;
 
-// A chunk is the one that is wanted.
-fn is_chunk(chunk: &Chunk<'_>, want: Option<&[u8]>) -> bool {
-    match want {
-        Some(bytes) => matches!(chunk, Ok(Some(chunk)) if *chunk == bytes),
-        None => matches!(chunk, Ok(None)),
-    }
-}
+// What a plain reading says of a chunk.
+pub type Due<'a> = Result<Option<&'a [u8]>, Stop>;
 
-// No chunk is there, for this reason.
-fn is_no_chunk(chunk: &Chunk<'_>, want: Stop) -> bool {
-    matches!(chunk, Err(error) if is_stop(error, want))
+// A chunk is the one that is due, or there is none for the reason that is due.
+fn is_due(chunk: &Chunk<'_>, due: &Due<'_>) -> bool {
+    match chunk {
+        Ok(bytes) => matches!(due, Ok(want) if want == bytes),
+        Err(error) => matches!(due, Err(stop) if is_stop(error, *stop)),
+    }
 }
 
 type Drain = Result<laws::Drained, RecodeError<DeviceFault, DeviceFault>>;
@@ -97,291 +112,224 @@ fn is_drained(drain: &Drain, want: Drained) -> bool {
     }
 }
 
-// A segment of either kind, by its `left`, its `pull` and its drain. No size is above 64.
-trait Chunks {
-    fn due(&self) -> usize;
+// What is done with a segment of either kind: its `pull` and its drain. The buffer has room for each size.
+pub trait Kind: Chunked {
+    fn pulls<'a>(
+        segment: &mut Segment<'_, FailingReader<'_>, Self>,
+        buffer: &'a mut [u8],
+    ) -> Chunk<'a>;
 
-    fn chunk<'a>(&mut self, buffer: &'a mut [u8]) -> Chunk<'a>;
-
-    fn drain<A: Abort>(
-        &mut self,
+    fn drains<A: Abort>(
         rt: &A,
-        sizes: [usize; 2],
+        segment: &mut Segment<'_, FailingReader<'_>, Self>,
+        sizes: &[usize],
+        buffer: &mut [u8],
         sink: &mut Encoder<FailingWriter<'_>>,
     ) -> Drain;
 }
 
-impl Chunks for Segment<'_, FailingReader<'_>, Bytes> {
-    fn due(&self) -> usize {
-        self.left()
+impl Kind for Bytes {
+    fn pulls<'a>(
+        segment: &mut Segment<'_, FailingReader<'_>, Bytes>,
+        buffer: &'a mut [u8],
+    ) -> Chunk<'a> {
+        chunk_of_bytes(segment, buffer)
     }
 
-    fn chunk<'a>(&mut self, buffer: &'a mut [u8]) -> Chunk<'a> {
-        chunk_of_bytes(self, buffer)
-    }
-
-    fn drain<A: Abort>(
-        &mut self,
+    fn drains<A: Abort>(
         rt: &A,
-        sizes: [usize; 2],
+        segment: &mut Segment<'_, FailingReader<'_>, Bytes>,
+        sizes: &[usize],
+        buffer: &mut [u8],
         sink: &mut Encoder<FailingWriter<'_>>,
     ) -> Drain {
-        drains_bytes(rt, self, &sizes, &mut [0; 64], sink)
+        drains_bytes(rt, segment, sizes, buffer, sink)
     }
 }
 
-impl Chunks for Segment<'_, FailingReader<'_>, Text> {
-    fn due(&self) -> usize {
-        self.left()
-    }
-
-    fn chunk<'a>(&mut self, buffer: &'a mut [u8]) -> Chunk<'a> {
-        match chunk_of_text(self, buffer) {
+impl Kind for Text {
+    fn pulls<'a>(
+        segment: &mut Segment<'_, FailingReader<'_>, Text>,
+        buffer: &'a mut [u8],
+    ) -> Chunk<'a> {
+        match chunk_of_text(segment, buffer) {
             Ok(Some(text)) => Ok(Some(text.as_bytes())),
             Ok(None) => Ok(None),
             Err(error) => Err(error),
         }
     }
 
-    fn drain<A: Abort>(
-        &mut self,
+    fn drains<A: Abort>(
         rt: &A,
-        sizes: [usize; 2],
+        segment: &mut Segment<'_, FailingReader<'_>, Text>,
+        sizes: &[usize],
+        buffer: &mut [u8],
         sink: &mut Encoder<FailingWriter<'_>>,
     ) -> Drain {
-        drains_text(rt, self, &sizes, &mut [0; 64], sink)
+        drains_text(rt, segment, sizes, buffer, sink)
     }
 }
 
-// How a call went on.
-#[derive(Clone, Copy)]
-enum Step {
-    Done,
-    Ended,
-    Stopped(Stop),
+// Whether a pull of a chunk gives what is due.
+pub fn gives<K: Kind>(
+    segment: &mut Segment<'_, FailingReader<'_>, K>,
+    buffer: &mut [u8],
+    due: &Due<'_>,
+) -> bool {
+    is_due(&K::pulls(segment, buffer), due)
 }
 
-// What a plain reading says of a chunk.
-type Due<'a> = Result<Option<&'a [u8]>, Stop>;
-
-// A chunk is the one that is due, or there is none for the reason that is due.
-fn is_due(chunk: &Chunk<'_>, due: &Due<'_>) -> bool {
-    match due {
-        Ok(bytes) => is_chunk(chunk, *bytes),
-        Err(stop) => is_no_chunk(chunk, *stop),
-    }
-}
-
-// How a call goes on behind what is due.
-fn step_of(due: &Due<'_>) -> Step {
+// Reads a chunk by the first bytes of a space, so many, in which older chunks stand.
+fn reads_chunk<K: Kind>(
+    rt: &impl Abort,
+    segment: &mut Segment<'_, FailingReader<'_>, K>,
+    body: &mut Body,
+    run: &mut Run<'_>,
+    space: &mut [u8; 64],
+    size: usize,
+) -> Step {
+    let buffer = &mut space[..size.min(64)];
+    let due = body.pull(&mut run.tape, buffer.len());
+    let is_right = gives(segment, buffer, &due);
+    agrees(rt, run, is_right && segment.left() == body.left(), "chunk");
     match due {
         Ok(Some(_)) => Step::Done,
         Ok(None) => Step::Ended,
-        Err(stop) => Step::Stopped(*stop),
+        Err(stop) => {
+            add_planned(&mut run.seen.segments, stop);
+            Step::Failed
+        }
     }
 }
 
-// Reads a chunk, and tells what was due.
-fn reads_chunk<S: Chunks>(
+// What a drain of a plain reading gives, round by round.
+fn due_drain(rt: &impl Abort, body: &mut Body, run: &mut Run<'_>) -> Drained {
+    for _ in 0..run.way.rounds {
+        match body.drain(&mut run.tape, run.way.sizes, &mut run.sink) {
+            Ok(Drained::OutOfSizes) => {}
+            Ok(drained) => return drained,
+            Err(_) => panic!(rt; "no memory"),
+        }
+    }
+    Drained::OutOfSizes
+}
+
+// Drains a segment through a buffer of 4 bytes where all sizes are at most that, and of 64 where one is greater.
+fn drained<K: Kind>(
     rt: &impl Abort,
-    segment: &mut S,
+    segment: &mut Segment<'_, FailingReader<'_>, K>,
+    way: Way,
+    writer: &mut Encoder<FailingWriter<'_>>,
+) -> Drain {
+    let [one, two] = way.sizes;
+    let sizes = [one, two, one, two, one, two, one, two];
+    let count = way.rounds.min(4) * 2;
+    let room = if one.max(two) <= 4 { 4 } else { 64 };
+    let mut space = [0; 64];
+    K::drains(rt, segment, &sizes[..count], &mut space[..room], writer)
+}
+
+// Drains chunks.
+fn drains_chunks<K: Kind>(
+    rt: &impl Abort,
+    segment: &mut Segment<'_, FailingReader<'_>, K>,
     body: &mut Body,
-    tape: &mut Tape<'_>,
-    buffer: &mut [u8],
+    run: &mut Run<'_>,
+    writer: &mut Encoder<FailingWriter<'_>>,
 ) -> Step {
-    let due = body.pull(tape, buffer.len());
-    let is_right = is_due(&segment.chunk(buffer), &due);
-    assert!(rt; is_right && segment.due() == body.left(), "another chunk");
-    step_of(&due)
-}
-
-// Counts where the read that fails came, and tells whether this step is an error.
-fn counts(count: &mut usize, step: Step) -> bool {
-    match step {
-        Step::Stopped(stop) => {
-            add_planned(count, stop);
-            true
-        }
-        Step::Done | Step::Ended => false,
-    }
-}
-
-// Reads a segment to its end, or to its second error.
-fn reads_chunks<S: Chunks>(rt: &impl Abort, segment: &mut S, mut body: Body, run: &mut Run<'_>) {
-    let mut buffer = [0; 64];
-    let mut errors = 0usize;
-    for call in 0..256usize {
-        let size = run.way.sizes[call % 2].min(64);
-        let step = reads_chunk(rt, segment, &mut body, &mut run.tape, &mut buffer[..size]);
-        errors = errors.saturating_add(usize::from(counts(&mut run.seen.segments, step)));
-        if matches!(step, Step::Ended) || run.stops(errors) {
-            break;
-        }
-    }
-}
-
-// Counts where the call that fails came, and tells whether this drain met an error.
-fn counts_drain(seen: &mut Seen, want: Drained) -> bool {
+    let want = due_drain(rt, body, run);
+    let is_right = is_drained(&drained(rt, segment, run.way, writer), want);
+    agrees(rt, run, is_right && segment.left() == body.left(), "drain");
     match want {
-        Drained::Ended | Drained::OutOfSizes => return false,
-        Drained::Unread(stop) => add_planned(&mut seen.segments, stop),
-        Drained::Unwritten => seen.writes = seen.writes.saturating_add(1),
+        Drained::Ended => Step::Ended,
+        Drained::OutOfSizes => Step::Done,
+        Drained::Unread(stop) => {
+            add_planned(&mut run.seen.segments, stop);
+            Step::Failed
+        }
+        Drained::Unwritten => {
+            run.seen.writes = run.seen.writes.saturating_add(1);
+            Step::Failed
+        }
     }
-    true
 }
 
-// Drains a segment to its end, or to its second error.
-fn drains_chunks<S: Chunks>(
+// Reads a segment in the way of the run, to its end, or to its second error.
+fn reads_segment<K: Kind>(
     rt: &impl Abort,
-    segment: &mut S,
+    segment: &mut Segment<'_, FailingReader<'_>, K>,
     mut body: Body,
     run: &mut Run<'_>,
     writer: &mut Encoder<FailingWriter<'_>>,
-) -> Result<(), Fail> {
+) {
+    let mut space = [0; 64];
     let mut errors = 0usize;
     for call in 0..256usize {
-        let want = body.drain(&mut run.tape, run.way.sizes, &mut run.sink)?;
-        let is_right = is_drained(&segment.drain(rt, run.way.sizes, writer), want);
-        let is_left = segment.due() == body.left();
-        assert!(rt; is_right && is_left, "another answer of drain {call}");
-        errors = errors.saturating_add(usize::from(counts_drain(&mut run.seen, want)));
-        if want == Drained::Ended || run.stops(errors) {
+        let size = run.way.sizes[call % 2];
+        let step = if run.way.rounds > 0 {
+            drains_chunks(rt, segment, &mut body, run, writer)
+        } else {
+            reads_chunk(rt, segment, &mut body, run, &mut space, size)
+        };
+        if run.ends(step, &mut errors) {
             break;
         }
     }
-    Ok(())
 }
 
-// Reads a segment in the way of the run.
-fn reads_segment<S: Chunks>(
+// Whether a string has ended.
+fn has_ended<K: Kind>(segments: &mut Segments<'_, FailingReader<'_>, K>) -> bool {
+    matches!(segment_of(segments), Ok(None))
+}
+
+// Whether a pull of a segment fails as is wanted.
+pub fn segment_fails<K: Kind>(
+    segments: &mut Segments<'_, FailingReader<'_>, K>,
+    want: Stop,
+) -> bool {
+    matches!(segment_of(segments), Err(error) if is_stop(&error, want))
+}
+
+// Reads the next segment of a string.
+fn reads_next<K: Kind>(
     rt: &impl Abort,
-    segment: &mut S,
-    body: Body,
-    run: &mut Run<'_>,
-    writer: &mut Encoder<FailingWriter<'_>>,
-) -> Result<(), Fail> {
-    if run.way.drains {
-        return drains_chunks(rt, segment, body, run, writer);
-    }
-    reads_chunks(rt, segment, body, run);
-    Ok(())
-}
-
-// The segments of a string of either kind.
-trait Strings {
-    // The next segment is there, and is read.
-    fn reads_next<A: Abort>(
-        &mut self,
-        rt: &A,
-        body: Body,
-        run: &mut Run<'_>,
-        writer: &mut Encoder<FailingWriter<'_>>,
-    ) -> Result<Step, Fail>;
-
-    // Whether the string has ended.
-    fn ends(&mut self) -> bool;
-
-    // Whether a pull fails as is wanted.
-    fn fails(&mut self, want: Stop) -> bool;
-}
-
-impl Strings for Segments<'_, FailingReader<'_>, Bytes> {
-    fn reads_next<A: Abort>(
-        &mut self,
-        rt: &A,
-        body: Body,
-        run: &mut Run<'_>,
-        writer: &mut Encoder<FailingWriter<'_>>,
-    ) -> Result<Step, Fail> {
-        let mut segment = next_segment(rt, self);
-        reads_segment(rt, &mut segment, body, run, writer)?;
-        Ok(Step::Done)
-    }
-
-    fn ends(&mut self) -> bool {
-        matches!(segment_of(self), Ok(None))
-    }
-
-    fn fails(&mut self, want: Stop) -> bool {
-        matches!(segment_of(self), Err(error) if is_stop(&error, want))
-    }
-}
-
-impl Strings for Segments<'_, FailingReader<'_>, Text> {
-    fn reads_next<A: Abort>(
-        &mut self,
-        rt: &A,
-        body: Body,
-        run: &mut Run<'_>,
-        writer: &mut Encoder<FailingWriter<'_>>,
-    ) -> Result<Step, Fail> {
-        let mut segment = next_segment(rt, self);
-        reads_segment(rt, &mut segment, body, run, writer)?;
-        Ok(Step::Done)
-    }
-
-    fn ends(&mut self) -> bool {
-        matches!(segment_of(self), Ok(None))
-    }
-
-    fn fails(&mut self, want: Stop) -> bool {
-        matches!(segment_of(self), Err(error) if is_stop(&error, want))
-    }
-}
-
-// Reads the next segment, and tells what was due.
-fn reads_next<S: Strings>(
-    rt: &impl Abort,
-    segments: &mut S,
+    segments: &mut Segments<'_, FailingReader<'_>, K>,
     walk: &mut Walk,
     run: &mut Run<'_>,
     writer: &mut Encoder<FailingWriter<'_>>,
-) -> Result<Step, Fail> {
+) -> Step {
     match walk.next(&mut run.tape) {
-        Ok(Some(body)) => segments.reads_next(rt, body, run, writer),
+        Ok(Some(body)) => {
+            reads_segment(rt, &mut next_segment(rt, segments), body, run, writer);
+            Step::Done
+        }
         Ok(None) => {
-            assert!(rt; segments.ends(), "no end of a string");
-            Ok(Step::Ended)
+            agrees(rt, run, has_ended(segments), "end of a string");
+            Step::Ended
         }
         Err(stop) => {
-            assert!(rt; segments.fails(stop), "another end of a string");
-            Ok(Step::Stopped(stop))
+            agrees(rt, run, segment_fails(segments, stop), "fault of a string");
+            add_planned(&mut run.seen.strings, stop);
+            Step::Failed
         }
     }
 }
 
-// Reads a string to its end, or to its second error.
-fn reads_string<S: Strings>(
+// Reads the string that a title begins, to its end, or to its second error.
+fn reads_string<K: Kind>(
     rt: &impl Abort,
-    segments: &mut S,
-    mut walk: Walk,
+    segments: &mut Segments<'_, FailingReader<'_>, K>,
+    title: Title,
     run: &mut Run<'_>,
     writer: &mut Encoder<FailingWriter<'_>>,
-) -> Result<(), Fail> {
+) {
+    let mut walk = Walk::new(title);
     let mut errors = 0usize;
     for _ in 0..256usize {
-        let step = reads_next(rt, segments, &mut walk, run, writer)?;
-        errors = errors.saturating_add(usize::from(counts(&mut run.seen.strings, step)));
-        if matches!(step, Step::Ended) || run.stops(errors) {
+        let step = reads_next(rt, segments, &mut walk, run, writer);
+        if run.ends(step, &mut errors) {
             break;
         }
-    }
-    Ok(())
-}
-
-// Whether a pull gives this title.
-fn is_pulled(decoder: &mut Decoder<FailingReader<'_>>, want: Header) -> bool {
-    match pulls(decoder) {
-        Ok(header) => header == want,
-        Err(_) => false,
-    }
-}
-
-// Whether a pull of a title fails as is wanted.
-fn is_refused(decoder: &mut Decoder<FailingReader<'_>>, want: Stop) -> bool {
-    match pulls(decoder) {
-        Ok(_) => false,
-        Err(error) => is_stop(&error, want),
     }
 }
 
@@ -392,24 +340,15 @@ fn reads_body(
     title: Title,
     run: &mut Run<'_>,
     writer: &mut Encoder<FailingWriter<'_>>,
-) -> Result<(), Fail> {
-    let walk = Walk::new(title);
+) {
     match title.header() {
-        Header::Text(length) => reads_string(
-            rt,
-            &mut text_of(rt, decoder, length),
-            walk,
-            run,
-            writer,
-        ),
-        Header::Bytes(length) => reads_string(
-            rt,
-            &mut bytes_of(rt, decoder, length),
-            walk,
-            run,
-            writer,
-        ),
-        _ => Ok(()),
+        Header::Text(length) => {
+            reads_string(rt, &mut text_of(rt, decoder, length), title, run, writer);
+        }
+        Header::Bytes(length) => {
+            reads_string(rt, &mut bytes_of(rt, decoder, length), title, run, writer);
+        }
+        _ => {}
     }
 }
 
@@ -419,17 +358,17 @@ fn reads_element(
     decoder: &mut Decoder<FailingReader<'_>>,
     run: &mut Run<'_>,
     writer: &mut Encoder<FailingWriter<'_>>,
-) -> Result<bool, Fail> {
+) -> bool {
     match run.tape.title() {
         Ok(title) => {
-            assert!(rt; is_pulled(decoder, title.header()), "another title");
-            reads_body(rt, decoder, title, run, writer)?;
-            Ok(false)
+            agrees(rt, run, is_pulled(decoder, title.header()), "title");
+            reads_body(rt, decoder, title, run, writer);
+            false
         }
         Err(stop) => {
-            assert!(rt; is_refused(decoder, stop), "another end of a title");
+            agrees(rt, run, is_refused(decoder, stop), "fault of a title");
             add_planned(&mut run.seen.titles, stop);
-            Ok(stop == Stop::Short)
+            stop == Stop::Short
         }
     }
 }
@@ -440,55 +379,53 @@ fn reads_elements(
     decoder: &mut Decoder<FailingReader<'_>>,
     run: &mut Run<'_>,
     writer: &mut Encoder<FailingWriter<'_>>,
-    bytes: &[u8],
-    call: usize,
-) -> Result<(), Fail> {
+) {
     for _ in 0..256usize {
-        let is_short = reads_element(rt, decoder, run, writer)?;
-        holds(rt, decoder.offset() == run.tape.offset(), call, bytes);
+        let is_short = reads_element(rt, decoder, run, writer);
+        agrees(rt, run, decoder.offset() == run.tape.offset(), "offset");
         if run.stops(0) || is_short && run.tape.has_ended() {
             break;
         }
     }
-    Ok(())
+}
+
+// Behind a run the bytes that are left are all that were not read, those that were written are due, and a call was seen
+// to fail just where one did.
+fn is_end(reading: (usize, usize, bool), writer: &FailingWriter<'_>, run: &Run<'_>) -> bool {
+    let (offset, left, has_read_failed) = reading;
+    let has_failed = has_read_failed || writer.has_failed();
+    offset.saturating_add(left) == run.bytes.len()
+        && writer.written() == run.sink.taken()
+        && has_failed == (run.seen != NOWHERE)
 }
 
 // Reads bytes by a reader that fails at one call, and a writer that fails at one. Each answer is that of a plain
 // reading, and so are the offset, the bytes that are left and those that were written. It tells how often those calls
 // came, and where.
-fn reads(
-    rt: &impl Abort,
-    alloc: Global,
-    bytes: &[u8],
-    failing: [usize; 2],
-    way: Way,
-) -> Result<Seen, Fail> {
+fn reads(rt: &impl Abort, alloc: Global, bytes: &[u8], failing: [usize; 2], way: Way) -> Seen {
     let [read, write] = failing;
-    let call = read.min(write);
     let mut space = [0; 64];
     let mut decoder = failing_decoder(bytes, Failing::Call(read));
     let mut encoder = failing_encoder(&mut space, Failing::Call(write));
     let mut run = Run {
+        bytes,
+        call: read.min(write),
         way,
         tape: Tape::new(bytes, read),
         sink: Sink::new(alloc, write),
         seen: NOWHERE,
     };
-    reads_elements(rt, &mut decoder, &mut run, &mut encoder, bytes, call)?;
-    let offset = decoder.offset();
-    let reader = decoder.into_inner();
-    let writer = encoder.into_inner();
-    let is_left = offset.saturating_add(reader.left().len()) == bytes.len();
-    let is_written = writer.written() == run.sink.taken();
-    let has_failed = reader.has_failed() || writer.has_failed();
-    let is_seen = has_failed == (run.seen != NOWHERE);
-    holds(rt, is_left && is_written && is_seen, call, bytes);
-    Ok(run.seen)
+    reads_elements(rt, &mut decoder, &mut run, &mut encoder);
+    let is_right = is_end(reading_of(decoder), &encoder.into_inner(), &run);
+    agrees(rt, &run, is_right, "end");
+    run.seen
 }
 
 const NEVER: usize = usize::MAX;
 
 const SIZES: [[usize; 2]; 6] = [[1, 4], [2, 5], [3, 4], [4, 4], [7, 7], [64, 64]];
+
+const ROUNDS: [usize; 3] = [0, 1, 4];
 
 // Adds up where calls failed.
 fn add_seen(all: &mut Seen, seen: Seen) {
@@ -499,31 +436,19 @@ fn add_seen(all: &mut Seen, seen: Seen) {
 }
 
 // Reads bytes with one call failing, on behind it and no further: both see the same.
-fn both_ways(
-    rt: &impl Abort,
-    alloc: Global,
-    bytes: &[u8],
-    failing: [usize; 2],
-    way: Way,
-) -> Result<Seen, Fail> {
+fn both_ways(rt: &impl Abort, alloc: Global, bytes: &[u8], failing: [usize; 2], way: Way) -> Seen {
     let stops = Way {
         goes_on: false,
         ..way
     };
-    let seen = reads(rt, alloc, bytes, failing, way)?;
-    let is_same = reads(rt, alloc, bytes, failing, stops)? == seen;
+    let seen = reads(rt, alloc, bytes, failing, way);
+    let is_same = reads(rt, alloc, bytes, failing, stops) == seen;
     holds(rt, is_same, failing[0].min(failing[1]), bytes);
-    Ok(seen)
+    seen
 }
 
 // Reads bytes with each call failing in turn, until none does, and adds up where they failed.
-fn each_fails(
-    rt: &impl Abort,
-    alloc: Global,
-    bytes: &[u8],
-    are_writes: bool,
-    way: Way,
-) -> Result<Seen, Fail> {
+fn each_fails(rt: &impl Abort, alloc: Global, bytes: &[u8], are_writes: bool, way: Way) -> Seen {
     let mut all = NOWHERE;
     for call in 1..256usize {
         let failing = if are_writes {
@@ -531,63 +456,79 @@ fn each_fails(
         } else {
             [call, NEVER]
         };
-        let seen = both_ways(rt, alloc, bytes, failing, way)?;
+        let seen = both_ways(rt, alloc, bytes, failing, way);
         if seen == NOWHERE {
-            return Ok(all);
+            return all;
         }
         add_seen(&mut all, seen);
     }
     panic!(rt; "the calls of {bytes:?} have no end")
 }
 
-// Each call fails in turn over a sample, by buffers of all sizes.
-fn each_fails_in_sample(
-    rt: &impl Abort,
-    alloc: Global,
-    drains: bool,
-    hex: &str,
-) -> Result<(), Fail> {
-    let bytes = decoded(alloc, hex)?;
+// Each call fails in turn over bytes, by buffers of all sizes.
+fn each_fails_by_sizes(rt: &impl Abort, alloc: Global, rounds: usize, bytes: &[u8]) {
     for sizes in SIZES {
         let way = Way {
             sizes,
-            drains,
+            rounds,
             goes_on: true,
         };
-        each_fails(rt, alloc, bytes.as_slice(), false, way)?;
-        each_fails(rt, alloc, bytes.as_slice(), true, way)?;
+        let _ = each_fails(rt, alloc, bytes, false, way);
+        let _ = each_fails(rt, alloc, bytes, true, way);
     }
-    Ok(())
 }
 
-// Each call fails in turn over all samples.
-fn each_fails_in_samples(rt: &impl Abort, alloc: Global, drains: bool) -> Result<(), Fail> {
-    let all = samples::all(alloc)?;
+// The same over a sample, chunk by chunk and by drains of two chunks and of eight.
+fn each_fails_in_sample(rt: &impl Abort, alloc: Global, hex: &str) {
+    let mut space = [0; MOST];
+    let bytes = decoded(rt, hex, &mut space);
+    for rounds in ROUNDS {
+        each_fails_by_sizes(rt, alloc, rounds, bytes);
+    }
+}
+
+#[test]
+fn each_call_fails_under_strings(rt: HostRuntime) -> Result<(), AllocError> {
+    let all = samples::all(rt.alloc())?;
     for &(_, hex) in &all {
-        each_fails_in_sample(rt, alloc, drains, hex)?;
+        each_fails_in_sample(&rt, rt.alloc(), hex);
     }
     Ok(())
 }
 
-#[test]
-fn each_read_fails_under_strings(rt: HostRuntime) -> Result<(), Fail> {
-    each_fails_in_samples(&rt, rt.alloc(), false)
-}
+// Bytes, two sizes of buffers, and how many reads there are under a pull of a title, the one at the end included, of a
+// string and of a segment, and how many writes of a drain.
+static ROWS: [(&[u8], [usize; 2], [usize; 4]); 12] = [
+    (b"\x40", [4, 4], [2, 0, 0, 0]),
+    (b"\x42\x01\x02", [4, 4], [2, 0, 1, 1]),
+    (b"\x43\x01\x02\x03", [4, 4], [2, 0, 1, 1]),
+    (b"\x5f\x5f\x58\x01\x01\xff\xff", [4, 4], [2, 5, 1, 1]),
+    (b"\x60", [4, 4], [2, 0, 0, 0]),
+    (b"\x62\xc3\xa9", [4, 4], [2, 0, 1, 1]),
+    (b"\x64\xf0\x9f\x98\x80", [4, 4], [2, 0, 1, 1]),
+    (b"\x6dHello, World!", [4, 4], [2, 0, 4, 4]),
+    (
+        b"\x7f\x62\xc3\xa9\x64\xf0\x9f\x98\x80\xff",
+        [4, 4],
+        [2, 3, 2, 2],
+    ),
+    (
+        b"\x7f\x62\xc3\xa9\x64\xf0\x9f\x98\x80\xff",
+        [1, 4],
+        [2, 3, 4, 2],
+    ),
+    (b"\x78\x0dHello, World!", [7, 7], [3, 0, 2, 2]),
+    (b"\x60\x40\xff", [7, 7], [4, 0, 0, 0]),
+];
 
-#[test]
-fn each_call_fails_under_drains_of_segments(rt: HostRuntime) -> Result<(), Fail> {
-    each_fails_in_samples(&rt, rt.alloc(), true)
-}
-
-// Over some bytes the call that fails comes so often under a pull of a title, of a string and of a segment, and under a
-// write.
+// Whether the call that fails comes so often over some bytes.
 fn fails_so_often(
     rt: &impl Abort,
     alloc: Global,
     bytes: &[u8],
     way: Way,
     counts: [usize; 4],
-) -> Result<(), Fail> {
+) -> bool {
     let [titles, strings, segments, writes] = counts;
     let reads = Seen {
         titles,
@@ -595,37 +536,28 @@ fn fails_so_often(
         segments,
         writes: 0,
     };
-    let seen = each_fails(rt, alloc, bytes, false, way)?;
-    assert!(rt; seen == reads, "the reads of {bytes:?}");
-    let writes = if way.drains { writes } else { 0 };
-    let want = Seen { writes, ..NOWHERE };
-    let seen = each_fails(rt, alloc, bytes, true, way)?;
-    assert!(rt; seen == want, "the writes of {bytes:?}");
-    Ok(())
+    let writes = Seen {
+        writes: if way.rounds > 0 { writes } else { 0 },
+        ..NOWHERE
+    };
+    let are_reads = each_fails(rt, alloc, bytes, false, way) == reads;
+    are_reads && each_fails(rt, alloc, bytes, true, way) == writes
 }
 
-// How many reads there are under a pull of a title, the one at the end included, of a string and of a segment, and how
-// many writes of a drain.
 #[test]
-fn the_calls_of_strings(rt: HostRuntime) -> Result<(), Fail> {
-    let text = b"\x7f\x62\xc3\xa9\x64\xf0\x9f\x98\x80\xff".as_slice();
-    let rows: [(&[u8], [usize; 2], [usize; 4]); 6] = [
-        (b"\x42\x01\x02", [4, 4], [2, 0, 1, 1]),
-        (b"\x5f\x5f\x58\x01\x01\xff\xff", [4, 4], [2, 5, 1, 1]),
-        (text, [4, 4], [2, 3, 2, 2]),
-        (text, [1, 4], [2, 3, 4, 2]),
-        (b"\x78\x0dHello, World!", [7, 7], [3, 0, 2, 2]),
-        (b"\x60\x40\xff", [7, 7], [4, 0, 0, 0]),
-    ];
-    for (bytes, sizes, counts) in rows {
-        for drains in [false, true] {
+fn the_calls_of_strings(rt: HostRuntime) {
+    for &(bytes, sizes, counts) in &ROWS {
+        for rounds in ROUNDS {
             let way = Way {
                 sizes,
-                drains,
+                rounds,
                 goes_on: true,
             };
-            fails_so_often(&rt, rt.alloc(), bytes, way, counts)?;
+            let is_right = fails_so_often(&rt, rt.alloc(), bytes, way, counts);
+            assert!(&rt;
+                is_right,
+                "other calls of {bytes:?}, by {sizes:?} in {rounds} rounds"
+            );
         }
     }
-    Ok(())
 }

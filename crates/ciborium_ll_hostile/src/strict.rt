@@ -1,39 +1,18 @@
 // A strict decoder that goes on behind a failure is strict as before.
 
 use crate::calls::{
-    bytes_of, chunk_of_bytes, failing_decoder_as, failing_encoder, next_segment, pull_fails, pulls,
+    all_hold, bytes_in, failing_decoder_as, holds, is_pulled, is_refused, is_stop, next_segment,
 };
-use crate::copies::{Answer, copies_elements};
+use crate::copies::{Kind, Side, Task, fails_and_stops};
+use crate::segments::gives;
 use ciborium_ll::io::Read;
-use ciborium_ll::{Body, Bytes, Decoder, Error, Header, Segment, Segments};
+use ciborium_ll::{Body, Bytes, Decoder, Error, Header, Segments};
 use ciborium_ll_fixtures::devices::{DeviceFault, Failing, FailingReader};
+use ciborium_ll_fixtures::tape::Stop;
 use std::process::Abort;
-
-// What a strict decoder refuses, but for the open at 2: a longer title, and at 3 an open inside another one.
-const REFUSED: [u8; 4] = [0x18, 5, 0x5f, 0x5f];
 
 // Bytes, the number of a call that fails, and the place of a title that a strict decoder refuses behind that.
 type Row = (&'static [u8], usize, usize);
-
-// A strict decoder whose reader fails at a call.
-fn strict_decoder(bytes: &[u8], call: usize) -> Decoder<FailingReader<'_>> {
-    failing_decoder_as(true, bytes, Failing::Call(call))
-}
-
-// Whether a title is refused at this place.
-fn is_refused(decoder: &mut Decoder<FailingReader<'_>>, place: usize) -> bool {
-    matches!(pulls(decoder), Err(Error::Syntax(at)) if at == place)
-}
-
-// How `advance` ended.
-#[derive(Clone, Copy, PartialEq, Eq)]
-enum Advance {
-    Body(usize),
-    Ended,
-    Syntax(usize),
-    Unread,
-    Other,
-}
 
 // The next body of a string.
 fn next_body<R: Read>(
@@ -42,33 +21,27 @@ fn next_body<R: Read>(
     segments.advance()
 }
 
-// The next body of a string, or why there is none.
-fn advances(segments: &mut Segments<'_, FailingReader<'_>, Bytes>) -> Advance {
+// Whether there is none, for this reason.
+fn advance_fails(segments: &mut Segments<'_, FailingReader<'_>, Bytes>, want: Stop) -> bool {
     match next_body(segments) {
-        Ok(Some(body)) => Advance::Body(body.length),
-        Ok(None) => Advance::Ended,
-        Err(Error::Syntax(place)) => Advance::Syntax(place),
-        Err(Error::Io(DeviceFault::Planned)) => Advance::Unread,
-        Err(_) => Advance::Other,
+        Ok(_) => false,
+        Err(error) => is_stop(&error, want),
     }
 }
 
 // Whether a title is refused at this place, and once more.
 fn refuses_twice(segments: &mut Segments<'_, FailingReader<'_>, Bytes>, place: usize) -> bool {
-    let want = Advance::Syntax(place);
-    advances(segments) == want && advances(segments) == want
+    let want = Stop::Syntax(place);
+    advance_fails(segments, want) && advance_fails(segments, want)
 }
 
-// A decoder in front of the bytes `REFUSED`, which begin at this place, refuses what it has to.
+// A decoder in front of the bytes 18 05 5f 5f, which begin at this place, refuses a longer title, and behind it, but
+// for the open at 2, an open inside another one.
 fn refuses(rt: &impl Abort, decoder: &mut Decoder<FailingReader<'_>>, place: usize) {
-    assert!(rt; is_refused(decoder, place), "a longer title at {place}");
-    assert!(rt;
-        matches!(pulls(decoder), Ok(Header::Bytes(None))),
-        "at {place}"
-    );
-    let mut segments = bytes_of(rt, decoder, None);
-    let nested = place.saturating_add(3);
-    assert!(rt; refuses_twice(&mut segments, nested), "an open at {place}");
+    let is_longer = is_refused(decoder, Stop::Syntax(place));
+    let mut segments = bytes_in(rt, decoder, None);
+    let is_nested = refuses_twice(&mut segments, place.saturating_add(3));
+    all_hold(rt, place, &[is_longer, is_nested]);
 }
 
 // Reads two bytes of a body.
@@ -86,22 +59,25 @@ fn reads_once_more(decoder: &mut Decoder<FailingReader<'_>>) -> bool {
 #[test]
 fn behind_a_read_of_a_body(rt: HostRuntime) {
     let bytes = [0x42, 1, 2, 0x18, 5, 0x5f, 0x5f];
-    let mut decoder = strict_decoder(&bytes, 2);
-    assert!(rt; matches!(pulls(&mut decoder), Ok(Header::Bytes(Some(2)))));
-    assert!(rt; reads_once_more(&mut decoder));
+    let mut decoder = failing_decoder_as(true, &bytes, Failing::Call(2));
+    let is_begun = is_pulled(&mut decoder, Header::Bytes(Some(2)));
+    all_hold(&rt, 0, &[is_begun, reads_once_more(&mut decoder)]);
     refuses(&rt, &mut decoder, 3);
 }
 
-// A pull of a title fails at its first byte, and at its affix.
+// A pull of a title fails, and the next ones refuse what stands at this place.
+fn title_row(rt: &impl Abort, bytes: &[u8], call: usize, place: usize) {
+    let mut decoder = failing_decoder_as(true, bytes, Failing::Call(call));
+    holds(rt, is_refused(&mut decoder, Stop::Planned), call, bytes);
+    refuses(rt, &mut decoder, place);
+}
+
+// A pull of a title fails at its first byte, and at its affix. The first byte of a title whose affix was not read is
+// gone.
 #[test]
 fn behind_a_pull_of_a_title(rt: HostRuntime) {
-    let mut decoder = strict_decoder(&REFUSED, 1);
-    assert!(rt; pull_fails(&mut decoder));
-    refuses(&rt, &mut decoder, 0);
-    // The first byte of a title whose affix was not read is gone.
-    let mut decoder = strict_decoder(&[0x19, 0x18, 5, 0x5f, 0x5f], 2);
-    assert!(rt; pull_fails(&mut decoder));
-    refuses(&rt, &mut decoder, 1);
+    title_row(&rt, &[0x18, 5, 0x5f, 0x5f], 1, 0);
+    title_row(&rt, &[0x19, 0x18, 5, 0x5f, 0x5f], 2, 1);
 }
 
 // Strings of indefinite length, under whose `advance` a call of the reader fails.
@@ -120,12 +96,11 @@ static STRINGS: [Row; 5] = [
 
 // Under `advance` the reader fails, and the next call refuses a title, as does each later one.
 fn string_row(rt: &impl Abort, bytes: &[u8], call: usize, place: usize) {
-    let mut decoder = strict_decoder(bytes, call);
-    assert!(rt; matches!(pulls(&mut decoder), Ok(Header::Bytes(None))));
-    let mut segments = bytes_of(rt, &mut decoder, None);
-    let is_unread = advances(&mut segments) == Advance::Unread;
-    let is_refused = refuses_twice(&mut segments, place);
-    assert!(rt; is_unread && is_refused, "at {place}");
+    let mut decoder = failing_decoder_as(true, bytes, Failing::Call(call));
+    let mut segments = bytes_in(rt, &mut decoder, None);
+    let is_unread = advance_fails(&mut segments, Stop::Planned);
+    let is_right = is_unread && refuses_twice(&mut segments, place);
+    holds(rt, is_right, call, bytes);
 }
 
 #[test]
@@ -135,32 +110,25 @@ fn behind_an_advance(rt: HostRuntime) {
     }
 }
 
-// Whether a pull of a chunk fails as it was told to.
-fn chunk_fails(segment: &mut Segment<'_, FailingReader<'_>, Bytes>) -> bool {
-    matches!(
-        chunk_of_bytes(segment, &mut [0; 4]),
-        Err(Error::Io(DeviceFault::Planned))
-    )
-}
-
-// Whether a pull of a chunk gives the bytes 1 and 2.
-fn chunk_is_there(segment: &mut Segment<'_, FailingReader<'_>, Bytes>) -> bool {
-    matches!(chunk_of_bytes(segment, &mut [0; 4]), Ok(Some([1, 2])))
-}
-
-// A body is read once more.
-fn body_row(rt: &impl Abort, segments: &mut Segments<'_, FailingReader<'_>, Bytes>) {
+// Whether a body is read once more.
+fn is_read_once_more(
+    rt: &impl Abort,
+    segments: &mut Segments<'_, FailingReader<'_>, Bytes>,
+) -> bool {
     let mut segment = next_segment(rt, segments);
-    assert!(rt; chunk_fails(&mut segment) && chunk_is_there(&mut segment));
+    let mut buffer = [0; 4];
+    let is_unread = gives(&mut segment, &mut buffer, &Err(Stop::Planned));
+    is_unread && gives(&mut segment, &mut buffer, &Ok(Some(&[1, 2])))
 }
 
 #[test]
 fn behind_a_pull_of_a_segment(rt: HostRuntime) {
-    let mut decoder = strict_decoder(&[0x5f, 0x42, 1, 2, 0x5f, 0xff, 0xff], 3);
-    assert!(rt; matches!(pulls(&mut decoder), Ok(Header::Bytes(None))));
-    let mut segments = bytes_of(&rt, &mut decoder, None);
-    body_row(&rt, &mut segments);
-    assert!(rt; advances(&mut segments) == Advance::Syntax(4));
+    let bytes = [0x5f, 0x42, 1, 2, 0x5f, 0xff, 0xff];
+    let mut decoder = failing_decoder_as(true, &bytes, Failing::Call(3));
+    let mut segments = bytes_in(&rt, &mut decoder, None);
+    let is_read = is_read_once_more(&rt, &mut segments);
+    let is_nested = advance_fails(&mut segments, Stop::Syntax(4));
+    all_hold(&rt, 4, &[is_read, is_nested]);
 }
 
 // Elements, under a copy of two of which a call of the reader fails.
@@ -181,26 +149,22 @@ static WRITES: [Row; 3] = [
     (&[0x42, 0x58, 0, 0xf8, 0x18], 2, 3),
 ];
 
-// How two copies of two elements end.
-fn copies_twice(rt: &impl Abort, bytes: &[u8], failing: (Failing, Failing)) -> (Answer, Answer) {
-    let mut space = [0; 8];
-    let mut decoder = failing_decoder_as(true, bytes, failing.0);
-    let mut encoder = failing_encoder(&mut space, failing.1);
-    let first = copies_elements(rt, &mut decoder, &mut encoder, 2, &mut [0; 4]);
-    let second = copies_elements(rt, &mut decoder, &mut encoder, 2, &mut [0; 4]);
-    (first, second)
+// A copy of two elements fails as it was told to, and the next one refuses a title.
+fn copy_row(rt: &impl Abort, (bytes, call, place): Row, side: Side) {
+    let task = Task {
+        kind: Kind::StrictElements,
+        count: 2,
+        bytes,
+    };
+    fails_and_stops(rt, task, side, call, place);
 }
 
 #[test]
 fn behind_a_copy(rt: HostRuntime) {
-    for &(bytes, call, place) in &COPIES {
-        let got = copies_twice(&rt, bytes, (Failing::Call(call), Failing::Never));
-        let is_right = matches!(got, (Answer::Unread, Answer::Syntax(at)) if at == place);
-        assert!(rt; is_right, "at {place}");
+    for &row in &COPIES {
+        copy_row(&rt, row, Side::Reader);
     }
-    for &(bytes, call, place) in &WRITES {
-        let got = copies_twice(&rt, bytes, (Failing::Never, Failing::Call(call)));
-        let is_right = matches!(got, (Answer::Unwritten, Answer::Syntax(at)) if at == place);
-        assert!(rt; is_right, "at {place}");
+    for &row in &WRITES {
+        copy_row(&rt, row, Side::Writer);
     }
 }

@@ -1,15 +1,15 @@
 use crate::calls::{
-    decoded, decoder, failing_decoder, failing_decoder_as, failing_encoder, holds, pull_fails,
-    pulls,
+    MOST, decoded, decoder, failing_decoder, failing_decoder_as, failing_encoder, holds, is_pulled,
+    is_refused, pulls, reading_of,
 };
 use ciborium_ll::io::Write;
 use ciborium_ll::{Decoder, Encoder, Error, Header};
 use ciborium_ll_fixtures::devices::{DeviceFault, Failing, FailingReader, FailingWriter};
 use ciborium_ll_fixtures::plain::{self, Fault, Title};
 use ciborium_ll_fixtures::samples;
-use std::alloc::Global;
+use ciborium_ll_fixtures::tape::Stop;
+use std::alloc::AllocError;
 use std::process::Abort;
-use std::test::Fail;
 
 // What a pull of a title gave.
 #[derive(Clone, Copy)]
@@ -118,26 +118,36 @@ fn reads_on(
 pub fn reads_titles(rt: &impl Abort, is_strict: bool, bytes: &[u8], failing: usize) -> bool {
     let mut decoder = failing_decoder_as(is_strict, bytes, Failing::Call(failing));
     reads_on(rt, &mut decoder, is_strict, bytes, failing);
-    let offset = decoder.offset();
-    let reader = decoder.into_inner();
-    assert!(rt; offset.saturating_add(reader.left().len()) == bytes.len());
-    reader.has_failed()
+    let (offset, left, has_failed) = reading_of(decoder);
+    holds(
+        rt,
+        offset.saturating_add(left) == bytes.len(),
+        failing,
+        bytes,
+    );
+    has_failed
 }
 
 // The call of each number fails in turn, until none does. Nothing but that one answer is another one.
-fn each_read_fails(rt: &impl Abort, alloc: Global, is_strict: bool, hex: &str) -> Result<(), Fail> {
-    let bytes = decoded(alloc, hex)?;
-    let last = (1..=64usize).find(|call| !reads_titles(rt, is_strict, bytes.as_slice(), *call));
-    assert!(rt; last.is_some(), "at {hex}");
-    Ok(())
+fn each_read_fails(rt: &impl Abort, is_strict: bool, hex: &str) {
+    let mut space = [0; MOST];
+    let bytes = decoded(rt, hex, &mut space);
+    let mut last = 0usize;
+    for call in 1..=64usize {
+        if !reads_titles(rt, is_strict, bytes, call) {
+            last = call;
+            break;
+        }
+    }
+    holds(rt, last > 0, last, bytes);
 }
 
 #[test]
-fn each_read_fails_under_pull(rt: HostRuntime) -> Result<(), Fail> {
+fn each_read_fails_under_pull(rt: HostRuntime) -> Result<(), AllocError> {
     let all = samples::all(rt.alloc())?;
     for &(_, hex) in &all {
-        each_read_fails(&rt, rt.alloc(), false, hex)?;
-        each_read_fails(&rt, rt.alloc(), true, hex)?;
+        each_read_fails(&rt, false, hex);
+        each_read_fails(&rt, true, hex);
     }
     Ok(())
 }
@@ -148,12 +158,11 @@ fn each_read_fails_under_pull(rt: HostRuntime) -> Result<(), Fail> {
 fn an_empty_affix_is_a_call(rt: HostRuntime) {
     let bytes = [5, 0xff, 0x1f, 0x3f, 0xdf, 0x1c];
     let mut decoder = failing_decoder(&bytes, Failing::Empty);
-    for offset in 1..=5 {
-        assert!(rt; pull_fails(&mut decoder) && decoder.offset() == offset);
+    for offset in 1..=5usize {
+        let is_unread = is_refused(&mut decoder, Stop::Planned) && decoder.offset() == offset;
+        holds(&rt, is_unread, offset, &bytes);
     }
-    assert!(rt; matches!(pulls(&mut decoder), Err(Error::Syntax(5))));
-    an_empty_affix_is_written(&rt, Header::Positive(5), 5);
-    an_empty_affix_is_written(&rt, Header::Break, 0xff);
+    holds(&rt, is_refused(&mut decoder, Stop::Syntax(5)), 6, &bytes);
 }
 
 // Whether a write of no bytes fails as it was told to.
@@ -167,20 +176,28 @@ fn header_fails(encoder: &mut Encoder<FailingWriter<'_>>, header: Header) -> boo
 }
 
 // A write of a header of this one byte is two calls too, and the second one moves no byte.
-fn an_empty_affix_is_written(rt: &impl Abort, header: Header, first: u8) {
+fn empty_affix_row(rt: &impl Abort, header: Header, first: u8) {
     let mut space = [0; 1];
     let mut encoder = failing_encoder(&mut space, Failing::Empty);
-    assert!(rt; header_fails(&mut encoder, header), "at {first}");
-    assert!(rt; nothing_fails(&mut encoder), "at {first}");
-    assert!(rt; encoder.into_inner().written() == [first].as_slice());
+    let has_failed = header_fails(&mut encoder, header) && nothing_fails(&mut encoder);
+    let writer = encoder.into_inner();
+    let is_right = has_failed && writer.written() == [first].as_slice();
+    holds(rt, is_right, usize::from(first), writer.written());
+}
+
+#[test]
+fn an_empty_affix_is_written(rt: HostRuntime) {
+    empty_affix_row(&rt, Header::Positive(5), 5);
+    empty_affix_row(&rt, Header::Break, 0xff);
 }
 
 // Asks for a title whose read of this number fails, and once more. The first pull reads up to this
 // offset, and the next one gives this number.
 fn asks_once_more(rt: &impl Abort, bytes: &[u8], call: usize, offset: usize, want: u64) {
     let mut decoder = failing_decoder(bytes, Failing::Call(call));
-    assert!(rt; pull_fails(&mut decoder) && decoder.offset() == offset);
-    assert!(rt; matches!(pulls(&mut decoder), Ok(Header::Positive(number)) if number == want));
+    let is_unread = is_refused(&mut decoder, Stop::Planned) && decoder.offset() == offset;
+    let is_right = is_unread && is_pulled(&mut decoder, Header::Positive(want));
+    holds(rt, is_right, call, bytes);
 }
 
 // A failure at the first byte loses nothing, so that the next call gives the title. One at the affix lost that byte.
@@ -189,5 +206,6 @@ fn a_title_is_asked_for_once_more(rt: HostRuntime) {
     let bytes = [0x19, 0x18, 0x18];
     asks_once_more(&rt, &bytes, 1, 0, 0x1818);
     asks_once_more(&rt, &bytes, 2, 1, 0x18);
-    assert!(rt; pulls(&mut decoder(&bytes)).is_ok());
+    let is_whole = is_pulled(&mut decoder(&bytes), Header::Positive(0x1818));
+    holds(&rt, is_whole, 0, &bytes);
 }

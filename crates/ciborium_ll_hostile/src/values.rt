@@ -1,5 +1,4 @@
-use crate::calls::{failing_encoder, front_of, holds};
-use ciborium_ll::io::Write;
+use crate::calls::{failing_encoder, front_of};
 use ciborium_ll::laws::{Piece, write_pieces};
 use ciborium_ll::{Encoder, Float, Header};
 use ciborium_ll_fixtures::devices::{DeviceFault, Failing, FailingWriter};
@@ -15,7 +14,7 @@ enum Call {
 }
 
 // A map of one pair, 7 to a text in two segments.
-fn writes_map<W: Write>(encoder: &mut Encoder<W>) -> Result<(), W::Error> {
+fn writes_map(encoder: &mut Encoder<FailingWriter<'_>>) -> Result<(), DeviceFault> {
     let pieces = [
         Piece::Header(Header::Map(Some(1))),
         Piece::Header(Header::Positive(7)),
@@ -24,7 +23,7 @@ fn writes_map<W: Write>(encoder: &mut Encoder<W>) -> Result<(), W::Error> {
     write_pieces(encoder, &pieces)
 }
 
-fn writes<W: Write>(encoder: &mut Encoder<W>, call: Call) -> Result<(), W::Error> {
+fn writes(encoder: &mut Encoder<FailingWriter<'_>>, call: Call) -> Result<(), DeviceFault> {
     match call {
         Call::Push(header) => encoder.push(header),
         Call::Bytes(value, limit) => encoder.bytes(value, limit),
@@ -34,7 +33,9 @@ fn writes<W: Write>(encoder: &mut Encoder<W>, call: Call) -> Result<(), W::Error
 }
 
 // The writes of a call, each one that moves a byte at least.
-static ROWS: [(Call, &[&[u8]]); 15] = [
+type Row = (Call, &'static [&'static [u8]]);
+
+static ROWS: [Row; 15] = [
     (Call::Push(Header::Positive(1000)), &[b"\x19", b"\x03\xe8"]),
     (Call::Push(Header::Break), &[b"\xff"]),
     (
@@ -95,77 +96,12 @@ static ROWS: [(Call, &[&[u8]]); 15] = [
     ),
 ];
 
-// How many bytes stand when the write of this number, from 0 on, gives its first half and fails.
-fn written_before(row: &[&[u8]], failing: usize) -> usize {
-    let mut count = 0usize;
-    for (index, bytes) in row.iter().enumerate() {
-        if index < failing {
-            count = count.saturating_add(bytes.len());
-        }
-        if index == failing {
-            count = count.saturating_add(bytes.len() / 2);
-        }
-    }
-    count
-}
-
-// What a call and a break behind it leave.
-#[derive(Clone, Copy)]
-struct Left {
-    written: Written,
-    goes_on: bool,
-}
-
-// Calls an encoder, and then writes a break.
-fn writes_on(encoder: &mut Encoder<FailingWriter<'_>>, call: Call) -> Left {
-    Left {
-        written: written_of(writes(encoder, call)),
-        goes_on: pushes_break(encoder),
-    }
-}
-
-// What stands is the front of these bytes, up to the middle of the write that fails, and behind it a break, unless that
-// failed.
-fn stands(written: &[u8], parts: &[&[u8]], whole: &[u8], failing: usize) -> bool {
-    let count = written_before(parts, failing);
-    let front = front_of(whole, count);
-    let behind: &[u8] = if failing == parts.len() { &[] } else { &[0xff] };
-    front.len() == count && written.strip_prefix(front) == Some(behind)
-}
-
-// Writes a row by a writer that fails at one write, and then a break, which goes on behind what stands.
-fn fails_at(rt: &impl Abort, row: (Call, &[&[u8]]), whole: &[u8], failing: usize) {
-    let mut space = [0; 32];
-    let (call, parts) = row;
-    let number = failing.saturating_add(1);
-    let mut encoder = failing_encoder(&mut space, Failing::Call(number));
-    let left = writes_on(&mut encoder, call);
-    let is_right = match left.written {
-        Written::All => failing >= parts.len(),
-        Written::Planned => failing < parts.len(),
-        Written::Wrong => false,
-    };
-    let goes_on = left.goes_on == (failing != parts.len());
-    let writer = encoder.into_inner();
-    let is_due = stands(writer.written(), parts, whole, failing);
-    holds(rt, is_right && goes_on && is_due, number, whole);
-}
-
-// How a call of an encoder ended.
-#[derive(Clone, Copy)]
-enum Written {
-    All,
-    // The writer failed, as it was told to.
-    Planned,
-    Wrong,
-}
-
-// The end that is in an outcome.
-fn written_of(outcome: Result<(), DeviceFault>) -> Written {
+// Whether a call wrote all, or failed as it was told to, where it was.
+fn ends_as(outcome: Result<(), DeviceFault>, fails: bool) -> bool {
     match outcome {
-        Ok(()) => Written::All,
-        Err(DeviceFault::Planned) => Written::Planned,
-        Err(DeviceFault::Short) => Written::Wrong,
+        Ok(()) => !fails,
+        Err(DeviceFault::Planned) => fails,
+        Err(DeviceFault::Short) => false,
     }
 }
 
@@ -174,35 +110,58 @@ fn pushes_break(encoder: &mut Encoder<FailingWriter<'_>>) -> bool {
     encoder.push(Header::Break).is_ok()
 }
 
-// What is written are these parts.
-fn are_parts(written: &[u8], parts: &[&[u8]]) -> bool {
+// How many bytes of a write of this number stand where that of another number fails, and gives its first half.
+fn length_of(part: &[u8], number: usize, failing: usize) -> usize {
+    if number < failing {
+        part.len()
+    } else if number == failing {
+        part.len() / 2
+    } else {
+        0
+    }
+}
+
+// What stands are these parts, up to the middle of the write that fails, and behind them a break, unless that failed.
+fn stands(written: &[u8], parts: &[&[u8]], failing: usize) -> bool {
     let mut rest = written;
-    for part in parts {
-        let Some(behind) = rest.strip_prefix(*part) else {
+    for (number, part) in parts.iter().enumerate() {
+        let front = front_of(part, length_of(part, number, failing));
+        let Some(behind) = rest.strip_prefix(front) else {
             return false;
         };
         rest = behind;
     }
-    rest.is_empty()
+    let behind: &[u8] = if failing == parts.len() { &[] } else { &[0xff] };
+    rest == behind
 }
 
-// Each write of a row fails in turn, and none.
-fn each_write_fails(rt: &impl Abort, row: (Call, &[&[u8]])) {
-    let (call, parts) = row;
+// Writes a row by a writer that fails at one write, and then a break, which goes on behind what stands.
+fn fails_at(rt: &impl Abort, call: Call, parts: &[&[u8]], failing: usize) {
     let mut space = [0; 32];
-    let mut whole = failing_encoder(&mut space, Failing::Never);
-    let is_written = matches!(written_of(writes(&mut whole, call)), Written::All);
-    let writer = whole.into_inner();
+    let number = failing.saturating_add(1);
+    let mut encoder = failing_encoder(&mut space, Failing::Call(number));
+    let is_right = ends_as(writes(&mut encoder, call), failing < parts.len());
+    let goes_on = pushes_break(&mut encoder) == (failing != parts.len());
+    let writer = encoder.into_inner();
     let written = writer.written();
-    holds(rt, is_written && are_parts(written, parts), 0, written);
-    for failing in 0..=parts.len() {
-        fails_at(rt, row, written, failing);
+    let is_due = is_right && goes_on && stands(written, parts, failing);
+    assert!(rt; is_due, "write {number} of {parts:?} gave {written:?}");
+}
+
+// Each write of a row fails in turn, then the break behind it, and then none.
+fn each_write_fails(rt: &impl Abort, call: Call, parts: &[&[u8]]) {
+    for failing in 0..=parts.len().saturating_add(1) {
+        fails_at(rt, call, parts, failing);
+    }
+}
+
+fn each_row(rt: &impl Abort, rows: &[Row]) {
+    for &(call, parts) in rows {
+        each_write_fails(rt, call, parts);
     }
 }
 
 #[test]
 fn each_write_fails_under_values(rt: HostRuntime) {
-    for &row in &ROWS {
-        each_write_fails(&rt, row);
-    }
+    each_row(&rt, &ROWS);
 }
