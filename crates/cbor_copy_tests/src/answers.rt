@@ -17,10 +17,11 @@ pub fn decoded<'a>(rt: &impl Abort, digits: &str, space: &'a mut [u8; MOST]) -> 
     bytes
 }
 
-// A copy holds. The number is that of its elements or levels.
+// A copy of so many elements, or by so many levels, holds.
 pub fn holds(
     rt: &impl Abort,
     is_right: bool,
+    what: &str,
     number: usize,
     bytes: &[u8],
     cut: usize,
@@ -28,7 +29,7 @@ pub fn holds(
 ) {
     assert!(rt;
         is_right,
-        "{number}, {bytes:?}, cut at {cut}, room for {room}"
+        "{what} {number}, {bytes:?}, cut at {cut}, room for {room}"
     );
 }
 
@@ -171,7 +172,7 @@ pub fn all_ways(rt: &impl Abort, count: usize, bytes: &[u8]) {
     for cut in 0..=bytes.len() {
         for room in [1, 2, MOST] {
             let is_right = agree(&copied(count, bytes, cut, room), &whole);
-            holds(rt, is_right, count, bytes, cut, room);
+            holds(rt, is_right, "elements", count, bytes, cut, room);
         }
     }
 }

@@ -159,7 +159,7 @@ fn all_ways(rt: &impl Abort, strict: bool, depth: usize, bytes: &[u8]) {
         for room in [1, 2, MOST] {
             let answer = copied(strict, depth, bytes, cut, room);
             let is_right = agree(&answer, whole) && goes_on_from(&answer, &elements);
-            holds(rt, is_right, depth, bytes, cut, room);
+            holds(rt, is_right, "levels", depth, bytes, cut, room);
         }
     }
 }
@@ -294,7 +294,7 @@ fn row(rt: &impl Abort, strict: bool, depth: usize, bytes: &[u8], out: &[u8], pr
         let answer = copied(strict, depth, bytes, cut, 1);
         let is_written = answer.written == out.len() && answer.out.starts_with(out);
         let is_right = is_written && answer.progress == progress;
-        holds(rt, is_right, depth, bytes, cut, 1);
+        holds(rt, is_right, "levels", depth, bytes, cut, 1);
     }
 }
 

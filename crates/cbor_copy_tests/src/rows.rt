@@ -71,7 +71,7 @@ fn row(rt: &impl Abort, count: usize, bytes: &[u8], out: &[u8], progress: Progre
         let answer = copied(count, bytes, cut, 1);
         let is_written = answer.written == out.len() && answer.out.starts_with(out);
         let is_right = is_written && answer.progress == progress;
-        holds(rt, is_right, count, bytes, cut, 1);
+        holds(rt, is_right, "elements", count, bytes, cut, 1);
     }
 }
 
