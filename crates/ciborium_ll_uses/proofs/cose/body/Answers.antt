@@ -42,3 +42,6 @@ returns-in_err-read_exact-clause-fails g c =
       within = omega (arith, asked, c.read_exact.auto.data, fewer, kept.1);
       fails = c.in_err-read_exact.ensures.reads.read;
     })
+
+pub returns-clause-took : goal.returns-clause-took
+returns-clause-took g c = search rules
