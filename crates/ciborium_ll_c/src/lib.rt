@@ -2,11 +2,11 @@
 //! none calls out of this library but memcpy, memmove and memset. What a checker and a copier keep between calls stands
 //! in memory of the caller's own.
 //!
-//! C passes a slice as a pointer and then a length. Each call answers by a number, which is the code of a
-//! [`CllAnswer`], and says in a [`CllReport`] how far it came. `cll_pull`, which is called for each title, tells a number
-//! of bytes alone.
+//! C passes a slice as a pointer and then a length. Each call answers by a number, which is the code of a [`CllAnswer`],
+//! and says in a [`CllReport`] how far it came. `cll_pull`, which is called for each title, tells a number of bytes alone.
 //!
-//! The contracts speak of one [`CllAnswer`] by its number (`code`), and say what the call does by that answer.
+//! The contracts speak of one [`CllAnswer`] by its number (`code`), and say what the call does by that answer. Each export
+//! is the call of the same name of `ciborium_ll_calls`.
 #![tactic(auto)]
 
 ghost use Rattle.std.specs.Prelude.{◌≡◌, ◌↔◌, ◌≤◌, ◌<◌, List, ◌++◌, drop, length, Bool, true, false, ℕ};
@@ -15,67 +15,28 @@ ghost use Rattle.cbor_copy.specs.Spots.{Spot as CopySpot};
 ghost use Rattle.cbor_feed.specs.Spots.{Spot};
 ghost use Rattle.cbor_feed.specs.Steps.{IsFed};
 ghost use Rattle.ciborium_ll.specs.Faults.{RunInFront};
-ghost use Rattle.ciborium_ll.specs.Recoding.{CopiesElements};
-ghost use Rattle.ciborium_ll.specs.Sides.{sides};
-ghost use Rattle.ciborium_ll.specs.Slices.{slice_target};
-ghost use Rattle.ciborium_ll_grammar.specs.Parts.{IsParts, title_bytes};
 ghost use Rattle.ciborium_ll_text.specs.Text.{IsCharacters};
 ghost use Rattle.cbor_skip.specs.ItemFaults.{ItemInFront};
-ghost use Rattle.ciborium_ll_c.specs.declared.answer.CllAnswer.{CllAnswer};
-ghost use Rattle.ciborium_ll_c.specs.declared.answer.CllAnswer.TheVariants as a;
-ghost use Rattle.ciborium_ll_c.specs.Answers.{Reports, code, version_code};
-ghost use Rattle.ciborium_ll_c.specs.Checking.{Checks};
-ghost use Rattle.ciborium_ll_c.specs.Copying.{CopiesInto, CopiesAnyhow, HasRoom, copy_answer, copy_place};
-ghost use Rattle.ciborium_ll_c.specs.Counting.{CountsCopy, CountsElements, CountsStrictly};
-ghost use Rattle.ciborium_ll_c.specs.Feeding.{EndsFed, Feeds, IsKept, IsNoChecker, IsSetUp};
-ghost use Rattle.ciborium_ll_c.specs.ItemPieces.{EndsItem, FeedsItem, IsItemCopiedTo, IsItemCopier, IsItemSetUp};
-ghost use Rattle.ciborium_ll_c.specs.ItemPieces.{IsNoItemCopier};
-ghost use Rattle.ciborium_ll_c.specs.Lacking.{ElementsLack, ItemLacks};
-ghost use Rattle.ciborium_ll_c.specs.Pieces.{EndsCopied, FeedsCopied, IsCopier, IsCopierOf, IsNoCopier, StaysWithin};
-ghost use Rattle.ciborium_ll_c.specs.Pulling.{Pulls, TitleInFront};
-ghost use Rattle.ciborium_ll_c.specs.Pushing.{Pushes, Puts};
-ghost use Rattle.ciborium_ll_c.specs.Skipping.{Skips, skip_answer, skip_place};
-ghost use Rattle.ciborium_ll_c.specs.Texts.{FindsText};
-ghost use Rattle.ciborium_ll_c.specs.Widths.{PushesWide};
+ghost use Rattle.ciborium_ll_calls.specs.declared.answer.CllAnswer.{CllAnswer};
+ghost use Rattle.ciborium_ll_calls.specs.declared.answer.CllAnswer.TheVariants as a;
+ghost use Rattle.ciborium_ll_calls.specs.Answers.{Reports, code, version_code};
+ghost use Rattle.ciborium_ll_calls.specs.Checking.{Checks};
+ghost use Rattle.ciborium_ll_calls.specs.Copying.{CopiesInto, CopiesAnyhow, HasRoom};
+ghost use Rattle.ciborium_ll_calls.specs.Counting.{CountsElements, CountsStrictly};
+ghost use Rattle.ciborium_ll_calls.specs.Feeding.{EndsFed, Feeds, IsKept, IsNoChecker, IsSetUp};
+ghost use Rattle.ciborium_ll_calls.specs.ItemPieces.{EndsItem, FeedsItem, IsItemCopiedTo, IsItemCopier, IsItemSetUp};
+ghost use Rattle.ciborium_ll_calls.specs.ItemPieces.{IsNoItemCopier};
+ghost use Rattle.ciborium_ll_calls.specs.Lacking.{ElementsLack, ItemLacks};
+ghost use Rattle.ciborium_ll_calls.specs.Pieces.{EndsCopied, FeedsCopied, IsCopier, IsCopierOf, IsNoCopier, StaysWithin};
+ghost use Rattle.ciborium_ll_calls.specs.Pulling.{Pulls, TitleInFront};
+ghost use Rattle.ciborium_ll_calls.specs.Pushing.{Pushes};
+ghost use Rattle.ciborium_ll_calls.specs.Skipping.{Skips};
+ghost use Rattle.ciborium_ll_calls.specs.Texts.{FindsText};
+ghost use Rattle.ciborium_ll_calls.specs.Widths.{PushesWide};
 
-mod answer;
-mod checker;
-mod copier;
-#[cfg(test)]
-mod copier_tests;
-mod due;
-mod header;
-mod item_copier;
-#[cfg(test)]
-mod item_copier_tests;
-mod tally;
-#[cfg(test)]
-mod tests;
-mod wide;
-
-pub use self::answer::{CllAnswer, CllReport};
-pub use self::checker::CllChecker;
-pub use self::copier::CllCopier;
-use self::due::due_behind;
-pub use self::header::CllHeader;
-pub use self::item_copier::CllItemCopier;
-use self::tally::{Tally, copy_counted};
-use self::wide::title_in;
-use cbor_skip::{SkipError, skip_item};
-use ciborium_ll::io::{Discard, EndOfFile, OutOfSpace, Read, SliceReader, SliceWriter, Write};
-use ciborium_ll::laws::strict_run;
-use ciborium_ll::{Decoder, Encoder, Error, RecodeError};
-use ciborium_ll_decoder::title::pull_title;
-use ciborium_ll_encoder::enc::push_title;
-use ciborium_ll_grammar::hdr::{Title, shortest};
-use ciborium_ll_text::state::{State, text_front};
-use std::mem;
-
-/// How many bytes of a string are read at a time, at most.
-const BUFFER_SIZE: usize = 1024;
-
-/// How many bytes the longest title has.
-const TITLE_SIZE: usize = 9;
+pub use ciborium_ll_calls::{
+    CllAnswer, CllChecker, CllCopier, CllHeader, CllItemCopier, CllReport,
+};
 
 /// The version of the library, which is 0.1.0: 65536 times its major number, 256 times its minor one, and its patch
 /// number.
@@ -83,30 +44,7 @@ const TITLE_SIZE: usize = 9;
 pub extern "C" fn cll_version() -> u32
     ensures { result ≡ version_code 0 1 0 }
 {
-    0x00_01_00
-}
-
-/// Reads the title in front of the bytes.
-fn pull(bytes: &[u8], header: &mut CllHeader, consumed: &mut usize) -> CllAnswer
-    ensures { Pulls bytes.now result header.old header.new consumed.new }
-{
-    let mut decoder = Decoder::from(SliceReader::new(bytes));
-    let pulled = pull_title(&mut decoder);
-    *consumed = decoder.offset();
-    match pulled {
-        Ok((pulled, title)) => {
-            let parts = CllHeader::of_title(title, pulled);
-            // Field by field, since a struct is copied with the bytes between and behind its fields.
-            header.value = parts.value;
-            header.kind = parts.kind;
-            header.indefinite = parts.indefinite;
-            CllAnswer::Ok
-        }
-        Err(Error::Io(_)) => CllAnswer::Short,
-        // The title that is none stands at the start.
-        Err(Error::Syntax(_)) => CllAnswer::Syntax,
-        Err(_) => CllAnswer::TooLong,
-    }
+    ciborium_ll_calls::cll_version()
 }
 
 /// Reads the title in front of the bytes (RFC 7049, 2.1 to 2.3), and says in `header` what it means, and in `consumed`
@@ -116,49 +54,12 @@ fn pull(bytes: &[u8], header: &mut CllHeader, consumed: &mut usize) -> CllAnswer
 /// end before a title or inside it; and `Syntax` for a first byte with which no title begins. After the last two
 /// `header` is as it was, and `consumed` counts the first byte if there is one. No other answer comes.
 #[unsafe(no_mangle)]
-#[tactic(auto, using(crate::proofs::PullLaws::pulled_exactly))]
 pub extern "C" fn cll_pull(bytes: &[u8], header: &mut CllHeader, consumed: &mut usize) -> u32
     ensures pulled { (answer : CllAnswer) × (result ≡ code answer)
         × Pulls bytes.now answer header.old header.new consumed.new }
     ensures exactly { result ≡ code a.Ok ↔ TitleInFront bytes.now }
 {
-    pull(bytes, header, consumed).code()
-}
-
-/// Writes a title in front of the output, whole or not at all.
-#[inline(always)]
-fn put(title: Title, out: &mut [u8], report: &mut CllReport) -> CllAnswer
-    requires { IsParts title }
-    ensures { Puts (title_bytes title) out.old result out.new report.new }
-{
-    report.say(0, 0, 0);
-    // A loan that an encoder holds is followed to no end (`copy_onto`), so the title is copied out of space of its own.
-    let mut space = [0; TITLE_SIZE];
-    let mut encoder = Encoder::from(SliceWriter::new(&mut space));
-    if push_title(&mut encoder, title).is_err() {
-        return CllAnswer::Room;
-    }
-    let writer = encoder.into_inner();
-    let bytes = writer.written();
-    if out.len() < bytes.len() {
-        return CllAnswer::Room;
-    }
-    out[..bytes.len()].copy_from_slice(bytes);
-    report.say(0, bytes.len(), 0);
-    CllAnswer::Ok
-}
-
-/// Writes the shortest title of a header in front of the output.
-fn push(header: &CllHeader, out: &mut [u8], report: &mut CllReport) -> CllAnswer
-    ensures { Pushes header.now out.old result out.new report.new }
-{
-    match header.header() {
-        Some(pushed) => put(shortest(pushed), out, report),
-        None => {
-            report.say(0, 0, 0);
-            CllAnswer::Argument
-        }
-    }
+    ciborium_ll_calls::cll_pull(bytes, header, consumed)
 }
 
 /// Writes the shortest title of a header in front of `out` (RFC 7049, 3.9), whole or not at all.
@@ -170,20 +71,7 @@ fn push(header: &CllHeader, out: &mut [u8], report: &mut CllReport) -> CllAnswer
 pub extern "C" fn cll_push(header: &CllHeader, out: &mut [u8], report: &mut CllReport) -> u32
     ensures { (answer : CllAnswer) × (result ≡ code answer) × Pushes header.now out.old answer out.new report.new }
 {
-    push(header, out, report).code()
-}
-
-/// Writes the title of a header in a width in front of the output.
-fn push_wide(header: &CllHeader, width: u32, out: &mut [u8], report: &mut CllReport) -> CllAnswer
-    ensures { PushesWide header.now width out.old result out.new report.new }
-{
-    match title_in(header, width) {
-        Some(title) => put(title, out, report),
-        None => {
-            report.say(0, 0, 0);
-            CllAnswer::Argument
-        }
-    }
+    ciborium_ll_calls::cll_push(header, out, report)
 }
 
 /// Writes the title of a header that has `width` bytes behind its first one in front of `out` (RFC 7049, 2.1), whole or
@@ -203,86 +91,7 @@ pub extern "C" fn cll_push_wide(
     ensures { (answer : CllAnswer) × (result ≡ code answer)
         × PushesWide header.now width out.old answer out.new report.new }
 {
-    push_wide(header, width, out, report).code()
-}
-
-/// The answer to a copy, and its place.
-fn stop_of_copy(copied: Result<(), RecodeError<EndOfFile, OutOfSpace>>) -> (CllAnswer, usize)
-    ensures answer { result.0 ≡ copy_answer copied }
-    ensures place { result.1 ≡ copy_place copied }
-{
-    match copied {
-        Ok(()) => (CllAnswer::Ok, 0),
-        Err(RecodeError::Read(Error::Io(_))) => (CllAnswer::Short, 0),
-        Err(RecodeError::Read(Error::Syntax(place))) => (CllAnswer::Syntax, place),
-        Err(RecodeError::Read(_)) => (CllAnswer::TooLong, 0),
-        Err(RecodeError::Write(_)) => (CllAnswer::Room, 0),
-    }
-}
-
-/// Copies so many elements to the slice of a writer, which stays on it.
-fn copy_onto<'a, R: Read>(
-    decoder: &mut Decoder<R>,
-    writer: &mut SliceWriter<'a>,
-    count: usize,
-    buffer: &mut [u8],
-    tally: &mut Tally,
-) -> Result<(), RecodeError<R::Error, OutOfSpace>>
-    requires room { 4 ≤ length buffer.old }
-    ensures copied { CopiesElements R.Read ⟦<SliceWriter<'a> as Write>⟧ count (length buffer.old)
-        (sides decoder.old writer.old) result (sides decoder.new writer.new) }
-    ensures counted { CountsCopy R.Read ⟦<SliceWriter<'a> as Write>⟧ count (length buffer.old)
-        (sides decoder.old writer.old) result (sides decoder.new writer.new) tally.new.elements tally.new.whole }
-    ensures target { slice_target writer.new ≡ slice_target writer.old }
-{
-    // A loan inside a writer is followed to its end, and one inside an encoder over it is not. So the encoder has the
-    // writer for this call alone, and what it writes to then is put back.
-    let mut encoder = Encoder::from(mem::replace(writer, SliceWriter::new(&mut [])));
-    let copied = copy_counted(decoder, &mut encoder, count, buffer, tally);
-    *writer = encoder.into_inner();
-    copied
-}
-
-/// Copies so many elements.
-fn copy(bytes: &[u8], count: usize, out: &mut [u8], report: &mut CllReport) -> CllAnswer
-    ensures copied { HasRoom count bytes.now (length out.old)
-        → CopiesInto count bytes.now out.old result out.new report.new }
-    ensures exactly { HasRoom count bytes.now (length out.old)
-        → (result ≡ a.Ok ↔ RunInFront false count bytes.now) }
-    ensures anyhow { CopiesAnyhow count bytes.now out.old result out.new report.new }
-    ensures counted { CountsElements count bytes.now (length out.old) result report.new }
-{
-    let mut buffer = [0; BUFFER_SIZE];
-    let mut decoder = Decoder::from(SliceReader::new(bytes));
-    let mut writer = SliceWriter::new(out);
-    let mut tally = Tally {
-        elements: 0,
-        whole: 0,
-    };
-    let copied = copy_onto(&mut decoder, &mut writer, count, &mut buffer, &mut tally);
-    let (answer, place) = stop_of_copy(copied);
-    let written = writer.written().len();
-    report.say_elements(decoder.offset(), written, place, tally);
-    answer
-}
-
-/// The same, and where the bytes end too early the report says how many more are due.
-fn copy_or_due(bytes: &[u8], count: usize, out: &mut [u8], report: &mut CllReport) -> CllAnswer
-    ensures copied { HasRoom count bytes.now (length out.old)
-        → CopiesInto count bytes.now out.old result out.new report.new }
-    ensures exactly { HasRoom count bytes.now (length out.old)
-        → (result ≡ a.Ok ↔ RunInFront false count bytes.now) }
-    ensures anyhow { CopiesAnyhow count bytes.now out.old result out.new report.new }
-    ensures counted { CountsElements count bytes.now (length out.old) result report.new }
-    ensures due { result ≡ a.Short → ElementsLack false count bytes.now report.new.whole report.new.place }
-{
-    match copy(bytes, count, out, report) {
-        CllAnswer::Short => {
-            report.place = due_behind(&bytes[report.whole as usize..], 1, false) as u64;
-            CllAnswer::Short
-        }
-        answer => answer,
-    }
+    ciborium_ll_calls::cll_push_wide(header, width, out, report)
 }
 
 /// Copies `count` elements into `out`, each in its shortest spelling (RFC 7049, 3.9). An element is a header that
@@ -327,45 +136,7 @@ pub extern "C" fn cll_recode(
         × CountsElements count bytes.now (length out.old) answer report.new }
     ensures due { result ≡ code a.Short → ElementsLack false count bytes.now report.new.whole report.new.place }
 {
-    copy_or_due(bytes, count as usize, out, report).code()
-}
-
-/// Reads so many elements, each in its shortest spelling.
-fn check(bytes: &[u8], count: usize, report: &mut CllReport) -> CllAnswer
-    ensures checked { Checks count bytes.now result report.new }
-    ensures exactly { result ≡ a.Ok ↔ RunInFront true count bytes.now }
-    ensures counted { CountsStrictly count bytes.now result report.new }
-{
-    let mut buffer = [0; BUFFER_SIZE];
-    let mut tally = Tally {
-        elements: 0,
-        whole: 0,
-    };
-    let mut decoder = Decoder::strict(SliceReader::new(bytes));
-    // What a strict copy writes is what it reads, so that many bytes are room enough.
-    let mut encoder = Encoder::from(Discard::new(bytes.len()));
-    let copied = copy_counted(&mut decoder, &mut encoder, count, &mut buffer, &mut tally);
-    let (answer, place) = stop_of_copy(copied);
-    report.say_elements(decoder.offset(), 0, place, tally);
-    answer
-}
-
-/// The same, and where the bytes end too early the report says how many more are due.
-fn check_or_due(bytes: &[u8], count: usize, report: &mut CllReport) -> CllAnswer
-    ensures checked { Checks count bytes.now result report.new }
-    ensures exactly { result ≡ a.Ok ↔ RunInFront true count bytes.now }
-    ensures counted { CountsStrictly count bytes.now result report.new }
-    ensures due { result ≡ a.Short → ElementsLack true count bytes.now report.new.whole report.new.place }
-{
-    match check(bytes, count, report) {
-        CllAnswer::Short => {
-            // The law that elements in their shortest spelling are those whose titles are strict. It does nothing.
-            strict_run();
-            report.place = due_behind(&bytes[report.whole as usize..], 1, true) as u64;
-            CllAnswer::Short
-        }
-        answer => answer,
-    }
+    ciborium_ll_calls::cll_recode(bytes, count, out, report)
 }
 
 /// Whether the bytes begin with `count` elements in their shortest spelling, with no simple value from 24 to 31 and no
@@ -383,52 +154,7 @@ pub extern "C" fn cll_strict(bytes: &[u8], count: u64, report: &mut CllReport) -
         × CountsStrictly count bytes.now answer report.new }
     ensures due { result ≡ code a.Short → ElementsLack true count bytes.now report.new.whole report.new.place }
 {
-    check_or_due(bytes, count as usize, report).code()
-}
-
-/// The answer to a skip, and its place.
-fn stop_of_skip(skipped: Result<(), SkipError<EndOfFile>>) -> (CllAnswer, usize)
-    ensures answer { result.0 ≡ skip_answer skipped }
-    ensures place { result.1 ≡ skip_place skipped }
-{
-    match skipped {
-        Ok(()) => (CllAnswer::Ok, 0),
-        Err(SkipError::Read(Error::Io(_))) => (CllAnswer::Short, 0),
-        Err(SkipError::Read(Error::Syntax(place))) => (CllAnswer::Syntax, place),
-        Err(SkipError::Read(_)) => (CllAnswer::TooLong, 0),
-        Err(SkipError::Break(place)) => (CllAnswer::BreakDue, place),
-        Err(SkipError::Deep(place)) => (CllAnswer::TooDeep, place),
-    }
-}
-
-/// Skips the item in front of the bytes.
-fn skip(bytes: &[u8], depth: usize, report: &mut CllReport) -> CllAnswer
-    requires shallow { depth ≤ 256 }
-    ensures skipped { Skips depth bytes.now result report.new }
-    ensures exactly { result ≡ a.Ok ↔ ItemInFront false depth bytes.now }
-{
-    let mut buffer = [0; BUFFER_SIZE];
-    let mut decoder = Decoder::from(SliceReader::new(bytes));
-    let skipped = skip_item(&mut decoder, depth, &mut buffer);
-    let (answer, place) = stop_of_skip(skipped);
-    report.say(decoder.offset(), 0, place);
-    answer
-}
-
-/// The same, and where the bytes end too early the report says how many more are due.
-fn skip_or_due(bytes: &[u8], depth: usize, report: &mut CllReport) -> CllAnswer
-    requires shallow { depth ≤ 256 }
-    ensures skipped { Skips depth bytes.now result report.new }
-    ensures exactly { result ≡ a.Ok ↔ ItemInFront false depth bytes.now }
-    ensures due { result ≡ a.Short → ItemLacks false depth bytes.now report.new.place }
-{
-    match skip(bytes, depth, report) {
-        CllAnswer::Short => {
-            report.place = due_behind(bytes, depth, false) as u64;
-            CllAnswer::Short
-        }
-        answer => answer,
-    }
+    ciborium_ll_calls::cll_strict(bytes, count, report)
 }
 
 /// Skips the item in front of the bytes, with tags, arrays and maps nested at most `depth` levels deep (RFC 7049, 2.1
@@ -452,29 +178,7 @@ pub extern "C" fn cll_skip(bytes: &[u8], depth: u32, report: &mut CllReport) -> 
     ensures due { depth ≤ 256 → result ≡ code a.Short → ItemLacks false depth bytes.now report.new.place }
     ensures argument { 256 < depth → (result ≡ code a.Argument) × Reports report.new 0 0 0 }
 {
-    if depth > 256 {
-        report.say(0, 0, 0);
-        return CllAnswer::Argument.code();
-    }
-    skip_or_due(bytes, depth as usize, report).code()
-}
-
-/// Finds the longest front of the bytes that is text.
-fn find_text(bytes: &[u8], report: &mut CllReport) -> CllAnswer
-    ensures found { FindsText bytes.now result report.new }
-    ensures exactly { result ≡ a.Ok ↔ IsCharacters bytes.now }
-    ensures pieces { (more : List ℕ)
-        → (IsCharacters (bytes.now ++ more) ↔ IsCharacters (drop report.new.consumed bytes.now ++ more)) }
-{
-    let (front, behind) = text_front(bytes, 0, State::Between);
-    let len = front.len();
-    let (answer, place) = match behind {
-        State::Between => (CllAnswer::Ok, 0),
-        State::Damaged => (CllAnswer::Syntax, len),
-        _ => (CllAnswer::Short, 0),
-    };
-    report.say(len, 0, place);
-    answer
+    ciborium_ll_calls::cll_skip(bytes, depth, report)
 }
 
 /// Finds the longest front of the bytes that is UTF-8 (RFC 3629), of which it says that it was consumed.
@@ -484,14 +188,13 @@ fn find_text(bytes: &[u8], report: &mut CllReport) -> CllAnswer
 /// is behind the front stands in front of the next one: with whatever comes, all of it is UTF-8 exactly where that with
 /// those bytes in front is. Nothing is written.
 #[unsafe(no_mangle)]
-#[tactic(auto, using(crate::proofs::PullLaws::code_exactly))]
 pub extern "C" fn cll_utf8(bytes: &[u8], report: &mut CllReport) -> u32
     ensures found { (answer : CllAnswer) × (result ≡ code answer) × FindsText bytes.now answer report.new }
     ensures exactly { result ≡ code a.Ok ↔ IsCharacters bytes.now }
     ensures pieces { (more : List ℕ)
         → (IsCharacters (bytes.now ++ more) ↔ IsCharacters (drop report.new.consumed bytes.now ++ more)) }
 {
-    find_text(bytes, report).code()
+    ciborium_ll_calls::cll_utf8(bytes, report)
 }
 
 /// Sets a checker up in memory of the caller's own, for one item to which nothing came, with tags, arrays and maps
@@ -504,11 +207,7 @@ pub extern "C" fn cll_checker_init(checker: &mut CllChecker, depth: u32) -> u32
     ensures set_up { depth ≤ 256 → (result ≡ code a.Ok) × IsSetUp false depth checker.new }
     ensures argument { 256 < depth → (result ≡ code a.Argument) × (checker.new ≡ checker.old) }
 {
-    if depth > 256 {
-        return CllAnswer::Argument.code();
-    }
-    checker::init(checker, depth as usize, false);
-    CllAnswer::Ok.code()
+    ciborium_ll_calls::cll_checker_init(checker, depth)
 }
 
 /// Sets a checker up as `cll_checker_init` does, of an item in its shortest spelling: any other title is a `Syntax`, and
@@ -518,11 +217,7 @@ pub extern "C" fn cll_checker_init_strict(checker: &mut CllChecker, depth: u32) 
     ensures set_up { depth ≤ 256 → (result ≡ code a.Ok) × IsSetUp true depth checker.new }
     ensures argument { 256 < depth → (result ≡ code a.Argument) × (checker.new ≡ checker.old) }
 {
-    if depth > 256 {
-        return CllAnswer::Argument.code();
-    }
-    checker::init(checker, depth as usize, true);
-    CllAnswer::Ok.code()
+    ciborium_ll_calls::cll_checker_init_strict(checker, depth)
 }
 
 /// Gives a checker the next bytes of its item, as many as have come. It takes all of them, or those up to the end of
@@ -548,7 +243,7 @@ pub extern "C" fn cll_checker_feed(
     ensures argument { IsNoChecker checker.old
         → (result ≡ code a.Argument) × (checker.new ≡ checker.old) × Reports report.new 0 0 0 }
 {
-    checker::feed(checker, bytes, report).code()
+    ciborium_ll_calls::cll_checker_feed(checker, bytes, report)
 }
 
 /// Says what it means that no more bytes come to a checker, and leaves it as it is.
@@ -561,7 +256,7 @@ pub extern "C" fn cll_checker_end(checker: &CllChecker, report: &mut CllReport) 
         → (answer : CllAnswer) × (result ≡ code answer) × EndsFed strict depth fed spot answer report.new }
     ensures argument { IsNoChecker checker.now → (result ≡ code a.Argument) × Reports report.new 0 0 0 }
 {
-    checker::end(checker, report).code()
+    ciborium_ll_calls::cll_checker_end(checker, report)
 }
 
 /// Sets a copier of `count` elements up in memory of the caller's own, to which nothing came (RFC 7049, 2.1 and 2.2).
@@ -570,8 +265,7 @@ pub extern "C" fn cll_checker_end(checker: &CllChecker, report: &mut CllReport) 
 pub extern "C" fn cll_copier_init(copier: &mut CllCopier, count: u64) -> u32
     ensures { (result ≡ code a.Ok) × IsCopierOf count copier.new }
 {
-    copier::init(copier, count as usize);
-    CllAnswer::Ok.code()
+    ciborium_ll_calls::cll_copier_init(copier, count)
 }
 
 /// Gives a copier the next bytes of its elements, as many as have come, and writes in front of `out` as much of their
@@ -601,7 +295,7 @@ pub extern "C" fn cll_copier_feed(
     ensures argument { IsNoCopier copier.old → (result ≡ code a.Argument) × (copier.new ≡ copier.old)
         × (out.new ≡ out.old) × Reports report.new 0 0 0 }
 {
-    copier::feed(copier, bytes, out, report).code()
+    ciborium_ll_calls::cll_copier_feed(copier, bytes, out, report)
 }
 
 /// Says what it means that no more bytes come to a copier, and leaves it as it is.
@@ -616,7 +310,7 @@ pub extern "C" fn cll_copier_end(copier: &CllCopier, report: &mut CllReport) -> 
         × EndsCopied count fed given spot answer report.new }
     ensures argument { IsNoCopier copier.now → (result ≡ code a.Argument) × Reports report.new 0 0 0 }
 {
-    copier::end(copier, report).code()
+    ciborium_ll_calls::cll_copier_end(copier, report)
 }
 
 /// Sets a copier of an item up in memory of the caller's own, to which nothing came, with tags, arrays and maps nested
@@ -629,11 +323,7 @@ pub extern "C" fn cll_item_copier_init(copier: &mut CllItemCopier, depth: u32) -
     ensures set_up { depth ≤ 256 → (result ≡ code a.Ok) × IsItemSetUp false depth copier.new }
     ensures argument { 256 < depth → (result ≡ code a.Argument) × (copier.new ≡ copier.old) }
 {
-    if depth > 256 {
-        return CllAnswer::Argument.code();
-    }
-    item_copier::init(copier, depth as usize, false);
-    CllAnswer::Ok.code()
+    ciborium_ll_calls::cll_item_copier_init(copier, depth)
 }
 
 /// Sets a copier of an item up as `cll_item_copier_init` does, of one that is in its shortest spelling: any other title
@@ -643,11 +333,7 @@ pub extern "C" fn cll_item_copier_init_strict(copier: &mut CllItemCopier, depth:
     ensures set_up { depth ≤ 256 → (result ≡ code a.Ok) × IsItemSetUp true depth copier.new }
     ensures argument { 256 < depth → (result ≡ code a.Argument) × (copier.new ≡ copier.old) }
 {
-    if depth > 256 {
-        return CllAnswer::Argument.code();
-    }
-    item_copier::init(copier, depth as usize, true);
-    CllAnswer::Ok.code()
+    ciborium_ll_calls::cll_item_copier_init_strict(copier, depth)
 }
 
 /// Gives a copier the next bytes of its item, as many as have come, and writes in front of `out` as much of their
@@ -676,7 +362,7 @@ pub extern "C" fn cll_item_copier_feed(
     ensures argument { IsNoItemCopier copier.old → (result ≡ code a.Argument) × (copier.new ≡ copier.old)
         × (out.new ≡ out.old) × Reports report.new 0 0 0 }
 {
-    item_copier::feed(copier, bytes, out, report).code()
+    ciborium_ll_calls::cll_item_copier_feed(copier, bytes, out, report)
 }
 
 /// Says what it means that no more bytes come to a copier of an item, and leaves it as it is.
@@ -692,5 +378,5 @@ pub extern "C" fn cll_item_copier_end(copier: &CllItemCopier, report: &mut CllRe
         × EndsItem strict depth fed given item elements answer report.new }
     ensures argument { IsNoItemCopier copier.now → (result ≡ code a.Argument) × Reports report.new 0 0 0 }
 {
-    item_copier::end(copier, report).code()
+    ciborium_ll_calls::cll_item_copier_end(copier, report)
 }

@@ -1,0 +1,28 @@
+use Rattle.std.proofs.Common.{rules, []}
+use Rattle.cbor_feed.specs.Checking.{spot_of}
+use Rattle.ciborium_ll_calls.proofs.ItemDue.{some_lack, none_follow, none_ended}
+use Rattle.ciborium_ll_calls.proofs.due.due_behind.Goals as goal
+
+pub returns-in-More : goal.returns-in-More
+returns-in-More c =
+    let strict = c.args.strict in
+    let depth = c.args.depth in
+    let fed = c.feed.ensures.fed strict depth [] c.fresh-checker.ensures in
+    let tells = rw c.in-More.is at c.feed.ensures.tells strict depth [] c.fresh-checker.ensures in
+    let all = rw c.in-More.is at c.feed.ensures.all in
+    some_lack strict depth c.args.bytes.now c.requires.cut c.feed.result.taken c.in-More.due (spot_of c.feed.new.self)
+    (all (tt {0})) fed tells (rw c.in-More.is at c.feed.ensures.answers)
+
+pub returns-in-Ended : goal.returns-in-Ended
+returns-in-Ended c =
+    let strict = c.args.strict in
+    let depth = c.args.depth in
+    let tells = rw c.in-Ended.is at c.feed.ensures.tells strict depth [] c.fresh-checker.ensures in
+    absurd (none_ended strict depth c.args.bytes.now c.requires.cut c.feed.result.taken c.in-Ended.field-0 tells)
+
+pub returns-in-Fault : goal.returns-in-Fault
+returns-in-Fault c =
+    let strict = c.args.strict in
+    let depth = c.args.depth in
+    let tells = rw c.in-Fault.is at c.feed.ensures.tells strict depth [] c.fresh-checker.ensures in
+    none_follow strict depth c.args.bytes.now c.requires.cut c.feed.result.taken c.in-Fault.field-0 tells

@@ -1,0 +1,39 @@
+-- What a call for C answers and reports.
+use Rattle.std.specs.Prelude.{◌≡◌, ℕ, ◌+◌, ◌*◌}
+use Rattle.ciborium_ll_calls.specs.declared.answer.CllAnswer.{CllAnswer}
+use Rattle.ciborium_ll_calls.specs.declared.answer.CllAnswer.TheVariants as a
+use Rattle.ciborium_ll_calls.specs.declared.answer.CllReport.{CllReport}
+
+-- the number of an answer, as the header for C has it
+abbrev pub code : CllAnswer → ℕ
+code a.Ok = 0
+code a.Short = 1
+code a.Syntax = 2
+code a.Room = 3
+code a.TooLong = 4
+code a.BreakDue = 5
+code a.TooDeep = 6
+code a.Argument = 7
+
+-- the number of a version, as the header for C has it
+abbrev pub version_code : ℕ → ℕ → ℕ → ℕ
+version_code major minor patch = 65536 * major + 256 * minor + patch
+
+-- a report says that so many bytes were consumed and so many were written, and names this place. It counts no elements
+pub record Reports (report : CllReport) (consumed written place : ℕ) : Type 0 where
+  pub consumed_is : report.consumed ≡ consumed
+  pub written_is : report.written ≡ written
+  pub place_is : report.place ≡ place
+  pub none_counted : report.elements ≡ 0
+  pub none_whole : report.whole ≡ 0
+
+-- the same of a copy or a check, which counts elements
+pub record ReportsCopy (report : CllReport) (consumed written place : ℕ) : Type 0 where
+  pub consumed_is : report.consumed ≡ consumed
+  pub written_is : report.written ≡ written
+  pub place_is : report.place ≡ place
+
+-- a report says that so many elements were done, and that the last of them ends at this offset
+pub record ReportsElements (report : CllReport) (elements whole : ℕ) : Type 0 where
+  pub elements_is : report.elements ≡ elements
+  pub whole_is : report.whole ≡ whole

@@ -1,0 +1,85 @@
+-- What `cll_recode` does.
+use Rattle.std.specs.Prelude.{◌≡◌, ℕ, false, ◌+◌, ◌<◌, ◌≤◌, ◌⊎◌, List, ◌++◌, drop, length, Result, Ok, Err}
+use Rattle.ciborium_ll.specs.Types.Error.TheVariants as e
+use Rattle.ciborium_ll.specs.Types.RecodeError.{RecodeError}
+use Rattle.ciborium_ll.specs.Types.RecodeError.TheVariants as r
+use Rattle.ciborium_ll.specs.Elements.{spelling}
+use Rattle.ciborium_ll.specs.Faults.{Short, Syntax, RunInFront, HasFault}
+use Rattle.ciborium_ll.specs.Decoding.{Begins}
+use Rattle.ciborium_ll.specs.Recoding.{NextWrite}
+use Rattle.ciborium_ll_calls.specs.declared.answer.CllAnswer.{CllAnswer}
+use Rattle.ciborium_ll_calls.specs.declared.answer.CllAnswer.TheVariants as a
+use Rattle.ciborium_ll_calls.specs.declared.answer.CllReport.{CllReport}
+use Rattle.ciborium_ll_calls.specs.Answers.{ReportsCopy}
+
+-- the room is enough for the spelling of the elements where they stand in front, else for as many bytes as are due
+abbrev pub HasRoom : ℕ → List ℕ → ℕ → Type 0
+HasRoom count bytes room =
+    ((front : RunInFront false count bytes) × (length (spelling front.marks) ≤ room)) ⊎ (length bytes ≤ room)
+
+-- the bytes stand in front of the output, and behind them it is as it was
+abbrev pub StandInFront : List ℕ → List ℕ → List ℕ → Type 0
+StandInFront bytes old new = new ≡ bytes ++ drop (length bytes) old
+
+-- so many elements stood in front: all of them were consumed, and their shortest spelling stands in the output
+abbrev pub OutputsElements : ℕ → List ℕ → List ℕ → List ℕ → CllReport → Type 0
+OutputsElements count bytes old new report =
+    (front : RunInFront false count bytes) × StandInFront (spelling front.marks) old new
+    × ReportsCopy report (length front.elements) (length (spelling front.marks)) 0
+
+-- the first fault stopped the copy at this place of the bytes, and what was written before stands in the output
+abbrev pub OutputsUpToFault : ℕ → List ℕ → List ℕ → List ℕ → CllReport → Type 0
+OutputsUpToFault count bytes old new report =
+    (fault : HasFault false count bytes) × (fault.answer ≡ Syntax report.place) × StandInFront fault.written old new
+    × ReportsCopy report (length fault.before + fault.consumed) (length fault.written) report.place
+
+-- what `cll_recode` does where there is room, by the answer: the first fault stops it where so many elements do not
+-- stand in front. Where the bytes end too early the place is a number of bytes (`ElementsLack`)
+abbrev pub CopiesInto : ℕ → List ℕ → List ℕ → CllAnswer → List ℕ → CllReport → Type 0
+CopiesInto count bytes old a.Ok new report = OutputsElements count bytes old new report
+CopiesInto count bytes old a.Short new report =
+    (fault : HasFault false count bytes) × (fault.answer ≡ Short) × StandInFront fault.written old new
+    × ReportsCopy report (length fault.before + fault.consumed) (length fault.written) report.place
+CopiesInto count bytes old a.Syntax new report = OutputsUpToFault count bytes old new report
+CopiesInto count bytes old answer new report = ⊥
+
+-- how many bytes the buffer holds that bodies go through
+abbrev pub buffer_size : ℕ
+buffer_size = 1024
+
+-- In so much room the copy stops, since what is due next does not fit: the shortest title of a header that was read, or
+-- a chunk of a body. All before it was written, and of it at most a beginning
+pub record StopsForRoom (count : ℕ) (bytes : List ℕ) (room : ℕ) : Type 0 where
+  pub before : List ℕ
+  pub read : List ℕ
+  pub rest : List ℕ
+  pub whole : List ℕ
+  pub next : List ℕ
+  pub written : List ℕ
+  pub next_write : NextWrite count buffer_size before read whole next
+  pub is : bytes ≡ (before ++ read) ++ rest
+  pub fits : length whole ≤ room
+  pub lacks : room < length whole + length next
+  pub begun : (part : List ℕ) × (written ≡ whole ++ part) × Begins part next
+
+-- what `cll_recode` does in any room: the same, but where what is due next does not fit
+abbrev pub CopiesAnyhow : ℕ → List ℕ → List ℕ → CllAnswer → List ℕ → CllReport → Type 0
+CopiesAnyhow count bytes old a.Room new report =
+    (stop : StopsForRoom count bytes (length old)) × StandInFront stop.written old new
+    × ReportsCopy report (length stop.before + length stop.read) (length stop.written) 0
+CopiesAnyhow count bytes old answer new report = CopiesInto count bytes old answer new report
+
+module _ {E F : Type 0} where
+  -- the answer that stands for what `recode` gave
+  abbrev pub copy_answer : Result (Unit {0}) (RecodeError E F) → CllAnswer
+  copy_answer (Ok done) = a.Ok
+  copy_answer (Err (r.Read (e.Io fault))) = a.Short
+  copy_answer (Err (r.Read (e.Syntax place))) = a.Syntax
+  copy_answer (Err (r.Read e.TooLong)) = a.TooLong
+  copy_answer (Err (r.Read e.Waiting)) = a.TooLong
+  copy_answer (Err (r.Write fault)) = a.Room
+
+  -- the place that it names, if it names one
+  abbrev pub copy_place : Result (Unit {0}) (RecodeError E F) → ℕ
+  copy_place (Err (r.Read (e.Syntax place))) = place
+  copy_place copied = 0

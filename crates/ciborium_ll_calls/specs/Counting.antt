@@ -1,0 +1,59 @@
+-- What `cll_recode` and `cll_strict` count: the elements that were done, each an element of the grammar (RFC 7049, 2.1
+-- and 2.2).
+use Rattle.std.specs.Prelude.{◌≡◌, ℕ, suc, true, false, ◌<◌, List, length, Result, Ok, Err}
+use Rattle.ciborium_ll.specs.Types.Read.{Ghosts as Reader}
+use Rattle.ciborium_ll.specs.Types.Write.{Ghosts as Writer}
+use Rattle.ciborium_ll.specs.Types.RecodeError.{RecodeError}
+use Rattle.ciborium_ll.specs.Elements.{spelling}
+use Rattle.ciborium_ll.specs.Faults.{RunInFront}
+use Rattle.ciborium_ll.specs.Recoding.{CopiesRun, StopsCopy}
+use Rattle.ciborium_ll.specs.Sides.{Sides}
+use Rattle.ciborium_ll_calls.specs.declared.answer.CllAnswer.{CllAnswer}
+use Rattle.ciborium_ll_calls.specs.declared.answer.CllAnswer.TheVariants as a
+use Rattle.ciborium_ll_calls.specs.declared.answer.CllReport.{CllReport}
+
+-- By the answer of a copy into so much room: all were done, and the last ends where the copy does; or fewer were, since
+-- the spelling of one more has no room, or one more does not stand in front
+abbrev pub CountsTo : ℕ → List ℕ → ℕ → CllAnswer → CllReport → Type 0
+CountsTo count bytes room a.Ok report = (report.elements ≡ count) × (report.whole ≡ report.consumed)
+CountsTo count bytes room a.Room report =
+    (report.elements < count)
+    × ((more : RunInFront false (suc report.elements) bytes) → room < length (spelling more.marks))
+CountsTo count bytes room answer report =
+    (report.elements < count) × (RunInFront false (suc report.elements) bytes → ⊥)
+
+-- what `cll_recode` counts: the elements that were done stand in front, up to the offset that is reported, and no more
+-- are done so
+pub record CountsElements (count : ℕ) (bytes : List ℕ) (room : ℕ) (answer : CllAnswer) (report : CllReport)
+    : Type 0 where
+  pub front : RunInFront false report.elements bytes
+  pub ends : report.whole ≡ length front.elements
+  pub counts : CountsTo count bytes room answer report
+
+-- `CountsTo` of elements in their shortest spelling, of which nothing is written (RFC 7049, 3.9)
+abbrev pub CountsStrictTo : ℕ → List ℕ → CllAnswer → CllReport → Type 0
+CountsStrictTo count bytes a.Ok report = (report.elements ≡ count) × (report.whole ≡ report.consumed)
+CountsStrictTo count bytes answer report =
+    (report.elements < count) × (RunInFront true (suc report.elements) bytes → ⊥)
+
+-- what `cll_strict` counts: the same of elements in their shortest spelling (RFC 7049, 3.9)
+pub record CountsStrictly (count : ℕ) (bytes : List ℕ) (answer : CllAnswer) (report : CllReport) : Type 0 where
+  pub front : RunInFront true report.elements bytes
+  pub ends : report.whole ≡ length front.elements
+  pub counts : CountsStrictTo count bytes answer report
+
+module _ {R E W F : Type 0} (source : Reader R E) (sink : Writer W F) where
+  -- by what a copy of elements through a buffer of so much room gave: all were copied, and the last ends where the
+  -- decoder is; or fewer, and a copy of one more stops so
+  abbrev pub EndsCount : ℕ → ℕ → Sides R W → Result (Unit {0}) (RecodeError E F) → Sides R W → ℕ → ℕ → Type 0
+  EndsCount count room old (Ok done) new elements whole = (elements ≡ count) × (whole ≡ new.decoder.offset)
+  EndsCount count room old (Err error) new elements whole =
+      (elements < count) × StopsCopy source sink (suc elements) room old error new
+
+  -- so many elements were copied, and behind them the decoder came to this offset
+  pub record CountsCopy (count room : ℕ) (old : Sides R W) (result : Result (Unit {0}) (RecodeError E F))
+      (new : Sides R W) (elements whole : ℕ) : Type 0 where
+    pub between : Sides R W
+    pub run : CopiesRun source sink elements old between
+    pub behind : whole ≡ between.decoder.offset
+    pub ends : EndsCount count room old result new elements whole

@@ -1,0 +1,114 @@
+-- What the calls of a copier do, which C keeps in memory of its own.
+use Rattle.std.specs.Prelude.{◌≡◌, ◌≤◌, ◌↔◌, ℕ, false, List, [], ◌++◌, drop, length, take}
+use Rattle.cbor_copy.specs.declared.progress.Progress.{Progress}
+use Rattle.cbor_copy.specs.declared.progress.Progress.TheVariants as r
+use Rattle.cbor_copy.specs.declared.progress.End.{End}
+use Rattle.cbor_copy.specs.declared.progress.End.TheVariants as e
+use Rattle.cbor_copy.specs.Copying.{IsCopiedTo}
+use Rattle.cbor_copy.specs.Snapshots.{Holds}
+use Rattle.cbor_copy.specs.Spots.{Spot}
+use Rattle.cbor_copy.specs.Telling.{AreSpelled, Tells, TellsEnd, end_of, is_due, progress_of}
+use Rattle.ciborium_ll_calls.specs.declared.answer.CllAnswer.{CllAnswer}
+use Rattle.ciborium_ll_calls.specs.declared.answer.CllAnswer.TheVariants as a
+use Rattle.ciborium_ll_calls.specs.declared.answer.CllReport.{CllReport}
+use Rattle.ciborium_ll_calls.specs.declared.copier.CllCopier.{CllCopier}
+use Rattle.ciborium_ll_calls.specs.Answers.{Reports}
+
+-- in this memory stands a copier that has come to the spot. The mark is "elements" in ASCII
+pub record IsCopier (copier : CllCopier) (spot : Spot) : Type 0 where
+  pub mark : copier.mark ≡ 7308327815843050611
+  pub state : Holds copier.state spot
+
+-- in this memory stands none
+abbrev pub IsNoCopier : CllCopier → Type 0
+IsNoCopier copier = (spot : Spot) → IsCopier copier spot → ⊥
+
+-- a copier of so many elements stands there, to which nothing came and which wrote nothing
+abbrev pub IsCopierOf : ℕ → CllCopier → Type 0
+IsCopierOf count copier = (spot : Spot) × IsCopier copier spot × IsCopiedTo count [] [] spot
+
+-- the answer that stands for what `feed` of `cbor_copy` gave
+abbrev pub progress_answer : Progress → CllAnswer
+progress_answer r.Ended = a.Ok
+progress_answer r.More = a.Short
+progress_answer r.Room = a.Room
+progress_answer (r.Syntax place) = a.Syntax
+progress_answer r.TooLong = a.TooLong
+
+-- the place that comes with it, and 0 where there is none
+abbrev pub progress_place : Progress → ℕ
+progress_place (r.Syntax place) = place
+progress_place progress = 0
+
+-- the answer that stands for what `end` of `cbor_copy` gave
+abbrev pub end_answer : End → CllAnswer
+end_answer e.Ended = a.Ok
+end_answer e.Short = a.Short
+end_answer e.Room = a.Room
+end_answer (e.Syntax place) = a.Syntax
+
+-- the place that comes with it, and 0 where there is none
+abbrev pub end_place : End → ℕ
+end_place (e.Syntax place) = place
+end_place end = 0
+
+-- the answer with its place is that of the spot, but where no more bytes can be counted
+abbrev pub IsAnswer : CllAnswer → ℕ → Spot → Type 0
+IsAnswer a.TooLong place spot = progress_of spot.put spot.phase ≡ r.More
+IsAnswer answer place spot =
+    (answer ≡ progress_answer (progress_of spot.put spot.phase))
+    × (place ≡ progress_place (progress_of spot.put spot.phase))
+
+-- What an answer with its place says of all bytes so far and of all that was written: they are so many elements, in
+-- their shortest spelling; more are due, and all that can be written is; there is more to write; or no such elements
+-- begin so, with a fault at this place (RFC 7049, 2.1 and 2.2)
+abbrev pub SaysOf : ℕ → List ℕ → List ℕ → CllAnswer → ℕ → Type 0
+SaysOf count whole output a.Ok place = Tells count whole output r.Ended × (place ≡ 0)
+SaysOf count whole output a.Short place = Tells count whole output r.More × (place ≡ 0)
+SaysOf count whole output a.Room place = Tells count whole output r.Room × (place ≡ 0)
+SaysOf count whole output a.Syntax place = Tells count whole output (r.Syntax place)
+SaysOf count whole output a.TooLong place = Tells count whole output r.TooLong × (place ≡ 0)
+SaysOf count whole output answer place = ⊥
+
+-- whatever stood in the memory of the copier: no more was taken and written than there is, and behind what was written
+-- the output is as it was
+pub record StaysWithin (bytes out output : List ℕ) (report : CllReport) : Type 0 where
+  pub taken : report.consumed ≤ length bytes
+  pub written : report.written ≤ length out
+  pub kept : drop report.written output ≡ drop report.written out
+
+-- what `cll_copier_feed` does with a piece, for a copier that has come to the old spot: so many of its bytes were
+-- taken, all of them where more are due, and so many were written, as many as there is room for where there are more.
+-- The answer says what it does of all bytes so far and of all that was written, which have led to where the copier is.
+-- Behind an end or a fault nothing is taken or written (RFC 7049, 2.1 and 2.2)
+pub record FeedsCopied (count : ℕ) (fed given : List ℕ) (old : Spot) (bytes out : List ℕ) (answer : CllAnswer)
+    (output : List ℕ) (report : CllReport) (new : CllCopier) : Type 0 where
+  pub all : answer ≡ a.Short → report.consumed ≡ length bytes
+  pub full : answer ≡ a.Room → report.written ≡ length out
+  pub reports : Reports report report.consumed report.written report.place
+  pub says : SaysOf count (fed ++ take report.consumed bytes) (given ++ take report.written output) answer report.place
+  pub spot : Spot
+  pub is_copier : IsCopier new spot
+  pub is_copied : IsCopiedTo count (fed ++ take report.consumed bytes) (given ++ take report.written output) spot
+  pub answers : IsAnswer answer report.place spot
+  pub stays : is_due old.phase ≡ false → old.put ≡ []
+      → (report.consumed ≡ 0) × (report.written ≡ 0) × (spot ≡ old)
+
+-- what an answer with its place says where no more bytes come: they are so many elements, they are cut off, there is
+-- more to write, or no such elements begin so
+abbrev pub SaysOfEnd : ℕ → List ℕ → List ℕ → CllAnswer → ℕ → Type 0
+SaysOfEnd count whole output a.Ok place = TellsEnd count whole output e.Ended × (place ≡ 0)
+SaysOfEnd count whole output a.Short place = TellsEnd count whole output e.Short × (place ≡ 0)
+SaysOfEnd count whole output a.Room place = TellsEnd count whole output e.Room × (place ≡ 0)
+SaysOfEnd count whole output a.Syntax place = TellsEnd count whole output (e.Syntax place)
+SaysOfEnd count whole output answer place = ⊥
+
+-- what `cll_copier_end` does at the spot: the answer and its place are those of the spot, and it is Ok exactly where
+-- the bytes are so many elements and their shortest spelling is written (RFC 7049, 2.1 and 2.2)
+pub record EndsCopied (count : ℕ) (fed given : List ℕ) (spot : Spot) (answer : CllAnswer) (report : CllReport)
+    : Type 0 where
+  pub says : SaysOfEnd count fed given answer report.place
+  pub exactly : answer ≡ a.Ok ↔ AreSpelled count fed given
+  pub answers : answer ≡ end_answer (end_of spot.put spot.phase)
+  pub place : report.place ≡ end_place (end_of spot.put spot.phase)
+  pub reports : Reports report 0 0 report.place

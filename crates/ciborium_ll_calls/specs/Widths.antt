@@ -1,0 +1,96 @@
+-- What `cll_push_wide` does.
+use Rattle.std.specs.Prelude.{◌≡◌, ℕ, suc, ◌≤◌, ◌^◌, Bool, true, false, List, ◌++◌, length, drop, Option, Some, None}
+use Rattle.std.specs.Prelude.{if◌then◌else◌, nat_lt, ◌==◌}
+use Rattle.ciborium_ll.specs.Types.Header.{Header}
+use Rattle.ciborium_ll.specs.Types.Header.TheVariants as h
+use Rattle.ciborium_ll.specs.Types.Float.TheVariants as f
+use Rattle.ciborium_ll.specs.Title.{IsTitle}
+use Rattle.ciborium_ll_grammar.specs.declared.hdr.Minor.{Minor}
+use Rattle.ciborium_ll_grammar.specs.declared.hdr.Minor.TheVariants as m
+use Rattle.ciborium_ll_grammar.specs.declared.hdr.Title.{Title}
+use Rattle.ciborium_ll_grammar.specs.Parts.{IsParts, title_bytes}
+use Rattle.ciborium_ll_calls.specs.declared.answer.CllAnswer.{CllAnswer}
+use Rattle.ciborium_ll_calls.specs.declared.answer.CllAnswer.TheVariants as a
+use Rattle.ciborium_ll_calls.specs.declared.answer.CllReport.{CllReport}
+use Rattle.ciborium_ll_calls.specs.declared.header.CllHeader.{CllHeader}
+use Rattle.ciborium_ll_calls.specs.Answers.{Reports}
+use Rattle.ciborium_ll_calls.specs.Headers.{Says}
+
+-- a title of the header with so many bytes behind its first one (RFC 7049, 2.1)
+pub record WideTitle (header : Header) (width : ℕ) : Type 0 where
+  pub title : List ℕ
+  pub is_title : IsTitle title header
+  pub wide : length title ≡ suc width
+
+-- that title, in its parts, or there is none
+abbrev pub Wide : Header → ℕ → Option Title → Type 0
+Wide header width (Some title) =
+    IsParts title × IsTitle (title_bytes title) header × (length (title_bytes title) ≡ suc width)
+Wide header width None = WideTitle header width → ⊥
+
+-- the same of the header that has the parts of C
+abbrev pub WideOf : CllHeader → ℕ → Option Title → Type 0
+WideOf parts width (Some title) = (header : Header) × Says parts header × Wide header width (Some title)
+WideOf parts width None = (header : Header) → Says parts header → WideTitle header width → ⊥
+
+-- what `cll_push_wide` does, by the answer: the title of that width stands in front of the output; where there is no
+-- room for all of it, or no header with the parts has such a title, the output is as it was
+abbrev pub PushesWide : CllHeader → ℕ → List ℕ → CllAnswer → List ℕ → CllReport → Type 0
+PushesWide parts width old a.Ok new report =
+    (header : Header) × Says parts header × (front : WideTitle header width)
+    × (new ≡ front.title ++ drop (suc width) old) × Reports report 0 (suc width) 0
+PushesWide parts width old a.Room new report =
+    (header : Header) × Says parts header × WideTitle header width × (length old ≤ width) × (new ≡ old)
+    × Reports report 0 0 0
+PushesWide parts width old a.Argument new report =
+    ((header : Header) → Says parts header → WideTitle header width → ⊥) × (new ≡ old) × Reports report 0 0 0
+PushesWide parts width old answer new report = ⊥
+
+-- ---- the title that the code makes
+
+-- the minor where it holds its number
+abbrev pub held : Bool → Minor → Option Minor
+held true minor = Some minor
+held false minor = None
+
+-- a number in so many bytes behind a first one, where it fits them
+abbrev pub minor_in : ℕ → ℕ → Option Minor
+minor_in width n =
+    if width == 0 then held (nat_lt n 24) (m.Small n) else
+    (if width == 1 then held (nat_lt n (2 ^ 8)) (m.One n) else
+    (if width == 2 then held (nat_lt n (2 ^ 16)) (m.Two n) else
+    (if width == 4 then held (nat_lt n (2 ^ 32)) (m.Four n) else
+    (if width == 8 then Some (m.Eight n) else None))))
+
+-- a minor under a major type
+abbrev pub with_major : ℕ → Option Minor → Option Title
+with_major major (Some minor) = Some (record { major = major; minor = minor })
+with_major major None = None
+
+-- with the first byte of a major type
+abbrev pub numbered_in : ℕ → ℕ → ℕ → Option Title
+numbered_in major width n = with_major major (minor_in width n)
+
+-- the minor 31, behind which no byte stands
+abbrev pub open_in : ℕ → ℕ → Option Title
+open_in major width = if width == 0 then Some (record { major = major; minor = m.Open }) else None
+
+-- a length in so many bytes, or the indefinite form, which has none behind its first one
+abbrev pub length_in : ℕ → ℕ → Option ℕ → Option Title
+length_in major width (Some len) = numbered_in major width len
+length_in major width None = open_in major width
+
+-- the title of a header in its parts (RFC 7049, 2.1 to 2.3)
+abbrev pub title_in : Header → ℕ → Option Title
+title_in (h.Positive n) width = numbered_in 0 width n
+title_in (h.Negative n) width = numbered_in 1 width n
+title_in (h.Bytes len) width = length_in 2 width len
+title_in (h.Text len) width = length_in 3 width len
+title_in (h.Array len) width = length_in 4 width len
+title_in (h.Map len) width = length_in 5 width len
+title_in (h.Tag n) width = numbered_in 6 width n
+title_in (h.Simple n) width = if nat_lt width 2 then numbered_in 7 width n else None
+title_in (h.Float (f.Half bits)) width = if width == 2 then numbered_in 7 width bits else None
+title_in (h.Float (f.Single bits)) width = if width == 4 then numbered_in 7 width bits else None
+title_in (h.Float (f.Double bits)) width = if width == 8 then numbered_in 7 width bits else None
+title_in h.Break width = open_in 7 width

@@ -1,0 +1,96 @@
+//! What a call answers, and what it reports.
+
+ghost use Rattle.std.specs.Prelude.{◌≡◌};
+ghost use Rattle.ciborium_ll_calls.specs.Answers.{Reports, ReportsCopy, ReportsElements, code};
+
+use crate::tally::Tally;
+
+/// How a call came out.
+#[derive(Clone, Copy, Debug, PartialEq, Eq)]
+pub enum CllAnswer {
+    /// All that was asked for was done.
+    Ok,
+    /// The bytes end too early.
+    Short,
+    /// At the place that is reported stands no CBOR, or for `cll_utf8` no UTF-8, that could stand there.
+    Syntax,
+    /// What is to be written next does not fit into the output.
+    Room,
+    /// An offset would pass the greatest number, which no bytes in memory make it do.
+    TooLong,
+    /// At the place that is reported a break stands where an item is due.
+    BreakDue,
+    /// At the place that is reported a tag, an array or a map stands deeper than was allowed.
+    TooDeep,
+    /// An argument is out of its range, and nothing was done.
+    Argument,
+}
+
+impl CllAnswer {
+    /// The number by which C knows the answer.
+    #[inline(always)]
+    pub fn code(self) -> u32
+        ensures { result ≡ code self }
+    {
+        match self {
+            CllAnswer::Ok => 0,
+            CllAnswer::Short => 1,
+            CllAnswer::Syntax => 2,
+            CllAnswer::Room => 3,
+            CllAnswer::TooLong => 4,
+            CllAnswer::BreakDue => 5,
+            CllAnswer::TooDeep => 6,
+            CllAnswer::Argument => 7,
+        }
+    }
+}
+
+/// How far a call came.
+#[derive(Drop)]
+#[repr(C)]
+pub struct CllReport {
+    /// How many bytes it consumed.
+    pub consumed: u64,
+    /// How many bytes it wrote.
+    pub written: u64,
+    /// Of `Syntax`, `BreakDue` and `TooDeep` the offset in the bytes that the answer names, of `Short` how many bytes
+    /// more are due at least, and of `Ok` the length of an item that was fed, where the call says so; else 0.
+    pub place: u64,
+    /// Of a copy and of a strict check how many elements were done whole, else 0.
+    pub elements: u64,
+    /// Of both the offset behind the last of them, else 0.
+    pub whole: u64,
+}
+
+impl CllReport {
+    /// Says how many bytes were consumed and written, and names a place.
+    #[inline(always)]
+    pub(crate) fn say(&mut self, consumed: usize, written: usize, place: usize)
+        ensures { Reports self.new consumed written place }
+    {
+        self.consumed = consumed as u64;
+        self.written = written as u64;
+        self.place = place as u64;
+        self.elements = 0;
+        self.whole = 0;
+    }
+
+    /// Says the same of elements, and how many of them were done.
+    #[inline(always)]
+    pub(crate) fn say_elements(
+        &mut self,
+        consumed: usize,
+        written: usize,
+        place: usize,
+        tally: Tally,
+    )
+        ensures reports { ReportsCopy self.new consumed written place }
+        ensures elements { ReportsElements self.new tally.elements tally.whole }
+    {
+        self.consumed = consumed as u64;
+        self.written = written as u64;
+        self.place = place as u64;
+        self.elements = tally.elements as u64;
+        self.whole = tally.whole as u64;
+    }
+}

@@ -1,0 +1,9 @@
+//! Tests of what the calls for C do, from outside: each call once for each of its answers.
+#![tactic(auto)]
+
+#[cfg(test)]
+mod calls;
+#[cfg(test)]
+mod copiers;
+#[cfg(test)]
+mod item_copiers;
