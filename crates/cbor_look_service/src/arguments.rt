@@ -76,19 +76,77 @@ impl Options {
 
     /// Takes an option that has no word behind it. `None` says that there is no such one for what is done.
     fn set(&mut self, word: Word, option: &str) -> Option<()> {
-        match (option, word) {
-            ("--strict", _) => self.strict = true,
-            ("--one", Word::Check) => self.one = true,
-            ("--hex", _) => self.hex = true,
-            ("--offsets", Word::Show(View::Titles)) => self.offsets = true,
-            ("--color=auto", Word::Show(View::Titles)) => self.colors = Colors::Auto,
-            ("--color=always", Word::Show(View::Titles)) => self.colors = Colors::Always,
-            ("--color=never", Word::Show(View::Titles)) => self.colors = Colors::Never,
-            ("--pretty", Word::Show(View::Notation)) => self.layout = Layout::Indented,
+        match option {
+            "--strict" => self.strict = true,
+            "--hex" => self.hex = true,
+            _ => return self.set_of(word, option),
+        }
+        Some(())
+    }
+
+    /// Takes one that only one word knows.
+    fn set_of(&mut self, word: Word, option: &str) -> Option<()> {
+        match word {
+            Word::Check => self.set_of_check(option),
+            Word::Show(View::Titles) => self.set_of_titles(option),
+            Word::Show(View::Notation) => self.set_of_notation(option),
+        }
+    }
+
+    fn set_of_check(&mut self, option: &str) -> Option<()> {
+        if option != "--one" {
+            return None;
+        }
+        self.one = true;
+        Some(())
+    }
+
+    fn set_of_titles(&mut self, option: &str) -> Option<()> {
+        match option {
+            "--offsets" => self.offsets = true,
+            "--color=auto" => self.colors = Colors::Auto,
+            "--color=always" => self.colors = Colors::Always,
+            "--color=never" => self.colors = Colors::Never,
             _ => return None,
         }
         Some(())
     }
+
+    fn set_of_notation(&mut self, option: &str) -> Option<()> {
+        if option != "--pretty" {
+            return None;
+        }
+        self.layout = Layout::Indented;
+        Some(())
+    }
+
+    /// Takes the options behind the first word, and says from which word on files are named.
+    fn take(&mut self, word: Word, words: &[String]) -> Option<usize>
+        ensures within { IfSome result (λ files. files ≤ length words.now) }
+    {
+        let mut at = words.len().min(1);
+        'options: while at < words.len() {
+            let option = words[at].as_str();
+            if !is_option(option) {
+                break;
+            }
+            at += 1;
+            match option {
+                "--" => break,
+                "--depth" => {
+                    self.set_depth(words.get(at)?.as_str())?;
+                    at += 1;
+                }
+                _ => self.set(word, option)?,
+            }
+        }
+        Some(at)
+    }
+}
+
+/// Whether a word is an option. `-` names a file.
+fn is_option(word: &str) -> bool {
+    word.as_bytes().starts_with(b"-") && word != "-"
 }
 
 /// What the words ask for.
@@ -107,33 +165,22 @@ pub struct Asked {
 pub fn asked_by(words: &[String]) -> Option<Asked>
     ensures within { IfSome result (λ asked. asked.files ≤ length words.now) }
 {
-    let word = match words.first()?.as_str() {
-        "check" => Word::Check,
-        "dump" => Word::Show(View::Titles),
-        "diag" => Word::Show(View::Notation),
-        _ => return None,
-    };
+    let word = word_named(words.first()?.as_str())?;
     let mut options = Options::new();
-    let mut at = 1;
-    'options: while at < words.len() {
-        let option = words[at].as_str();
-        if !option.as_bytes().starts_with(b"-") || option == "-" {
-            break;
-        }
-        at += 1;
-        if option == "--" {
-            break;
-        }
-        if option == "--depth" {
-            options.set_depth(words.get(at)?.as_str())?;
-            at += 1;
-        } else {
-            options.set(word, option)?;
-        }
-    }
+    let files = options.take(word, words)?;
     Some(Asked {
         word,
         options,
-        files: at,
+        files,
     })
+}
+
+/// What the first word asks for.
+fn word_named(name: &str) -> Option<Word> {
+    match name {
+        "check" => Some(Word::Check),
+        "dump" => Some(Word::Show(View::Titles)),
+        "diag" => Some(Word::Show(View::Notation)),
+        _ => None,
+    }
 }

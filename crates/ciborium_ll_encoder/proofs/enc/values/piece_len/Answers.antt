@@ -1,4 +1,4 @@
-use Rattle.std.proofs.Common.{◌<◌, List, ℕ, get_or, sym, subst, arith}
+use Rattle.std.proofs.Common.{◌<◌, List, ℕ, get_or, sym, subst, arith, rules}
 use Rattle.std.specs.Str.{IsCharBoundary}
 use Rattle.ciborium_ll_text.specs.Text.{IsTail}
 use Rattle.ciborium_ll_encoder.proofs.PieceLaws.{at_no_tail, near_limit, past_tail, some_within}
@@ -39,3 +39,6 @@ returns-clause-back c =
     near_limit c.args.limit c.args.text.now c.shorter.len c.utf8.text (boundary c) c.shorter.invariant.within
     c.requires.longer
     c.shorter.invariant.longest
+
+pub shorter-init : goal.shorter-init
+shorter-init c = search rules

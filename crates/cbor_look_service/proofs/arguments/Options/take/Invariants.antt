@@ -1,5 +1,5 @@
 use Rattle.std.proofs.Common.{◌≤◌, ◌-◌, length}
-use Rattle.cbor_look_service.proofs.arguments.asked_by.Given as goal
+use Rattle.cbor_look_service.proofs.arguments.Options.take.Given as goal
 
 abbrev pub invariant-options : goal.invariant-options
 invariant-options l = l.at ≤ length l.words
