@@ -6,7 +6,7 @@ use cbor_diag::Layout;
 use ciborium_ll_requests::number::{MOST_DEPTH, number_up_to};
 
 /// What is done.
-#[derive(Debug, Clone, Copy, PartialEq, Eq)]
+#[derive(Clone, Copy)]
 pub enum Word {
     /// The input is checked.
     Check,
@@ -15,7 +15,7 @@ pub enum Word {
 }
 
 /// What of an input is shown.
-#[derive(Debug, Clone, Copy, PartialEq, Eq)]
+#[derive(Clone, Copy)]
 pub enum View {
     /// Its titles.
     Titles,
@@ -24,7 +24,7 @@ pub enum View {
 }
 
 /// When a dump has colors.
-#[derive(Debug, Clone, Copy, PartialEq, Eq)]
+#[derive(Clone, Copy)]
 pub enum Colors {
     /// Where standard output is a terminal, and the environment names no `NO_COLOR`.
     Auto,
@@ -35,7 +35,7 @@ pub enum Colors {
 }
 
 /// How it is done.
-#[derive(Debug, Clone, Copy, PartialEq, Eq)]
+#[derive(Clone, Copy)]
 pub struct Options {
     /// Whether the shortest spelling alone is taken.
     pub strict: bool,
@@ -150,7 +150,7 @@ fn is_option(word: &str) -> bool {
 }
 
 /// What the words ask for.
-#[derive(Debug, Drop)]
+#[derive(Drop)]
 pub struct Asked {
     /// What is done.
     pub word: Word,

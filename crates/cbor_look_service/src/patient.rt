@@ -10,7 +10,7 @@ use std::io;
 const ROOM: usize = 8192;
 
 /// A read failed.
-#[derive(Debug, Drop)]
+#[derive(Drop)]
 pub(crate) struct Ended;
 
 /// Bytes that were read ahead.

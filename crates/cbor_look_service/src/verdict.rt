@@ -6,7 +6,7 @@ ghost use Rattle.cbor_look_service.specs.Verdicts.{status_code, verdict_status, 
 use std::{fmt, io};
 
 /// How the program ends.
-#[derive(Debug, Clone, Copy, PartialEq, Eq)]
+#[derive(Clone, Copy)]
 pub enum Status {
     /// All input is well-formed.
     Well,
@@ -45,7 +45,7 @@ impl Status {
 }
 
 /// What is found of an input. Offsets are in bytes from its start.
-#[derive(Debug, Drop)]
+#[derive(Drop)]
 pub enum Verdict {
     /// It is well-formed.
     Well {

@@ -8,7 +8,7 @@ use std::io;
 use std::io::{BufRead, BufReader};
 
 /// Why a line can't be read.
-#[derive(Debug, Drop)]
+#[derive(Drop)]
 pub enum LineError {
     /// There is no memory for it.
     Memory,

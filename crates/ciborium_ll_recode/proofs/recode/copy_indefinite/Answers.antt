@@ -7,13 +7,13 @@ use Rattle.ciborium_ll_recode.proofs.recode.copy_indefinite.Goals as goal
 
 pub returns-in_err-write_header-clause-copied : goal.returns-in_err-write_header-clause-copied
 returns-in_err-write_header-clause-copied g c = λ count before old title t only behind.
-    let same = exit_is c.from_residual.result c.in_err-write_header.field-0.0 c.from_residual.ensures.1 in
     let wrote = rw c.header.ensures at c.in_err-write_header.ensures.header in
-    rw same (header_error g.R.Read g.W.Write count (length c.args.buffer.now) old
+    let stops = header_error g.R.Read g.W.Write count (length c.args.buffer.now) old
     (sides_of c.args.decoder.now c.args.encoder.now) _ _
     c.in_err-write_header.field-0.0 wrote (λ fault stopped.
     open_unwritten g.R.Read g.W.Write count before old (sides_of c.args.decoder.now c.args.encoder.now)
-    (length c.args.buffer.now) g.P.Parser.kind title _ fault t behind stopped))
+    (length c.args.buffer.now) g.P.Parser.kind title _ fault t behind stopped) in
+    rw (exit_is c.from_residual.result c.in_err-write_header.field-0.0 c.from_residual.ensures.1) stops
 
 pub returns-in_err-copy_segments-clause-copied : goal.returns-in_err-copy_segments-clause-copied
 returns-in_err-copy_segments-clause-copied g c = λ count before old title t only behind.

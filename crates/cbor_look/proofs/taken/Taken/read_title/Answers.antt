@@ -5,6 +5,7 @@ use Rattle.std.proofs.lemmas.Result.{err_from_is_err_and}
 use Rattle.ciborium_ll.specs.Title.{affix_len}
 use Rattle.ciborium_ll.specs.Decoding.{ReadsAll}
 use Rattle.cbor_skip.proofs.StrictnessLaws.{taken_when}
+use Rattle.std.proofs.lemmas.Grind.{common_steps}
 use Rattle.cbor_look.specs.Takings.{Means, taken_bytes}
 use Rattle.cbor_look.proofs.TakingLaws.{keeps_then, one_of}
 use Rattle.cbor_look.proofs.PullLaws.{first_fails, affix_fails, first_passed, more_passed, passes_idle, row_pulled}
@@ -132,3 +133,9 @@ returns-in-None-clause-pulls g c = λ alike at.
     let passed = more_passed g.R.Read _ _ _ _ _ _ begun (passes_idle g.R.Read _ _ _ begun idle) second in
     row_refused g.R.Read c.args.strict _ _ _ alike passed c.args.place at
     (subst (λ (z : List ℕ). Means c.args.strict z None) c.bytes-2.ensures means)
+
+pub returns-in-None-clause-keeps : goal.returns-in-None-clause-keeps
+returns-in-None-clause-keeps g c = grind (arith, common_steps)
+
+pub returns-in-Some-clause-keeps : goal.returns-in-Some-clause-keeps
+returns-in-Some-clause-keeps g c = grind (arith, common_steps)

@@ -3,3 +3,6 @@ use Rattle.ciborium_ll_decoder.proofs.dec.Decoder.taken.Goals as goal
 
 pub returns-then-is_longer : goal.returns-then-is_longer
 returns-then-is_longer g c = search rules
+
+pub returns-else-self : goal.returns-else-self
+returns-else-self g c = search rules

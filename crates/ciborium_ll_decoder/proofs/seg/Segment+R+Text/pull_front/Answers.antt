@@ -194,3 +194,6 @@ returns-in-None-clause-same_reference g c =
 
 pub returns-in-None-clause-moves_on : goal.returns-in-None-clause-moves_on
 returns-in-None-clause-moves_on g c = rw c.damage-in-None.ensures.same c.fill.ensures.moves_on
+
+pub returns-in-Nothing : goal.returns-in-Nothing
+returns-in-Nothing g c = search rules
