@@ -82,16 +82,6 @@ pub more_given : (pending : List ℕ) (phase : Phase) → progress_of pending ph
 more_given [] phase e = refl
 more_given (byte ∷ pending) phase e = absurd cc
 
--- where nothing was pending, nothing is given
-pub none_given : (written : ℕ) (out pending : List ℕ) → take written out ++ pending ≡ [] → written ≤ length out
-    → (written ≡ 0) × (pending ≡ [])
-none_given written out pending e within =
-    let l = ap length e in
-    let long = length-take-le written out within in (
-      omega (arith, l, long, length-append (take written out) pending),
-      length_zero pending (omega (arith, l, length-append (take written out) pending)),
-    )
-
 -- behind an end or a fault no more bytes are due
 pub not_more : (pending : List ℕ) (phase : Phase) → is_due phase ≡ false → progress_of pending phase ≡ r.More → ⊥
 not_more (byte ∷ pending) phase off e = cc

@@ -116,22 +116,3 @@ given_grows spot new b at end out out' rest step before behind given =
     )
 
 -- ---- how many bytes are held back
-
-cut_most : (state : State) → most_cut state ≤ 8
-cut_most s.Between = omega arith
-cut_most s.Damaged = omega arith
-cut_most s.OneDue = omega arith
-cut_most s.TwoDue = omega arith
-cut_most s.ThreeDue = omega arith
-cut_most s.BehindE0 = omega arith
-cut_most s.BehindEd = omega arith
-cut_most s.BehindF0 = omega arith
-cut_most s.BehindF4 = omega arith
-
--- eight at most
-pub front_most : (phase : Phase) (front : List ℕ) → most_front phase front ≤ 8
-front_most p.Title front = affix_most (slice_index front 0 % 32)
-front_most (p.Bytes left) front = omega arith
-front_most (p.Text left state) front = cut_most state
-front_most p.Ended front = omega arith
-front_most (p.Faulted place) front = omega arith

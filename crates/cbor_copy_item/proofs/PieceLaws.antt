@@ -57,7 +57,3 @@ pub both_fronts : (s : Bool) (d : ℕ) (item : Spot) (elements : Elements) (fed 
 both_fronts s d item elements fed fed' given given' rest e f are =
     subst (λ (z : List ℕ). AreFed s d fed' item elements (z ++ rest)) f
     (subst (λ (z : List ℕ). AreFed s d z item elements (given ++ rest)) e are)
-
--- a piece of no bytes
-pub none_more : (fed : List ℕ) (n : ℕ) → fed ++ take n [] ≡ fed
-none_more fed n = ap (λ (z : List ℕ). fed ++ z) (take_all n [] (omega arith)) ∙ append-nil fed

@@ -69,13 +69,6 @@ float_shown sink float value mark old new result values marks shown = record {
 
 -- ---- the point in front of an exponent
 
-pub point_there : (bytes behind : List ℕ) (byte : ℕ) → bytes ≡ byte ∷ behind → byte ≡ 46 → with_point bytes ≡ bytes
-point_there bytes behind byte split is = rw (split, is) refl
-
-pub point_due : (bytes behind : List ℕ) (byte : ℕ) → bytes ≡ byte ∷ behind → byte ≡ 101
-    → with_point bytes ≡ codes ".0" ++ bytes
-point_due bytes behind byte split is = rw (split, is) refl
-
 pub point_later : (behind : List ℕ) (byte : ℕ) → (byte ≡ 46 → ⊥) → (byte ≡ 101 → ⊥)
     → with_point (byte ∷ behind) ≡ (byte ∷ []) ++ with_point behind
 point_later behind byte no_point no_exponent = search rules
@@ -85,9 +78,6 @@ module _ {W F : Type 0} (sink : Ghosts W F) where
   pub record DigitsFar (all rest : List ℕ) (old now : W) : Type 0 where
     pub goes_on : (result : Result (Unit {0}) F) (new : W) → WritesBytes sink now result (with_point rest) new
         → WritesBytes sink old result (with_point all) new
-
-  pub digits_first : (all : List ℕ) (old : W) → DigitsFar all all old old
-  digits_first all old = record { goes_on = λ result new w. w }
 
   -- no byte is left
   pub digits_last : (all rest : List ℕ) (old now : W) → length rest ≡ 0 → DigitsFar all rest old now
@@ -113,8 +103,3 @@ module _ {W F : Type 0} (sink : Ghosts W F) where
       goes_on = λ result last w. digits_end all rest ((byte ∷ []) ++ with_point behind) old now last result far parts
           (WritesBytes-then sink now new last result (byte ∷ []) (with_point behind) wrote w);
     }
-
-    pub digits_stop : (result : Result (Unit {0}) F) → IsErr result → WritesFront sink now (byte ∷ []) new
-        → WritesBytes sink old result (with_point all) new
-    digits_stop result fails wrote = digits_end all rest ((byte ∷ []) ++ with_point behind) old now new result far parts
-        (WritesBytes-stopped sink now new result (byte ∷ []) (with_point behind) fails wrote)

@@ -34,24 +34,6 @@ settled_anyhow (f ∷ fs) d s a b = due_by (next f) f fs d s a b refl (settled_a
 
 -- ---- an item more of the innermost level
 
--- another one is due there
-pub settled_due : (levels new : List Level) (level left : Level) → Some level ≡ innermost levels → next level ≡ Some left
-    → new ≡ left ∷ others levels → (d : ℕ) (s : Spot) → settled d levels s ≡ item_due d new s
-settled_due [] new level left e goes is d s = absurd cc
-settled_due (f ∷ fs) new level left e goes is d s =
-    let same : f ≡ level = cc in
-    let more : next f ≡ Some left = ap next same ∙ goes in
-    rw (more, is, settled) refl
-
--- the level is done
-pub settled_done : (levels new : List Level) (level : Level) → Some level ≡ innermost levels → next level ≡ None
-    → new ≡ others levels → (d : ℕ) (s : Spot) → settled d levels s ≡ settled (suc d) new s
-settled_done [] new level e ends is d s = absurd cc
-settled_done (f ∷ fs) new level e ends is d s =
-    let same : f ≡ level = cc in
-    let none : next f ≡ None = ap next same ∙ ends in
-    rw (none, is, settled) refl
-
 -- ---- a nest
 
 nest_goes : (depth : ℕ) (s : Spot) (inner left : Level) → (depth ≡ 0 → ⊥) → next inner ≡ Some left

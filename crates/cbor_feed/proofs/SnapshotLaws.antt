@@ -51,13 +51,6 @@ levels_put m n kinds counts kind count level levels e ltk ltc is all =
     levels_push n m kinds counts kind count level (others levels) ltk ltc e is
     (others_in here (levels_in n kinds counts) levels whole)
 
--- the next one
-pub levels_next : (n m : ℕ) (kinds counts : List ℕ) (level : Level) (levels : List Level) → m ≡ n + 1
-    → level_in (get_or kinds n 0) (get_or counts n 0) ≡ Some level → levels_in n kinds counts ≡ Some levels
-    → levels_in m kinds counts ≡ Some (level ∷ levels)
-levels_next n m kinds counts level levels e is below =
-    ap (λ (z : ℕ). levels_in z kinds counts) (e ∙ add-one n) ∙ cc (is, below)
-
 levels_last : (here : Option Level) (below : Option (List Level)) → here ≡ None → within_others here below ≡ None
 levels_last here below e = rw e refl
 

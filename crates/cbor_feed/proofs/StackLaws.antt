@@ -99,8 +99,3 @@ module _ (m n : ℕ) (kinds counts : List ℕ) (levels : List Level) (e : m ≡ 
   counted_due d s =
       ap (λ (z : List Level). settled d z s) counted.old
       ∙ sym (ap (λ (z : Option (List Level)). item_due d (levels_of z) s) counted.is)
-
-  pub counted_long : length (levels_of (levels_in m kinds (set counts n (get_or counts n 0 - 1)))) ≡ length levels
-  counted_long =
-      ap (λ (z : Option (List Level)). length (levels_of z)) counted.is
-      ∙ sym (ap (λ (z : List Level). length z) counted.old)

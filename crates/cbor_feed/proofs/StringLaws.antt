@@ -21,17 +21,6 @@ use Rattle.cbor_feed.proofs.LevelLaws.{Same, string_ends}
 
 -- ---- bodies
 
-pub sounder : (len : ℕ) (P Q Then : List ℕ → Type 0) (y : List ℕ) → ((b : List ℕ) → P b → Q b) → BodyThen len P Then y
-    → BodyThen len Q Then y
-sounder len P Q Then y f b = record {
-  body = b.body;
-  rest = b.rest;
-  long = b.long;
-  sound = f b.body b.sound;
-  behind = b.behind;
-  is = b.is;
-}
-
 -- no body is left out
 pub empty_body : (P Then : List ℕ → Type 0) (b rest y : List ℕ) → length b ≡ 0 → Then rest → y ≡ b ++ rest → Then y
 empty_body P Then [] rest y l k e = subst Then (sym e) k

@@ -78,9 +78,6 @@ state_due bytes (byte ∷ []) is one =
     (due_step (after t.Between bytes) byte (inside_not (after t.Between bytes) is).0)
 state_due bytes (byte ∷ (other ∷ more)) is one = absurd (omega (arith, one))
 
-pub state_room : (bytes : List ℕ) → due (after t.Between bytes) ≤ 3
-state_room bytes = due-le (after t.Between bytes)
-
 pub inside_some : (bytes : List ℕ) → is_inside (after t.Between bytes) ≡ true → 0 < due (after t.Between bytes)
 inside_some bytes is = (inside_not (after t.Between bytes) is).0
 
@@ -218,25 +215,6 @@ module _ {R E : Type 0} (source : Ghosts R E) where
       (begun Text left old between row cut.front cut.left cut.parts cut.few cut.text (omega (arith, more)) passed)
       (passes_idle source old between row passed none) (omega (arith, counted, room)) (omega (arith, counted))
       (omega (arith, counted, more)) reads.reads
-
-  -- the bytes of a text that is none
-  pub part_damaged : (left place : ℕ) (row : List ℕ) (old new : Decoder R) → Passes source old row new
-      → length row ≤ left → IsSound left row false
-      → EndsBody source Text [] left most_bytes place old (Err (e.Syntax place)) new
-  part_damaged left place row old new passed most none = (
-    refl,
-    record {
-      textual = refl;
-      read = row;
-      front = [];
-      left = row;
-      parts = refl;
-      sound = IsCharacters-nil;
-      within = most;
-      no_text = none;
-      passed = passed;
-    },
-  )
 
   abbrev begins_behind : (kind : Kind) (len left : ℕ) (front : List ℕ) (old between new : Decoder R)
       → Passes source old front between → IsWritable kind front → length front + left ≡ len

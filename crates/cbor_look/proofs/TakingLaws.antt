@@ -47,10 +47,6 @@ module _ {R E : Type 0} (source : Ghosts R E) where
         (Consumes-trans _ _ _ first second one.0 two.0, two.1);
   }
 
-  pub keeps_none : (before : List ℕ) (decoder : Decoder R) → Keeps source before before decoder decoder
-  keeps_none before decoder =
-      record { bytes = []; appended = sym (append-nil before); takes = takes_none decoder }
-
   pub keeps_then : (before between after : List ℕ) (old middle new : Decoder R) → Keeps source before between old middle
       → Keeps source between after middle new → Keeps source before after old new
   keeps_then before between after old middle new first second = record {

@@ -371,22 +371,6 @@ end_outside strict depth whole walk bytes behind none =
       };
     })
 
--- where a nest is open, something remains of the innermost one
-some_remains : (depth : ℕ) (walk : Walk) (nests : List Nest) → KeepsNests depth walk nests → (walk.used ≡ 0 → ⊥)
-    → is_done (remaining_at walk.levels (walk.used - 1)) ≡ false
-some_remains depth walk [] keeps some = absurd (some keeps.used)
-some_remains depth walk (nest ∷ nests) keeps some =
-    let used = keeps.used in
-    let at : length nests ≡ walk.used - 1 = omega (arith, used) in
-    let kept = keeps.kept in
-    subst (λ (k : ℕ). is_done (remaining_at walk.levels k) ≡ false) at kept.1
-
-pub end_remains : (strict : Bool) (depth whole : ℕ) (walk : Walk) (bytes : List ℕ)
-    → IsBehindItem strict depth whole walk bytes
-    → (walk.used ≡ 0 → ⊥)
-    → is_done (remaining_at walk.levels (walk.used - 1)) ≡ false
-end_remains strict depth whole walk bytes behind some = some_remains depth walk behind.due.nests behind.due.keeps some
-
 -- what the end of an item changes: what remains of the innermost nest
 pub record Steps (walk new : Walk) (after : Remaining) : Type 0 where
   pub counts : (x : Header) (count : ℕ) → IsRemaining x count (remaining_at walk.levels (walk.used - 1))

@@ -90,11 +90,6 @@ strict_mode None b none = refl
 strict_mode (Some x) false none = refl
 strict_mode (Some x) true none = absurd (let no = none refl in cc)
 
--- where it isn't strict, no more is said than of any
-pub strict_lenient : (w : Option Header) (b : Bool) → b ≡ false → strict_unless_waiting w b ≡ false
-strict_lenient None b e = e
-strict_lenient (Some x) b e = refl
-
 module _ {R E : Type 0} (source : Ghosts R E) where
   -- a title that was given
   pub pulled_taken : {old new : Decoder R} {x : Header} (p : PullsTitle source old x new)

@@ -46,11 +46,6 @@ value_of k segment value marks w = record {
       whole_value k (value_limit k segment value) value marks w;
 }
 
--- the limit is at least the least one of the kind
-limit_least : (k : Kind) (segment : Option ℕ) (value : List ℕ) → least_limit k ≤ value_limit k segment value
-limit_least k None value = omega arith
-limit_least k (Some n) value = omega arith
-
 -- ---- one piece
 
 module _ {W F : Type 0} (sink : Ghosts W F) where

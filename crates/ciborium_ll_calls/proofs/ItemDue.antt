@@ -91,8 +91,3 @@ module _ (strict : Bool) (depth : ℕ) (bytes : List ℕ) (cut : ItemInFront str
         is_item = tells.0;
         is = sym (take-append-drop taken bytes);
       })
-
-  -- nor are there too many bytes
-  pub never_long : (taken : ℕ) → taken ≤ length bytes → length bytes < 2 ^ 63
-      → Tells strict depth (take taken bytes) r.TooLong → ⊥
-  never_long taken within object long = omega (arith, within, object, long, length-take-le taken bytes within)

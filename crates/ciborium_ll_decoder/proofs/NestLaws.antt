@@ -337,8 +337,3 @@ module _ {R E : Type 0} (source : Ghosts R E) (k : Kind) where
             }
             )
       ]
-
--- a length that is a number of its type is one of a header
-pub len_in_range : (k : Kind) (len : ℕ) → len < 2 ^ 64 → IsInRange (kind_header k (Some len))
-len_in_range Bytes len l = l
-len_in_range Text len l = l

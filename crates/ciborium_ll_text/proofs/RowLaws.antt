@@ -29,18 +29,6 @@ entries s.BehindF0 = refl
 entries s.BehindF4 = refl
 entries s.Damaged = refl
 
--- a state's entry begins below 64
-pub shift_of-lt : (state : State) → shift_of state < 64
-shift_of-lt s.Between = omega arith
-shift_of-lt s.OneDue = omega arith
-shift_of-lt s.TwoDue = omega arith
-shift_of-lt s.ThreeDue = omega arith
-shift_of-lt s.BehindE0 = omega arith
-shift_of-lt s.BehindEd = omega arith
-shift_of-lt s.BehindF0 = omega arith
-shift_of-lt s.BehindF4 = omega arith
-shift_of-lt s.Damaged = omega arith
-
 -- the entry of the state behind one byte
 pub row_step : (state : State) (b : ℕ) → b < 256
     → get_or ROWS b 0 / 2 ^ shift_of state % 64 ≡ shift_of (after_byte state b)

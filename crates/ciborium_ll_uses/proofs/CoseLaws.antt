@@ -118,14 +118,6 @@ module _ {R E : Type 0} (source : Ghosts R E) where
         took = whole;
       }
 
-  pub took_string_if : {F : Type 0} (old titled new : Decoder R) (len : ℕ) (result : Result Span F) → old.strict ≡ true
-      → old.waiting ≡ None
-      → PullsTitle source old (h.Bytes (Some len)) titled → IfOk result (λ span. TookBody source len titled span new)
-      → IfOk result (λ span. TookString source old span new)
-  took_string_if old titled new len (Ok span) strict none pulls body =
-      took_string old titled new len span strict none pulls body
-  took_string_if old titled new len (Err error) strict none pulls body = tt
-
   -- all of it
   pub began : (bytes : List ℕ) (first tagged opened one two three last : Decoder R) (protected unprotected : Span)
       (payload : Option Span) (signature : Span)
