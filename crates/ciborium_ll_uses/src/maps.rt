@@ -33,7 +33,7 @@ pub fn write_strings<W: Write>(
 }
 
 /// Writes a pair.
-#[tactic(auto, using(crate::proofs::Steps::texts_written, crate::proofs::Steps::text_unwritten))]
+#[tactic(auto, using(crate::proofs::Steps::text_unwritten))]
 fn write_entry<W: Write>(encoder: &mut Encoder<W>, entry: &Entry<'_>) -> Result<(), W::Error>
     ensures { WritesBytes W.Write (writer_of encoder.old) result (entry_bytes entry.now) (writer_of encoder.new) }
 {
