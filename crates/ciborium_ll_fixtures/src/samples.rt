@@ -206,19 +206,39 @@ pub static COPIES: [(usize, &str); 24] = [
     (1, "7f626162ff"),
 ];
 
+/// Digits, each with how many elements a copy of it is asked for.
+type Samples = Vec<(usize, &'static str)>;
+
 /// The digits of all of these, each with how many elements a copy of it is asked for: those that it has, or those of
 /// its row. It fails where there is no memory.
 pub fn all(alloc: Global) -> Result<Vec<(usize, &'static str)>, AllocError> {
-    let mut all = vec![in alloc; (26, TWENTY_FIVE), (27, TWENTY_FIVE_AND_BREAK)]?;
+    let first = vec![in alloc; (26, TWENTY_FIVE), (27, TWENTY_FIVE_AND_BREAK)]?;
+    with_copies(with_longer_titles(with_lists(with_vectors(first)?)?)?)
+}
+
+// A loop over a static beside other loops takes longer to prove than alone.
+fn with_vectors(mut all: Samples) -> Result<Samples, AllocError> {
     for &(hex, _) in &VECTORS {
         all.push((1, hex))?;
     }
+    Ok(all)
+}
+
+fn with_lists(mut all: Samples) -> Result<Samples, AllocError> {
     for &(hex, headers) in &LISTS {
         all.push((headers.len(), hex))?;
     }
+    Ok(all)
+}
+
+fn with_longer_titles(mut all: Samples) -> Result<Samples, AllocError> {
     for &(hex, _, _) in &LONGER_TITLES {
         all.push((1, hex))?;
     }
+    Ok(all)
+}
+
+fn with_copies(mut all: Samples) -> Result<Samples, AllocError> {
     for row in &COPIES {
         all.push(*row)?;
     }
