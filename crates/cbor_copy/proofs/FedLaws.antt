@@ -1,11 +1,10 @@
 -- Bytes that are fed one by one.
 use Rattle.std.proofs.Common.{◌≡◌, ℕ, zero, suc, ◌+◌, ◌-◌, ◌<◌, ◌≤◌, List, [], ◌∷◌, ◌++◌, length, take, get_or, refl}
 use Rattle.std.proofs.Common.{sym, ap}
-use Rattle.std.proofs.Common.{subst, ◌∙◌, arith, append_assoc, append-nil, drop, drop-drop, length-append}
-use Rattle.std.proofs.Common.{length-take-le, false}
+use Rattle.std.proofs.Common.{subst, ◌∙◌, arith, append_assoc, append-nil, drop, drop-drop}
+use Rattle.std.proofs.Common.{false}
 use Rattle.std.proofs.lemmas.List.{take_more, take_rest}
 use Rattle.std.proofs.Math.Seq.{take-add}
-use Rattle.ciborium_ll_text.proofs.Lists.{length_zero}
 use Rattle.cbor_copy.specs.declared.phase.Phase.{Phase}
 use Rattle.cbor_copy.specs.declared.phase.Phase.TheVariants as p
 use Rattle.cbor_copy.specs.declared.progress.Progress.{Progress}

@@ -1,6 +1,6 @@
 -- What a byte puts out and what is held back behind it are no longer than it and what was held back before.
 use Rattle.std.proofs.Common.{◌≡◌, ℕ, zero, suc, ◌+◌, ◌-◌, ◌≤◌, Bool, true, false, List, [], ◌∷◌, ◌++◌, length}
-use Rattle.std.proofs.Common.{Some, None, refl, ap, ◌∙◌, arith, length-append, length-take-le, slice_index, take, ◌%◌}
+use Rattle.std.proofs.Common.{Some, None, refl, ap, ◌∙◌, arith, length-append, length-take-le, take}
 use Rattle.ciborium_ll_grammar.specs.declared.hdr.Header.{Header}
 use Rattle.ciborium_ll_grammar.specs.declared.hdr.Header.TheVariants as h
 use Rattle.ciborium_ll_grammar.specs.Title.{IsTitle, shortest_title}
@@ -14,11 +14,9 @@ use Rattle.cbor_copy.specs.declared.phase.StringKind.{StringKind}
 use Rattle.cbor_copy.specs.declared.phase.StringKind.TheVariants as k
 use Rattle.cbor_copy.specs.declared.phase.Within.{Within}
 use Rattle.cbor_copy.specs.declared.phase.Within.TheVariants as w
-use Rattle.cbor_copy.specs.Fronts.{most_front, most_cut}
 use Rattle.cbor_copy.specs.Spots.{Spot, element_entered, within_entered, entered}
 use Rattle.cbor_copy.specs.Steps.{TitleStep, cut, early, whole, none, StepIn, Step, with_byte, with_char, char_put}
 use Rattle.cbor_copy.specs.Steps.{text_left, byte_put}
-use Rattle.cbor_copy.proofs.BlockedLaws.{affix_most}
 use Rattle.cbor_copy.proofs.EnterLaws.{due_put, body_put}
 use Rattle.cbor_copy.proofs.KeptLaws.{body_kept, entered_kept}
 

@@ -1,10 +1,10 @@
 -- The text of a float, written piece by piece.
-use Rattle.std.proofs.Common.{rules, ◌≡◌, ℕ, true, false, Some, is_nan, List, [], ◌∷◌, ◌++◌, length, arith, Result, Ok, IsErr, refl, sym, ap, subst, from_bits, codes}
+use Rattle.std.proofs.Common.{rules, ◌≡◌, ℕ, true, false, Some, is_nan, List, [], ◌∷◌, ◌++◌, length, arith, Result, Ok, refl, sym, ap, subst, from_bits, codes}
 use Rattle.std.specs.Float.{Float, nan, inf, fin, binary64, float_is_finite, is_sign_negative}
 use Rattle.std.specs.Float as f
 use Rattle.ciborium_ll.specs.Types.Write.{Ghosts}
-use Rattle.ciborium_ll.specs.Encoding.{WritesAll, WritesBytes, WritesFront}
-use Rattle.ciborium_ll.proofs.EncodingLaws.{WritesBytes-stopped, WritesBytes-then}
+use Rattle.ciborium_ll.specs.Encoding.{WritesAll, WritesBytes}
+use Rattle.ciborium_ll.proofs.EncodingLaws.{WritesBytes-then}
 use Rattle.ryu.specs.Parse.{parse_float}
 use Rattle.ryu.specs.Plain.{IsPlusNumber}
 use Rattle.ciborium_ll.specs.Types.Float.{Float as Raw}

@@ -18,7 +18,7 @@ use Rattle.ciborium_ll_text.specs.Text.{IsCharacters, IsFront}
 use Rattle.ciborium_ll_text.specs.declared.state.State.{State}
 use Rattle.ciborium_ll_text.specs.declared.state.State.TheVariants as t
 use Rattle.ciborium_ll_text.proofs.StateLaws.{after-append, text_ends, text_from, none_goes_on, some_goes_on}
-use Rattle.ciborium_ll_text.proofs.LastEndLaws.{due, due-le, back, Back, begins, goes_on}
+use Rattle.ciborium_ll_text.proofs.LastEndLaws.{due, back, Back, begins, goes_on}
 use Rattle.cbor_look.specs.Takings.{most_bytes, ReadsOn}
 use Rattle.cbor_look.specs.Parts.{is_between, is_inside, IsSound, ReadsPart}
 use Rattle.cbor_look.proofs.PullLaws.{passes_idle, first_passed}

@@ -1,6 +1,6 @@
 -- The steps of the read of an item, over any reader.
 use Rattle.std.proofs.Common.{◌≡◌, ℕ, zero, suc, ◌<◌, ◌*◌, Bool, true, false, List, [], ◌∷◌, ◌++◌, length, Option}
-use Rattle.std.proofs.Common.{Some, None, Result, Ok, Err, refl, sym, ap, subst, ◌∙◌, inl, arith, append_assoc}
+use Rattle.std.proofs.Common.{Some, None, Err, refl, sym, ap, subst, ◌∙◌, inl, arith, append_assoc}
 use Rattle.std.proofs.Common.{append-nil, length-append}
 use Rattle.ciborium_ll_io.specs.declared.io.Read.{Ghosts}
 use Rattle.ciborium_ll_grammar.specs.declared.hdr.Header.{Header}
@@ -27,8 +27,8 @@ use Rattle.cbor_skip.specs.declared.remaining.Remaining.{Remaining}
 use Rattle.cbor_skip.specs.declared.remaining.Remaining.TheVariants as r
 use Rattle.cbor_skip.specs.Due.{here, within, may_close}
 use Rattle.cbor_skip.specs.Remaining.{IsRemaining, is_done, closes}
-use Rattle.cbor_skip.specs.Skipping.{StopsDue, StopsTitle, StopsItem, ReadsItem, SkipsItem, ReadsWithin, StopsWithin}
-use Rattle.cbor_skip.specs.Skipping.{SkipsWithin, strictness}
+use Rattle.cbor_skip.specs.Skipping.{StopsDue, StopsTitle, StopsItem, ReadsItem, ReadsWithin, StopsWithin}
+use Rattle.cbor_skip.specs.Skipping.{strictness}
 use Rattle.cbor_skip.proofs.RemainingLaws.{takes_more}
 use Rattle.cbor_skip.proofs.StrictnessLaws.{completes_looser, items_looser, due_looser, strict_by, pulled_taken}
 use Rattle.cbor_skip.proofs.StrictnessLaws.{pulled_keeps, passed_keeps}

@@ -1,5 +1,5 @@
 -- Pieces written one by one.
-use Rattle.std.proofs.Common.{◌≡◌, ℕ, suc, false, ◌<◌, ◌≤◌, ◌^◌, List, [], ◌∷◌, ◌++◌, length, Option, Some, None, Result, Ok}
+use Rattle.std.proofs.Common.{◌≡◌, ℕ, suc, false, ◌<◌, ◌^◌, List, [], ◌∷◌, ◌++◌, length, Option, Some, Result, Ok}
 use Rattle.std.proofs.Common.{IsErr, refl, sym, ap, subst, ◌∙◌, arith, IsOk, ◌↔◌, Err, append_assoc, length-append}
 use Rattle.std.proofs.lemmas.List.{append-nil}
 use Rattle.std.proofs.KnownBytes.{Appends-nil}
@@ -16,7 +16,7 @@ use Rattle.ciborium_ll_grammar.specs.Title.{IsInRange, shortest_title}
 use Rattle.ciborium_ll_grammar.specs.Strings.{Kind, IsWritable}
 use Rattle.ciborium_ll_text.specs.Text.{joined}
 use Rattle.ciborium_ll_grammar.specs.Elements.{Mark, Plain, IsPlain, spelling, IsElement, plain, IsRun, done}
-use Rattle.ciborium_ll_grammar.specs.Values.{least_limit, value_limit, segments, IsWritten, in_one, in_pieces}
+use Rattle.ciborium_ll_grammar.specs.Values.{value_limit, segments, IsWritten, in_one, in_pieces}
 use Rattle.ciborium_ll_io.specs.Writes.{WritesAll, WritesFront, WritesBytes}
 use Rattle.ciborium_ll_encoder.specs.Encoding.{WritesValue}
 use Rattle.ciborium_ll.specs.Pieces.{IsValue, IsPiece, HaveMarks, AreSpelled, CopiesSame, WritesMarked, WritesEach}

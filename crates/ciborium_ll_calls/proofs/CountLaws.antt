@@ -1,6 +1,6 @@
 -- What the count of a copy by a fresh decoder says of the bytes ahead.
 use Rattle.std.proofs.Common.{◌≡◌, ℕ, suc, ◌<◌, ◌≤◌, ◌^◌, ◌∙◌, Bool, true, false, List, []}
-use Rattle.std.proofs.Common.{length, Result, Ok, Err, sym, subst, refl, inl, arith}
+use Rattle.std.proofs.Common.{length, Result, Ok, Err, sym, subst, inl, arith}
 use Rattle.ciborium_ll.specs.Types.Read.{Ghosts as Reader}
 use Rattle.ciborium_ll.specs.Types.Write.{Ghosts as Writer}
 use Rattle.ciborium_ll.specs.Types.Decoder.{Decoder}

@@ -1,8 +1,8 @@
 -- What a checker of bytes says of an item that they begin.
-use Rattle.std.proofs.Common.{◌≡◌, ℕ, ◌+◌, ◌<◌, ◌≤◌, ◌^◌, Bool, List, [], ◌++◌, length, take, drop, refl, sym, ap, subst}
+use Rattle.std.proofs.Common.{◌≡◌, ℕ, ◌+◌, Bool, List, [], ◌++◌, length, take, drop, sym, ap, subst}
 use Rattle.std.proofs.Common.{◌∙◌, arith, inl, inr, append_assoc, append-nil, length-append}
 use Rattle.std.proofs.lemmas.Bool.{cases_lt}
-use Rattle.std.proofs.lemmas.List.{take_all, take-append-drop, length-take-le}
+use Rattle.std.proofs.lemmas.List.{take_all, take-append-drop}
 use Rattle.ciborium_ll.specs.Items.{IsItem}
 use Rattle.ciborium_ll.proofs.Lists.{front_of_front}
 use Rattle.cbor_feed.specs.declared.progress.Progress.TheVariants as r

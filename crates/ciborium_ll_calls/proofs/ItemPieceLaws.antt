@@ -16,7 +16,6 @@ use Rattle.ciborium_ll_calls.specs.declared.answer.CllAnswer.TheVariants as a
 use Rattle.ciborium_ll_calls.specs.declared.answer.CllReport.{CllReport}
 use Rattle.ciborium_ll_calls.specs.declared.item_copier.CllItemCopier.{CllItemCopier}
 use Rattle.ciborium_ll_calls.specs.Answers.{Reports}
-use Rattle.ciborium_ll_calls.specs.Feeding.{fault_answer}
 use Rattle.ciborium_ll_calls.specs.ItemPieces.{EndsItem, FeedsItem, IsItemAnswer, IsItemCopiedTo, IsItemCopier, SaysOfItem}
 use Rattle.ciborium_ll_calls.specs.ItemPieces.{SaysOfItemEnd, item_answer, item_end_answer, item_end_number, item_number}
 

@@ -14,8 +14,6 @@ use Rattle.cbor_skip.proofs.+nests.Goals as goal
 use Rattle.cbor_skip.proofs.+nests.Goals.{skip_items-in_default-via-in-Items+then-left-eq0+else-levels-gt0}
 use Rattle.cbor_skip.proofs.+nests.Goals.{skip_items-in_default-via-in-Items+else-left-eq0}
 use Rattle.cbor_skip.proofs.+nests.Goals.{skip_items-in_default-via-in-Item-1}
-use Rattle.cbor_skip.proofs.+nests.Goals.{skip_within-in_default-via-in-Break+else-closes}
-use Rattle.cbor_skip.proofs.+nests.Goals.{skip_within-in_default-via-in-Item-1}
 use Rattle.cbor_skip.proofs.+nests.Goals.{skip_rest-in-Items+else-depth-gt0, skip_rest-in-Nest+else-depth-gt0-2}
 
 -- a number above 0 is behind another one

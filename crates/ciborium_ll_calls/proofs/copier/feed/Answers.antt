@@ -1,4 +1,4 @@
-use Rattle.std.proofs.Common.{◌≡◌, List, ℕ, ◌++◌, subst, sym, take}
+use Rattle.std.proofs.Common.{◌≡◌, subst, sym}
 use Rattle.cbor_copy.specs.Copying.{IsCopiedTo, spot_of}
 use Rattle.cbor_copy.specs.Spots.{Spot}
 use Rattle.ciborium_ll_calls.specs.declared.copier.CllCopier.{CllCopier}

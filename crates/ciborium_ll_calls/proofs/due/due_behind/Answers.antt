@@ -1,4 +1,4 @@
-use Rattle.std.proofs.Common.{rules, []}
+use Rattle.std.proofs.Common.{[]}
 use Rattle.cbor_feed.specs.Checking.{spot_of}
 use Rattle.ciborium_ll_calls.proofs.ItemDue.{some_lack, none_follow, none_ended}
 use Rattle.ciborium_ll_calls.proofs.due.due_behind.Goals as goal

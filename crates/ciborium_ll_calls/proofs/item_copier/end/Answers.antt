@@ -1,4 +1,4 @@
-use Rattle.std.proofs.Common.{rules, ◌≡◌, subst, sym, ◌++◌}
+use Rattle.std.proofs.Common.{rules, subst, sym}
 use Rattle.cbor_copy.specs.Spots.{Spot as Elements}
 use Rattle.cbor_feed.specs.Spots.{Spot}
 use Rattle.cbor_copy_item.specs.Copying.{item_spot}

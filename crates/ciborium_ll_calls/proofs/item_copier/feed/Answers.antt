@@ -1,7 +1,6 @@
-use Rattle.std.proofs.Common.{rules, ◌≡◌, List, ℕ, ◌++◌, false, subst, sym, ap, take}
+use Rattle.std.proofs.Common.{rules, subst, sym, ap}
 use Rattle.cbor_copy.specs.Spots.{Spot as Elements}
 use Rattle.cbor_feed.specs.Spots.{Spot}
-use Rattle.cbor_copy_item.specs.declared.copier.ItemCopier.{ItemCopier}
 use Rattle.cbor_copy_item.specs.Copying.{item_spot}
 use Rattle.cbor_copy_item.specs.Snapshots.{kept_spot}
 use Rattle.ciborium_ll_calls.specs.declared.item_copier.CllItemCopier.{CllItemCopier}
