@@ -291,5 +291,4 @@ module _ {R E : Type 0} (source : Ghosts R E) where
             so_far.are_items;
         passed = subst (λ (z : List ℕ). Passes source old (so_far.items ++ z) new) lone passed;
       }
-
   -- ---- the whole: what a tag contains is one item
