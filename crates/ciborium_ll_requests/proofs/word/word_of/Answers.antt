@@ -1,7 +1,6 @@
 use Rattle.std.proofs.Common.{◌≡◌, arith, string_bytes, rules}
 use Rattle.std.proofs.lemmas.Result.{IfOk-weaker}
 use Rattle.hex.specs.Hex.{IsBytes, encode_lower}
-use Rattle.std.proofs.lemmas.Grind.{common_steps}
 use Rattle.ciborium_ll_requests.proofs.WordLaws.{bytes_of_word-encode_lower}
 use Rattle.ciborium_ll_requests.proofs.word.word_of.Goals as goal
 
@@ -11,9 +10,6 @@ returns-clause-back c =
     let back = bytes_of_word-encode_lower c.args.bytes.now (c.if-is_empty.ensures) fits in
     IfOk-weaker c.encode.result (λ word. string_bytes word ≡ encode_lower c.args.bytes.now) _
     (λ word h. rw h back) c.encode.ensures
-
-pub returns-then-is_empty-clause-back : goal.returns-then-is_empty-clause-back
-returns-then-is_empty-clause-back c = grind (arith, common_steps)
 
 pub returns-then-is_empty-clause-word : goal.returns-then-is_empty-clause-word
 returns-then-is_empty-clause-word c = search rules

@@ -107,3 +107,6 @@ segments-preserved g c =
       );
       moves_on = MovesOn-then g.R.Read _ _ _ kept.moves_on (MovesOn-then g.R.Read _ _ _ advance copy);
     }
+
+pub returns-clause-gathers : goal.returns-clause-gathers
+returns-clause-gathers g c = search rules
