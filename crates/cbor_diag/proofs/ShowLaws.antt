@@ -1,5 +1,5 @@
 -- What is said of a read, by the answer of a show.
-use Rattle.std.proofs.Common.{◌≡◌, ◌∙◌, ℕ, Option, Result, Ok, Err, IfErr, OnOk, arith, refl, subst}
+use Rattle.std.proofs.Common.{◌≡◌, ◌∙◌, ℕ, List, Option, Some, Result, Ok, Err, IfErr, OnOk, arith, refl, subst}
 use Rattle.ciborium_ll.specs.Types.Read.{Ghosts}
 use Rattle.ciborium_ll.specs.Types.Decoder.{Decoder}
 use Rattle.ciborium_ll.specs.Types.Float.{Float as Raw}
@@ -9,6 +9,7 @@ use Rattle.ciborium_ll.specs.Types.Error.{Error}
 use Rattle.ciborium_ll.specs.Strings.{Kind}
 use Rattle.ciborium_ll.specs.Types.Write.{Ghosts as Sink}
 use Rattle.ciborium_ll.specs.Decoding.{MovesOn, PullsHeader, refusals_of}
+use Rattle.ciborium_ll.specs.Encoding.{WritesBytes}
 use Rattle.ciborium_ll.specs.Sides.{Sides, sides}
 use Rattle.ciborium_ll.specs.Skipping.{SkipsWhole}
 use Rattle.ciborium_ll.proofs.DecodingLaws.{MovesOn-then}
@@ -17,7 +18,7 @@ use Rattle.cbor_skip.specs.declared.SkipError.TheVariants as s
 use Rattle.cbor_diag.specs.declared.DiagError.{DiagError}
 use Rattle.cbor_diag.specs.declared.DiagError.TheVariants as d
 use Rattle.cbor_diag.specs.Floats.{IsFloatText}
-use Rattle.cbor_diag.specs.Showing.{IsWriting, OnReading, OnString, ShowsFirst, ShowsHeader, nothing, said_of}
+use Rattle.cbor_diag.specs.Showing.{IsWriting, OnReading, OnString, ShowsFirst, ShowsHeader, ShowsText, nothing, said_of}
 use Rattle.cbor_diag.specs.Writing.{ShowsOne}
 
 module _ {E F : Type 0} where
@@ -91,6 +92,13 @@ module _ {R E : Type 0} (source : Ghosts R E) where
       → OnOk result (MovesOn source mid new) → OnOk result (MovesOn source old new)
   moved_then old mid new (Ok done) first then = MovesOn-then source old mid new first then
   moved_then old mid new (Err error) first then = tt
+
+-- what a write of a text answered, as the answer of a show
+pub said_text : {E W F : Type 0} (sink : Sink W F) (old new : W) (answer : Result (Unit {0}) F)
+    (result : Result (Unit {0}) (DiagError E F)) (text : List ℕ) → result ≡ said_of answer
+    → WritesBytes sink old answer text new → ShowsText sink (Some text) old result new
+said_text sink old new (Ok done) result text same wrote = rw same wrote
+said_text sink old new (Err fault) result text same wrote = rw same wrote
 
 module _ {R E W F : Type 0} (source : Ghosts R E) (sink : Sink W F) where
   -- what a write of a float's text answered, as the answer of a show

@@ -8,6 +8,7 @@ ghost use Rattle.cbor_diag.specs.Showing.{ReadsShown, ShowsFirst};
 mod layout;
 mod messages;
 mod nests;
+mod plain;
 mod put;
 mod scalars;
 mod strings;

@@ -11,9 +11,8 @@ ghost use Rattle.cbor_diag.specs.Showing.{IsWriting, OnReading, ReadsFrom, Shows
 
 use crate::DiagError;
 use crate::layout::Line;
+use crate::plain::show_plain;
 use crate::put::{put_two, said, say};
-use crate::scalars::{show_float, show_negative, show_positive, show_simple};
-use crate::strings::{show_bytes, show_text};
 use cbor_skip::{Remaining, SkipError};
 use ciborium_ll::io::{Read, Write};
 use ciborium_ll::{Decoder, Header};
@@ -72,13 +71,6 @@ pub(crate) fn show_item<R: Read, W: Write>(
     ensures moves_on { OnOk result (MovesOn R.Read decoder.old decoder.new) }
 {
     match header {
-        Header::Positive(number) => said(show_positive(writer, number)),
-        Header::Negative(number) => said(show_negative(writer, number)),
-        Header::Float(float) => said(show_float(writer, float)),
-        Header::Simple(number) => said(show_simple(writer, number)),
-        Header::Bytes(len) => show_bytes(decoder, writer, len),
-        Header::Text(len) => show_text(decoder, writer, len),
-        Header::Break => Err(DiagError::Read(SkipError::Break(place))),
         Header::Tag(_) | Header::Array(_) | Header::Map(_) => {
             if depth == 0 {
                 return Err(DiagError::Read(SkipError::Deep(place)));
@@ -88,6 +80,7 @@ pub(crate) fn show_item<R: Read, W: Write>(
             let is_empty = show_within(decoder, writer, header, depth - 1, inner)?;
             close::<R::Error, W>(writer, line, header, is_empty)
         }
+        _ => show_plain(decoder, writer, header),
     }
 }
 

@@ -1,67 +1,20 @@
-use Rattle.std.proofs.Common.{rules, ◌≡◌, ◌-◌, suc, Bool, true, false, [], Result, Err, sym, subst, refl, inl, inr}
+use Rattle.std.proofs.Common.{rules, ◌≡◌, ◌-◌, suc, Bool, true, false, Result, Err, sym, subst, refl, inl, inr}
 use Rattle.std.proofs.Common.{arith}
 use Rattle.std.proofs.lemmas.Result.{err_from_is_err_and}
-use Rattle.ciborium_ll.specs.Types.Header.{Header}
-use Rattle.ciborium_ll.specs.Items.{Completes, positive, negative, float, simple}
-use Rattle.ciborium_ll.specs.Strings.{Bytes, Text}
 use Rattle.ciborium_ll.proofs.DecodingLaws.{MovesOn-none, MovesOn-then}
 use Rattle.cbor_skip.specs.declared.SkipError.{SkipError}
 use Rattle.cbor_skip.specs.declared.SkipError.TheVariants as s
 use Rattle.cbor_diag.specs.declared.DiagError.TheVariants as d
 use Rattle.cbor_skip.specs.Due.{IsNest}
 use Rattle.cbor_skip.specs.Remaining.{is_done, closes}
-use Rattle.cbor_skip.specs.Skipping.{SkipsWithin, strictness}
+use Rattle.cbor_skip.specs.Skipping.{SkipsWithin}
 use Rattle.cbor_skip.proofs.ItemSteps.{none_read, one_more, stops_here, pull_stops, stops_within, ended, closed}
 use Rattle.cbor_diag.specs.Showing.{ReadsFrom}
-use Rattle.cbor_diag.proofs.ShowLaws.{float_said, reading_stops}
-use Rattle.cbor_diag.proofs.ItemLaws.{scalar_read, string_read, nest_deep, nest_read, nest_stops}
+use Rattle.cbor_diag.proofs.ShowLaws.{reading_stops}
+use Rattle.cbor_diag.proofs.ItemLaws.{nest_deep, nest_read, nest_stops}
 use Rattle.cbor_diag.proofs.nests.+items.Goals as goal
 
 -- ---- an item
-
-pub show_item-returns-in-Positive-clause-reads : goal.show_item-returns-in-Positive-clause-reads
-show_item-returns-in-Positive-clause-reads g t c = λ before outer at pulled steady.
-    let completes = subst (λ (x : Header). Completes (strictness before) c.args.depth x []) (sym c.in-Positive.is) positive in
-    scalar_read g.R.Read outer c.args.depth before c.args.decoder.now steady c.args.header c.said.result completes
-    pulled
-    c.said.ensures.writing
-
-pub show_item-returns-in-Negative-clause-reads : goal.show_item-returns-in-Negative-clause-reads
-show_item-returns-in-Negative-clause-reads g t c = λ before outer at pulled steady.
-    let completes = subst (λ (x : Header). Completes (strictness before) c.args.depth x []) (sym c.in-Negative.is) negative in
-    scalar_read g.R.Read outer c.args.depth before c.args.decoder.now steady c.args.header c.said-in-Negative.result
-    completes pulled
-    c.said-in-Negative.ensures.writing
-
-pub show_item-returns-in-Float-clause-reads : goal.show_item-returns-in-Float-clause-reads
-show_item-returns-in-Float-clause-reads g t c = λ before outer at pulled steady.
-    let completes = subst (λ (x : Header). Completes (strictness before) c.args.depth x []) (sym c.in-Float.is) float in
-    scalar_read g.R.Read outer c.args.depth before c.args.decoder.now steady c.args.header c.said-in-Float.result
-    completes pulled
-    c.said-in-Float.ensures.writing
-
-pub show_item-returns-in-Float-clause-text : goal.show_item-returns-in-Float-clause-text
-show_item-returns-in-Float-clause-text g t c =
-    float_said g.R.Read g.W.Write c.args.header c.in-Float.float _ _ c.show_float.result c.said-in-Float.result c.in-Float.is
-    c.said-in-Float.ensures.same c.show_float.ensures
-
-pub show_item-returns-in-Simple-clause-reads : goal.show_item-returns-in-Simple-clause-reads
-show_item-returns-in-Simple-clause-reads g t c = λ before outer at pulled steady.
-    let completes = subst (λ (x : Header). Completes (strictness before) c.args.depth x []) (sym c.in-Simple.is) simple in
-    scalar_read g.R.Read outer c.args.depth before c.args.decoder.now steady c.args.header c.said-in-Simple.result
-    completes pulled
-    c.said-in-Simple.ensures.writing
-
-pub show_item-returns-in-Bytes-clause-reads : goal.show_item-returns-in-Bytes-clause-reads
-show_item-returns-in-Bytes-clause-reads g t c = λ before outer at pulled steady.
-    string_read g.R.Read outer c.args.depth before c.args.decoder.now steady Bytes c.in-Bytes.len
-    c.show_bytes.new.decoder
-    c.show_bytes.result (rw c.in-Bytes.is at pulled) c.show_bytes.ensures.reads
-
-pub show_item-returns-in-Text-clause-reads : goal.show_item-returns-in-Text-clause-reads
-show_item-returns-in-Text-clause-reads g t c = λ before outer at pulled steady.
-    string_read g.R.Read outer c.args.depth before c.args.decoder.now steady Text c.in-Text.len c.show_text.new.decoder
-    c.show_text.result (rw c.in-Text.is at pulled) c.show_text.ensures.reads
 
 pub show_item-returns-then-depth-eq0-clause-reads : goal.show_item-returns-then-depth-eq0-clause-reads
 show_item-returns-then-depth-eq0-clause-reads g t c = λ before outer at pulled steady.
@@ -165,5 +118,12 @@ show_within-items-preserved g t c =
           (MovesOn-then g.R.Read _ _ _ first c.in_ok-show_item.ensures.moves_on);
     }
 
-pub show_item-returns-in-Negative-clause-text : goal.show_item-returns-in-Negative-clause-text
-show_item-returns-in-Negative-clause-text g t c = search rules
+pub show_item-returns-in_default-clause-reads : goal.show_item-returns-in_default-clause-reads
+show_item-returns-in_default-clause-reads g t c = λ before outer at pulled steady.
+    c.show_plain.ensures.reads before outer c.args.depth pulled steady
+
+pub show_item-returns-in_default-clause-text : goal.show_item-returns-in_default-clause-text
+show_item-returns-in_default-clause-text g t c = c.show_plain.ensures.text
+
+pub show_item-returns-in_default-clause-moves_on : goal.show_item-returns-in_default-clause-moves_on
+show_item-returns-in_default-clause-moves_on g t c = c.show_plain.ensures.moves_on
