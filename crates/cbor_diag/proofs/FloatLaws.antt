@@ -1,10 +1,10 @@
 -- The text of a float, written piece by piece.
-use Rattle.std.proofs.Common.{rules, ◌≡◌, ℕ, true, false, Some, is_nan, List, [], ◌∷◌, ◌++◌, length, arith, Result, Ok, refl, sym, ap, subst, from_bits, codes}
+use Rattle.std.proofs.Common.{rules, ◌≡◌, ℕ, true, false, Some, is_nan, List, [], ◌∷◌, ◌++◌, length, arith, Result, Ok, IsErr, refl, sym, ap, subst, from_bits, codes}
 use Rattle.std.specs.Float.{Float, nan, inf, fin, binary64, float_is_finite, is_sign_negative}
 use Rattle.std.specs.Float as f
 use Rattle.ciborium_ll.specs.Types.Write.{Ghosts}
-use Rattle.ciborium_ll.specs.Encoding.{WritesAll, WritesBytes}
-use Rattle.ciborium_ll.proofs.EncodingLaws.{WritesBytes-then}
+use Rattle.ciborium_ll.specs.Encoding.{WritesAll, WritesBytes, WritesFront}
+use Rattle.ciborium_ll.proofs.EncodingLaws.{WritesBytes-stopped, WritesBytes-then}
 use Rattle.ryu.specs.Parse.{parse_float}
 use Rattle.ryu.specs.Plain.{IsPlusNumber}
 use Rattle.ciborium_ll.specs.Types.Float.{Float as Raw}
@@ -73,6 +73,13 @@ pub point_later : (behind : List ℕ) (byte : ℕ) → (byte ≡ 46 → ⊥) →
     → with_point (byte ∷ behind) ≡ (byte ∷ []) ++ with_point behind
 point_later behind byte no_point no_exponent = search rules
 
+point_here : (behind : List ℕ) (byte : ℕ) → byte ≡ 46 → with_point (byte ∷ behind) ≡ byte ∷ behind
+point_here behind byte is = rw is refl
+
+exponent_here : (behind : List ℕ) (byte : ℕ) → byte ≡ 101
+    → with_point (byte ∷ behind) ≡ codes ".0" ++ (byte ∷ behind)
+exponent_here behind byte is = rw is refl
+
 module _ {W F : Type 0} (sink : Ghosts W F) where
   -- the bytes in front of the rest were written: what a write of the rest does now, one of all does
   pub record DigitsFar (all rest : List ℕ) (old now : W) : Type 0 where
@@ -103,3 +110,23 @@ module _ {W F : Type 0} (sink : Ghosts W F) where
       goes_on = λ result last w. digits_end all rest ((byte ∷ []) ++ with_point behind) old now last result far parts
           (WritesBytes-then sink now new last result (byte ∷ []) (with_point behind) wrote w);
     }
+
+    -- the byte was not written
+    pub digits_stop : (result : Result (Unit {0}) F) → IsErr result → WritesFront sink now (byte ∷ []) new
+        → WritesBytes sink old result (with_point all) new
+    digits_stop result fails wrote =
+        digits_end all rest ((byte ∷ []) ++ with_point behind) old now new result far parts
+        (WritesBytes-stopped sink now new result (byte ∷ []) (with_point behind) fails wrote)
+
+  module _ (all rest behind : List ℕ) (byte : ℕ) (old now new : W) (result : Result (Unit {0}) F)
+      (split : rest ≡ byte ∷ behind) (far : DigitsFar all rest old now) where
+    -- the rest has the point in front
+    pub digits_point : byte ≡ 46 → WritesBytes sink now result rest new → WritesBytes sink old result (with_point all) new
+    digits_point is wrote = digits_end all rest rest old now new result far
+        (subst (λ (z : List ℕ). with_point z ≡ z) (sym split) (point_here behind byte is)) wrote
+
+    -- the rest has the exponent in front, and no point stood there
+    pub digits_exponent : byte ≡ 101 → WritesBytes sink now result (codes ".0" ++ rest) new
+        → WritesBytes sink old result (with_point all) new
+    digits_exponent is wrote = digits_end all rest (codes ".0" ++ rest) old now new result far
+        (subst (λ (z : List ℕ). with_point z ≡ codes ".0" ++ z) (sym split) (exponent_here behind byte is)) wrote

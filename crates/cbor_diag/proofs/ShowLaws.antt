@@ -1,5 +1,5 @@
 -- What is said of a read, by the answer of a show.
-use Rattle.std.proofs.Common.{◌≡◌, ◌∙◌, ℕ, List, Option, Some, Result, Ok, Err, IfErr, OnOk, arith, refl, subst}
+use Rattle.std.proofs.Common.{◌≡◌, ◌∙◌, ℕ, List, Option, Some, Result, Ok, Err, IsErr, IfErr, OnOk, arith, refl, subst}
 use Rattle.ciborium_ll.specs.Types.Read.{Ghosts}
 use Rattle.ciborium_ll.specs.Types.Decoder.{Decoder}
 use Rattle.ciborium_ll.specs.Types.Float.{Float as Raw}
@@ -13,6 +13,7 @@ use Rattle.ciborium_ll.specs.Encoding.{WritesBytes}
 use Rattle.ciborium_ll.specs.Sides.{Sides, sides}
 use Rattle.ciborium_ll.specs.Skipping.{SkipsWhole}
 use Rattle.ciborium_ll.proofs.DecodingLaws.{MovesOn-then}
+use Rattle.cbor_skip.specs.Due.{IsNest}
 use Rattle.cbor_skip.specs.declared.SkipError.{SkipError}
 use Rattle.cbor_skip.specs.declared.SkipError.TheVariants as s
 use Rattle.cbor_diag.specs.declared.DiagError.{DiagError}
@@ -75,6 +76,11 @@ pub when_ok : {T F : Type 0} (P : Type 0) (result : Result T F) → P → OnOk r
 when_ok P (Ok done) holds = holds
 when_ok P (Err error) holds = tt
 
+-- a fact of Ok alone where the answer is an error
+pub when_err : {T F : Type 0} (P : Type 0) (result : Result T F) → IsErr result → OnOk result P
+when_err P (Ok done) fails = absurd cc
+when_err P (Err error) fails = tt
+
 module _ {R E : Type 0} (source : Ghosts R E) where
   -- behind a whole string the decoder moved on, whose header was pushed back
   pub whole_moves : (kind : Kind) (len : Option ℕ) (opened pushed new : Decoder R)
@@ -117,3 +123,17 @@ module _ {R E W F : Type 0} (source : Ghosts R E) (sink : Sink W F) where
       → ShowsFirst source sink (sides old writer) (Err (d.Read (s.Read error))) (sides new writer)
   shows_nothing before old new error writer same fails =
       nothing error (subst (λ (first : Decoder R). PullsHeader source first (Err error) new) same fails) refl refl
+
+  -- no clause says what is written of a tag, an array or a map
+  pub nest_text : (header : Header) (old new : Sides R W) (result : Result (Unit {0}) (DiagError E F)) → IsNest header
+      → ShowsHeader source sink header old result new
+  nest_text (h.Tag number) old new result nest = tt
+  nest_text (h.Array len) old new result nest = tt
+  nest_text (h.Map len) old new result nest = tt
+  nest_text (h.Positive number) old new result nest = absurd nest
+  nest_text (h.Negative number) old new result nest = absurd nest
+  nest_text (h.Float float) old new result nest = absurd nest
+  nest_text (h.Simple number) old new result nest = absurd nest
+  nest_text h.Break old new result nest = absurd nest
+  nest_text (h.Bytes len) old new result nest = absurd nest
+  nest_text (h.Text len) old new result nest = absurd nest

@@ -1,4 +1,4 @@
-use Rattle.std.proofs.Common.{rules, ◌≡◌, ◌-◌, suc, Bool, true, false, Result, Err, sym, subst, refl, inl, inr}
+use Rattle.std.proofs.Common.{◌≡◌, ◌-◌, suc, Bool, true, false, Result, Err, sym, subst, refl, inl, inr}
 use Rattle.std.proofs.Common.{arith}
 use Rattle.std.proofs.lemmas.Result.{err_from_is_err_and}
 use Rattle.ciborium_ll.proofs.DecodingLaws.{MovesOn-none, MovesOn-then}
@@ -10,8 +10,8 @@ use Rattle.cbor_skip.specs.Remaining.{is_done, closes}
 use Rattle.cbor_skip.specs.Skipping.{SkipsWithin}
 use Rattle.cbor_skip.proofs.ItemSteps.{none_read, one_more, stops_here, pull_stops, stops_within, ended, closed}
 use Rattle.cbor_diag.specs.Showing.{ReadsFrom}
-use Rattle.cbor_diag.proofs.ShowLaws.{reading_stops}
-use Rattle.cbor_diag.proofs.ItemLaws.{nest_deep, nest_read, nest_stops}
+use Rattle.cbor_diag.proofs.ShowLaws.{nest_text, reading_stops, reading_unread, when_err}
+use Rattle.cbor_diag.proofs.ItemLaws.{ItemRead, nest_deep, nest_read, nest_stops}
 use Rattle.cbor_diag.proofs.nests.+items.Goals as goal
 
 -- ---- an item
@@ -44,6 +44,58 @@ show_item-returns-in_ok-is_empty-in-Tag-clause-reads g t c = λ before outer at 
     nest_read g.R.Read outer c.args.depth before c.args.decoder.now steady (c.args.depth - 1) c.args.header
     c.show_within.new.decoder c.close.result level pulled c.in_ok-is_empty-in-Tag.ensures.reads c.close.ensures
 
+pub show_item-returns-then-depth-eq0-clause-text : goal.show_item-returns-then-depth-eq0-clause-text
+show_item-returns-then-depth-eq0-clause-text g t c =
+    let nest : IsNest c.args.header = elim c.in-Tag.is [
+      | inl is ↦ subst IsNest (sym is.1) tt
+      | inr (inl is) ↦ subst IsNest (sym is.1) tt
+      | inr (inr is) ↦ subst IsNest (sym is.1) tt
+    ] in
+    nest_text g.R.Read g.W.Write c.args.header _ _ _ nest
+
+pub show_item-returns-in_err-open-in-Tag-clause-text : goal.show_item-returns-in_err-open-in-Tag-clause-text
+show_item-returns-in_err-open-in-Tag-clause-text g t c =
+    let nest : IsNest c.args.header = elim c.in-Tag.is [
+      | inl is ↦ subst IsNest (sym is.1) tt
+      | inr (inl is) ↦ subst IsNest (sym is.1) tt
+      | inr (inr is) ↦ subst IsNest (sym is.1) tt
+    ] in
+    nest_text g.R.Read g.W.Write c.args.header _ _ _ nest
+
+pub show_item-returns-in_err-is_empty-in-Tag-clause-text : goal.show_item-returns-in_err-is_empty-in-Tag-clause-text
+show_item-returns-in_err-is_empty-in-Tag-clause-text g t c =
+    let nest : IsNest c.args.header = elim c.in-Tag.is [
+      | inl is ↦ subst IsNest (sym is.1) tt
+      | inr (inl is) ↦ subst IsNest (sym is.1) tt
+      | inr (inr is) ↦ subst IsNest (sym is.1) tt
+    ] in
+    nest_text g.R.Read g.W.Write c.args.header _ _ _ nest
+
+pub show_item-returns-in_ok-is_empty-in-Tag-clause-text : goal.show_item-returns-in_ok-is_empty-in-Tag-clause-text
+show_item-returns-in_ok-is_empty-in-Tag-clause-text g t c =
+    let nest : IsNest c.args.header = elim c.in-Tag.is [
+      | inl is ↦ subst IsNest (sym is.1) tt
+      | inr (inl is) ↦ subst IsNest (sym is.1) tt
+      | inr (inr is) ↦ subst IsNest (sym is.1) tt
+    ] in
+    nest_text g.R.Read g.W.Write c.args.header _ _ _ nest
+
+pub show_item-returns-in_err-open-in-Tag-clause-moves_on : goal.show_item-returns-in_err-open-in-Tag-clause-moves_on
+show_item-returns-in_err-open-in-Tag-clause-moves_on g t c = when_err _ c.from_residual.result c.from_residual.ensures.0
+
+pub show_item-returns-in_err-is_empty-in-Tag-clause-moves_on : goal.show_item-returns-in_err-is_empty-in-Tag-clause-moves_on
+show_item-returns-in_err-is_empty-in-Tag-clause-moves_on g t c = when_err _ c.from_residual-in_err-is_empty-in-Tag.result c.from_residual-in_err-is_empty-in-Tag.ensures.0
+
+pub show_item-returns-in_err-open-in-Tag-clause-reads : goal.show_item-returns-in_err-open-in-Tag-clause-reads
+show_item-returns-in_err-open-in-Tag-clause-reads g t c = λ before outer at pulled steady.
+    let from = err_from_is_err_and c.from_residual.result c.from_residual.ensures.1 in
+    let is_error = from.1 in
+    let is_same = from.2 in
+    let error = c.in_err-open-in-Tag.field-0.0 in
+    let same : c.from_residual.result ≡ Err error = cc in
+    rw same (reading_unread (Unit {0}) (ItemRead g.R.Read outer c.args.depth before c.args.decoder.now) error
+    c.in_err-open-in-Tag.ensures)
+
 -- ---- the items within a nest
 
 pub show_within-items-init : goal.show_within-items-init
@@ -54,12 +106,12 @@ show_within-items-init g t c = record {
 
 pub show_within-returns-clause-reads : goal.show_within-returns-clause-reads
 show_within-returns-clause-reads g t c =
-    let done : is_done c.items.remaining ≡ true = search rules in
+    let done : is_done c.items.remaining ≡ true = sym c.items-test.ensures in
     ended g.R.Read c.items.invariant.so_far done
 
 pub show_within-returns-then-closes-clause-reads : goal.show_within-returns-then-closes-clause-reads
 show_within-returns-then-closes-clause-reads g t c =
-    let may : closes c.items.remaining ≡ true = search rules in
+    let may : closes c.items.remaining ≡ true = sym c.if-closes.ensures in
     let pulled = rw (c.offset-place.ensures.same, c.in-Break.is) at c.in_ok-next.ensures.header in
     let steady = rw c.offset-place.ensures.same at c.in_ok-next.ensures.moves_on.steady in
     closed g.R.Read c.items.invariant.so_far may pulled steady
@@ -71,14 +123,14 @@ show_within-returns-in_err-next-clause-reads g t c =
     let is_error = from.1 in
     let is_same = from.2 in
     let same : c.from_residual.result ≡ Err (d.Read (s.Read error)) = cc in
-    let some : is_done c.items.remaining ≡ false = search rules in
+    let some : is_done c.items.remaining ≡ false = sym c.items-test.ensures in
     rw same (stops_within g.R.Read c.items.invariant.so_far some refl
     (pull_stops g.R.Read c.offset-place.ensures.same c.in_err-next.ensures.header))
 
 pub show_within-returns-in-Break-clause-reads : goal.show_within-returns-in-Break-clause-reads
 show_within-returns-in-Break-clause-reads g t c =
-    let may : closes c.items.remaining ≡ false = search rules in
-    let some : is_done c.items.remaining ≡ false = search rules in
+    let may : closes c.items.remaining ≡ false = sym c.if-closes.ensures in
+    let some : is_done c.items.remaining ≡ false = sym c.items-test.ensures in
     stops_within g.R.Read c.items.invariant.so_far some refl (stops_here g.R.Read (record {
       not_closable = may;
       place = c.offset-place.ensures.value;
@@ -93,7 +145,7 @@ show_within-returns-in_err-show_item-clause-reads g t c =
     let is_same = from.2 in
     let error = c.in_err-show_item.field-0.0 in
     let same : residual.result ≡ Err error = cc in
-    let some : is_done c.items.remaining ≡ false = search rules in
+    let some : is_done c.items.remaining ≡ false = sym c.items-test.ensures in
     let pulled = rw c.offset-place.ensures.same at c.in_ok-next.ensures.header in
     let steady = rw c.offset-place.ensures.same at c.in_ok-next.ensures.moves_on.steady in
     let now = c.items.decoder in
@@ -117,6 +169,30 @@ show_within-items-preserved g t c =
       moves_on = MovesOn-then g.R.Read _ _ _ c.items.invariant.moves_on
           (MovesOn-then g.R.Read _ _ _ first c.in_ok-show_item.ensures.moves_on);
     }
+
+pub show_within-returns-in_err-next-clause-moves_on : goal.show_within-returns-in_err-next-clause-moves_on
+show_within-returns-in_err-next-clause-moves_on g t c = when_err _ c.from_residual.result c.from_residual.ensures.0
+
+pub show_within-returns-in_err-before-clause-moves_on : goal.show_within-returns-in_err-before-clause-moves_on
+show_within-returns-in_err-before-clause-moves_on g t c = when_err _ c.from_residual-in_err-before.result c.from_residual-in_err-before.ensures.0
+
+pub show_within-returns-in_err-show_item-clause-moves_on : goal.show_within-returns-in_err-show_item-clause-moves_on
+show_within-returns-in_err-show_item-clause-moves_on g t c = when_err _ c.from_residual-in_err-show_item.result c.from_residual-in_err-show_item.ensures.0
+
+pub show_within-returns-in_err-before-clause-reads : goal.show_within-returns-in_err-before-clause-reads
+show_within-returns-in_err-before-clause-reads g t c =
+    let residual = c.from_residual-in_err-before in
+    let from = err_from_is_err_and residual.result residual.ensures.1 in
+    let is_error = from.1 in
+    let is_same = from.2 in
+    let error = c.in_err-before.field-0.0 in
+    let same : residual.result ≡ Err error = cc in
+    let Holds : Result (Unit {0}) (SkipError g.row.R-Error.Denot) → Type 0 =
+    λ answer. SkipsWithin g.R.Read c.args.header c.args.depth 64 c.args.decoder.now answer c.pull.new.self in
+    rw same (reading_unread Bool Holds error c.in_err-before.ensures)
+
+pub show_within-returns-clause-moves_on : goal.show_within-returns-clause-moves_on
+show_within-returns-clause-moves_on g t c = c.items.invariant.moves_on
 
 pub show_item-returns-in_default-clause-reads : goal.show_item-returns-in_default-clause-reads
 show_item-returns-in_default-clause-reads g t c = λ before outer at pulled steady.

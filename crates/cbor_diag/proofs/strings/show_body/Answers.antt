@@ -1,7 +1,10 @@
-use Rattle.std.proofs.Common.{◌≡◌, ℕ, List, Some, Err, subst}
+use Rattle.std.proofs.Common.{◌≡◌, ℕ, List, [], Some, Err, refl, subst}
 use Rattle.std.proofs.lemmas.Result.{err_from_is_err_and}
+use Rattle.ciborium_ll.specs.Finishing.{EndsBody}
+use Rattle.ciborium_ll.proofs.DecodingLaws.{MovesOn-none}
 use Rattle.cbor_diag.specs.Showing.{ShowsText}
 use Rattle.cbor_diag.proofs.BodyShowLaws.{body_closed, body_stops, body_unopened, body_unshown}
+use Rattle.cbor_diag.proofs.ShowLaws.{string_unread}
 use Rattle.cbor_diag.proofs.strings.show_body.Goals as goal
 
 pub returns-in_err-say-clause-text : goal.returns-in_err-say-clause-text
@@ -36,3 +39,25 @@ returns-clause-text g c =
     c.args.segments.now.decoder.now c.args.writer.now c.say.new.writer
     (rw c.opening.ensures at c.in_ok-say.ensures.written) _ c.copy_quoted.new.writer c.say-2.result c.say-2.new.writer
     c.in-Ok.ensures.copied (rw c.closing.ensures at c.say-2.ensures.written)
+
+pub returns-in_err-say-clause-reads : goal.returns-in_err-say-clause-reads
+returns-in_err-say-clause-reads g c =
+    let from = err_from_is_err_and c.from_residual.result c.from_residual.ensures.1 in
+    let is_error = from.1 in
+    let is_same = from.2 in
+    let error = c.in_err-say.field-0.0 in
+    let same : c.from_residual.result ≡ Err error = cc in
+    rw same (string_unread (λ answer. EndsBody g.R.Read g.P.Parser.kind [] c.args.body.length 64 c.args.body.place
+    c.args.segments.now.decoder.now answer c.args.segments.now.decoder.now) error c.in_err-say.ensures.writing)
+
+pub returns-in_err-say-clause-same_reference : goal.returns-in_err-say-clause-same_reference
+returns-in_err-say-clause-same_reference g c = refl
+
+pub returns-in_err-say-clause-progress : goal.returns-in_err-say-clause-progress
+returns-in_err-say-clause-progress g c = refl
+
+pub returns-in_err-say-clause-mode : goal.returns-in_err-say-clause-mode
+returns-in_err-say-clause-mode g c = refl
+
+pub returns-in_err-say-clause-moves_on : goal.returns-in_err-say-clause-moves_on
+returns-in_err-say-clause-moves_on g c = MovesOn-none g.R.Read c.args.segments.now.decoder.now
