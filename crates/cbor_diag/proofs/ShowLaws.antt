@@ -13,7 +13,6 @@ use Rattle.ciborium_ll.specs.Encoding.{WritesBytes}
 use Rattle.ciborium_ll.specs.Sides.{Sides, sides}
 use Rattle.ciborium_ll.specs.Skipping.{SkipsWhole}
 use Rattle.ciborium_ll.proofs.DecodingLaws.{MovesOn-then}
-use Rattle.cbor_skip.specs.Due.{IsNest}
 use Rattle.cbor_skip.specs.declared.SkipError.{SkipError}
 use Rattle.cbor_skip.specs.declared.SkipError.TheVariants as s
 use Rattle.cbor_diag.specs.declared.DiagError.{DiagError}
@@ -123,17 +122,3 @@ module _ {R E W F : Type 0} (source : Ghosts R E) (sink : Sink W F) where
       → ShowsFirst source sink (sides old writer) (Err (d.Read (s.Read error))) (sides new writer)
   shows_nothing before old new error writer same fails =
       nothing error (subst (λ (first : Decoder R). PullsHeader source first (Err error) new) same fails) refl refl
-
-  -- no clause says what is written of a tag, an array or a map
-  pub nest_text : (header : Header) (old new : Sides R W) (result : Result (Unit {0}) (DiagError E F)) → IsNest header
-      → ShowsHeader source sink header old result new
-  nest_text (h.Tag number) old new result nest = tt
-  nest_text (h.Array len) old new result nest = tt
-  nest_text (h.Map len) old new result nest = tt
-  nest_text (h.Positive number) old new result nest = absurd nest
-  nest_text (h.Negative number) old new result nest = absurd nest
-  nest_text (h.Float float) old new result nest = absurd nest
-  nest_text (h.Simple number) old new result nest = absurd nest
-  nest_text h.Break old new result nest = absurd nest
-  nest_text (h.Bytes len) old new result nest = absurd nest
-  nest_text (h.Text len) old new result nest = absurd nest

@@ -10,7 +10,7 @@ use Rattle.cbor_skip.specs.Remaining.{is_done, closes}
 use Rattle.cbor_skip.specs.Skipping.{SkipsWithin}
 use Rattle.cbor_skip.proofs.ItemSteps.{none_read, one_more, stops_here, pull_stops, stops_within, ended, closed}
 use Rattle.cbor_diag.specs.Showing.{ReadsFrom}
-use Rattle.cbor_diag.proofs.ShowLaws.{nest_text, reading_stops, reading_unread, when_err}
+use Rattle.cbor_diag.proofs.ShowLaws.{reading_stops, reading_unread, when_err}
 use Rattle.cbor_diag.proofs.ItemLaws.{ItemRead, nest_deep, nest_read, nest_stops}
 use Rattle.cbor_diag.proofs.nests.+items.Goals as goal
 
@@ -43,42 +43,6 @@ show_item-returns-in_ok-is_empty-in-Tag-clause-reads g t c = λ before outer at 
     let level : suc (c.args.depth - 1) ≡ c.args.depth = omega (arith, c.if-depth-eq0.false) in
     nest_read g.R.Read outer c.args.depth before c.args.decoder.now steady (c.args.depth - 1) c.args.header
     c.show_within.new.decoder c.close.result level pulled c.in_ok-is_empty-in-Tag.ensures.reads c.close.ensures
-
-pub show_item-returns-then-depth-eq0-clause-text : goal.show_item-returns-then-depth-eq0-clause-text
-show_item-returns-then-depth-eq0-clause-text g t c =
-    let nest : IsNest c.args.header = elim c.in-Tag.is [
-      | inl is ↦ subst IsNest (sym is.1) tt
-      | inr (inl is) ↦ subst IsNest (sym is.1) tt
-      | inr (inr is) ↦ subst IsNest (sym is.1) tt
-    ] in
-    nest_text g.R.Read g.W.Write c.args.header _ _ _ nest
-
-pub show_item-returns-in_err-open-in-Tag-clause-text : goal.show_item-returns-in_err-open-in-Tag-clause-text
-show_item-returns-in_err-open-in-Tag-clause-text g t c =
-    let nest : IsNest c.args.header = elim c.in-Tag.is [
-      | inl is ↦ subst IsNest (sym is.1) tt
-      | inr (inl is) ↦ subst IsNest (sym is.1) tt
-      | inr (inr is) ↦ subst IsNest (sym is.1) tt
-    ] in
-    nest_text g.R.Read g.W.Write c.args.header _ _ _ nest
-
-pub show_item-returns-in_err-is_empty-in-Tag-clause-text : goal.show_item-returns-in_err-is_empty-in-Tag-clause-text
-show_item-returns-in_err-is_empty-in-Tag-clause-text g t c =
-    let nest : IsNest c.args.header = elim c.in-Tag.is [
-      | inl is ↦ subst IsNest (sym is.1) tt
-      | inr (inl is) ↦ subst IsNest (sym is.1) tt
-      | inr (inr is) ↦ subst IsNest (sym is.1) tt
-    ] in
-    nest_text g.R.Read g.W.Write c.args.header _ _ _ nest
-
-pub show_item-returns-in_ok-is_empty-in-Tag-clause-text : goal.show_item-returns-in_ok-is_empty-in-Tag-clause-text
-show_item-returns-in_ok-is_empty-in-Tag-clause-text g t c =
-    let nest : IsNest c.args.header = elim c.in-Tag.is [
-      | inl is ↦ subst IsNest (sym is.1) tt
-      | inr (inl is) ↦ subst IsNest (sym is.1) tt
-      | inr (inr is) ↦ subst IsNest (sym is.1) tt
-    ] in
-    nest_text g.R.Read g.W.Write c.args.header _ _ _ nest
 
 pub show_item-returns-in_err-open-in-Tag-clause-moves_on : goal.show_item-returns-in_err-open-in-Tag-clause-moves_on
 show_item-returns-in_err-open-in-Tag-clause-moves_on g t c = when_err _ c.from_residual.result c.from_residual.ensures.0
@@ -198,8 +162,8 @@ pub show_item-returns-in_default-clause-reads : goal.show_item-returns-in_defaul
 show_item-returns-in_default-clause-reads g t c = λ before outer at pulled steady.
     c.show_plain.ensures.reads before outer c.args.depth pulled steady
 
-pub show_item-returns-in_default-clause-text : goal.show_item-returns-in_default-clause-text
-show_item-returns-in_default-clause-text g t c = c.show_plain.ensures.text
-
 pub show_item-returns-in_default-clause-moves_on : goal.show_item-returns-in_default-clause-moves_on
 show_item-returns-in_default-clause-moves_on g t c = c.show_plain.ensures.moves_on
+
+pub show_item-returns-in_default-clause-text : goal.show_item-returns-in_default-clause-text
+show_item-returns-in_default-clause-text g t c = c.show_plain.ensures.text
