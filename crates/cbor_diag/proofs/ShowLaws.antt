@@ -1,5 +1,5 @@
 -- What is said of a read, by the answer of a show.
-use Rattle.std.proofs.Common.{◌≡◌, ◌∙◌, ℕ, List, Option, Some, Result, Ok, Err, IsErr, IfErr, OnOk, arith, refl, subst}
+use Rattle.std.proofs.Common.{◌≡◌, ◌∙◌, if◌then◌else◌, ℕ, Bool, true, false, List, Option, Some, Result, Ok, Err, IsErr, IfErr, OnOk, arith, refl, subst}
 use Rattle.ciborium_ll.specs.Types.Read.{Ghosts}
 use Rattle.ciborium_ll.specs.Types.Decoder.{Decoder}
 use Rattle.ciborium_ll.specs.Types.Float.{Float as Raw}
@@ -59,6 +59,14 @@ module _ {E F : Type 0} where
   string_stops One Other (d.Read (s.Deep at)) goes holds = holds
   string_stops One Other (d.Write fault) goes holds = tt
 
+  -- what is said of a read where a break stands in place of an item, which may close or may not
+  pub break_said : (may : Bool) (Holds : Result (Unit {0}) (SkipError E) → Type 0) (result : Result Bool (DiagError E F))
+      (is_first : Bool) (place : ℕ) → result ≡ (if may then Ok is_first else Err (d.Read (s.Break place)))
+      → (may ≡ true → Holds (Ok (tt {0}))) → (may ≡ false → Holds (Err (s.Break place)))
+      → OnReading {T = Bool} Holds result
+  break_said true Holds result is_first place same closed stops = rw same (closed refl)
+  break_said false Holds result is_first place same closed stops = rw same (stops refl)
+
   -- what the read of a string says of that of an item
   pub reading_string : (One : Result (Unit {0}) (Error E) → Type 0) (Other : Result (Unit {0}) (SkipError E) → Type 0)
       (result : Result (Unit {0}) (DiagError E F)) → (One (Ok (tt {0})) → Other (Ok (tt {0})))
@@ -95,8 +103,8 @@ module _ {R E : Type 0} (source : Ghosts R E) where
   -- a decoder that moved on, and where the answer is Ok once more
   pub moved_then : {T F : Type 0} (old mid new : Decoder R) (result : Result T F) → MovesOn source old mid
       → OnOk result (MovesOn source mid new) → OnOk result (MovesOn source old new)
-  moved_then old mid new (Ok done) first then = MovesOn-then source old mid new first then
-  moved_then old mid new (Err error) first then = tt
+  moved_then old mid new (Ok done) first next = MovesOn-then source old mid new first next
+  moved_then old mid new (Err error) first next = tt
 
 -- what a write of a text answered, as the answer of a show
 pub said_text : {E W F : Type 0} (sink : Sink W F) (old new : W) (answer : Result (Unit {0}) F)

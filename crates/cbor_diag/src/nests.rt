@@ -1,11 +1,12 @@
 //! Items, and what tags, arrays and maps contain.
 
-ghost use Rattle.std.specs.Prelude.{◌≡◌, ◌≤◌, Bool, IfErr, None, OnOk};
+ghost use Rattle.std.specs.Prelude.{◌≡◌, ◌≤◌, Bool, Err, IfErr, None, Ok, OnOk, if◌then◌else◌};
 ghost use Rattle.ciborium_ll.specs.Types.Decoder.{Decoder as AnyDecoder};
 ghost use Rattle.ciborium_ll.specs.Title.{title_len};
 ghost use Rattle.ciborium_ll.specs.Decoding.{IsSteady, MovesOn, PullsTitle, offset_of, waiting_of};
 ghost use Rattle.ciborium_ll.specs.Sides.{sides};
 ghost use Rattle.cbor_skip.specs.Due.{IsNest};
+ghost use Rattle.cbor_skip.specs.Remaining.{closes};
 ghost use Rattle.cbor_skip.specs.Skipping.{SkipsWithin};
 ghost use Rattle.cbor_diag.specs.Showing.{IsWriting, OnReading, ReadsFrom, ShowsHeader};
 
@@ -37,10 +38,7 @@ pub(crate) fn show_within<R: Read, W: Write>(
         let place = decoder.offset();
         let next = decoder.pull()?;
         if let Header::Break = next {
-            if remaining.closes() {
-                return Ok(is_first);
-            }
-            return Err(DiagError::Read(SkipError::Break(place)));
+            return at_break(remaining, place, is_first);
         }
         before::<R::Error, W>(writer, line, header, remaining.is_value(), is_first)?;
         show_item(decoder, writer, next, place, depth, line)?;
@@ -48,6 +46,20 @@ pub(crate) fn show_within<R: Read, W: Write>(
         is_first = false;
     }
     Ok(is_first)
+}
+
+/// What a break answers that stands at this place instead of what is due. `is_first` says that nothing stood before it.
+fn at_break<E, F>(
+    remaining: Remaining,
+    place: usize,
+    is_first: bool,
+) -> Result<bool, DiagError<E, F>>
+    ensures { result ≡ (if closes remaining then Ok is_first else Err (DiagError.Read (SkipError.Break place))) }
+{
+    if remaining.closes() {
+        return Ok(is_first);
+    }
+    Err(DiagError::Read(SkipError::Break(place)))
 }
 
 /// Shows an item, behind its header, which was pulled at this offset.

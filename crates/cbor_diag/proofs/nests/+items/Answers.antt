@@ -10,7 +10,7 @@ use Rattle.cbor_skip.specs.Remaining.{is_done, closes}
 use Rattle.cbor_skip.specs.Skipping.{SkipsWithin}
 use Rattle.cbor_skip.proofs.ItemSteps.{none_read, one_more, stops_here, pull_stops, stops_within, ended, closed}
 use Rattle.cbor_diag.specs.Showing.{ReadsFrom}
-use Rattle.cbor_diag.proofs.ShowLaws.{reading_stops, reading_unread, when_err}
+use Rattle.cbor_diag.proofs.ShowLaws.{break_said, reading_stops, reading_unread, when_err, when_ok}
 use Rattle.cbor_diag.proofs.ItemLaws.{ItemRead, nest_deep, nest_read, nest_stops}
 use Rattle.cbor_diag.proofs.nests.+items.Goals as goal
 
@@ -73,13 +73,6 @@ show_within-returns-clause-reads g t c =
     let done : is_done c.items.remaining ≡ true = sym c.items-test.ensures in
     ended g.R.Read c.items.invariant.so_far done
 
-pub show_within-returns-then-closes-clause-reads : goal.show_within-returns-then-closes-clause-reads
-show_within-returns-then-closes-clause-reads g t c =
-    let may : closes c.items.remaining ≡ true = sym c.if-closes.ensures in
-    let pulled = rw (c.offset-place.ensures.same, c.in-Break.is) at c.in_ok-next.ensures.header in
-    let steady = rw c.offset-place.ensures.same at c.in_ok-next.ensures.moves_on.steady in
-    closed g.R.Read c.items.invariant.so_far may pulled steady
-
 pub show_within-returns-in_err-next-clause-reads : goal.show_within-returns-in_err-next-clause-reads
 show_within-returns-in_err-next-clause-reads g t c =
     let error = c.in_err-next.field-0.0 in
@@ -93,13 +86,23 @@ show_within-returns-in_err-next-clause-reads g t c =
 
 pub show_within-returns-in-Break-clause-reads : goal.show_within-returns-in-Break-clause-reads
 show_within-returns-in-Break-clause-reads g t c =
-    let may : closes c.items.remaining ≡ false = sym c.if-closes.ensures in
     let some : is_done c.items.remaining ≡ false = sym c.items-test.ensures in
-    stops_within g.R.Read c.items.invariant.so_far some refl (stops_here g.R.Read (record {
+    let pulled = rw (c.offset-place.ensures.same, c.in-Break.is) at c.in_ok-next.ensures.header in
+    let steady = rw c.offset-place.ensures.same at c.in_ok-next.ensures.moves_on.steady in
+    let Holds : Result (Unit {0}) (SkipError g.row.R-Error.Denot) → Type 0 =
+    λ answer. SkipsWithin g.R.Read c.args.header c.args.depth 64 c.args.decoder.now answer c.pull.new.self in
+    break_said (closes c.items.remaining) Holds c.at_break.result c.items.is_first c.offset-place.result
+    c.at_break.ensures (λ may. closed g.R.Read c.items.invariant.so_far may pulled steady)
+    (λ may. stops_within g.R.Read c.items.invariant.so_far some refl (stops_here g.R.Read (record {
       not_closable = may;
       place = c.offset-place.ensures.value;
-      pulled = rw (c.offset-place.ensures.same, c.in-Break.is) at c.in_ok-next.ensures.header;
-    }))
+      pulled = pulled;
+    })))
+
+pub show_within-returns-in-Break-clause-moves_on : goal.show_within-returns-in-Break-clause-moves_on
+show_within-returns-in-Break-clause-moves_on g t c =
+    when_ok _ c.at_break.result (MovesOn-then g.R.Read _ _ _ c.items.invariant.moves_on
+    (rw c.offset-place.ensures.same at c.in_ok-next.ensures.moves_on))
 
 pub show_within-returns-in_err-show_item-clause-reads : goal.show_within-returns-in_err-show_item-clause-reads
 show_within-returns-in_err-show_item-clause-reads g t c =
