@@ -1,5 +1,6 @@
 -- The text of a float, written piece by piece.
-use Rattle.std.proofs.Common.{rules, ◌≡◌, ℕ, true, false, Some, is_nan, List, [], ◌∷◌, ◌++◌, length, arith, Result, Ok, IsErr, refl, sym, ap, subst, from_bits, codes}
+use Rattle.std.proofs.Common.{rules, ◌≡◌, ℕ, true, false, Some, is_nan, List, [], ◌∷◌, ◌++◌, length, arith, Result, Ok, IsErr}
+use Rattle.std.proofs.Common.{refl, sym, ap, subst, from_bits, codes}
 use Rattle.std.specs.Float.{Float, nan, inf, fin, binary64, float_is_finite, is_sign_negative}
 use Rattle.std.specs.Float as f
 use Rattle.ciborium_ll.specs.Types.Write.{Ghosts}
@@ -121,7 +122,8 @@ module _ {W F : Type 0} (sink : Ghosts W F) where
   module _ (all rest behind : List ℕ) (byte : ℕ) (old now new : W) (result : Result (Unit {0}) F)
       (split : rest ≡ byte ∷ behind) (far : DigitsFar all rest old now) where
     -- the rest has the point in front
-    pub digits_point : byte ≡ 46 → WritesBytes sink now result rest new → WritesBytes sink old result (with_point all) new
+    pub digits_point : byte ≡ 46 → WritesBytes sink now result rest new
+        → WritesBytes sink old result (with_point all) new
     digits_point is wrote = digits_end all rest rest old now new result far
         (subst (λ (z : List ℕ). with_point z ≡ z) (sym split) (point_here behind byte is)) wrote
 

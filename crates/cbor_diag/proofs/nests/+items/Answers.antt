@@ -45,10 +45,14 @@ show_item-returns-in_ok-is_empty-in-Tag-clause-reads g t c = λ before outer at 
     c.show_within.new.decoder c.close.result level pulled c.in_ok-is_empty-in-Tag.ensures.reads c.close.ensures
 
 pub show_item-returns-in_err-open-in-Tag-clause-moves_on : goal.show_item-returns-in_err-open-in-Tag-clause-moves_on
-show_item-returns-in_err-open-in-Tag-clause-moves_on g t c = when_err _ c.from_residual.result c.from_residual.ensures.0
+show_item-returns-in_err-open-in-Tag-clause-moves_on g t c =
+    let residual = c.from_residual in
+    when_err _ residual.result residual.ensures.0
 
 pub show_item-returns-in_err-is_empty-in-Tag-clause-moves_on : goal.show_item-returns-in_err-is_empty-in-Tag-clause-moves_on
-show_item-returns-in_err-is_empty-in-Tag-clause-moves_on g t c = when_err _ c.from_residual-in_err-is_empty-in-Tag.result c.from_residual-in_err-is_empty-in-Tag.ensures.0
+show_item-returns-in_err-is_empty-in-Tag-clause-moves_on g t c =
+    let residual = c.from_residual-in_err-is_empty-in-Tag in
+    when_err _ residual.result residual.ensures.0
 
 pub show_item-returns-in_err-open-in-Tag-clause-reads : goal.show_item-returns-in_err-open-in-Tag-clause-reads
 show_item-returns-in_err-open-in-Tag-clause-reads g t c = λ before outer at pulled steady.
@@ -138,13 +142,19 @@ show_within-items-preserved g t c =
     }
 
 pub show_within-returns-in_err-next-clause-moves_on : goal.show_within-returns-in_err-next-clause-moves_on
-show_within-returns-in_err-next-clause-moves_on g t c = when_err _ c.from_residual.result c.from_residual.ensures.0
+show_within-returns-in_err-next-clause-moves_on g t c =
+    let residual = c.from_residual in
+    when_err _ residual.result residual.ensures.0
 
 pub show_within-returns-in_err-before-clause-moves_on : goal.show_within-returns-in_err-before-clause-moves_on
-show_within-returns-in_err-before-clause-moves_on g t c = when_err _ c.from_residual-in_err-before.result c.from_residual-in_err-before.ensures.0
+show_within-returns-in_err-before-clause-moves_on g t c =
+    let residual = c.from_residual-in_err-before in
+    when_err _ residual.result residual.ensures.0
 
 pub show_within-returns-in_err-show_item-clause-moves_on : goal.show_within-returns-in_err-show_item-clause-moves_on
-show_within-returns-in_err-show_item-clause-moves_on g t c = when_err _ c.from_residual-in_err-show_item.result c.from_residual-in_err-show_item.ensures.0
+show_within-returns-in_err-show_item-clause-moves_on g t c =
+    let residual = c.from_residual-in_err-show_item in
+    when_err _ residual.result residual.ensures.0
 
 pub show_within-returns-in_err-before-clause-reads : goal.show_within-returns-in_err-before-clause-reads
 show_within-returns-in_err-before-clause-reads g t c =

@@ -10,21 +10,24 @@ use Rattle.cbor_diag.proofs.plain.show_plain.Goals as goal
 
 pub returns-in-Positive-clause-reads : goal.returns-in-Positive-clause-reads
 returns-in-Positive-clause-reads g c = λ before outer depth pulled steady.
-    let completes = subst (λ (x : Header). Completes (strictness before) depth x []) (sym c.in-Positive.is) positive in
+    let completes =
+    subst (λ (x : Header). Completes (strictness before) depth x []) (sym c.in-Positive.is) positive in
     scalar_read g.R.Read outer depth before c.args.decoder.now steady c.args.header c.said.result completes
     pulled
     c.said.ensures.writing
 
 pub returns-in-Negative-clause-reads : goal.returns-in-Negative-clause-reads
 returns-in-Negative-clause-reads g c = λ before outer depth pulled steady.
-    let completes = subst (λ (x : Header). Completes (strictness before) depth x []) (sym c.in-Negative.is) negative in
+    let completes =
+    subst (λ (x : Header). Completes (strictness before) depth x []) (sym c.in-Negative.is) negative in
     scalar_read g.R.Read outer depth before c.args.decoder.now steady c.args.header c.said-in-Negative.result
     completes pulled
     c.said-in-Negative.ensures.writing
 
 pub returns-in-Float-clause-reads : goal.returns-in-Float-clause-reads
 returns-in-Float-clause-reads g c = λ before outer depth pulled steady.
-    let completes = subst (λ (x : Header). Completes (strictness before) depth x []) (sym c.in-Float.is) float in
+    let completes =
+    subst (λ (x : Header). Completes (strictness before) depth x []) (sym c.in-Float.is) float in
     scalar_read g.R.Read outer depth before c.args.decoder.now steady c.args.header c.said-in-Float.result
     completes pulled
     c.said-in-Float.ensures.writing
@@ -36,7 +39,8 @@ returns-in-Float-clause-text g c =
 
 pub returns-in-Simple-clause-reads : goal.returns-in-Simple-clause-reads
 returns-in-Simple-clause-reads g c = λ before outer depth pulled steady.
-    let completes = subst (λ (x : Header). Completes (strictness before) depth x []) (sym c.in-Simple.is) simple in
+    let completes =
+    subst (λ (x : Header). Completes (strictness before) depth x []) (sym c.in-Simple.is) simple in
     scalar_read g.R.Read outer depth before c.args.decoder.now steady c.args.header c.said-in-Simple.result
     completes pulled
     c.said-in-Simple.ensures.writing
@@ -53,15 +57,18 @@ returns-in-Text-clause-reads g c = λ before outer depth pulled steady.
     c.show_text.result (rw c.in-Text.is at pulled) c.show_text.ensures.reads
 
 pub returns-in-Positive-clause-text : goal.returns-in-Positive-clause-text
-returns-in-Positive-clause-text g c = rw c.in-Positive.is (said_text g.W.Write _ _ c.show_positive.result c.said.result _
+returns-in-Positive-clause-text g c =
+    rw c.in-Positive.is (said_text g.W.Write _ _ c.show_positive.result c.said.result _
     c.said.ensures.same c.show_positive.ensures)
 
 pub returns-in-Negative-clause-text : goal.returns-in-Negative-clause-text
-returns-in-Negative-clause-text g c = rw c.in-Negative.is (said_text g.W.Write _ _ c.show_negative.result c.said-in-Negative.result _
+returns-in-Negative-clause-text g c =
+    rw c.in-Negative.is (said_text g.W.Write _ _ c.show_negative.result c.said-in-Negative.result _
     c.said-in-Negative.ensures.same c.show_negative.ensures)
 
 pub returns-in-Simple-clause-text : goal.returns-in-Simple-clause-text
-returns-in-Simple-clause-text g c = rw c.in-Simple.is (said_text g.W.Write _ _ c.show_simple.result c.said-in-Simple.result _
+returns-in-Simple-clause-text g c =
+    rw c.in-Simple.is (said_text g.W.Write _ _ c.show_simple.result c.said-in-Simple.result _
     c.said-in-Simple.ensures.same c.show_simple.ensures)
 
 pub returns-in-Bytes-clause-text : goal.returns-in-Bytes-clause-text
@@ -77,13 +84,17 @@ pub returns-in-Text-clause-moves_on : goal.returns-in-Text-clause-moves_on
 returns-in-Text-clause-moves_on g c = c.show_text.ensures.moves_on
 
 pub returns-in-Positive-clause-moves_on : goal.returns-in-Positive-clause-moves_on
-returns-in-Positive-clause-moves_on g c = when_ok _ c.said.result (MovesOn-none g.R.Read c.args.decoder.now)
+returns-in-Positive-clause-moves_on g c =
+    when_ok _ c.said.result (MovesOn-none g.R.Read c.args.decoder.now)
 
 pub returns-in-Negative-clause-moves_on : goal.returns-in-Negative-clause-moves_on
-returns-in-Negative-clause-moves_on g c = when_ok _ c.said-in-Negative.result (MovesOn-none g.R.Read c.args.decoder.now)
+returns-in-Negative-clause-moves_on g c =
+    when_ok _ c.said-in-Negative.result (MovesOn-none g.R.Read c.args.decoder.now)
 
 pub returns-in-Float-clause-moves_on : goal.returns-in-Float-clause-moves_on
-returns-in-Float-clause-moves_on g c = when_ok _ c.said-in-Float.result (MovesOn-none g.R.Read c.args.decoder.now)
+returns-in-Float-clause-moves_on g c =
+    when_ok _ c.said-in-Float.result (MovesOn-none g.R.Read c.args.decoder.now)
 
 pub returns-in-Simple-clause-moves_on : goal.returns-in-Simple-clause-moves_on
-returns-in-Simple-clause-moves_on g c = when_ok _ c.said-in-Simple.result (MovesOn-none g.R.Read c.args.decoder.now)
+returns-in-Simple-clause-moves_on g c =
+    when_ok _ c.said-in-Simple.result (MovesOn-none g.R.Read c.args.decoder.now)
