@@ -24,3 +24,9 @@ returns-clause-goes_on g c =
 
 pub returns-in-Err-clause-mode : goal.returns-in-Err-clause-mode
 returns-in-Err-clause-mode g c = search rules
+
+pub returns-clause-steps : goal.returns-clause-steps
+returns-clause-steps g c = search rules
+
+pub invariant_of-self-2 : goal.invariant_of-self-2
+invariant_of-self-2 g c = search rules
