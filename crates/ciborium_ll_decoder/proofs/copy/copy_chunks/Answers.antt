@@ -1,4 +1,4 @@
-use Rattle.std.proofs.Common.{rules, refl, subst, ◌≡◌, ℕ, None, Err, length}
+use Rattle.std.proofs.Common.{rules, refl, subst, ◌≡◌, ℕ, None, Ok, Err, length}
 use Rattle.ciborium_ll_decoder.specs.declared.copy.RecodeError.TheVariants as r
 use Rattle.ciborium_ll_decoder.specs.Chunks.{GivesChunk, PullsChunk}
 use Rattle.ciborium_ll_decoder.proofs.DecodingLaws.{exit_is, MovesOn-none, MovesOn-then}
@@ -19,11 +19,16 @@ chunks-preserved g c =
     let kept = c.chunks.invariant in
     let pulled = c.in_ok-chunk.ensures in
     let gives = rw c.in-Some.is at pulled.chunk in
+    let wrote : c.write_all.result ≡ Ok (tt {0}) = search rules in
     record {
       same = search rules;
       so_far = so_far_chunk g.R.Read g.W.Write _ _ _ _ kept.so_far _ _ c.chunk.new.segment _ gives
           pulled.moves_on.steady
-          (record { appended = search rules; room = search rules; failures = search rules });
+          (record {
+            appended = rw wrote at c.write_all.ensures.bytes;
+            room = rw wrote at c.write_all.ensures.fills;
+            failures = rw wrote at c.write_all.ensures.ok;
+          });
       moves_on = MovesOn-then g.R.Read _ _ _ kept.moves_on pulled.moves_on;
       target = search rules;
     }
