@@ -5,8 +5,15 @@ use Rattle.ciborium_ll.specs.Types.Read.{Ghosts}
 use Rattle.ciborium_ll.specs.Types.Decoder.{Decoder}
 use Rattle.cbor_look.specs.Levels.{Line, bytes_of, Stands, AllStand}
 use Rattle.cbor_look.specs.Takings.{Takes}
-use Rattle.cbor_look.specs.Dumps.{Draws, Lines, Shows, ShowsBehind}
+use Rattle.cbor_look.specs.Dumps.{Draws, IsRefusal, IsTaken, Lines, Shows, ShowsBehind}
+use Rattle.cbor_look.specs.declared.dump.DumpError.{DumpError}
+use Rattle.cbor_look.specs.declared.dump.DumpError.TheVariants as d
 use Rattle.cbor_look.proofs.TakingLaws.{takes_none, takes_then}
+
+-- where a row was refused, not each was taken
+pub not_taken : {E W : Type 0} (why : DumpError E W) → IsRefusal why → IsTaken why → ⊥
+not_taken (d.Item error) refusal taken = absurd refusal
+not_taken (d.Rows fault) refusal taken = absurd taken
 
 -- ---- lines
 

@@ -1,5 +1,5 @@
 -- The lines of a string of indefinite length, behind its open.
-use Rattle.std.proofs.Common.{◌≡◌, ℕ, zero, suc, ◌+◌, ◌-◌, List, [], ◌∷◌, ◌++◌, length, Option, Some, None, refl, sym}
+use Rattle.std.proofs.Common.{◌≡◌, ℕ, zero, suc, ◌+◌, ◌-◌, ◌<◌, List, [], ◌∷◌, ◌++◌, length, Option, Some, None, refl, sym}
 use Rattle.std.proofs.Common.{ap, subst, ◌∙◌, arith, append-nil, append_assoc, length-append, inl, inr, Bool, true}
 use Rattle.std.proofs.Common.{false, Err}
 use Rattle.std.proofs.lemmas.Bool.{false_from_ne_true}
@@ -27,7 +27,9 @@ use Rattle.cbor_look.specs.declared.rows.Meaning.TheVariants as m
 use Rattle.cbor_look.specs.Takings.{IsAlike, most_bytes, Takes}
 use Rattle.cbor_look.specs.Levels.{Line, Nest, StandsWithin, AreOpen, none, more, TitleDue, title_level}
 use Rattle.cbor_look.specs.Dumps.{Draws, fault_lines, SaysFault, Shows}
-use Rattle.cbor_look.specs.StringRows.{EndsString, StopsRest}
+use Rattle.cbor_look.specs.StringRows.{EndsString, IsPart, StopsRest}
+use Rattle.cbor_look.specs.declared.strings.Part.{Part}
+use Rattle.cbor_look.specs.declared.strings.Part.TheVariants as p
 use Rattle.cbor_look.proofs.DumpLaws.{shows_none, shows_then}
 use Rattle.cbor_look.proofs.TitleLaws.{title_line, string_level, break_bytes}
 use Rattle.cbor_look.proofs.StringLaws.{lines_fault, next_offset, add_string, add_open, close_inner, close_last}
@@ -45,6 +47,24 @@ open_inside kind zero parts bodies
 open_inside kind (suc opens) parts bodies
     (more {outer = x} {title = t} {strings = z} {bodies = b} {others = c} o p are) =
     deeper (open_inside kind opens x b o) (opened p are)
+
+-- what is no piece, no open and not refused, is a break
+pub only_break : (strict : Bool) (kind : Kind) (header : Header) (part : Part) → IsPart strict kind header part
+    → ((len : ℕ) → part ≡ p.Piece len → ⊥) → (part ≡ p.Open → ⊥) → (part ≡ p.Other → ⊥) → header ≡ h.Break
+only_break strict kind header p.Break is piece opens other = is
+only_break strict kind header (p.Piece len) is piece opens other = absurd (piece len refl)
+only_break strict kind header p.Open is piece opens other = absurd (opens refl)
+only_break strict kind header p.Other is piece opens other = absurd (other refl)
+
+-- a break stands a level less deep than the titles that it ends
+pub break_level : (header : Header) (inner level : ℕ) → header ≡ h.Break → 0 < inner
+    → ((nests : List Nest) (opens : ℕ) → inner ≡ length nests + suc opens
+        → level ≡ title_level header nests (suc opens))
+    → level ≡ inner - 1
+break_level header inner level is some same =
+    let at : level ≡ title_level h.Break [] (suc (inner - 1)) =
+    subst (λ (x : Header). level ≡ title_level x [] (suc (inner - 1))) is (same [] (inner - 1) (omega (arith, some))) in
+    omega (arith, at, some)
 
 module _ {R E : Type 0} (source : Ghosts R E) where
   -- within a string, of which so many opens aren't closed, all up to here was shown
@@ -148,13 +168,12 @@ module _ {R E : Type 0} (source : Ghosts R E) where
     parts_then row = sym (append_assoc title so_far.bytes row) ∙ ap (λ (z : List ℕ). z ++ row) so_far.is
 
     -- a further open
-    pub within_open : (then_drawn : Option (List Line)) (row : List ℕ) (offset : ℕ) (new : Decoder R)
-        → strict ≡ false → Takes source between row new → (between.waiting ≡ None → Passes source between row new)
-        → offset ≡ between.offset → IsTitle row (kind_header kind None)
-        → Draws middle then_drawn
-        (record { level = inner; offset = offset; bytes = row; meaning = m.Header (kind_header kind None) } ∷ [])
+    pub within_open : (then_drawn : Option (List Line)) (row : List ℕ) (new : Decoder R)
+        → strict ≡ false → (between.waiting ≡ None → Passes source between row new)
+        → IsTitle row (kind_header kind None)
+        → Shows source depth start drawn then_drawn (items ++ title) (so_far.bytes ++ row) old new
         → Within strict depth start drawn then_drawn nests items title kind (inner + 1) old new
-    within_open then_drawn row offset new any takes went at p drawn_line =
+    within_open then_drawn row new any went p shows =
         let level = so_far.level in
         record {
           opens = suc so_far.opens;
@@ -168,8 +187,7 @@ module _ {R E : Type 0} (source : Ghosts R E) where
           level = omega (arith, level);
           is = parts_then row;
           passed = passed_row row new went;
-          shows = within_title then_drawn row (kind_header kind None) offset inner new takes at p
-              (level ∙ sym (string_level kind None nests (suc so_far.opens))) drawn_line;
+          shows = shows;
         }
 
     -- where there are several opens, any spelling is taken
@@ -178,77 +196,55 @@ module _ {R E : Type 0} (source : Ghosts R E) where
 
     -- a break that closes one of several
     inner_break : (opens : ℕ) → so_far.opens ≡ suc opens → strict ≡ false → (then_drawn : Option (List Line))
-        (row : List ℕ)
-        (offset : ℕ) (new : Decoder R)
-        → Takes source between row new → (between.waiting ≡ None → Passes source between row new)
-        → offset ≡ between.offset → IsTitle row h.Break
-        → Draws middle then_drawn
-        (record { level = inner - 1; offset = offset; bytes = row; meaning = m.Header h.Break } ∷ [])
-        → Within strict depth start drawn then_drawn nests items title kind (inner - 1) old new
-    inner_break opens e any then_drawn row offset new takes went at p drawn_line =
-        let level = so_far.level in
-        record {
-          opens = opens;
-          parts = so_far.parts ++ row;
-          bodies = so_far.bodies;
-          bytes = so_far.bytes ++ row;
-          are_open = subst (λ (z : List ℕ). AreOpen kind (suc opens) (so_far.parts ++ z) so_far.bodies)
-              (sym (break_bytes row p)) (close_inner kind opens so_far.parts so_far.bodies
-              (subst (λ (n : ℕ). AreOpen kind (suc n) so_far.parts so_far.bodies) e so_far.are_open));
-          sound = so_far.sound;
-          taken = taken_any strict kind (so_far.bytes ++ row) so_far.bodies any;
-          one = λ on. absurd cc;
-          level = omega (arith, level, e);
-          is = parts_then row;
-          passed = passed_row row new went;
-          shows = within_title then_drawn row h.Break offset (inner - 1) new takes at p
-              (ap (λ (n : ℕ). n - 1) level) drawn_line;
-        }
+        (row : List ℕ) (level : ℕ) (new : Decoder R)
+        → (between.waiting ≡ None → Passes source between row new) → IsTitle row h.Break
+        → level ≡ length nests + suc opens
+        → Shows source depth start drawn then_drawn (items ++ title) (so_far.bytes ++ row) old new
+        → Within strict depth start drawn then_drawn nests items title kind level old new
+    inner_break opens e any then_drawn row level new went p same shows = record {
+      opens = opens;
+      parts = so_far.parts ++ row;
+      bodies = so_far.bodies;
+      bytes = so_far.bytes ++ row;
+      are_open = subst (λ (z : List ℕ). AreOpen kind (suc opens) (so_far.parts ++ z) so_far.bodies)
+          (sym (break_bytes row p)) (close_inner kind opens so_far.parts so_far.bodies
+          (subst (λ (n : ℕ). AreOpen kind (suc n) so_far.parts so_far.bodies) e so_far.are_open));
+      sound = so_far.sound;
+      taken = taken_any strict kind (so_far.bytes ++ row) so_far.bodies any;
+      one = λ on. absurd cc;
+      level = same;
+      is = parts_then row;
+      passed = passed_row row new went;
+      shows = shows;
+    }
 
-    pub within_break : (then_drawn : Option (List Line)) (row : List ℕ) (offset : ℕ) (new : Decoder R)
-        → Takes source between row new → (between.waiting ≡ None → Passes source between row new)
-        → offset ≡ between.offset → IsTitle row h.Break
-        → (inner - 1 ≡ length nests → ⊥)
-        → Draws middle then_drawn
-        (record { level = inner - 1; offset = offset; bytes = row; meaning = m.Header h.Break } ∷ [])
-        → Within strict depth start drawn then_drawn nests items title kind (inner - 1) old new
-    within_break then_drawn row offset new takes went at p further drawn_line =
-        let level = so_far.level in
-        let less : so_far.opens ≡ suc (so_far.opens - 1) = omega (arith, level, further) in
-        inner_break (so_far.opens - 1) less (several (so_far.opens - 1) less) then_drawn row offset new takes went at p
-        drawn_line
+    pub within_break : (then_drawn : Option (List Line)) (row : List ℕ) (level : ℕ) (new : Decoder R)
+        → (between.waiting ≡ None → Passes source between row new) → IsTitle row h.Break
+        → level ≡ title_level h.Break nests (suc so_far.opens) → (level ≡ length nests → ⊥)
+        → Shows source depth start drawn then_drawn (items ++ title) (so_far.bytes ++ row) old new
+        → Within strict depth start drawn then_drawn nests items title kind level old new
+    within_break then_drawn row level new went p same further shows =
+        let less : so_far.opens ≡ suc (so_far.opens - 1) = omega (arith, same, further) in
+        inner_break (so_far.opens - 1) less (several (so_far.opens - 1) less) then_drawn row level new went p
+        (omega (arith, same, less)) shows
 
     -- the break that ends the string
-    pub within_ends : (then_drawn : Option (List Line)) (row : List ℕ) (offset : ℕ) (new : Decoder R)
-        → IsTitle title (kind_header kind None) → Takes source between row new → offset ≡ between.offset
-        → IsTitle row h.Break → inner - 1 ≡ length nests
-        → Draws middle then_drawn
-        (record { level = inner - 1; offset = offset; bytes = row; meaning = m.Header h.Break } ∷ [])
-        → Shows source depth start drawn then_drawn (items ++ title) (so_far.bytes ++ row) old new
-        × EndsString strict kind (so_far.bytes ++ row)
-    within_ends then_drawn row offset new q takes at p last drawn_line =
-        let level = so_far.level in
-        let one : so_far.opens ≡ zero = omega (arith, level, last) in (
-          within_title then_drawn row h.Break offset (inner - 1) new takes at p (ap (λ (n : ℕ). n - 1) level)
-              drawn_line,
-          subst (λ (z : List ℕ). EndsString strict kind (so_far.bytes ++ z)) (sym (break_bytes row p))
-              (close_last strict kind title so_far.bytes so_far.parts so_far.bodies
-              (subst (λ (n : ℕ). AreOpen kind (suc n) so_far.parts so_far.bodies) one so_far.are_open) q so_far.is
-              so_far.sound so_far.taken),
-        )
+    pub within_ends : (row : List ℕ) (level : ℕ) → IsTitle title (kind_header kind None) → IsTitle row h.Break
+        → level ≡ title_level h.Break nests (suc so_far.opens) → level ≡ length nests
+        → EndsString strict kind (so_far.bytes ++ row)
+    within_ends row level q p same last =
+        let one : so_far.opens ≡ zero = omega (arith, same, last) in
+        subst (λ (z : List ℕ). EndsString strict kind (so_far.bytes ++ z)) (sym (break_bytes row p))
+        (close_last strict kind title so_far.bytes so_far.parts so_far.bodies
+        (subst (λ (n : ℕ). AreOpen kind (suc n) so_far.parts so_far.bodies) one so_far.are_open) q so_far.is
+        so_far.sound so_far.taken)
 
     -- a piece: its title, and then its body
-    pub within_piece : (titled_drawn then_drawn : Option (List Line)) (row body : List ℕ) (len offset : ℕ)
-        (titled new : Decoder R)
-        → Takes source between row titled → offset ≡ between.offset → IsTitle row (kind_header kind (Some len))
-        → Draws middle titled_drawn
-        (record { level = inner; offset = offset; bytes = row; meaning = m.Header (kind_header kind (Some len)) } ∷ [])
+    pub within_piece : (titled_drawn then_drawn : Option (List Line)) (row body : List ℕ) (titled new : Decoder R)
+        → Shows source depth start drawn titled_drawn (items ++ title) (so_far.bytes ++ row) old titled
         → Shows source depth start titled_drawn then_drawn ((items ++ so_far.parts) ++ row) body titled new
         → Shows source depth start drawn then_drawn (items ++ title) (so_far.bytes ++ (row ++ body)) old new
-    within_piece titled_drawn then_drawn row body len offset titled new takes at p drawn_line shows =
-        let level = so_far.level in
-        let first = within_title titled_drawn row (kind_header kind (Some len)) offset inner titled takes at p
-        (level ∙ sym (string_level kind (Some len) nests (suc so_far.opens))) drawn_line in
+    within_piece titled_drawn then_drawn row body titled new first shows =
         let same : (items ++ so_far.parts) ++ row ≡ (items ++ title) ++ (so_far.bytes ++ row) =
         ap (λ (z : List ℕ). z ++ row) (sym before_is) ∙ append_assoc (items ++ title) so_far.bytes row in
         let second = subst (λ (z : List ℕ). Shows source depth start titled_drawn then_drawn z body titled new) same

@@ -1,11 +1,11 @@
 //! The rows of a string, behind its title.
 
-ghost use Rattle.std.specs.Prelude.{◌≡◌, ℕ, ◌+◌, ◌<◌, ◌≤◌, Bool, List, [], ◌++◌, length, IfOk, None, Some};
+ghost use Rattle.std.specs.Prelude.{◌≡◌, ℕ, ◌+◌, ◌<◌, ◌≤◌, Bool, List, [], ◌++◌, length, suc, IfOk, None, Some};
 ghost use Rattle.ciborium_ll.specs.Title.{IsTitle};
 ghost use Rattle.ciborium_ll.specs.Strings.{IsWritable, kind_header};
 ghost use Rattle.ciborium_ll.specs.Decoding.{offset_of, waiting_of};
 ghost use Rattle.cbor_look.specs.Dumps.{AreTaken};
-ghost use Rattle.cbor_look.specs.Levels.{Nest, StandsWithin, TitleDue};
+ghost use Rattle.cbor_look.specs.Levels.{Nest, StandsWithin, TitleDue, title_level};
 ghost use Rattle.cbor_look.specs.Parts.{ReadsPart};
 ghost use Rattle.cbor_look.specs.Takings.{Keeps, taken_bytes};
 ghost use Rattle.cbor_look.specs.StringRows.{IsPart, ShowsRest, kind_of, meaning_of};
@@ -137,6 +137,18 @@ fn part_of(header: Header, kind: Kind, strict: bool) -> Part
     }
 }
 
+/// The level of a title within an open whose titles stand at this level: a break that closes the open has the open's.
+fn title_level(header: Header, inner: usize) -> usize
+    requires some { 0 < inner }
+    ensures { (nests : List Nest) (opens : ℕ) → inner ≡ length nests + suc opens
+        → result ≡ title_level header nests (suc opens) }
+{
+    match header {
+        Header::Break => inner - 1,
+        _ => inner,
+    }
+}
+
 /// Shows the rest of a string of indefinite length, behind its open, up to the break that ends it.
 pub(crate) fn pieces<R: Read, S: Rows>(
     decoder: &mut Decoder<R>,
@@ -164,24 +176,22 @@ where
             Ok(header) => header,
             Err(error) => return Err(fault(&taken, error, place, inner, rows)),
         };
-        let meaning = Meaning::Header(header);
-        match part_of(header, kind, strict) {
-            Part::Break => {
-                inner -= 1;
-                shown(&taken, meaning, place, inner, rows)?;
-                if inner == level {
+        let part = part_of(header, kind, strict);
+        if let Part::Other = part {
+            return Err(fault(&taken, Error::Syntax(place), place, inner, rows));
+        }
+        let at = title_level(header, inner);
+        shown(&taken, Meaning::Header(header), place, at, rows)?;
+        match part {
+            Part::Piece(len) => body(decoder, kind, len, place, inner + 1, rows)?,
+            Part::Open => inner += 1,
+            // A break: every other title was refused.
+            _ => {
+                if at == level {
                     return Ok(());
                 }
+                inner = at;
             }
-            Part::Piece(len) => {
-                shown(&taken, meaning, place, inner, rows)?;
-                body(decoder, kind, len, place, inner + 1, rows)?;
-            }
-            Part::Open => {
-                shown(&taken, meaning, place, inner, rows)?;
-                inner += 1;
-            }
-            Part::Other => return Err(fault(&taken, Error::Syntax(place), place, inner, rows)),
         }
     }
 }
