@@ -1,7 +1,7 @@
 -- The lines of a string of indefinite length, behind its open.
-use Rattle.std.proofs.Common.{◌≡◌, ℕ, zero, suc, ◌+◌, ◌-◌, ◌<◌, List, [], ◌∷◌, ◌++◌, length, Option, Some, None, refl, sym}
+use Rattle.std.proofs.Common.{◌≡◌, ℕ, zero, suc, ◌+◌, ◌-◌, ◌^◌, ◌<◌, ◌≤◌, List, [], ◌∷◌, ◌++◌, length, Option, Some, None, refl, sym}
 use Rattle.std.proofs.Common.{ap, subst, ◌∙◌, arith, append-nil, append_assoc, length-append, inl, inr, Bool, true}
-use Rattle.std.proofs.Common.{false, Err}
+use Rattle.std.proofs.Common.{false, Err, Fits, w64}
 use Rattle.std.proofs.lemmas.Bool.{false_from_ne_true}
 use Rattle.ciborium_ll.specs.Types.Read.{Ghosts}
 use Rattle.ciborium_ll.specs.Types.Header.{Header}
@@ -65,6 +65,18 @@ break_level header inner level is some same =
     let at : level ≡ title_level h.Break [] (suc (inner - 1)) =
     subst (λ (x : Header). level ≡ title_level x [] (suc (inner - 1))) is (same [] (inner - 1) (omega (arith, some))) in
     omega (arith, at, some)
+
+-- behind a title no level is too great for a number, and fewer offsets are left
+pub level_fits : (inner place len behind waits : ℕ) → inner ≤ place → behind ≡ place + len → 0 < len
+    → behind + waits < 2 ^ 64 → Fits w64 (inner + 1)
+level_fits inner place len behind waits below moved some fits = omega (arith, below, moved, some, fits)
+
+pub comes_nearer : (place len behind after waits : ℕ) → behind ≡ place + len → 0 < len → behind ≤ after
+    → after + waits < 2 ^ 64 → 2 ^ 64 - after < 2 ^ 64 - place
+comes_nearer place len behind after waits moved some rises fits = omega (arith, moved, some, rises, fits)
+
+pub level_some : (level inner : ℕ) → level < inner → 0 < inner
+level_some level inner above = omega (arith, above)
 
 module _ {R E : Type 0} (source : Ghosts R E) where
   -- within a string, of which so many opens aren't closed, all up to here was shown

@@ -1,4 +1,4 @@
-use Rattle.std.proofs.Common.{◌≡◌, ℕ, ◌++◌, subst, sym, suc, ◌∙◌, refl, arith}
+use Rattle.std.proofs.Common.{◌≡◌, ℕ, ◌++◌, subst, sym, suc, ◌∙◌, refl, le_refl, arith}
 use Rattle.ciborium_ll.specs.Decoding.{PullsTitle}
 use Rattle.ciborium_ll.proofs.DecodingLaws.{exit_is, Passes-then}
 use Rattle.ciborium_ll.specs.Types.Header.{Header}
@@ -14,6 +14,7 @@ use Rattle.cbor_look.proofs.PullLaws.{passes_idle, passes_alike}
 use Rattle.cbor_look.proofs.PieceLaws.{alike_here, passed_row, within_no_title, within_other, within_body}
 use Rattle.cbor_look.proofs.PieceLaws.{within_first, within_fails, within_open, within_break, within_ends, within_title}
 use Rattle.cbor_look.proofs.PieceLaws.{within_piece, within_whole, piece_due, piece_offset, only_break, break_level}
+use Rattle.cbor_look.proofs.PieceLaws.{level_fits, comes_nearer, level_some}
 use Rattle.cbor_look.proofs.strings.pieces.Goals as goal
 
 pub parts-init : goal.parts-init
@@ -287,3 +288,52 @@ parts-preserved g c = record {
       c.title_level-at.ensures in
       omega (arith, inner, moved, at);
 }
+
+pub overflow_add-inner : goal.overflow_add-inner
+overflow_add-inner g c = let few = c.requires.few in omega (arith, few)
+
+pub read_title-requires : goal.read_title-requires
+read_title-requires g c = record { none = c.new-taken.ensures }
+
+pub title_level-at-requires : goal.title_level-at-requires
+title_level-at-requires g c = record { some = level_some _ _ c.parts.invariant.above }
+
+pub overflow_add-inner-in-Piece : goal.overflow_add-inner-in-Piece
+overflow_add-inner-in-Piece g c =
+    let row = taken_bytes c.read_title.new.self in
+    let keeps = rw c.offset-place.ensures.same at c.read_title.ensures.keeps in
+    let takes = taken_all g.R.Read _ row _ _ c.new-taken.ensures keeps in
+    let some = title_some row c.in-Ok.header c.in-Ok.ensures.title in
+    level_fits _ _ _ _ _ c.parts.invariant.below takes.offset some c.read_title.new.decoder.covered
+
+pub parts-smaller-in-Continue-branch-2 : goal.parts-smaller-in-Continue-branch-2
+parts-smaller-in-Continue-branch-2 g c =
+    let row = taken_bytes c.read_title.new.self in
+    let keeps = rw c.offset-place.ensures.same at c.read_title.ensures.keeps in
+    let takes = taken_all g.R.Read _ row _ _ c.new-taken.ensures keeps in
+    let some = title_some row c.in-Ok.header c.in-Ok.ensures.title in
+    comes_nearer _ _ _ _ _ takes.offset some c.body.ensures.rises c.body.new.decoder.covered
+
+pub overflow_add-inner-in-Open : goal.overflow_add-inner-in-Open
+overflow_add-inner-in-Open g c =
+    let row = taken_bytes c.read_title.new.self in
+    let keeps = rw c.offset-place.ensures.same at c.read_title.ensures.keeps in
+    let takes = taken_all g.R.Read _ row _ _ c.new-taken.ensures keeps in
+    let some = title_some row c.in-Ok.header c.in-Ok.ensures.title in
+    level_fits _ _ _ _ _ c.parts.invariant.below takes.offset some c.read_title.new.decoder.covered
+
+pub parts-smaller-in-Open : goal.parts-smaller-in-Open
+parts-smaller-in-Open g c =
+    let row = taken_bytes c.read_title.new.self in
+    let keeps = rw c.offset-place.ensures.same at c.read_title.ensures.keeps in
+    let takes = taken_all g.R.Read _ row _ _ c.new-taken.ensures keeps in
+    let some = title_some row c.in-Ok.header c.in-Ok.ensures.title in
+    comes_nearer _ _ _ _ _ takes.offset some (le_refl _) c.read_title.new.decoder.covered
+
+pub parts-smaller : goal.parts-smaller
+parts-smaller g c =
+    let row = taken_bytes c.read_title.new.self in
+    let keeps = rw c.offset-place.ensures.same at c.read_title.ensures.keeps in
+    let takes = taken_all g.R.Read _ row _ _ c.new-taken.ensures keeps in
+    let some = title_some row c.in-Ok.header c.in-Ok.ensures.title in
+    comes_nearer _ _ _ _ _ takes.offset some (le_refl _) c.read_title.new.decoder.covered
