@@ -59,7 +59,7 @@ only_break strict kind header p.Other is piece opens other = absurd (other refl)
 -- a break stands a level less deep than the titles that it ends
 pub break_level : (header : Header) (inner level : ℕ) → header ≡ h.Break → 0 < inner
     → ((nests : List Nest) (opens : ℕ) → inner ≡ length nests + suc opens
-        → level ≡ title_level header nests (suc opens))
+    → level ≡ title_level header nests (suc opens))
     → level ≡ inner - 1
 break_level header inner level is some same =
     let at : level ≡ title_level h.Break [] (suc (inner - 1)) =
@@ -383,10 +383,10 @@ module _ {R E : Type 0} (source : Ghosts R E) where
     -- the body of a piece failed
     pub within_body : {W : Type 0} → IsTitle title (kind_header kind None) → (len place : ℕ)
         (titled new : Decoder R) → PullsTitle source between (kind_header kind (Some len)) titled
-        → (IsSteady source between → IsSteady source titled) → place ≡ between.offset → (why : DumpError E W)
-        → StopsRest source kind (Some len) place titled (Err why) new → IsAlike strict old
+        → (IsSteady source between → IsSteady source titled) → (why : DumpError E W)
+        → StopsRest source kind (Some len) place titled (Err why) new → place ≡ between.offset → IsAlike strict old
         → StopsRest source kind None 0 old (Err why) new
-    within_body p len place titled new pulled steady at (d.Item (s.Read error)) stops alike =
+    within_body p len place titled new pulled steady (d.Item (s.Read error)) stops at alike =
         body_stops error new (record {
           between = between;
           part = skips_inside p alike;
@@ -396,6 +396,6 @@ module _ {R E : Type 0} (source : Ghosts R E) where
           steady = λ holds. steady ((so_far.passed alike.none_waits).steady holds);
           ends = subst (λ (n : ℕ). EndsBody source kind [] len most_bytes n titled (Err error) new) at stops;
         })
-    within_body p len place titled new pulled steady at (d.Item (s.Break other)) stops alike = absurd stops
-    within_body p len place titled new pulled steady at (d.Item (s.Deep other)) stops alike = absurd stops
-    within_body p len place titled new pulled steady at (d.Rows fault) stops alike = tt
+    within_body p len place titled new pulled steady (d.Item (s.Break other)) stops at alike = absurd stops
+    within_body p len place titled new pulled steady (d.Item (s.Deep other)) stops at alike = absurd stops
+    within_body p len place titled new pulled steady (d.Rows fault) stops at alike = tt

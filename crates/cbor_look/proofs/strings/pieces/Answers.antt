@@ -1,4 +1,4 @@
-use Rattle.std.proofs.Common.{◌≡◌, ℕ, ◌++◌, subst, sym, suc, ◌∙◌, refl, le_refl, arith}
+use Rattle.std.proofs.Common.{◌≡◌, ℕ, ◌+◌, ◌++◌, ap, subst, sym, suc, ◌∙◌, refl, le_refl, arith}
 use Rattle.ciborium_ll.specs.Decoding.{PullsTitle}
 use Rattle.ciborium_ll.proofs.DecodingLaws.{exit_is, Passes-then}
 use Rattle.ciborium_ll.specs.Types.Header.{Header}
@@ -109,7 +109,7 @@ returns-in_err-body-in-Piece g c =
           so_far at in
           let rest = c.in_err-body-in-Piece.ensures.shows depth start (suc so_far.opens) nests (items ++ so_far.parts) row
           c.args.strict due
-          title_row (omega (arith, inner)) (piece_offset g.R.Read c.args.strict depth start _ _ nests items title
+          title_row (ap (λ (n : ℕ). n + 1) inner) (piece_offset g.R.Read c.args.strict depth start _ _ nests items title
           (kind_of c.args.kind)
           c.parts.inner _ _ stands so_far at row _ takes) all in
           let first = within_title g.R.Read c.args.strict depth start _ _ nests items title
@@ -133,9 +133,8 @@ returns-in_err-body-in-Piece g c =
                 pulls.0 in
                 within_body g.R.Read c.args.strict depth start _ _ nests items title
                 (kind_of c.args.kind) c.parts.inner _ _ stands
-                so_far at p c.in-Piece.len c.offset-place.result _ _ pulled pulls.1 place
-                error
-                (rest.stops (passes_alike g.R.Read c.args.strict _ _ row went here)) alike;
+                so_far at p c.in-Piece.len _ _ _ pulled pulls.1 error
+                (rest.stops (passes_alike g.R.Read c.args.strict _ _ row went here)) place alike;
           };
     })
 
@@ -157,7 +156,7 @@ parts-preserved-in-Continue-branch-2 g c = record {
       (kind_of c.args.kind) c.parts.inner _ _ stands
       so_far at in
       let rest = c.in_ok-body-in-Piece.ensures.shows depth start (suc so_far.opens) nests
-      (items ++ so_far.parts) row c.read_title.new.decoder.strict due title_row (omega (arith, inner)) (piece_offset
+      (items ++ so_far.parts) row c.read_title.new.decoder.strict due title_row (ap (λ (n : ℕ). n + 1) inner) (piece_offset
       g.R.Read c.args.strict depth start _ _ nests
       items title (kind_of c.args.kind) c.parts.inner _ _ stands so_far at row _ takes) tt in
       let went = rw c.offset-place.ensures.same at c.in-Ok.ensures.passes in
