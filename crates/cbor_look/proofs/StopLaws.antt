@@ -8,23 +8,10 @@ use Rattle.ciborium_ll.specs.Strings.{Kind, kind_header}
 use Rattle.cbor_skip.specs.declared.SkipError.TheVariants as s
 use Rattle.cbor_look.specs.declared.dump.DumpError.{DumpError}
 use Rattle.cbor_look.specs.declared.dump.DumpError.TheVariants as d
-use Rattle.cbor_look.specs.Dumps.{IsRefusal}
 use Rattle.cbor_look.specs.StringRows.{StopsRest}
-use Rattle.cbor_look.specs.TitleRows.{IsStringDue, StopsAlone, StopsTitle}
-
--- a row was refused
-pub refused_alone : {E W : Type 0} (strict : Bool) (depth whole : ℕ) (header : Header) (place : ℕ) (before : List ℕ)
-    (why : DumpError E W) → IsRefusal why → StopsAlone strict depth whole header place before (Err why)
-refused_alone strict depth whole header place before (d.Item error) refusal = absurd refusal
-refused_alone strict depth whole header place before (d.Rows fault) refusal = tt
+use Rattle.cbor_look.specs.TitleRows.{IsStringDue, StopsTitle}
 
 module _ {R E W : Type 0} (source : Ghosts R E) where
-  pub refused_title : (strict : Bool) (depth whole : ℕ) (header : Header) (place : ℕ) (before : List ℕ)
-      (old new : Decoder R) (why : DumpError E W) → IsRefusal why
-      → StopsTitle source strict depth whole header place before old (Err why) new
-  refused_title strict depth whole header place before old new (d.Item error) refusal = absurd refusal
-  refused_title strict depth whole header place before old new (d.Rows fault) refusal = tt
-
   -- the rest of a string stopped as a skip of it does
   pub rest_stops : (strict : Bool) (depth whole : ℕ) (kind : Kind) (len : Option ℕ) (place : ℕ) (before : List ℕ)
       (old new : Decoder R) (why : DumpError E W) → IsStringDue strict depth whole before (kind_header kind len)

@@ -26,7 +26,7 @@ use Rattle.cbor_look.specs.declared.strings.Kind.{Kind as CodeKind}
 use Rattle.cbor_look.specs.declared.strings.Kind.TheVariants as k
 use Rattle.cbor_look.specs.Takings.{most_bytes, Takes, Keeps}
 use Rattle.cbor_look.specs.Levels.{Line, Nest, AreOpen, none, more, TitleDue, HasBody, Stands}
-use Rattle.cbor_look.specs.Dumps.{Draws, fault_lines, IsRefusal, Lines, SaysFault, Shows}
+use Rattle.cbor_look.specs.Dumps.{Draws, fault_lines, Lines, SaysFault, Shows}
 use Rattle.cbor_look.specs.StringRows.{EndsString, StopsRest, kind_of, meaning_of}
 use Rattle.cbor_look.proofs.DumpLaws.{lines_one, shows_then}
 use Rattle.cbor_look.proofs.PullLaws.{passes_idle}
@@ -252,12 +252,6 @@ close_last strict kind title bytes parts bodies
 -- ---- how the read of a body stops
 
 module _ {R E W : Type 0} (source : Ghosts R E) where
-  -- a row was refused
-  pub refusal_stops : (kind : Kind) (len : Option ℕ) (place : ℕ) (old new : Decoder R) (why : DumpError E W)
-      → IsRefusal why → StopsRest source kind len place old (Err why) new
-  refusal_stops kind len place old new (d.Item error) refusal = absurd refusal
-  refusal_stops kind len place old new (d.Rows fault) refusal = tt
-
   -- the body failed
   pub body_stops : (kind : Kind) (len place : ℕ) (old new : Decoder R) (error : Error E) (why : DumpError E W)
       → SaysFault error why → EndsBody source kind [] len most_bytes place old (Err error) new

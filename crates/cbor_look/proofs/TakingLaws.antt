@@ -5,7 +5,7 @@ use Rattle.std.proofs.Common.{◌∙◌, inl, inr}
 use Rattle.std.specs.Io.KnownBytes.{Consumes}
 use Rattle.std.specs.Result.{result_ok}
 use Rattle.std.proofs.Common.{arith, append_assoc, append-nil, length-append}
-use Rattle.std.proofs.Common.{◌≤◌, take, take_all, get_or}
+use Rattle.std.proofs.Common.{◌<◌, ◌≤◌, ◌-◌, suc, take, take_all, get_or}
 use Rattle.std.proofs.lemmas.List.{take-append-le, length-take}
 use Rattle.std.proofs.KnownBytes.{Consumes-nil, Consumes-trans}
 use Rattle.ciborium_ll.specs.Types.Read.{Ghosts}
@@ -28,6 +28,10 @@ same_front n xs ys h =
     let fits : n ≤ length (take n xs) = omega (arith, long) in
     take-append-le n (take n xs) ys fits ∙ take_all n (take n xs) (omega (arith, long))
 
+-- one more is one less that there is room for
+pub less_room : (before after : ℕ) → after ≡ suc before → after ≤ 16 → 16 - after < 16 - before
+less_room before after one most = omega (arith, one, most)
+
 module _ {R E : Type 0} (source : Ghosts R E) where
   -- nothing was read
   pub takes_none : (decoder : Decoder R) → Takes source decoder [] decoder
@@ -45,6 +49,14 @@ module _ {R E : Type 0} (source : Ghosts R E) where
         let one = a.consumed idle in
         let two = b.consumed one.1 in
         (Consumes-trans _ _ _ first second one.0 two.0, two.1);
+  }
+
+  pub keeps_none : (before after : List ℕ) (old new : Decoder R) → after ≡ before → new ≡ old
+      → Keeps source before after old new
+  keeps_none before after old new same still = record {
+    bytes = [];
+    appended = same ∙ sym (append-nil before);
+    takes = subst (λ (z : Decoder R). Takes source old [] z) (sym still) (takes_none old);
   }
 
   pub keeps_then : (before between after : List ℕ) (old middle new : Decoder R) → Keeps source before between old middle

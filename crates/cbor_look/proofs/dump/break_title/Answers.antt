@@ -4,7 +4,7 @@ use Rattle.ciborium_ll.proofs.DecodingLaws.{exit_is}
 use Rattle.cbor_look.specs.Takings.{taken_bytes}
 use Rattle.cbor_look.specs.Walks.{IsBehindItem}
 use Rattle.cbor_look.proofs.TitleLaws.{break_line, break_bytes}
-use Rattle.cbor_look.proofs.StopLaws.{refused_alone}
+use Rattle.cbor_look.proofs.DumpLaws.{not_taken}
 use Rattle.cbor_look.proofs.dump.break_title.Goals as goal
 
 pub returns-in_err-shown : goal.returns-in_err-shown
@@ -12,13 +12,8 @@ returns-in_err-shown g c =
     let error = c.in_err-shown.field-0.0 in
     let same = exit_is c.from_residual.result error c.from_residual.ensures.1 in
     rw same (record {
-      draws = λ strict depth whole start before due p at all. record {
-        lines = break_line strict depth whole start _ _ before _ c.level-level.result c.args.place c.close-closed.result
-            c.close-closed.new.self (c.close-closed.ensures strict depth whole before due) p c.level-level.ensures.value at
-            (c.in_err-shown.ensures.draws all);
-        due = tt;
-        stops = refused_alone strict depth whole h.Break c.args.place before error c.in_err-shown.ensures.refusal;
-      };
+      draws = λ strict depth whole start before due p at all.
+          absurd (not_taken error c.in_err-shown.ensures.refusal all);
     })
 
 pub returns-then-not-closed : goal.returns-then-not-closed

@@ -3,8 +3,9 @@ use Rattle.ciborium_ll.proofs.DecodingLaws.{exit_is}
 use Rattle.cbor_look.specs.Takings.{taken_bytes}
 use Rattle.cbor_look.specs.StringRows.{kind_of}
 use Rattle.ciborium_ll.specs.Strings.{kind_header}
-use Rattle.cbor_look.proofs.TitleLaws.{walk_line, string_level, title_only, title_then, behind_item, string_item}
-use Rattle.cbor_look.proofs.StopLaws.{refused_title, rest_stops}
+use Rattle.cbor_look.proofs.TitleLaws.{walk_line, string_level, title_then, behind_item, string_item}
+use Rattle.cbor_look.proofs.DumpLaws.{not_taken}
+use Rattle.cbor_look.proofs.StopLaws.{rest_stops}
 use Rattle.cbor_look.proofs.WalkLaws.{stands_any}
 use Rattle.cbor_look.proofs.dump.string.Goals as goal
 
@@ -14,21 +15,9 @@ returns-in_err-shown g c =
     let same = exit_is c.from_residual.result error c.from_residual.ensures.1 in
     rw same (record {
       shows = λ depth whole start before due p taken place offset all.
-          let row = taken_bytes c.args.taken.now in
-          let k = kind_of c.args.kind in
-          let drawn = rw c.header-header.ensures at (c.in_err-shown.ensures.draws all) in
-          record {
-            bytes = [];
-            shows = title_only g.R.Read depth start _ _ before row _
-                (walk_line c.args.strict depth whole start _ _ before row
-                (kind_header k c.args.len) c.level-level.result c.args.place
-                c.args.walk.now due p (string_level k c.args.len due.nests 0) c.level-level.ensures.value place drawn);
-            due = tt;
-            passed = λ alike. tt;
-            stops = λ alike. refused_title g.R.Read c.args.strict depth whole _ c.args.place before _ _ error
-                c.in_err-shown.ensures.refusal;
-          };
+          absurd (not_taken error c.in_err-shown.ensures.refusal all);
     })
+
 
 pub rest-requires-clause-behind : goal.rest-requires-clause-behind
 rest-requires-clause-behind g c =

@@ -1,5 +1,6 @@
 use Rattle.std.proofs.Common.{subst}
 use Rattle.ciborium_ll.specs.Types.Header.{Header}
+use Rattle.ciborium_ll.specs.Items.{IsTakenTitle}
 use Rattle.ciborium_ll.specs.Title.{IsTitle}
 use Rattle.cbor_look.specs.Takings.{taken_bytes}
 use Rattle.cbor_look.proofs.TitleLaws.{title_alone}
@@ -26,4 +27,22 @@ returns-in-Positive g c = record {
   shows = λ depth whole start before due p taken place offset all.
       title_alone g.R.Read depth whole start _ _ before _ _ _ c.args.strict c.args.place _ _
       (c.value.ensures.draws c.args.strict depth whole start before due p taken place all);
+}
+
+pub returns-in-Bytes : goal.returns-in-Bytes
+returns-in-Bytes g c = record {
+  shows = λ depth whole start before due p taken place offset all.
+      let row = taken_bytes c.args.taken.now in
+      let titled = subst (λ (x : Header). IsTitle row x) c.in-Bytes.is p in
+      let took = subst (λ (x : Header). IsTakenTitle c.args.strict row x) c.in-Bytes.is taken in
+      rw c.in-Bytes.is (c.string.ensures.shows depth whole start before due titled took place offset all);
+}
+
+pub returns-in-Text : goal.returns-in-Text
+returns-in-Text g c = record {
+  shows = λ depth whole start before due p taken place offset all.
+      let row = taken_bytes c.args.taken.now in
+      let titled = subst (λ (x : Header). IsTitle row x) c.in-Text.is p in
+      let took = subst (λ (x : Header). IsTakenTitle c.args.strict row x) c.in-Text.is taken in
+      rw c.in-Text.is (c.string-in-Text.ensures.shows depth whole start before due titled took place offset all);
 }

@@ -2,7 +2,7 @@ use Rattle.std.proofs.Common.{arith}
 use Rattle.ciborium_ll.proofs.DecodingLaws.{exit_is}
 use Rattle.cbor_look.specs.Takings.{taken_bytes}
 use Rattle.cbor_look.proofs.TitleLaws.{walk_line, value_level, value_item, behind_item}
-use Rattle.cbor_look.proofs.StopLaws.{refused_alone}
+use Rattle.cbor_look.proofs.DumpLaws.{not_taken}
 use Rattle.cbor_look.proofs.dump.value.Goals as goal
 
 pub returns-in_err-shown : goal.returns-in_err-shown
@@ -10,15 +10,8 @@ returns-in_err-shown g c =
     let error = c.in_err-shown.field-0.0 in
     let same = exit_is c.from_residual.result error c.from_residual.ensures.1 in
     rw same (record {
-      draws = λ strict depth whole start before due p taken at all. record {
-        lines = walk_line strict depth whole start _ _ before _ c.args.header c.level-level.result c.args.place
-            c.args.walk.now
-            due p
-            (value_level c.args.header due.nests 0 c.requires.value) c.level-level.ensures.value at
-            (c.in_err-shown.ensures.draws all);
-        due = tt;
-        stops = refused_alone strict depth whole c.args.header c.args.place before error c.in_err-shown.ensures.refusal;
-      };
+      draws = λ strict depth whole start before due p taken at all.
+          absurd (not_taken error c.in_err-shown.ensures.refusal all);
     })
 
 pub returns : goal.returns

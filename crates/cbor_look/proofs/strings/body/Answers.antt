@@ -1,9 +1,9 @@
-use Rattle.std.proofs.Common.{[], ◌++◌, Some, arith}
+use Rattle.std.proofs.Common.{[], ◌++◌, arith}
 use Rattle.cbor_look.specs.Takings.{taken_bytes}
 use Rattle.cbor_look.specs.StringRows.{kind_of}
-use Rattle.cbor_look.proofs.DumpLaws.{shows_none}
+use Rattle.cbor_look.proofs.DumpLaws.{not_taken, shows_none}
 use Rattle.ciborium_ll.proofs.DecodingLaws.{exit_is, Passes-none}
-use Rattle.cbor_look.proofs.StringLaws.{taken_all, part_fails, part_shown, writable_none, body_stops, refusal_stops}
+use Rattle.cbor_look.proofs.StringLaws.{taken_all, part_fails, part_shown, writable_none, body_stops}
 use Rattle.cbor_look.proofs.PullLaws.{passes_idle}
 use Rattle.cbor_look.proofs.PartLaws.{part_behind}
 use Rattle.cbor_look.proofs.strings.body.Goals as goal
@@ -57,25 +57,7 @@ returns-in_err-shown g c =
     let same = exit_is c.from_residual.result error c.from_residual.ensures.1 in
     rw same (record {
       shows = λ depth start opens nests outer title strict due p level at all.
-          let so_far = c.rows.invariant.so_far depth start opens nests outer title due p level at in
-          let row = taken_bytes c.read_part.new.taken in
-          let keeps = rw c.offset-offset.ensures.same at c.read_part.ensures.keeps in
-          let takes = taken_all g.R.Read _ row _ _ c.new-taken.ensures keeps in
-          let ok = rw c.in_default.is at c.read_part.ensures.written in
-          let went = (rw (c.offset-offset.ensures.same, c.in_default.is) at c.read_part.ensures.reads) c.rows-test.true in
-          let shown = part_shown g.R.Read depth start opens nests outer title c.args.kind c.args.len c.rows.left
-          c.args.level
-          c.offset-offset.result _ _ _ row _ _ _ (record { due = due; is_title = p; below = level }) at so_far takes
-          c.read_part.ensures.most c.offset-offset.ensures.value ok went
-          (rw c.meaning.ensures at (c.in_err-shown.ensures.draws all)) in
-          record {
-            bytes = shown.front;
-            shows = shown.shows;
-            whole = tt;
-            passed = λ alike. tt;
-            stops = λ alike. refusal_stops g.R.Read (kind_of c.args.kind) (Some c.args.len) c.args.place _ _
-                error c.in_err-shown.ensures.refusal;
-          };
+          absurd (not_taken error c.in_err-shown.ensures.refusal all);
       rises =
           let keeps = rw c.offset-offset.ensures.same at c.read_part.ensures.keeps in
           let moved = keeps.takes.offset in
