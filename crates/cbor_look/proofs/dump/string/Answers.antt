@@ -18,7 +18,6 @@ returns-in_err-shown g c =
           absurd (not_taken error c.in_err-shown.ensures.refusal all);
     })
 
-
 pub rest-requires-clause-behind : goal.rest-requires-clause-behind
 rest-requires-clause-behind g c =
     let value = c.level-level.ensures.value in let behind = c.requires.behind in omega (arith, value, behind)
