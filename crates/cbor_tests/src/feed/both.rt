@@ -1,4 +1,5 @@
-use crate::answers::{MOST, Skipped, decoded, skipped_of};
+use crate::feed::answers::{Skipped, skipped_of};
+use crate::shared::{MOST, decoded};
 use cbor_feed::{Fault, Progress};
 use cbor_feed_laws::feed_and_skip;
 use std::process::Abort;

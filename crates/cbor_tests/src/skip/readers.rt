@@ -1,4 +1,4 @@
-use crate::answers::{Answer, NESTED, skipped};
+use crate::skip::answers::{Answer, NESTED, skipped};
 use ciborium_ll::Decoder;
 use ciborium_ll_fixtures::devices::{EndlessReader, Failing, FailingReader};
 use std::process::Abort;

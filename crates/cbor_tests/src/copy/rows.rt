@@ -1,4 +1,5 @@
-use crate::answers::{all_hold, copied, fed, holds};
+use crate::copy::answers::{copied, fed, holds};
+use crate::shared::all_hold;
 use cbor_copy::{Copied, Copier, Progress};
 use std::mem::size_of;
 use std::process::Abort;

@@ -1,4 +1,5 @@
-use crate::answers::{MOST, all_hold, all_ways, at_once, decoded};
+use crate::feed::answers::{all_ways, at_once};
+use crate::shared::{MOST, all_hold, decoded};
 use cbor_feed::{Checker, End, Fault, Progress};
 use std::process::Abort;
 

@@ -1,6 +1,7 @@
 ghost use Rattle.std.specs.Prelude.{◌≤◌, length};
 
-use crate::answers::{Answer as Recoded, MOST, begins, holds, recoded};
+use crate::copy::answers::{Answer as Recoded, begins, holds, recoded};
+use crate::shared::MOST;
 use cbor_copy_item::{Copied, End, ItemCopier, Progress};
 use cbor_feed::{Checker, Fault, Feed, Progress as Checked};
 use std::process::Abort;

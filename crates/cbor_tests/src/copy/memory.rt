@@ -1,4 +1,5 @@
-use crate::answers::{MOST, all_hold, fed};
+use crate::copy::answers::fed;
+use crate::shared::{MOST, all_hold};
 use cbor_copy::{Copier, End, Progress, Snapshot};
 use std::process::Abort;
 

@@ -1,5 +1,6 @@
-use crate::answers::{MOST, all_ways, decoded};
-use crate::memory::damaged_fronts;
+use crate::feed::answers::all_ways;
+use crate::feed::memory::damaged_fronts;
+use crate::shared::{MOST, decoded};
 use ciborium_ll_fixtures::samples;
 use std::alloc::AllocError;
 use std::process::Abort;

@@ -1,21 +1,11 @@
 ghost use Rattle.std.specs.Prelude.{◌≤◌, length};
 
+use crate::shared::MOST;
 use cbor_copy::{Copied, Copier, Progress};
 use ciborium_ll::io::{EndOfFile, OutOfSpace, SliceReader, SliceWriter};
 use ciborium_ll::recode::{RecodeError, recode};
 use ciborium_ll::{Decoder, Encoder, Error};
 use std::process::Abort;
-
-// As many bytes as a row or a sample has at most, and as a test writes.
-pub const MOST: usize = 64;
-
-// The bytes that digits say.
-pub fn decoded<'a>(rt: &impl Abort, digits: &str, space: &'a mut [u8; MOST]) -> &'a [u8] {
-    let length = (digits.len() / 2).min(MOST);
-    let bytes = &mut space[..length];
-    assert!(rt; hex::decode_to_slice(digits, bytes).is_ok(), "at {digits}");
-    bytes
-}
 
 // A copy of so many elements, or by so many levels, holds.
 pub fn holds(
@@ -31,11 +21,6 @@ pub fn holds(
         is_right,
         "{what} {number}, {bytes:?}, cut at {cut}, room for {room}"
     );
-}
-
-// All steps of a test hold. The message says which ones do.
-pub fn all_hold(rt: &impl Abort, steps: &[bool]) {
-    assert!(rt; !steps.contains(&false), "of the steps {steps:?}");
 }
 
 // Feeds a piece. What that ensures is much, and no test needs it.

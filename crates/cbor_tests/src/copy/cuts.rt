@@ -1,6 +1,7 @@
-use crate::answers::{MOST, all_ways, decoded};
-use crate::items::to_depths;
-use crate::memory::each_damaged;
+use crate::copy::answers::all_ways;
+use crate::copy::items::to_depths;
+use crate::copy::memory::each_damaged;
+use crate::shared::{MOST, decoded};
 use ciborium_ll_fixtures::samples;
 use std::alloc::AllocError;
 use std::process::Abort;

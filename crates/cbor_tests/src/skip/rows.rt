@@ -1,4 +1,4 @@
-use crate::answers::{Answer, NESTED, item_row, skipped};
+use crate::skip::answers::{Answer, NESTED, item_row, skipped};
 use ciborium_ll::io::{SliceReader, StdReader};
 use ciborium_ll::{Decoder, Header};
 use std::process::Abort;

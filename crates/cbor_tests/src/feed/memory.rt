@@ -1,4 +1,5 @@
-use crate::answers::{DEPTH, all_hold};
+use crate::feed::answers::DEPTH;
+use crate::shared::all_hold;
 use cbor_feed::{Checker, Progress, Snapshot};
 use std::process::Abort;
 

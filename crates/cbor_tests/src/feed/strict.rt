@@ -1,4 +1,4 @@
-use crate::rows::each_row;
+use crate::feed::rows::each_row;
 use cbor_feed::{Fault, Progress};
 
 // Bytes, and what a checker says of them that takes the shortest spelling alone (RFC 7049, 3.9).

@@ -9,22 +9,6 @@ use std::process::Abort;
 // How many levels the tests allow.
 pub const DEPTH: usize = 4;
 
-// How many bytes a row or a sample has at most.
-pub const MOST: usize = 64;
-
-// The bytes that digits say.
-pub fn decoded<'a>(rt: &impl Abort, digits: &str, space: &'a mut [u8; MOST]) -> &'a [u8] {
-    let length = (digits.len() / 2).min(MOST);
-    let bytes = &mut space[..length];
-    assert!(rt; hex::decode_to_slice(digits, bytes).is_ok(), "at {digits}");
-    bytes
-}
-
-// All steps of a test hold. The message says which ones do.
-pub fn all_hold(rt: &impl Abort, steps: &[bool]) {
-    assert!(rt; !steps.contains(&false), "of the steps {steps:?}");
-}
-
 // A checker, which may take the shortest spelling alone.
 fn checker_of(strict: bool) -> Checker {
     if strict {
