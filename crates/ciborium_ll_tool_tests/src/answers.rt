@@ -1,6 +1,6 @@
-// Runs of the program's lines over bytes in memory.
+// Runs of the program's lines over bytes in memory, and faults as it prints them.
 
-use ciborium_ll_service::fault::ToolError;
+use ciborium_ll_service::fault::{Fault, ToolError};
 use ciborium_ll_service::service::run;
 use std::alloc::{AllocError, Global};
 use std::process::Abort;
@@ -27,6 +27,12 @@ pub fn answers(alloc: Global, input: &[u8]) -> Result<Vec<u8>, ToolError> {
 pub fn is_answered(alloc: Global, input: &[u8], want: &[u8]) -> Result<bool, Fail> {
     let output = answers(alloc, input)?;
     Ok(output.as_slice() == want)
+}
+
+// Whether a fault is printed so.
+pub fn is_printed_as(alloc: Global, fault: &Fault, want: &str) -> Result<bool, Fail> {
+    let printed = fault.to_string(alloc)?;
+    Ok(printed.as_str() == want)
 }
 
 // A line with digits that come so many times.

@@ -1,4 +1,5 @@
-//! Tests of the lines that the program answers, and of the arguments that it takes.
+//! Tests of the lines that the program answers, of the arguments that it takes, and of the copies of raw bytes that it
+//! makes.
 #![tactic(auto)]
 
 #[cfg(test)]
@@ -9,6 +10,8 @@ mod cuts;
 mod every;
 #[cfg(test)]
 mod lines;
+#[cfg(test)]
+mod raw;
 #[cfg(test)]
 mod requests;
 #[cfg(test)]

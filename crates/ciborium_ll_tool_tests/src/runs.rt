@@ -1,6 +1,6 @@
 // Runs over readers and writers that move few bytes a call or fail, and where an allocation is refused.
 
-use super::answers::{holds, holds_at};
+use super::answers::{holds, holds_at, is_printed_as};
 use ciborium_ll::io::Write;
 use ciborium_ll_fixtures::streams::{PartReader, PartWriter};
 use ciborium_ll_service::fault::{ToolError, fault_of_run};
@@ -202,8 +202,7 @@ fn whole_or_out_of_memory(rt: HostRuntime) -> Result<(), Fail> {
 }
 
 fn is_run_printed_as(alloc: Global, error: ToolError, want: &str) -> Result<bool, Fail> {
-    let printed = fault_of_run(&error).to_string(alloc)?;
-    Ok(printed.as_str() == want)
+    is_printed_as(alloc, &fault_of_run(&error), want)
 }
 
 #[test]

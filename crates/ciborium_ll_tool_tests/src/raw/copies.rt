@@ -1,6 +1,6 @@
 // Copies of raw bytes.
 
-use super::faults::{holds, is_printed_as};
+use crate::answers::{holds, is_printed_as};
 use ciborium_ll::io::{ReadFault, WriteFault};
 use ciborium_ll::{Error, RecodeError};
 use ciborium_ll_fixtures::streams::{PartReader, PartWriter};

@@ -1,21 +1,11 @@
 // The faults of copies, as the program prints them.
 
+use crate::answers::{holds, is_printed_as};
 use ciborium_ll::io::{ReadFault, WriteFault};
 use ciborium_ll::{Error, RecodeError};
-use ciborium_ll_service::fault::{Fault, fault_of_raw};
+use ciborium_ll_service::fault::fault_of_raw;
 use std::alloc::Global;
-use std::process::Abort;
 use std::test::Fail;
-
-// What was looked at holds. The message says what that is: a call tells no line of its caller.
-pub fn holds(rt: &impl Abort, is_right: bool, what: &str) {
-    assert!(rt; is_right, "{what}");
-}
-
-pub fn is_printed_as(alloc: Global, fault: &Fault, want: &str) -> Result<bool, Fail> {
-    let printed = fault.to_string(alloc)?;
-    Ok(printed.as_str() == want)
-}
 
 fn is_copy_printed_as(
     alloc: Global,
