@@ -32,7 +32,7 @@ use Rattle.cbor_look.specs.StringRows.{EndsString, IsPart, StopsRest}
 use Rattle.cbor_look.specs.declared.strings.Part.{Part}
 use Rattle.cbor_look.specs.declared.strings.Part.TheVariants as p
 use Rattle.cbor_look.proofs.DumpLaws.{shows_none, shows_then}
-use Rattle.cbor_look.proofs.TitleLaws.{title_line, string_level, break_bytes}
+use Rattle.cbor_look.proofs.TitleLaws.{title_line, break_bytes}
 use Rattle.cbor_look.proofs.StringLaws.{lines_fault, next_offset, add_string, add_open, close_inner, close_last}
 use Rattle.cbor_look.proofs.StringLaws.{not_open, taken_any, taken_none, taken_then}
 use Rattle.cbor_look.proofs.PullLaws.{passes_idle, passes_alike}

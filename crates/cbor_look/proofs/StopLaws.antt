@@ -1,7 +1,6 @@
 -- How a title ends a dump, or the string that it begins.
 use Rattle.std.proofs.Common.{ℕ, ◌-◌, Bool, List, Option, Some, None, Err}
 use Rattle.ciborium_ll.specs.Types.Read.{Ghosts}
-use Rattle.ciborium_ll.specs.Types.Header.{Header}
 use Rattle.ciborium_ll.specs.Types.Decoder.{Decoder}
 use Rattle.ciborium_ll.specs.Title.{title_len}
 use Rattle.ciborium_ll.specs.Strings.{Kind, kind_header}

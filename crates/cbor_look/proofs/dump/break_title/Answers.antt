@@ -1,5 +1,4 @@
 use Rattle.std.proofs.Common.{◌++◌, List, ℕ, subst, sym, refl, ◌∙◌}
-use Rattle.ciborium_ll.specs.Types.Header.TheVariants as h
 use Rattle.ciborium_ll.proofs.DecodingLaws.{exit_is}
 use Rattle.cbor_look.specs.Takings.{taken_bytes}
 use Rattle.cbor_look.specs.Walks.{IsBehindItem}

@@ -1,4 +1,4 @@
-use Rattle.std.proofs.Common.{[], ◌++◌, arith, length-append, ◌∙◌, refl}
+use Rattle.std.proofs.Common.{◌++◌, arith, length-append, ◌∙◌, refl}
 use Rattle.ciborium_ll.proofs.DecodingLaws.{exit_is}
 use Rattle.cbor_look.specs.Takings.{taken_bytes}
 use Rattle.cbor_look.specs.StringRows.{kind_of}
