@@ -1,24 +1,23 @@
 //! The word `dump`.
 
-ghost use Rattle.std.specs.Prelude.{◌≡◌, ◌≤◌, ◌↔◌, ℕ, List, length, IsOk, None};
+ghost use Rattle.std.specs.Prelude.{◌≤◌, ◌↔◌, ℕ, List, length, IsOk, None};
 ghost use Rattle.ciborium_ll.specs.Decoding.{offset_of};
 ghost use Rattle.cbor_skip.specs.SkippingTold.{IsReadyToSkip};
 ghost use Rattle.cbor_look.specs.Dumps.{AreTaken};
 ghost use Rattle.cbor_look.specs.Sequences.{IsSequence};
 ghost use Rattle.cbor_look.specs.Takings.{IsAlike, most_bytes};
-ghost use Rattle.cbor_look_service.specs.Checking.{FindsEnd, dump_said};
+ghost use Rattle.cbor_look_verdicts.specs.Checking.{FindsEnd, dump_said};
 
 use crate::arguments::Options;
-use crate::check::{decoder_of, end_verdict, failed_or, fault_of};
 use crate::patient::Patient;
 use crate::shared::{Prompt, Shared};
-use crate::verdict::Verdict;
 use cbor_look::dump::{DumpError, dump};
-use cbor_look::left::dump_left;
 use cbor_look::rows::{Meaning, Row, Rows};
-use cbor_skip::SkipError;
-use ciborium_ll::io::{Read, ReadFault};
-use ciborium_ll::{Decoder, Error};
+use cbor_look_verdicts::check::decoder_of;
+use cbor_look_verdicts::dump::{dump_verdict, left_shown};
+use cbor_look_verdicts::verdict::Verdict;
+use ciborium_ll::Decoder;
+use ciborium_ll::io::Read;
 use std::alloc::{AllocError, Global};
 use std::cell::RefCell;
 use std::fmt::Write;
@@ -158,29 +157,9 @@ fn dumped<R: io::Read + Drop, W: io::Write>(
     let mut decoder = decoder_of(Patient::new(reader), options.strict);
     let outcome = printed(&mut decoder, options.depth, options.strict, printer);
     let offset = decoder.offset();
-    let outcome = left_printed(&mut decoder, outcome, printer);
+    let outcome = left_shown(&mut decoder, outcome, printer.below, printer);
     let fault = decoder.into_inner().take_fault();
     dump_verdict(outcome, fault, offset)
-}
-
-/// Prints what is left of a title or of a body behind the rows, where the reader failed within it. What the dump
-/// answered stays, unless that row was not printed.
-fn left_printed<R: Read, W: io::Write>(
-    decoder: &mut Decoder<R>,
-    outcome: Result<R::Error, DumpError<R::Error, io::Error>>,
-    printer: &mut Printer<W>,
-) -> Result<R::Error, DumpError<R::Error, io::Error>>
-where
-    R::Error: Drop,
-    ensures stays { AreTaken result → result ≡ outcome }
-{
-    let level = printer.below;
-    if let Err(DumpError::Item(SkipError::Read(Error::Io(_)))) = &outcome {
-        if let Err(error) = dump_left(decoder, level, printer) {
-            return Err(DumpError::Rows(error));
-        }
-    }
-    outcome
 }
 
 /// Prints the rows of what a decoder reads, which is as strict as is asked for.
@@ -204,20 +183,4 @@ where
         → FindsEnd strict depth due (offset_of decoder.old) (dump_said result None (offset_of decoder.new)) }
 {
     dump(decoder, depth, strict, printer)
-}
-
-/// What is found by a dump, of which a read that failed stopped at this offset, with this fault: the answer of the
-/// library as it is, but a read that failed for another reason than the end goes before.
-fn dump_verdict<E: Drop>(
-    outcome: Result<E, DumpError<E, io::Error>>,
-    fault: Option<ReadFault>,
-    offset: usize,
-) -> Result<(), Verdict>
-    ensures { result ≡ dump_said outcome fault offset }
-{
-    match outcome {
-        Ok(_) => end_verdict(fault),
-        Err(DumpError::Rows(error)) => Err(Verdict::Output(error)),
-        Err(DumpError::Item(error)) => Err(failed_or(fault, fault_of(error, offset))),
-    }
 }

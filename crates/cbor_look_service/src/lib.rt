@@ -12,4 +12,3 @@ pub mod dump;
 mod patient;
 pub mod progress;
 mod shared;
-pub mod verdict;

@@ -10,7 +10,7 @@ use cbor_look_service::diag::diag_input;
 use cbor_look_service::digits::Digits;
 use cbor_look_service::dump::dump_input;
 use cbor_look_service::progress::Watched;
-use cbor_look_service::verdict::{Status, Verdict};
+use cbor_look_verdicts::verdict::{Status, Verdict};
 use std::env::VarError;
 use std::fs::File;
 use std::io::{BufWriter, IsTerminal};

@@ -2,7 +2,7 @@ use crate::rows::{EXAMPLES, MALFORMED, SPELLED, WORDS};
 use cbor_look_service::arguments::{Asked, Options, asked_by};
 use cbor_look_service::check::check_input;
 use cbor_look_service::digits::Digits;
-use cbor_look_service::verdict::Verdict;
+use cbor_look_verdicts::verdict::Verdict;
 use ciborium_ll_fixtures::streams::PartReader;
 use std::alloc::Global;
 use std::io;

@@ -2,7 +2,7 @@ use crate::checks::{holds, holds_at, options_of};
 use cbor_look_service::arguments::Options;
 use cbor_look_service::diag::diag_input;
 use cbor_look_service::digits::Digits;
-use cbor_look_service::verdict::Verdict;
+use cbor_look_verdicts::verdict::Verdict;
 use ciborium_ll_fixtures::streams::{PartReader, PartWriter};
 use std::alloc::Global;
 use std::io;

@@ -3,7 +3,7 @@ use crate::rows::EXAMPLES;
 use cbor_look_service::arguments::Options;
 use cbor_look_service::digits::Digits;
 use cbor_look_service::dump::dump_input;
-use cbor_look_service::verdict::Verdict;
+use cbor_look_verdicts::verdict::Verdict;
 use ciborium_ll_fixtures::streams::{PartReader, PartWriter};
 use std::alloc::Global;
 use std::io;

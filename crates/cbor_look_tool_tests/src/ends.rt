@@ -7,7 +7,7 @@ use cbor_look_service::arguments::Options;
 use cbor_look_service::diag::diag_input;
 use cbor_look_service::digits::Digits;
 use cbor_look_service::dump::dump_input;
-use cbor_look_service::verdict::Verdict;
+use cbor_look_verdicts::verdict::Verdict;
 use std::alloc::Global;
 use std::process::Abort;
 

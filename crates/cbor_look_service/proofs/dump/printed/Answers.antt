@@ -1,6 +1,6 @@
 use Rattle.std.proofs.Common.{Bool, subst, ◌↔◌, IsOk}
 use Rattle.cbor_look.specs.Sequences.{IsSequence}
-use Rattle.cbor_look_service.proofs.FoundLaws.{dump_found}
+use Rattle.cbor_look_verdicts.proofs.FoundLaws.{dump_found}
 use Rattle.cbor_look_service.proofs.dump.printed.Goals as goal
 
 pub returns-clause-exactly : goal.returns-clause-exactly

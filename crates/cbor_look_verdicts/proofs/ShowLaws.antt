@@ -1,0 +1,39 @@
+-- What the loop over the items of a show read.
+use Rattle.std.proofs.Common.{◌≡◌, ℕ, Result, Ok, Err, ◌∙◌, sym, subst}
+use Rattle.ciborium_ll.specs.Types.Read.{Ghosts}
+use Rattle.ciborium_ll.specs.Types.Decoder.{Decoder}
+use Rattle.cbor_skip.specs.Skipping.{SkipsItem}
+use Rattle.cbor_diag.specs.declared.DiagError.{DiagError}
+use Rattle.cbor_diag.specs.declared.DiagError.TheVariants as d
+use Rattle.cbor_diag.specs.Showing.{OnReading}
+use Rattle.cbor_look.specs.Sequences.{IsEnd, ReadsItems}
+use Rattle.cbor_look_verdicts.specs.Showing.{EndsShow, IsEndOfItems, ShowsItems}
+
+module _ {R E F : Type 0} (source : Ghosts R E) where
+  -- the error of the show behind whole items, as it ends
+  pub show_ends : (depth count place stop : ℕ) (old between new : Decoder R) (error : DiagError E F)
+      (result : Result E (DiagError E F)) → ReadsItems source depth count old between
+      → OnReading {T = Unit {0}} (λ answer. SkipsItem source depth 64 between answer new) (Err error)
+      → EndsShow error place stop result → place ≡ between.offset → stop ≡ new.offset
+      → ShowsItems source depth old result new
+  show_ends depth count place stop old between new error (Ok fault) reads fails is here there = record {
+    count = count;
+    between = between;
+    reads = reads;
+    fails =
+        subst (λ (x : DiagError E F). OnReading {T = Unit {0}} (λ answer. SkipsItem source depth 64 between answer new)
+        (Err x)) is.0 fails;
+    still = sym there ∙ (is.1 ∙ here);
+  }
+  show_ends depth count place stop old between new error (Err (d.Read stops)) reads fails is here there = record {
+    count = count;
+    between = between;
+    reads = reads;
+    fails =
+        subst (λ (x : DiagError E F). OnReading {T = Unit {0}} (λ answer. SkipsItem source depth 64 between answer new)
+        (Err x)) (sym is.0) fails;
+    no_end = λ is_end. is.1 (subst (λ (x : DiagError E F). IsEndOfItems x place stop) is.0
+        (subst (λ (n : ℕ). IsEnd stops place n) (sym there)
+        (subst (λ (n : ℕ). IsEnd stops n new.offset) (sym here) is_end)));
+  }
+  show_ends depth count place stop old between new error (Err (d.Write fault)) reads fails is here there = tt

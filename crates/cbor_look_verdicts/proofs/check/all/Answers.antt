@@ -1,0 +1,15 @@
+use Rattle.std.proofs.Common.{rules}
+use Rattle.cbor_look_verdicts.proofs.FoundLaws.{sequence_found}
+use Rattle.cbor_look_verdicts.proofs.check.all.Goals as goal
+
+pub returns-clause-told : goal.returns-clause-told
+returns-clause-told g c = λ due ready.
+    rw (c.sequence_verdict.ensures, c.offset.ensures.value)
+    (sequence_found g.R.Read c.args.depth due c.args.decoder.now c.check-answer.new.decoder c.check-answer.result
+    (c.check-answer.ensures.told due ready))
+
+pub returns-clause-says : goal.returns-clause-says
+returns-clause-says g c = search rules
+
+pub returns-clause-exactly : goal.returns-clause-exactly
+returns-clause-exactly g c = search rules
