@@ -77,6 +77,11 @@ end_said None = Ok tt
 end_said (Some r.End) = Ok tt
 end_said (Some (r.Failed error)) = Err (v.Failed error)
 
+-- a dump stopped since its reader failed within an item
+abbrev pub IsCutShort : {E F : Type 0} → Result E (DumpError E F) → Type 0
+IsCutShort (Err (u.Item (s.Read (e.Io error)))) = Unit {0}
+IsCutShort outcome = ⊥
+
 -- the answer of `dump`
 abbrev pub dump_said : {E : Type 0} → Result E (DumpError E Error) → Option ReadFault → ℕ
     → Result (Unit {0}) Verdict

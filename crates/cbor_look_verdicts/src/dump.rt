@@ -1,8 +1,8 @@
 //! What is found by a dump, behind its rows.
 
 ghost use Rattle.std.specs.Prelude.{◌≡◌};
-ghost use Rattle.cbor_look.specs.Dumps.{AreTaken};
-ghost use Rattle.cbor_look_verdicts.specs.Checking.{dump_said};
+ghost use Rattle.cbor_look.specs.Dumps.{AreTaken, ShowsLeft};
+ghost use Rattle.cbor_look_verdicts.specs.Checking.{IsCutShort, dump_said};
 
 use crate::check::{end_verdict, failed_or, fault_of};
 use crate::verdict::Verdict;
@@ -14,8 +14,8 @@ use ciborium_ll::io::{Read, ReadFault};
 use ciborium_ll::{Decoder, Error};
 use std::io;
 
-/// Shows what is left of a title or of a body behind the rows, at this level, where the reader failed within it. What the
-/// dump answered stays, unless that row was refused.
+/// Shows what is left of a title or of a body behind the rows, at this level, where the reader failed within it, and else
+/// does nothing. What the dump answered stays, unless that row was refused.
 pub fn left_shown<R: Read, S: Rows>(
     decoder: &mut Decoder<R>,
     outcome: Result<R::Error, DumpError<R::Error, S::Error>>,
@@ -26,6 +26,9 @@ where
     R::Error: Drop,
     S::Error: Drop,
     ensures stays { AreTaken result → result ≡ outcome }
+    ensures shows { IsCutShort outcome → AreTaken result
+        → ShowsLeft R.Read level (S.drawn rows.old) (S.drawn rows.new) decoder.old decoder.new }
+    ensures keeps { (IsCutShort outcome → ⊥) → (decoder.new ≡ decoder.old) × (rows.new ≡ rows.old) }
 {
     if let Err(DumpError::Item(SkipError::Read(Error::Io(_)))) = &outcome {
         if let Err(error) = dump_left(decoder, level, rows) {
