@@ -26,7 +26,7 @@ verdict_status (v.Output error) = s.Failed
 
 -- the line of what is found. What std's own error says is open
 abbrev pub verdict_text : Verdict → Option (List ℕ)
-verdict_text (v.Well items bytes) = Some (((codes "ok " ++ decimal items) ++ codes " ") ++ decimal bytes)
+verdict_text (v.Well items bytes) = Some (codes "ok " ++ (decimal items ++ (codes " " ++ decimal bytes)))
 verdict_text (v.Syntax place) = Some (codes "syntax " ++ decimal place)
 verdict_text (v.Short place) = Some (codes "short " ++ decimal place)
 verdict_text (v.Break place) = Some (codes "break " ++ decimal place)
