@@ -3,7 +3,8 @@
  *
  * No call takes memory but for its stack, and none calls anything outside of this library but memcpy, memmove and
  * memset. Each call returns an answer, one of the numbers of cll_answer, and says in its report how far it came; but
- * cll_pull, which is called for each title, tells a number of bytes alone.
+ * cll_pull, which is called for each title, tells a number of bytes alone, and those that set something up have no
+ * report.
  *
  * `header`, `report` and `consumed` must not be null. `data` and `out` may be null where their length is 0. What a call
  * writes must not overlap anything else that it is given: so no call works in place. cll_overlap tells whether two
@@ -259,7 +260,7 @@ uint32_t cll_copier_init(cll_copier *copier, uint64_t count);
  * taken. CLL_SHORT where more is due: all of `data` was taken, and all is written that can be before more comes. Of a
  * title and of a character that are cut nothing is written. CLL_ROOM where `out` is full, and there is more to write:
  * what was not taken of `data` has to be given again, and where that is nothing, a call with no bytes writes the rest.
- * `written` is then `room`, so a call that has some room always gets on. CLL_SYNTAX where no so many elements begin as
+ * `written` is then `room`, so a call that has some room always gets on. CLL_SYNTAX where that many elements never begin as
  * the bytes so far do: it comes with the first byte of which that is so, in a text that is no UTF-8 with the byte that
  * goes wrong, and what was written is the spelling of what stands in front of the fault. CLL_TOO_LONG where the
  * elements go on behind 2^64 - 1 bytes. CLL_ARGUMENT where no copier was set up there, or what stands there now is that

@@ -3,7 +3,8 @@
 //! in memory of the caller's own.
 //!
 //! C passes a slice as a pointer and then a length. Each call answers by a number, which is the code of a [`CllAnswer`],
-//! and says in a [`CllReport`] how far it came. `cll_pull`, which is called for each title, tells a number of bytes alone.
+//! and says in a [`CllReport`] how far it came. `cll_pull`, which is called for each title, tells a number of bytes
+//! alone, and the calls that set something up have no report.
 //!
 //! The contracts speak of one [`CllAnswer`] by its number (`code`), and say what the call does by that answer. Each export
 //! is the call of the same name of `ciborium_ll_calls`.
