@@ -184,7 +184,8 @@ fn skip_rest<R: Read>(
     }
 }
 
-/// Skips one item, with tags, arrays and maps nested at most `depth` levels deep (RFC 7049, 2.1 to 2.4).
+/// Skips one item, with tags, arrays and maps nested at most `depth` levels deep (RFC 7049, 2.1 to 2.4). `depth` is at
+/// most 256, and `buffer` has four bytes at least.
 ///
 /// A tag, an array and a map take a level, an empty one too; a string takes none. `Ok` says that one whole item was
 /// there, each body of a text UTF-8 by itself, and the decoder is behind it; of a strict decoder, that it was there in

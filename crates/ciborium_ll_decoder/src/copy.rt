@@ -31,7 +31,7 @@ impl<E, F> From<Error<E>> for RecodeError<E, F> {
 
 impl<'r, R: Read, P: Chunked> Segments<'r, R, P> {
     /// Writes the body that [`Segments::advance`] gave last to a writer, without its title: each chunk as soon as it is
-    /// handed out, by pulls through `buffer`.
+    /// handed out, by pulls through `buffer`, which has four bytes at least.
     ///
     /// `Ok` says that the whole body was read and written, and that it is UTF-8 where it is of a text: the decoder is
     /// then behind it, and just the bytes of the body were consumed and written. `Read` carries the decoder's error,
@@ -59,7 +59,7 @@ impl<'r, R: Read, P: Chunked> Segments<'r, R, P> {
 }
 
 /// Writes the body of a string of a definite length to a writer, without its title, as [`Segments::copy`] writes that
-/// of a segment, and answers as that does. It pushes no header back, and names the place that it is given. Users copy
+/// of a segment, through `buffer` of four bytes at least, and answers as that does. It pushes no header back, and names the place that it is given. Users copy
 /// elements, or the bodies of a string.
 #[inline(always)]
 pub fn copy_body<R: Read, W: Write, P: Chunked>(

@@ -14,7 +14,8 @@ pub enum Error<T> {
     Io(T),
     /// The bytes at this offset are no CBOR that could stand there.
     Syntax(usize),
-    /// The offset would pass `usize::MAX`.
+    /// The offset would pass `usize::MAX`, or so many opens of a string of indefinite length stand within one another
+    /// that they can't be counted.
     TooLong,
     /// A header waits, so the decoder gives no bytes as a reader.
     Waiting,

@@ -23,7 +23,8 @@ use ciborium_ll_io::io::Read;
 /// a definite length its body failed as `Segment::finish` fails, with the place where the header's shortest title would
 /// begin. What was read before an error is consumed.
 ///
-/// The conditions are those of [`Decoder::bytes`]. The decoder moves on as [`Decoder`] says, and `Waiting` never comes.
+/// The conditions are those of [`Decoder::bytes`], and `buffer` has four bytes at least. The decoder moves on as
+/// [`Decoder`] says, and `Waiting` never comes.
 pub fn skip_bytes<R: Read>(
     decoder: &mut Decoder<R>,
     len: Option<usize>,
@@ -42,9 +43,10 @@ pub fn skip_bytes<R: Read>(
 
 /// Reads a text string to its end, behind its header with this length, which was just pulled.
 ///
-/// The conditions are those of [`Decoder::text`], and the answers those of [`skip_bytes`], with each body of the text
-/// UTF-8, and `Syntax` also where a body is no text by itself. It then names the offset of that body's title; where the
-/// body is the whole string, the byte from which the header's shortest title would reach the body.
+/// The conditions are those of [`Decoder::text`], and `buffer` has four bytes at least. The answers are those of
+/// [`skip_bytes`], with each body of the text UTF-8, and `Syntax` also where a body is no text by itself. It then names
+/// the offset of that body's title; where the body is the whole string, the byte from which the header's shortest title
+/// would reach the body.
 pub fn skip_text<R: Read>(
     decoder: &mut Decoder<R>,
     len: Option<usize>,

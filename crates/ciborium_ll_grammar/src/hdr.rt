@@ -222,7 +222,9 @@ pub enum Element {
 /// A title in its parts: the major type, below 8, and the minor.
 #[derive(Clone, Copy)]
 pub struct Title {
+    /// The major type, which the upper three bits of the first byte give (RFC 7049, 2.1).
     pub major: u8,
+    /// The minor, which the lower five bits and the affix give.
     pub minor: Minor,
 }
 
@@ -243,9 +245,8 @@ impl Title {
         ensures some { IfSome result (IsTitle (title_bytes self)) }
         ensures none { IfNone result ((minor_code self.minor ≡ 31) × IsNeverOpen self.major) }
     {
-        let n = match self.minor.number() {
-            Some(n) => n,
-            None => return open_header(kind),
+        let Some(n) = self.minor.number() else {
+            return open_header(kind);
         };
         Some(match kind {
             TitleKind::Positive => Header::Positive(n),

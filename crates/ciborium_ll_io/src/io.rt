@@ -66,9 +66,9 @@ pub trait Write {
     /// How many calls failed so far.
     ghost failures: { Self → ℕ };
 
-    /// What a flush that succeeds does to the writer, as it was before and as it is behind. Of a slice, of a `Discard`
-    /// and of a `Vec` the bytes written are the same; of a writer of std they are where that tells them, and of a
-    /// buffered one nothing is kept back any more besides; an `Encoder` says what its writer says.
+    /// What a flush that succeeds does to the writer, as it was before and as it is behind. Of a slice and of a `Discard`
+    /// the bytes written are the same; of a writer of std they are where that tells them, and of a buffered one nothing
+    /// is kept back any more besides; an `Encoder` says what its writer says.
     ghost flushed: { Self → Self → Type 0 };
 
     /// The lent slice that it writes into, where the writer tells it. No call changes it. A `SliceWriter` tells it, and

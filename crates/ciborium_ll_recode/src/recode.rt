@@ -125,8 +125,8 @@ fn copy_string<R: Read, W: Write, P: Chunked>(
     }
 }
 
-/// Copies one element, as [`recode`] copies each of its elements, and answers as that does. It is for whoever counts
-/// them: its contract speaks of the elements before it, too. Users copy by [`recode`].
+/// Copies one element, as [`recode`] copies each of its elements, and answers as that does. `buffer` has four bytes at
+/// least. It is for whoever counts them: its contract speaks of the elements before it, too. Users copy by [`recode`].
 pub fn copy_element<R: Read, W: Write>(
     decoder: &mut Decoder<R>,
     encoder: &mut Encoder<W>,
@@ -151,9 +151,9 @@ pub fn copy_element<R: Read, W: Write>(
 /// string (RFC 7049, 2.1 and 2.2).
 ///
 /// Every title becomes the shortest one of its header. The bodies of a string of indefinite length stay the segments
-/// that they were, in one string: strings within it lose their opens and breaks. Bodies go through `buffer`, each chunk
-/// as soon as it is read, and each body of a text is UTF-8 by itself. `Ok` says that so many elements were read, and
-/// that their spelling, which is no longer, was written.
+/// that they were, in one string: strings within it lose their opens and breaks. Bodies go through `buffer`, which has
+/// four bytes at least, each chunk as soon as it is read, and each body of a text is UTF-8 by itself. `Ok` says that so
+/// many elements were read, and that their spelling, which is no longer, was written.
 ///
 /// `Read` carries the decoder's error. `Syntax` names the offset of a title that is none or may not stand there; of a
 /// body that is no text the offset of its title, or, where a whole string's title is longer than its shortest one, of

@@ -102,10 +102,7 @@ impl<'a, T: io::Read> BufferedReader<'a, T> {
     {
         let mut filled = 0;
         while filled < data.len() {
-            match self.read_part(&mut data[filled..]) {
-                Ok(count) => filled += count,
-                Err(FaultKept) => return Err(FaultKept),
-            }
+            filled += self.read_part(&mut data[filled..])?;
         }
         Ok(())
     }

@@ -9,7 +9,7 @@ ghost use Rattle.ciborium_ll_streams.specs.Streams.{stream_read_failures, stream
 use ciborium_ll_io::io::{Failures, Read, Write};
 use std::io;
 
-/// Why a `StdReader` failed.
+/// Why a `StdReader` or a `BufferedReader` failed.
 #[derive(Debug, Drop)]
 pub enum ReadFault {
     /// The reader within gave no byte, although some were asked for.
@@ -44,28 +44,16 @@ impl<T: io::Read> StdReader<T> {
         self.source
     }
 
-    /// Fails at the end of the bytes.
+    /// Fails with this fault.
     #[cold]
     #[inline(never)]
-    fn ended(&mut self) -> Result<(), ReadFault>
-        ensures fault { result ≡ Err ReadFault.End }
+    fn failed(&mut self, fault: ReadFault) -> Result<(), ReadFault>
+        ensures fault { result ≡ Err fault }
         ensures same { stream_source self.new ≡ stream_source self.old }
         ensures failures { stream_read_failures self.new ≡ stream_read_failures self.old + 1 }
     {
         self.failures.raise();
-        Err(ReadFault::End)
-    }
-
-    /// Fails as the reader within did.
-    #[cold]
-    #[inline(never)]
-    fn read_failed(&mut self, error: io::Error) -> Result<(), ReadFault>
-        ensures fault { result ≡ Err (ReadFault.Failed error) }
-        ensures same { stream_source self.new ≡ stream_source self.old }
-        ensures failures { stream_read_failures self.new ≡ stream_read_failures self.old + 1 }
-    {
-        self.failures.raise();
-        Err(ReadFault::Failed(error))
+        Err(fault)
     }
 }
 
@@ -101,16 +89,16 @@ impl<T: io::Read> Read for StdReader<T> {
         let mut filled = 0;
         while filled < data.len() {
             match self.source.read(&mut data[filled..]) {
-                Ok(0) => return self.ended(),
+                Ok(0) => return self.failed(ReadFault::End),
                 Ok(count) => filled += count,
-                Err(error) => return self.read_failed(error),
+                Err(error) => return self.failed(ReadFault::Failed(error)),
             }
         }
         Ok(())
     }
 }
 
-/// Why a `StdWriter` failed.
+/// Why a `StdWriter` or a `BufferedWriter` failed.
 #[derive(Debug, Drop)]
 pub enum WriteFault {
     /// The writer within took no byte, although some were given.

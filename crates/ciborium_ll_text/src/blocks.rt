@@ -65,7 +65,7 @@ fn excess(bytes: u8x16, others: u8x16) -> u8x16
     bytes.saturating_sub(others)
 }
 
-/// Whether sixteen bytes are 0.
+/// Whether sixteen bytes are 0. A no says nothing.
 #[inline(always)]
 fn is_zero(block: u8x16) -> bool
     ensures { IsTrue result → (i : ℕ) → slice_index block i ≡ 0 }
@@ -73,7 +73,7 @@ fn is_zero(block: u8x16) -> bool
     block.simd_ne(u8x16::splat(0)).to_bitmask() == 0
 }
 
-/// Whether sixteen bytes may each follow the three before it, which stand in three further blocks.
+/// Whether sixteen bytes may each follow the three before it, which stand in three further blocks. A no says nothing.
 #[inline(always)]
 fn may_follow(third_last: u8x16, second_last: u8x16, last: u8x16, bytes: u8x16) -> bool
     ensures { IsTrue result → (i : ℕ) → i < 16 → Step (slice_index third_last i) (slice_index second_last i)
@@ -86,7 +86,7 @@ fn may_follow(third_last: u8x16, second_last: u8x16, last: u8x16, bytes: u8x16) 
     is_zero(((third | fourth) & u8x16::splat(0x80)) ^ pair)
 }
 
-/// Whether each of sixteen bytes may follow the three before it.
+/// Whether each of sixteen bytes may follow the three before it. A no says nothing.
 #[inline(always)]
 fn follow(bytes: &[u8], at: usize) -> bool
     requires from { 3 ≤ at }
@@ -101,7 +101,7 @@ fn follow(bytes: &[u8], at: usize) -> bool
     )
 }
 
-/// Whether each byte behind the first three may follow the three before it.
+/// Whether each byte behind the first three may follow the three before it. A no says nothing.
 ///
 /// The last sixteen bytes are tested for themselves, also where some of them were tested before.
 #[inline(always)]

@@ -95,7 +95,7 @@ pub fn write_pieces<W: Write>(
 /// Copies elements that are in their shortest spelling, as those of [`write_pieces`] are.
 ///
 /// Where the decoder isn't strict, the reader is steady, the writer has room and the offset fits, they are copied
-/// unchanged, and just what follows them is left, whatever the limits and the buffer were.
+/// unchanged, and just what follows them is left, whatever the limits were, and whatever `buffer` of four bytes or more.
 pub fn copy_spelled<R: Read, W: Write>(
     decoder: &mut Decoder<R>,
     encoder: &mut Encoder<W>,

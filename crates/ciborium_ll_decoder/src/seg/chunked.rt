@@ -63,7 +63,7 @@ impl Chunked for Text {
 }
 
 impl<'r, R: Read, P: Chunked> Segment<'r, R, P> {
-    /// Reads what is left of the body, by pulls through `buffer`, and lets the segment go.
+    /// Reads what is left of the body, by pulls through `buffer` of four bytes at least, and lets the segment go.
     ///
     /// `Ok` says that the whole body was read, and that it is UTF-8 where it is of a text: the decoder is then behind
     /// it, and just the bytes that were not read yet are consumed. The errors are those of `pull`: `Syntax` with the
@@ -108,8 +108,8 @@ impl<'r, R: Read, P: Chunked> Segment<'r, R, P> {
 }
 
 impl<'r, R: Read, P: Chunked> Segments<'r, R, P> {
-    /// Reads the body that [`Segments::advance`] gave last to its end, by pulls through `buffer`, as
-    /// [`Segment::finish`] does.
+    /// Reads the body that [`Segments::advance`] gave last to its end, by pulls through `buffer` of four bytes at least,
+    /// as [`Segment::finish`] does.
     ///
     /// `Ok` says that the whole body was read, and that it is UTF-8 where it is of a text: the decoder is then behind
     /// it. The errors are `Syntax` with the body's place where it is no text; `Io` where the reader failed, and
@@ -125,8 +125,8 @@ impl<'r, R: Read, P: Chunked> Segments<'r, R, P> {
 }
 
 /// Reads the body of a string of definite length to its end, behind its header with this length, which was just
-/// pulled: by one read where `buffer` holds it, else by pulls through `buffer`. It answers as [`Segment::finish`] does
-/// for the segment of that string, and pushes no header back. Users skip strings.
+/// pulled: by one read where `buffer` holds it, else by pulls through `buffer`, which has four bytes at least. It
+/// answers as [`Segment::finish`] does for the segment of that string, and pushes no header back. Users skip strings.
 ///
 /// `Ok` says that the whole body was read, and that it is UTF-8 where it is of a text: the decoder is then behind it.
 /// The errors are `Syntax` where the body is no text, with the byte from which the header's shortest title would reach
@@ -169,9 +169,7 @@ fn finish_whole<R: Read, P: Chunked>(
         return Ok(());
     }
     let whole = &mut buffer[..body.length];
-    if let Err(error) = decoder.read(whole) {
-        return Err(error);
-    }
+    decoder.read(whole)?;
     if P::is_body(whole) {
         Ok(())
     } else {

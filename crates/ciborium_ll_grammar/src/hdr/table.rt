@@ -62,7 +62,9 @@ impl Affix {
 /// What a first byte says of its title.
 #[derive(Clone, Copy)]
 pub struct Row {
+    /// What a title with that first byte means, or that there is none.
     pub kind: TitleKind,
+    /// Where the title's number stands, and how many bytes follow the first one.
     pub affix: Affix,
 }
 

@@ -63,16 +63,16 @@ none_open None kind major (m.Two n) e is none = absurd cc
 none_open None kind major (m.Four n) e is none = absurd cc
 none_open None kind major (m.Eight n) e is none = absurd cc
 
-pub returns-in-None-clause-some : goal.returns-in-None-clause-some
-returns-in-None-clause-some c =
+pub returns-in_default-clause-some : goal.returns-in_default-clause-some
+returns-in_default-clause-some c =
     some_open c.open_header.result c.args.kind c.args.self.major c.args.self.minor
-    (sym c.number.ensures ∙ c.in-None.is) c.requires.kind
+    (sym c.number.ensures ∙ c.in_default.is) c.requires.kind
     c.open_header.ensures.some
 
-pub returns-in-None-clause-none : goal.returns-in-None-clause-none
-returns-in-None-clause-none c =
+pub returns-in_default-clause-none : goal.returns-in_default-clause-none
+returns-in_default-clause-none c =
     none_open c.open_header.result c.args.kind c.args.self.major c.args.self.minor
-    (sym c.number.ensures ∙ c.in-None.is) c.requires.kind
+    (sym c.number.ensures ∙ c.in_default.is) c.requires.kind
     c.open_header.ensures.none
 
 pub returns-in-Positive-clause-some : goal.returns-in-Positive-clause-some

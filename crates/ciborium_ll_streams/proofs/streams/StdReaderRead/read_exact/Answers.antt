@@ -20,12 +20,12 @@ loop-filled-preserved g c =
 pub returns-in-Ok-eq0-clause-part : goal.returns-in-Ok-eq0-clause-part
 returns-in-Ok-eq0-clause-part g c =
     let none = Keeps-none_read _ _ _ _ c.in-Ok-eq0.field-0-test c.in-Ok-eq0.ensures.bytes.0 in
-    rw c.ended.ensures.same (on_err _ (filled_part _ _ _ _ _ _ _ c.loop-filled-test.true c.read.auto.buf
+    rw c.failed.ensures.same (on_err _ (filled_part _ _ _ _ _ _ _ c.loop-filled-test.true c.read.auto.buf
     c.loop-filled.invariant.bytes none))
 
 pub returns-in-Err-clause-part : goal.returns-in-Err-clause-part
 returns-in-Err-clause-part g c =
-    rw c.read_failed.ensures.same (on_err _ (filled_part _ _ _ _ _ _ _ c.loop-filled-test.true c.read.auto.buf
+    rw c.failed-in-Err.ensures.same (on_err _ (filled_part _ _ _ _ _ _ _ c.loop-filled-test.true c.read.auto.buf
     c.loop-filled.invariant.bytes c.in-Err.ensures.bytes))
 
 pub returns-clause-bytes : goal.returns-clause-bytes
