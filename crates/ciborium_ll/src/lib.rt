@@ -6,6 +6,7 @@
 
 pub mod io;
 pub mod laws;
+pub mod recode;
 pub mod simple;
 pub mod tag;
 
@@ -14,4 +15,3 @@ pub use ciborium_ll_decoder::dec::{Decoder, Error};
 pub use ciborium_ll_decoder::seg::{Body, Bytes, Chunked, Segment, Segments, Text};
 pub use ciborium_ll_encoder::enc::Encoder;
 pub use ciborium_ll_grammar::hdr::{Float, Header};
-pub use ciborium_ll_recode::recode;
