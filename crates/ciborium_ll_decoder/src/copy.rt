@@ -95,12 +95,10 @@ fn copy_chunks<R: Read, W: Write, P: Chunked>(
     ensures moves_on { MovesOn R.Read (segment_decoder segment.old) (segment_decoder segment.new) }
     ensures target { W.target writer.new ≡ W.target writer.old }
 {
-    'chunks: loop {
-        let Some(chunk) = P::chunk(segment, buffer)? else {
-            return Ok(());
-        };
+    'chunks: while let Some(chunk) = P::chunk(segment, buffer)? {
         if let Err(fault) = writer.write_all(chunk) {
             return Err(RecodeError::Write(fault));
         }
     }
+    Ok(())
 }

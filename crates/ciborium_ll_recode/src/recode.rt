@@ -94,13 +94,11 @@ fn copy_segments<R: Read, W: Write, P: Chunked>(
     ensures target { W.target (writer_of encoder.new) ≡ W.target (writer_of encoder.old) }
 {
     let mut segments = open_segments::<R, P>(decoder);
-    'segments: loop {
-        let Some(body) = segments.advance()? else {
-            return Ok(());
-        };
+    'segments: while let Some(body) = segments.advance()? {
         write_header::<R::Error, W>(encoder, P::header(Some(body.length)))?;
         segments.copy(body, encoder, buffer)?;
     }
+    Ok(())
 }
 
 /// Copies a string, behind its header with this length.

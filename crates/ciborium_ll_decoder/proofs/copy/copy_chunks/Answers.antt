@@ -33,8 +33,8 @@ chunks-preserved g c =
       target = search rules;
     }
 
-pub returns-in_default-clause-copied : goal.returns-in_default-clause-copied
-returns-in_default-clause-copied g c =
+pub returns-clause-copied : goal.returns-clause-copied
+returns-clause-copied g c =
     let none : c.in_ok-chunk.field-0 ≡ None = search rules in
     so_far_whole g.R.Read g.W.Write c.args.body _ _ _ _ c.requires.whole c.chunks.invariant.so_far _
     c.chunk.new.segment (rw none at c.in_ok-chunk.ensures.chunk)

@@ -25,8 +25,8 @@ segments-init g c = record {
   target = refl;
 }
 
-pub returns-in_default-clause-copied : goal.returns-in_default-clause-copied
-returns-in_default-clause-copied g c = λ count before old within.
+pub returns-clause-copied : goal.returns-clause-copied
+returns-clause-copied g c = λ count before old within.
     let k = g.P.Parser.kind in
     let opened = sides_of c.args.decoder.now c.args.encoder.now in
     let now = sides_of c.segments.segments.decoder.now c.segments.encoder in
@@ -152,8 +152,8 @@ returns-in_err-copy-clause-copied g c = λ count before old within.
 
 -- ---- the writer stays on its slice
 
-pub returns-in_default-clause-target : goal.returns-in_default-clause-target
-returns-in_default-clause-target g c = c.segments.invariant.target
+pub returns-clause-target : goal.returns-clause-target
+returns-clause-target g c = c.segments.invariant.target
 
 pub returns-in_err-body-clause-target : goal.returns-in_err-body-clause-target
 returns-in_err-body-clause-target g c = c.segments.invariant.target
