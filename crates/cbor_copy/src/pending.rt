@@ -79,7 +79,7 @@ impl Pending {
         requires { count ≤ length self.old }
         ensures { self.new ≡ drop count self.old }
     {
-        let _most = self.few.len(); // What is given stays below it.
+        let _most = self.few.len(); // For the prover: what is given stays below it, so the sum fits.
         self.given += count;
     }
 

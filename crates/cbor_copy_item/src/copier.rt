@@ -99,7 +99,7 @@ impl ItemCopier {
     ghost use Rattle.cbor_copy_item.specs.Telling.{IsAnswer, IsMore, IsRoom, Tells, TellsEnd, end_of, progress_of};
 
     /// A copier of an item to which nothing came. Tags, arrays and maps may be nested at most `depth` levels deep: each
-    /// takes a level, an empty one too, and a string takes none.
+    /// takes a level, an empty one too, and a string takes none. A call gives a `depth` of at most 256.
     pub fn new(depth: usize) -> ItemCopier
         requires { depth ≤ 256 }
         ensures { IsItemCopied false depth [] [] result }
@@ -111,7 +111,8 @@ impl ItemCopier {
     }
 
     /// A copier of an item that takes its shortest spelling alone (RFC 7049, 3.9): each title is the shortest of its
-    /// header, no simple value from 24 to 31 stands there, and strings within an open one have a definite length.
+    /// header, no simple value from 24 to 31 stands there, and strings within an open one have a definite length. The
+    /// `depth` is that of [`ItemCopier::new`], and at most 256.
     pub fn strict(depth: usize) -> ItemCopier
         requires { depth ≤ 256 }
         ensures { IsItemCopied true depth [] [] result }
@@ -138,7 +139,7 @@ impl ItemCopier {
     }
 
     /// How far the copy has come: what the last [`ItemCopier::feed`] answered, and before the first that one byte is
-    /// due.
+    /// due. Behind a `TooLong` it is `More`, since bytes are due that can't be counted.
     pub fn progress(&self) -> Progress
         ensures answers { result ≡ progress_of (pending self.now) (item_spot self.now) }
         ensures tells { (strict : Bool) (depth : ℕ) (fed given : List ℕ) → IsItemCopied strict depth fed given self.now

@@ -9,7 +9,7 @@ use cbor_copy::Copier;
 /// The state of an [`ItemCopier`](crate::ItemCopier) as plain numbers, in memory of the caller's own: of a program in
 /// C, or of one that keeps many.
 ///
-/// [`ItemCopier::save`](crate::ItemCopier::save) makes it, and [`ItemCopier::restore`](crate::ItemCopier::restore)
+/// [`ItemCopier::save`](crate::ItemCopier::save) writes it, and [`ItemCopier::restore`](crate::ItemCopier::restore)
 /// makes a copier of it again. Numbers that are all 0 are no state. It has no bytes between its fields and none behind
 /// them.
 #[derive(Drop)]

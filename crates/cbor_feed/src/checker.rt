@@ -30,7 +30,7 @@ impl Checker {
     ghost use Rattle.cbor_feed.specs.Spots.{Spot};
 
     /// A checker of an item to which nothing came. Tags, arrays and maps may be nested at most `depth` levels deep:
-    /// each takes a level, an empty one too, and a string takes none.
+    /// each takes a level, an empty one too, and a string takes none. A call gives a `depth` of at most 256.
     #[inline(always)]
     pub fn new(depth: usize) -> Checker
         requires { depth ≤ 256 }
@@ -40,7 +40,8 @@ impl Checker {
     }
 
     /// A checker of an item in its shortest spelling (RFC 7049, 3.9): each title is the shortest of its header, no
-    /// simple value from 24 to 31 stands there, and strings within an open one have a definite length.
+    /// simple value from 24 to 31 stands there, and strings within an open one have a definite length. The `depth` is
+    /// that of [`Checker::new`], and at most 256.
     #[inline(always)]
     pub fn strict(depth: usize) -> Checker
         requires { depth ≤ 256 }
@@ -74,6 +75,7 @@ impl Checker {
     }
 
     /// How far the item has come: what the last [`Checker::feed`] answered, and before the first that one byte is due.
+    /// Behind a `TooLong` it is `More`, since bytes are due that can't be counted.
     pub fn progress(&self) -> Progress
         ensures answers { result ≡ progress_of (spot_of self.now) }
         ensures tells { (strict : Bool) (depth : ℕ) (fed : List ℕ) → IsFed strict depth fed (spot_of self.now)

@@ -58,7 +58,8 @@ impl Level {
         }
     }
 
-    /// How many items are due behind the one that is, where they are counted and twice as many could be.
+    /// How many items are due behind the one that is, where they are counted and twice as many could be. That it is
+    /// none says nothing.
     #[inline(always)]
     pub(crate) fn left(self) -> Option<usize>
         ensures left { IfSome result (λ left. counted_behind self ≡ Some left) }

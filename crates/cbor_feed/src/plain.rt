@@ -142,7 +142,8 @@ fn high_bits(bytes: &[u8], at: usize, from: usize, until: usize) -> u64
 const SHORT: usize = 16;
 
 /// Whether so many bytes from there on are ASCII. Of up to 16, where as many bytes are in all, it takes no branch by
-/// their number or their place: where two words from there on would reach too far, it reads the last two.
+/// their number or their place: where two words from there on would reach too far, it reads the last two. A no says
+/// nothing.
 #[inline(always)]
 fn is_ascii_from(bytes: &[u8], at: usize, len: usize) -> bool
     requires { at + len ≤ length bytes.now }
@@ -158,7 +159,7 @@ fn is_ascii_from(bytes: &[u8], at: usize, len: usize) -> bool
     bytes[at..at + len].is_ascii()
 }
 
-/// Whether so many bytes from there on are at most as many as two words have, and are ASCII.
+/// Whether so many bytes from there on are at most as many as two words have, and are ASCII. A no says nothing.
 #[inline(always)]
 pub(crate) fn is_short_ascii(bytes: &[u8], at: usize, len: usize) -> bool
     requires { at + len ≤ length bytes.now }
@@ -168,7 +169,8 @@ pub(crate) fn is_short_ascii(bytes: &[u8], at: usize, len: usize) -> bool
 }
 
 /// How many bytes the string in front has, where an item is due, its length stands in one byte behind the first and is
-/// at least 24, as a shortest title has it, and all of it is there; of a text, where that is ASCII. Of any other 0.
+/// at least 24, as a shortest title has it, and all of it is there; of a text, where that is ASCII. Of any other 0,
+/// which says nothing.
 #[inline(always)]
 fn string_len(bytes: &[u8]) -> usize
     requires some { 0 < length bytes.now }
@@ -191,7 +193,7 @@ fn string_len(bytes: &[u8]) -> usize
 
 /// How many bytes the item from there on has, where an item is due and all of it is there: of a number, a float or a
 /// simple value, of a byte string below 256 bytes, or of a text below that which is ASCII. Of any other one 0, and so of
-/// a longer title where the shortest alone is taken.
+/// a longer title where the shortest alone is taken. A 0 says nothing.
 #[inline(always)]
 fn plain_len(bytes: &[u8], at: usize, strict: bool) -> usize
     requires some { at < length bytes.now }

@@ -534,7 +534,7 @@ impl Walk<'_> {
     }
 
     /// A title where an item is due, of which most are told by their first byte, and of a short string the body with it.
-    /// Else it is as [`Checker::title_run`]. Says how many bytes, and whether it can tell that another item is due, and
+    /// Else it is as [`Walk::title_run`]. Says how many bytes, and whether it can tell that another item is due, and
     /// nothing of its title came.
     #[inline(always)]
     fn other_step(&mut self, bytes: &[u8]) -> (usize, bool)
@@ -589,7 +589,7 @@ impl Walk<'_> {
         at
     }
 
-    /// A title within an open string, as [`Checker::title_run`]. It is kept apart from the path of an item's title.
+    /// A title within an open string, as [`Walk::title_run`]. It is kept apart from the path of an item's title.
     #[inline(never)]
     fn title_within(&mut self, bytes: &[u8]) -> usize
         requires phase { self.old.phase ≡ p.Title }

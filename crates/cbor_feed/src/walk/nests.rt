@@ -17,7 +17,7 @@ struct Nest {
 }
 
 /// The nest of which this byte is the title, where it pays to look for plain items in it: an array of 4 to 23 items, or
-/// a map of 2 to 23 pairs.
+/// a map of 2 to 23 pairs. That there is none says nothing.
 #[inline(always)]
 fn nest_of(first: u8) -> Option<Nest>
     ensures enters { IfSome result (λ nest. IsNestTitle first nest.level) }
