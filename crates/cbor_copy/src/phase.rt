@@ -60,10 +60,7 @@ impl Phase {
         match kind {
             1 => Some(Phase::Title),
             2 => Some(Phase::Bytes(number)),
-            3 => match State::of_number(text) {
-                Some(state) => Some(Phase::Text(number, state)),
-                None => None,
-            },
+            3 => Some(Phase::Text(number, State::of_number(text)?)),
             4 => Some(Phase::Ended),
             5 => Some(Phase::Faulted(number)),
             _ => None,

@@ -209,10 +209,7 @@ impl Position {
     {
         match answer(self.phase, &self.front, self.offset) {
             Progress::More(_) if left => Progress::TooLong,
-            Progress::More(due) => Progress::More(due),
-            Progress::Ended(len) => Progress::Ended(len),
-            Progress::Fault(fault) => Progress::Fault(fault),
-            Progress::TooLong => Progress::TooLong,
+            progress => progress,
         }
     }
 }

@@ -64,7 +64,7 @@ pub(crate) fn begins_none(bytes: &[u8], strict: bool) -> bool
     ensures yes { result ≡ true → NoneTaken strict bytes.now }
     ensures no { result ≡ false → SomeTaken strict bytes.now }
 {
-    if strict { begins_longer(bytes) } else { false }
+    strict && begins_longer(bytes)
 }
 
 /// Why a title of this kind may not stand there, where not all of its bytes came.
@@ -73,12 +73,8 @@ pub(crate) fn blocked(within: Within, depth: usize, place: usize, kind: TitleKin
     ensures { result ≡ blocked within depth place kind }
 {
     match (within, kind) {
-        (Within::Nothing, TitleKind::Tag | TitleKind::Array | TitleKind::Map) => {
-            if depth == 0 {
-                Some(Fault::Deep(place))
-            } else {
-                None
-            }
+        (Within::Nothing, TitleKind::Tag | TitleKind::Array | TitleKind::Map) if depth == 0 => {
+            Some(Fault::Deep(place))
         }
         (Within::Nothing, _)
         | (Within::Bytes(_), TitleKind::Bytes)

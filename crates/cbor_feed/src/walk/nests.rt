@@ -24,21 +24,23 @@ fn nest_of(first: u8) -> Option<Nest>
     ensures left { IfSome result (λ nest. counted_behind nest.level ≡ Some nest.left) }
     ensures few { IfSome result (λ nest. nest.left < usize.MAX) }
 {
-    if 0x84 <= first && first <= 0x97 {
-        let count = usize::from(first - 0x80);
-        return Some(Nest {
-            level: Level::Items(count - 1),
-            left: count - 1,
-        });
+    match first {
+        0x84..=0x97 => {
+            let count = usize::from(first - 0x80);
+            Some(Nest {
+                level: Level::Items(count - 1),
+                left: count - 1,
+            })
+        }
+        0xa2..=0xb7 => {
+            let count = usize::from(first - 0xa0);
+            Some(Nest {
+                level: Level::Value(count - 1),
+                left: 2 * count - 1,
+            })
+        }
+        _ => None,
     }
-    if 0xa2 <= first && first <= 0xb7 {
-        let count = usize::from(first - 0xa0);
-        return Some(Nest {
-            level: Level::Value(count - 1),
-            left: 2 * count - 1,
-        });
-    }
-    None
 }
 
 impl Walk<'_> {

@@ -15,26 +15,14 @@ returns-in-More-clause-tells c = λ kinds counts strict depth fed is.
     let long = fed_counts strict depth fed spot is in
     omega (arith, full, long)
 
-pub returns-in-More-2-clause-tells : goal.returns-in-More-2-clause-tells
-returns-in-More-2-clause-tells c = λ kinds counts strict depth fed is.
+pub returns-in_default-clause-tells : goal.returns-in_default-clause-tells
+returns-in_default-clause-tells c = λ kinds counts strict depth fed is.
     let spot : Spot = spot_in c.args.self.now kinds counts in
-    told strict depth fed spot (r.More c.in-More.field-0) (search (rules, c.answer.ensures spot refl refl refl)) is
+    told strict depth fed spot c.answer.result (c.answer.ensures spot refl refl refl) is
     c.args.self.now.left c.args.self.now.begun
 
-pub returns-in-Ended-clause-tells : goal.returns-in-Ended-clause-tells
-returns-in-Ended-clause-tells c = λ kinds counts strict depth fed is.
+pub returns-in_default-2-clause-tells : goal.returns-in_default-2-clause-tells
+returns-in_default-2-clause-tells c = λ kinds counts strict depth fed is.
     let spot : Spot = spot_in c.args.self.now kinds counts in
-    told strict depth fed spot (r.Ended c.in-Ended.len) (search (rules, c.answer.ensures spot refl refl refl)) is
-    c.args.self.now.left c.args.self.now.begun
-
-pub returns-in-Fault-clause-tells : goal.returns-in-Fault-clause-tells
-returns-in-Fault-clause-tells c = λ kinds counts strict depth fed is.
-    let spot : Spot = spot_in c.args.self.now kinds counts in
-    told strict depth fed spot (r.Fault c.in-Fault.fault) (search (rules, c.answer.ensures spot refl refl refl)) is
-    c.args.self.now.left c.args.self.now.begun
-
-pub returns-in-TooLong-clause-tells : goal.returns-in-TooLong-clause-tells
-returns-in-TooLong-clause-tells c = λ kinds counts strict depth fed is.
-    let spot : Spot = spot_in c.args.self.now kinds counts in
-    told strict depth fed spot (r.TooLong) (search (rules, c.answer.ensures spot refl refl refl)) is
+    told strict depth fed spot c.answer.result (c.answer.ensures spot refl refl refl) is
     c.args.self.now.left c.args.self.now.begun

@@ -2,14 +2,14 @@ use Rattle.std.proofs.Common.{◌-◌, arith}
 use Rattle.cbor_feed.proofs.NestLaws.{array_enters, map_enters}
 use Rattle.cbor_feed.proofs.walk.nests.nest_of.Goals as goal
 
-pub returns-then-first-le151-clause-enters : goal.returns-then-first-le151-clause-enters
-returns-then-first-le151-clause-enters c =
+pub returns-in-132-to-151-clause-enters : goal.returns-in-132-to-151-clause-enters
+returns-in-132-to-151-clause-enters c =
     array_enters c.args.first (c.from-count.result - 1)
-    (omega (arith, c.from-count.ensures, c.if-first-ge132.true, c.if-first-le151.true))
-    (omega (arith, c.from-count.ensures, c.if-first-ge132.true, c.if-first-le151.true))
+    (omega (arith, c.from-count.ensures, c.in-132-to-151.if-first-lt132-own, c.in-132-to-151.if-first-lt152-own))
+    (omega (arith, c.from-count.ensures, c.in-132-to-151.if-first-lt132-own, c.in-132-to-151.if-first-lt152-own))
 
-pub returns-then-first-le183-clause-enters : goal.returns-then-first-le183-clause-enters
-returns-then-first-le183-clause-enters c =
-    map_enters c.args.first (c.from-count-then-first-le183.result - 1)
-    (omega (arith, c.from-count-then-first-le183.ensures, c.if-first-ge162.true, c.if-first-le183.true))
-    (omega (arith, c.from-count-then-first-le183.ensures, c.if-first-ge162.true, c.if-first-le183.true))
+pub returns-in-162-to-183-clause-enters : goal.returns-in-162-to-183-clause-enters
+returns-in-162-to-183-clause-enters c =
+    map_enters c.args.first (c.from-count-in-162-to-183.result - 1)
+    (omega (arith, c.from-count-in-162-to-183.ensures, c.in-162-to-183.if-first-lt162-own, c.in-162-to-183.if-first-lt184-own))
+    (omega (arith, c.from-count-in-162-to-183.ensures, c.in-162-to-183.if-first-lt162-own, c.in-162-to-183.if-first-lt184-own))
