@@ -467,18 +467,11 @@ impl Walk<'_> {
         self.offset += 1;
         let rest = &bytes[1..];
         match header {
-            Header::Bytes(Some(len)) if len <= rest.len() => {
-                let goes = self.body_taken(len);
-                (1 + len, goes)
-            }
+            Header::Bytes(Some(len)) if len <= rest.len() => (1 + len, self.body_taken(len)),
             Header::Text(Some(len)) if len <= rest.len() && rest[..len].is_ascii() => {
-                let goes = self.body_taken(len); // Of ASCII.
-                (1 + len, goes)
+                (1 + len, self.body_taken(len)) // Of ASCII.
             }
-            _ => {
-                let goes = self.enter_item(header);
-                (1, goes)
-            }
+            _ => (1, self.enter_item(header)),
         }
     }
 
@@ -501,10 +494,7 @@ impl Walk<'_> {
     {
         match header_of(&bytes[..1], self.strict) {
             Some(header) => self.short_taken(bytes, header),
-            None => {
-                let len = self.title_byte(bytes);
-                (len, false)
-            }
+            None => (self.title_byte(bytes), false),
         }
     }
 
@@ -557,11 +547,9 @@ impl Walk<'_> {
         }
         let len = 1 + row.affix.len();
         if !self.strict && is_value(row.kind) && 1 < len && len <= bytes.len() {
-            let goes = self.value_taken(bytes, len, row.kind);
-            return (len, goes);
+            return (len, self.value_taken(bytes, len, row.kind));
         }
-        let len = self.title_run(bytes);
-        (len, false)
+        (self.title_run(bytes), false)
     }
 
     /// Titles where an item is due, one behind the other, as long as it can tell that another item is. Says how many

@@ -79,8 +79,7 @@ impl Walk<'_> {
         }
         self.levels.pop();
         self.depth += 1;
-        let goes = self.item_over();
-        (run.len, goes)
+        (run.len, self.item_over())
     }
 
     /// All of a title of one byte, which is that of this nest, where an item is due, and the plain items behind it. The
@@ -120,8 +119,7 @@ impl Walk<'_> {
             self.levels.push(nest.level.lowered(run.left - 1));
             return (1 + run.len, true);
         }
-        let goes = self.item_over();
-        (1 + run.len, goes)
+        (1 + run.len, self.item_over())
     }
 
     /// A title where an item is due, as [`Walk::other_step`], of which that of a nest is looked for first, with the

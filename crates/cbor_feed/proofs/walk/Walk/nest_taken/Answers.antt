@@ -31,7 +31,7 @@ returns-clause-leads c =
     let left : ℕ = c.args.nest.left in
     let rest = rest_long xs 1 in
     let within : run.len ≤ length xs - 1 = omega (arith, rest, c.plain_run-run.ensures.within) in
-    nest_ends s (spot_at c.item_over-goes.new.self) c.args.nest.level left c.plain_run-run.new.place run.len xs c.requires.phase
+    nest_ends s (spot_at c.item_over.new.self) c.args.nest.level left c.plain_run-run.new.place run.len xs c.requires.phase
     c.requires.fresh c.requires.due c.requires.deep c.requires.some c.requires.enters c.requires.left
     (left + 1 - run.left) (omega (arith, c.if-run-gt0.false)) within c.plain_run-run.ensures.plain
-    c.item_over-goes.ensures.done
+    c.item_over.ensures.done

@@ -55,9 +55,9 @@ returns-clause-leads c =
     let all : counted_behind level ≡ Some left = search rules in
     let same : levels_at c.innermost.new.self ≡ s.levels = ap levels_at c.innermost.ensures.same in
     let levels : levels_at c.pop.new.self ≡ others s.levels = c.pop.ensures.taken ∙ ap others same in
-    run_ends s (spot_at c.item_over-goes.new.self) level left c.plain_run-run.new.place bytes c.requires.phase c.requires.fresh
+    run_ends s (spot_at c.item_over.new.self) level left c.plain_run-run.new.place bytes c.requires.phase c.requires.fresh
     c.requires.due is all (left + 1 - run.left) (omega (arith, c.if-run-gt0.false)) c.plain_run-run.ensures.plain
-    (c.item_over-goes.ensures.done
+    (c.item_over.ensures.done
     ∙ (ap (λ (z : List Level).
     item_done (record s { depth = s.depth + 1; levels = z; place = c.plain_run-run.new.place; offset = s.offset + run.len })) levels
     ∙ ap (λ (z : ℕ).

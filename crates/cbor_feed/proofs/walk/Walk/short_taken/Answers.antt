@@ -8,21 +8,21 @@ use Rattle.cbor_feed.proofs.walk.Walk.short_taken.Goals as goal
 
 pub returns-in-Bytes-Some-clause-leads : goal.returns-in-Bytes-Some-clause-leads
 returns-in-Bytes-Some-clause-leads c =
-    short_bytes c.args.bytes.now c.in-Bytes-Some.len (spot_at c.args.self.now) (spot_at c.body_taken-goes.new.self)
+    short_bytes c.args.bytes.now c.in-Bytes-Some.len (spot_at c.args.self.now) (spot_at c.body_taken.new.self)
     (λ i less. search rules) c.requires.phase c.requires.fresh c.requires.due c.requires.some (search rules)
-    (search rules) (search rules) c.body_taken-goes.ensures.taken
+    (search rules) (search rules) c.body_taken.ensures.taken
 
 pub returns-in-Text-Some-clause-leads : goal.returns-in-Text-Some-clause-leads
 returns-in-Text-Some-clause-leads c =
     let len = c.in-Text-Some.len in
     let ascii = subst (λ (z : List ℕ). IsAscii (take len z)) (take_rest c.args.bytes.now 1)
     c.if-is_ascii.ensures.cases in
-    short_text c.args.bytes.now len (spot_at c.args.self.now) (spot_at c.body_taken-goes-in-Text-Some.new.self)
+    short_text c.args.bytes.now len (spot_at c.args.self.now) (spot_at c.body_taken-in-Text-Some.new.self)
     (λ i less. search rules) c.requires.phase c.requires.fresh c.requires.due c.requires.some (search rules)
-    (search rules) (search rules) (ascii_stays _ ascii) c.body_taken-goes-in-Text-Some.ensures.taken
+    (search rules) (search rules) (ascii_stays _ ascii) c.body_taken-in-Text-Some.ensures.taken
 
 pub returns-in_default-clause-leads : goal.returns-in_default-clause-leads
 returns-in_default-clause-leads c =
-    short_leads c.args.bytes.now (spot_at c.args.self.now) (spot_at c.enter_item-goes.new.self) c.args.header
+    short_leads c.args.bytes.now (spot_at c.args.self.now) (spot_at c.enter_item.new.self) c.args.header
     (λ i less. search rules) c.requires.phase c.requires.fresh c.requires.due c.requires.some c.requires.title
-    c.requires.taken c.enter_item-goes.ensures.entered
+    c.requires.taken c.enter_item.ensures.entered
