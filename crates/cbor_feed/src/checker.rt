@@ -63,17 +63,6 @@ impl Checker {
         }
     }
 
-    /// How far the item has come, by what is due.
-    fn answer(&self) -> Progress
-        ensures { result ≡ progress_of (spot_of self.now) }
-    {
-        answer(
-            self.position.phase,
-            &self.position.front,
-            self.position.offset,
-        )
-    }
-
     /// How far the item has come: what the last [`Checker::feed`] answered, and before the first that one byte is due.
     /// Behind a `TooLong` it is `More`, since bytes are due that can't be counted.
     pub fn progress(&self) -> Progress
@@ -81,7 +70,11 @@ impl Checker {
         ensures tells { (strict : Bool) (depth : ℕ) (fed : List ℕ) → IsFed strict depth fed (spot_of self.now)
             → Tells strict depth fed result }
     {
-        self.answer()
+        answer(
+            self.position.phase,
+            &self.position.front,
+            self.position.offset,
+        )
     }
 
     /// What it means that no more bytes come.
@@ -93,7 +86,7 @@ impl Checker {
         if self.position.offset == 0 {
             return End::Between;
         }
-        match self.answer() {
+        match self.progress() {
             Progress::Ended(_) => End::Between,
             Progress::Fault(fault) => End::Fault(fault),
             Progress::More(due) => End::Short(due),

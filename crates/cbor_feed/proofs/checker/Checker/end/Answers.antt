@@ -13,14 +13,14 @@ returns-then-self-eq0-clause-tells c = λ strict depth fed is.
 pub returns-in-Ended-clause-tells : goal.returns-in-Ended-clause-tells
 returns-in-Ended-clause-tells c = λ strict depth fed is.
     let checker = c.args.self.now in
-    inr (told strict depth fed (spot_of checker) (r.Ended c.in-Ended.field-0) (sym c.in-Ended.is ∙ c.answer.ensures) is
+    inr (told strict depth fed (spot_of checker) (r.Ended c.in-Ended.field-0) (sym c.in-Ended.is ∙ c.progress.ensures.answers) is
     checker.position.left checker.position.begun).0
 
 pub returns-in-Fault-clause-tells : goal.returns-in-Fault-clause-tells
 returns-in-Fault-clause-tells c = λ strict depth fed is.
     let checker = c.args.self.now in
     told strict depth fed (spot_of checker) (r.Fault c.in-Fault.fault)
-    (sym c.in-Fault.is ∙ c.answer.ensures) is checker.position.left
+    (sym c.in-Fault.is ∙ c.progress.ensures.answers) is checker.position.left
     checker.position.begun
 
 pub returns-in-More-clause-tells : goal.returns-in-More-clause-tells
@@ -30,7 +30,7 @@ returns-in-More-clause-tells c = λ strict depth fed is.
     let some : 0 < length fed = omega (arith, counts, c.if-self-eq0.false) in (
       some,
       told strict depth fed (spot_of checker) (r.More c.in-More.due)
-          (sym c.in-More.is ∙ c.answer.ensures) is checker.position.left
+          (sym c.in-More.is ∙ c.progress.ensures.answers) is checker.position.left
           checker.position.begun,
     )
 
