@@ -21,7 +21,8 @@ use Rattle.cbor_feed.proofs.ExactLaws.{fault_exact}
 use Rattle.cbor_feed.proofs.TellLaws as told
 use Rattle.cbor_copy_item.specs.declared.progress.Progress.{Progress}
 use Rattle.cbor_copy_item.specs.declared.progress.Progress.TheVariants as r
-use Rattle.cbor_copy_item.specs.Copying.{most, AreTaken, AreFed}
+use Rattle.cbor_copy_item.specs.declared.copier.ItemCopier.{ItemCopier}
+use Rattle.cbor_copy_item.specs.Copying.{most, AreTaken, AreFed, IsItemCopied, elements_spot, item_spot, pending}
 use Rattle.cbor_copy_item.specs.Telling.{of_checker, of_end, progress_of, end_of, IsCut, IsSpelled}
 use Rattle.cbor_copy_item.specs.Telling.{TellsWhole, Tells, TellsEnd}
 use Rattle.cbor_copy_item.specs.declared.progress.End.{End}
@@ -148,7 +149,7 @@ tells (b ∷ rest) s d fed given item elements are left short = record {
 }
 
 -- the same of an answer that is this one
-pub tells_answer : (rest : List ℕ) (s : Bool) (d : ℕ) (fed given : List ℕ) (item : Spot) (elements : Elements)
+tells_answer : (rest : List ℕ) (s : Bool) (d : ℕ) (fed given : List ℕ) (item : Spot) (elements : Elements)
     (progress : Progress) → progress ≡ progress_of rest item
     → AreFed s d fed item elements (given ++ rest) → has_left item.phase ≡ true
     → length item.front ≤ affix_len (slice_index item.front 0 % 32)
@@ -205,7 +206,7 @@ end_by false s d fed given item elements e are says =
     let some : 0 < length fed = omega (arith, counts, never) in
     end_in item.phase s d fed given item some says
 
-pub tells_end : (rest : List ℕ) (s : Bool) (d : ℕ) (fed given : List ℕ) (item : Spot) (elements : Elements) (end : End)
+tells_end : (rest : List ℕ) (s : Bool) (d : ℕ) (fed given : List ℕ) (item : Spot) (elements : Elements) (end : End)
     → end ≡ end_of rest item → AreFed s d fed item elements (given ++ rest) → has_left item.phase ≡ true
     → length item.front ≤ affix_len (slice_index item.front 0 % 32)
     → TellsEnd s d fed given end
@@ -215,3 +216,19 @@ tells_end [] s d fed given item elements end e are left short =
     (tells [] s d fed given item elements are left short))
 tells_end (b ∷ rest) s d fed given item elements end e are left short =
     subst (TellsEnd s d fed given) (sym e) (tells (b ∷ rest) s d fed given item elements are left short)
+
+-- ---- of a copier
+
+pub copier_tells : (copier : ItemCopier) (progress : Progress) → progress ≡ progress_of (pending copier) (item_spot copier)
+    → (strict : Bool) (depth : ℕ) (fed given : List ℕ) → IsItemCopied strict depth fed given copier
+    → Tells strict depth fed given progress
+copier_tells copier progress e strict depth fed given is =
+    tells_answer (pending copier) strict depth fed given (item_spot copier) (elements_spot copier) progress e is
+    copier.checker.position.left copier.checker.position.begun
+
+pub copier_ends : (copier : ItemCopier) (end : End) → end ≡ end_of (pending copier) (item_spot copier)
+    → (strict : Bool) (depth : ℕ) (fed given : List ℕ) → IsItemCopied strict depth fed given copier
+    → TellsEnd strict depth fed given end
+copier_ends copier end e strict depth fed given is =
+    tells_end (pending copier) strict depth fed given (item_spot copier) (elements_spot copier) end e is
+    copier.checker.position.left copier.checker.position.begun

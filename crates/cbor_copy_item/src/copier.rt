@@ -123,9 +123,12 @@ impl ItemCopier {
         }
     }
 
-    /// How far the copy has come, by what is pending and what the checker says.
-    fn answer(&self) -> Progress
-        ensures { result ≡ progress_of (pending self.now) (item_spot self.now) }
+    /// How far the copy has come: what the last [`ItemCopier::feed`] answered, and before the first that one byte is
+    /// due. Behind a `TooLong` it is `More`, since bytes are due that can't be counted.
+    pub fn progress(&self) -> Progress
+        ensures answers { result ≡ progress_of (pending self.now) (item_spot self.now) }
+        ensures tells { (strict : Bool) (depth : ℕ) (fed given : List ℕ) → IsItemCopied strict depth fed given self.now
+            → Tells strict depth fed given result }
     {
         if lacks_room(&self.copier) {
             return Progress::Room;
@@ -135,30 +138,6 @@ impl ItemCopier {
             Checked::Ended(len) => Progress::Ended(len),
             Checked::Fault(fault) => Progress::Fault(fault),
             Checked::TooLong => Progress::TooLong,
-        }
-    }
-
-    /// How far the copy has come: what the last [`ItemCopier::feed`] answered, and before the first that one byte is
-    /// due. Behind a `TooLong` it is `More`, since bytes are due that can't be counted.
-    pub fn progress(&self) -> Progress
-        ensures answers { result ≡ progress_of (pending self.now) (item_spot self.now) }
-        ensures tells { (strict : Bool) (depth : ℕ) (fed given : List ℕ) → IsItemCopied strict depth fed given self.now
-            → Tells strict depth fed given result }
-    {
-        self.answer()
-    }
-
-    /// What it means that no more bytes come, by what is pending and what the checker says.
-    fn at_end(&self) -> End
-        ensures { result ≡ end_of (pending self.now) (item_spot self.now) }
-    {
-        if lacks_room(&self.copier) {
-            return End::Room;
-        }
-        match self.checker.end() {
-            CheckedEnd::Between => End::Between,
-            CheckedEnd::Short(due) => End::Short(due),
-            CheckedEnd::Fault(fault) => End::Fault(fault),
         }
     }
 
@@ -173,7 +152,14 @@ impl ItemCopier {
         ensures tells { (strict : Bool) (depth : ℕ) (fed given : List ℕ) → IsItemCopied strict depth fed given self.now
             → TellsEnd strict depth fed given result }
     {
-        self.at_end()
+        if lacks_room(&self.copier) {
+            return End::Room;
+        }
+        match self.checker.end() {
+            CheckedEnd::Between => End::Between,
+            CheckedEnd::Short(due) => End::Short(due),
+            CheckedEnd::Fault(fault) => End::Fault(fault),
+        }
     }
 
     /// Writes what is pending, as far as there is room, and says how many bytes.
@@ -263,7 +249,7 @@ impl ItemCopier {
         let mut written = self.give(out);
         let mut at = 0;
         'pieces: while at < bytes.len() {
-            match self.answer() {
+            match self.progress() {
                 Progress::More(_) => {}
                 progress => {
                     return Copied {
@@ -290,7 +276,7 @@ impl ItemCopier {
         Copied {
             taken: bytes.len(),
             written,
-            progress: self.answer(),
+            progress: self.progress(),
         }
     }
 

@@ -1,9 +1,16 @@
-use Rattle.cbor_copy_item.specs.Copying.{item_spot, elements_spot, pending}
-use Rattle.cbor_copy_item.proofs.TellLaws.{tells_end}
+use Rattle.std.proofs.Common.{rules}
+use Rattle.cbor_copy_item.specs.declared.progress.End.TheVariants as e
+use Rattle.cbor_copy_item.proofs.TellLaws.{copier_ends}
 use Rattle.cbor_copy_item.proofs.copier.ItemCopier.end.Goals as goal
 
-pub returns-clause-tells : goal.returns-clause-tells
-returns-clause-tells c = λ strict depth fed given is.
-    let copier = c.args.self.now in
-    tells_end (pending copier) strict depth fed given (item_spot copier) (elements_spot copier) c.at_end.result
-    c.at_end.ensures is copier.checker.position.left copier.checker.position.begun
+pub returns-then-lacks_room-clause-tells : goal.returns-then-lacks_room-clause-tells
+returns-then-lacks_room-clause-tells c = copier_ends c.args.self.now e.Room (search rules)
+
+pub returns-in-Between-clause-tells : goal.returns-in-Between-clause-tells
+returns-in-Between-clause-tells c = copier_ends c.args.self.now e.Between (search rules)
+
+pub returns-in-Short-clause-tells : goal.returns-in-Short-clause-tells
+returns-in-Short-clause-tells c = copier_ends c.args.self.now (e.Short c.in-Short.due) (search rules)
+
+pub returns-in-Fault-clause-tells : goal.returns-in-Fault-clause-tells
+returns-in-Fault-clause-tells c = copier_ends c.args.self.now (e.Fault c.in-Fault.fault) (search rules)

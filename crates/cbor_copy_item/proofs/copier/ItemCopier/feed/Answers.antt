@@ -6,7 +6,7 @@ use Rattle.cbor_copy_item.specs.Copying.{item_spot, elements_spot, pending}
 use Rattle.cbor_copy_item.specs.Telling.{Tells}
 use Rattle.cbor_copy_item.specs.declared.progress.Progress.TheVariants as r
 use Rattle.cbor_copy_item.proofs.AnswerLaws.{not_more}
-use Rattle.cbor_copy_item.proofs.TellLaws.{tells_answer, tells_long}
+use Rattle.cbor_copy_item.proofs.TellLaws.{tells_long}
 use Rattle.cbor_copy_item.proofs.copier.ItemCopier.feed.Goals as goal
 
 pub pieces-preserved : goal.pieces-preserved
@@ -27,15 +27,13 @@ pieces-preserved c =
           let phase : is_due (item_spot before).phase ≡ false =
           ap (λ (z : ItemCopier). is_due (item_spot z).phase) same.2 ∙ off in
           absurd (not_more (pending before) (item_spot before) c.in-More.field-0 phase
-          (sym c.answer.ensures ∙ c.in-More.is));
+          (sym c.progress.ensures.answers ∙ c.in-More.is));
     }
 
 pub returns-in_default-clause-tells : goal.returns-in_default-clause-tells
 returns-in_default-clause-tells c = λ strict depth fed given was.
-    let copier = c.pieces.self in
-    tells_answer (pending copier) strict depth (fed ++ take c.pieces.at c.args.bytes.now)
-    (given ++ take c.pieces.written c.pieces.out) (item_spot copier) (elements_spot copier) c.answer.result
-    c.answer.ensures (c.pieces.invariant.copied strict depth fed given was) copier.checker.position.left copier.checker.position.begun
+    c.progress.ensures.tells strict depth (fed ++ take c.pieces.at c.args.bytes.now)
+    (given ++ take c.pieces.written c.pieces.out) (c.pieces.invariant.copied strict depth fed given was)
 
 pub returns-in-None-clause-tells : goal.returns-in-None-clause-tells
 returns-in-None-clause-tells c = λ strict depth fed given was.
@@ -46,15 +44,13 @@ returns-in-None-clause-tells c = λ strict depth fed given was.
     subst (λ (z : List ℕ). Tells strict depth now (given ++ take c.pieces.written z) r.TooLong) (sym stops.same)
     (tells_long (pending copier) strict depth now (given ++ take c.pieces.written c.pieces.out) (item_spot copier)
     (elements_spot copier) c.in-More.field-0
-    (sym c.in-More.is ∙ c.answer.ensures) so_far (stops.copied strict depth now _ so_far).1)
+    (sym c.in-More.is ∙ c.progress.ensures.answers) so_far (stops.copied strict depth now _ so_far).1)
 
 pub returns-clause-tells : goal.returns-clause-tells
 returns-clause-tells c = λ strict depth fed given was.
-    let copier = c.pieces.self in
     let bytes = c.args.bytes.now in
     let all : c.pieces.at ≡ length bytes = search rules in
     subst (λ (n : ℕ). Tells strict depth (fed ++ take n bytes) (given ++ take c.pieces.written c.pieces.out)
-    c.answer-2.result) all
-    (tells_answer (pending copier) strict depth (fed ++ take c.pieces.at bytes)
-    (given ++ take c.pieces.written c.pieces.out) (item_spot copier) (elements_spot copier) c.answer-2.result
-    c.answer-2.ensures (c.pieces.invariant.copied strict depth fed given was) copier.checker.position.left copier.checker.position.begun)
+    c.progress-2.result) all
+    (c.progress-2.ensures.tells strict depth (fed ++ take c.pieces.at bytes)
+    (given ++ take c.pieces.written c.pieces.out) (c.pieces.invariant.copied strict depth fed given was))

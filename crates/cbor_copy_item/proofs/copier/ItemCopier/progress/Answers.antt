@@ -1,9 +1,16 @@
-use Rattle.cbor_copy_item.specs.Copying.{item_spot, elements_spot, pending}
-use Rattle.cbor_copy_item.proofs.TellLaws.{tells_answer}
+use Rattle.std.proofs.Common.{rules}
+use Rattle.cbor_copy_item.specs.declared.progress.Progress.TheVariants as r
+use Rattle.cbor_copy_item.proofs.TellLaws.{copier_tells}
 use Rattle.cbor_copy_item.proofs.copier.ItemCopier.progress.Goals as goal
 
-pub returns-clause-tells : goal.returns-clause-tells
-returns-clause-tells c = λ strict depth fed given is.
-    let copier = c.args.self.now in
-    tells_answer (pending copier) strict depth fed given (item_spot copier) (elements_spot copier) c.answer.result
-    c.answer.ensures is copier.checker.position.left copier.checker.position.begun
+pub returns-then-lacks_room-clause-tells : goal.returns-then-lacks_room-clause-tells
+returns-then-lacks_room-clause-tells c = copier_tells c.args.self.now r.Room (search rules)
+
+pub returns-in-More-clause-tells : goal.returns-in-More-clause-tells
+returns-in-More-clause-tells c = copier_tells c.args.self.now (r.More c.in-More.due) (search rules)
+
+pub returns-in-Ended-clause-tells : goal.returns-in-Ended-clause-tells
+returns-in-Ended-clause-tells c = copier_tells c.args.self.now (r.Ended c.in-Ended.len) (search rules)
+
+pub returns-in-Fault-clause-tells : goal.returns-in-Fault-clause-tells
+returns-in-Fault-clause-tells c = copier_tells c.args.self.now (r.Fault c.in-Fault.fault) (search rules)
