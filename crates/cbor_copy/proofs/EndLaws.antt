@@ -5,7 +5,9 @@ use Rattle.cbor_copy.specs.declared.phase.Phase.{Phase}
 use Rattle.cbor_copy.specs.declared.phase.Phase.TheVariants as p
 use Rattle.cbor_copy.specs.declared.progress.End.{End}
 use Rattle.cbor_copy.specs.declared.progress.End.TheVariants as e
-use Rattle.cbor_copy.specs.Spots.{Spot}
+use Rattle.cbor_copy.specs.declared.copier.Copier.{Copier}
+use Rattle.cbor_copy.specs.Copying.{IsCopied, spot_of}
+use Rattle.cbor_copy.specs.Spots.{Spot, putting}
 use Rattle.cbor_copy.specs.Steps.{IsFed}
 use Rattle.cbor_copy.specs.Telling.{AreSpelled, EndedIn, Tells, TellsEnd, end_of, progress_of}
 use Rattle.cbor_copy.proofs.ExactLaws.{ended_exact, told}
@@ -22,7 +24,7 @@ end_by [] (p.Text left state) count bytes given told = told
 end_by [] p.Ended count bytes given told = told
 end_by [] (p.Faulted place) count bytes given told = told
 
-pub tells_end : (pending : List ℕ) (count : ℕ) (bytes given : List ℕ) (spot : Spot) (end : End)
+tells_end : (pending : List ℕ) (count : ℕ) (bytes given : List ℕ) (spot : Spot) (end : End)
     → end ≡ end_of pending spot.phase → IsFed count bytes spot (given ++ pending) → TellsEnd count bytes given end
 tells_end pending count bytes given spot end is_end is =
     subst (TellsEnd count bytes given) (sym is_end)
@@ -49,10 +51,23 @@ spelled_end pending count bytes given spot is all =
     ended_in pending spot.phase (none_behind given pending (sym out ∙ sym all.spelled)) has
 
 -- it is one exactly where the bytes are so many elements, and their spelling is written
-pub end_exact : (pending : List ℕ) (count : ℕ) (bytes given : List ℕ) (spot : Spot) (end : End)
+end_exact : (pending : List ℕ) (count : ℕ) (bytes given : List ℕ) (spot : Spot) (end : End)
     → end ≡ end_of pending spot.phase → IsFed count bytes spot (given ++ pending)
     → (end ≡ e.Ended) ↔ AreSpelled count bytes given
 end_exact pending count bytes given spot end is_end is = (
   λ ended. subst (TellsEnd count bytes given) ended (tells_end pending count bytes given spot end is_end is),
   λ all. is_end ∙ spelled_end pending count bytes given spot is all,
 )
+
+-- ---- of a copier
+
+pub copier_ends : (copier : Copier) (end : End) → end ≡ end_of copier.pending copier.phase
+    → (count : ℕ) (fed given : List ℕ) → IsCopied count fed given copier → TellsEnd count fed given end
+copier_ends copier end is_end count fed given is =
+    tells_end copier.pending count fed given (putting [] (spot_of copier)) end is_end is
+
+pub copier_exact : (copier : Copier) (end : End) → end ≡ end_of copier.pending copier.phase
+    → (count : ℕ) (fed given : List ℕ) → IsCopied count fed given copier
+    → (end ≡ e.Ended) ↔ AreSpelled count fed given
+copier_exact copier end is_end count fed given is =
+    end_exact copier.pending count fed given (putting [] (spot_of copier)) end is_end is

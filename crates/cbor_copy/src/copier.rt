@@ -470,20 +470,6 @@ impl Copier {
         }
     }
 
-    /// What it means that no more bytes come, by what is pending and what is due.
-    fn at_end(&self) -> End
-        ensures { result ≡ end_of self.now.pending self.now.phase }
-    {
-        if !self.pending.is_empty() {
-            return End::Room;
-        }
-        match self.phase {
-            Phase::Ended => End::Ended,
-            Phase::Faulted(place) => End::Syntax(place),
-            Phase::Title | Phase::Bytes(_) | Phase::Text(_, _) => End::Short,
-        }
-    }
-
     /// What it means that no more bytes come, in the words of [`Copier::feed`]. The copier stays as it is.
     ///
     /// `Ended` comes exactly where the bytes so far are so many elements, and what was written in all is just their
@@ -497,7 +483,14 @@ impl Copier {
         ensures exactly { (count : ℕ) (fed given : List ℕ) → IsCopied count fed given self.now
             → (result ≡ e.Ended ↔ AreSpelled count fed given) }
     {
-        self.at_end()
+        if !self.pending.is_empty() {
+            return End::Room;
+        }
+        match self.phase {
+            Phase::Ended => End::Ended,
+            Phase::Faulted(place) => End::Syntax(place),
+            Phase::Title | Phase::Bytes(_) | Phase::Text(_, _) => End::Short,
+        }
     }
 
     /// Takes a piece of the elements' bytes, of any length, and writes their shortest spelling in front of `out`. How

@@ -1,15 +1,28 @@
-use Rattle.cbor_copy.specs.Copying.{spot_of}
-use Rattle.cbor_copy.specs.Spots.{putting}
-use Rattle.std.proofs.Common.{[]}
-use Rattle.cbor_copy.proofs.EndLaws.{tells_end, end_exact}
+use Rattle.std.proofs.Common.{rules}
+use Rattle.cbor_copy.specs.declared.progress.End.TheVariants as e
+use Rattle.cbor_copy.proofs.EndLaws.{copier_ends, copier_exact}
 use Rattle.cbor_copy.proofs.copier.Copier.end.Goals as goal
 
-pub returns-clause-tells : goal.returns-clause-tells
-returns-clause-tells c = λ count fed given is.
-    let copier = c.args.self.now in
-    tells_end copier.pending count fed given (putting [] (spot_of copier)) c.at_end.result c.at_end.ensures is
+pub returns-then-not-is_empty-clause-tells : goal.returns-then-not-is_empty-clause-tells
+returns-then-not-is_empty-clause-tells c = copier_ends c.args.self.now e.Room (search rules)
 
-pub returns-clause-exactly : goal.returns-clause-exactly
-returns-clause-exactly c = λ count fed given is.
-    let copier = c.args.self.now in
-    end_exact copier.pending count fed given (putting [] (spot_of copier)) c.at_end.result c.at_end.ensures is
+pub returns-then-not-is_empty-clause-exactly : goal.returns-then-not-is_empty-clause-exactly
+returns-then-not-is_empty-clause-exactly c = copier_exact c.args.self.now e.Room (search rules)
+
+pub returns-in-Ended-clause-tells : goal.returns-in-Ended-clause-tells
+returns-in-Ended-clause-tells c = copier_ends c.args.self.now e.Ended (search rules)
+
+pub returns-in-Ended-clause-exactly : goal.returns-in-Ended-clause-exactly
+returns-in-Ended-clause-exactly c = copier_exact c.args.self.now e.Ended (search rules)
+
+pub returns-in-Faulted-clause-tells : goal.returns-in-Faulted-clause-tells
+returns-in-Faulted-clause-tells c = copier_ends c.args.self.now (e.Syntax c.in-Faulted.place) (search rules)
+
+pub returns-in-Faulted-clause-exactly : goal.returns-in-Faulted-clause-exactly
+returns-in-Faulted-clause-exactly c = copier_exact c.args.self.now (e.Syntax c.in-Faulted.place) (search rules)
+
+pub returns-in-Title-clause-tells : goal.returns-in-Title-clause-tells
+returns-in-Title-clause-tells c = copier_ends c.args.self.now e.Short (search rules)
+
+pub returns-in-Title-clause-exactly : goal.returns-in-Title-clause-exactly
+returns-in-Title-clause-exactly c = copier_exact c.args.self.now e.Short (search rules)
