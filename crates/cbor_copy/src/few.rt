@@ -5,10 +5,8 @@ ghost use Rattle.ciborium_ll_grammar.specs.Parts.{IsMinor, minor_affix};
 ghost use Rattle.ciborium_ll_grammar.specs.Title.{IsInRange, shortest_title};
 
 use ciborium_ll_grammar::hdr::{Header, Minor, shortest};
+use ciborium_ll_titles::LONGEST;
 use std::marker::Model;
-
-/// The longest title: a first byte and eight behind it.
-pub(crate) const LONGEST: usize = 9;
 
 /// At most as many bytes as the longest title has.
 #[derive(Drop)]

@@ -5,10 +5,9 @@ ghost use Rattle.ciborium_ll_grammar.specs.Title.{affix_len};
 ghost use Rattle.cbor_copy.specs.Fronts.{has_left, most_cut, most_front, open_count};
 ghost use Rattle.cbor_copy.specs.Snapshots.{IsState};
 
-use crate::few::LONGEST;
 use crate::phase::{Phase, Within};
-use ciborium_ll_grammar::hdr::table::row_of;
 use ciborium_ll_text::state::State;
+use ciborium_ll_titles::{LONGEST, are_begun};
 
 /// The state of a [`Copier`](crate::Copier) as plain numbers, in memory of the caller's own: of a program in C, or of
 /// one that keeps many.
@@ -68,14 +67,6 @@ fn are_counted(within: Within, offset: usize) -> bool
         Within::Nothing => true,
         Within::Open(_, more) => more < offset,
     }
-}
-
-/// Whether the bytes are too few for a whole title.
-fn are_begun(bytes: &[u8]) -> bool
-    ensures yes { result ≡ true → length bytes.now ≤ affix_len (slice_index bytes.now 0 % 32) }
-    ensures no { result ≡ false → affix_len (slice_index bytes.now 0 % 32) < length bytes.now }
-{
-    bytes.is_empty() || bytes.len() <= row_of(bytes[0]).affix.len()
 }
 
 /// How many bytes at most are held back of a character.

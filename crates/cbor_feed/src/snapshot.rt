@@ -8,12 +8,11 @@ ghost use Rattle.cbor_feed.specs.Spots.{Spot};
 ghost use Rattle.cbor_feed.specs.Snapshots.{Holds, IsState, strict_in};
 ghost use Rattle.cbor_feed.specs.Telling.{has_left};
 
-use crate::front::LONGEST;
 use crate::levels::MOST_LEVELS;
 use crate::phase::{Phase, Within};
 use crate::position::Position;
 use crate::progress::Feed;
-use ciborium_ll_grammar::hdr::table::row_of;
+use ciborium_ll_titles::{LONGEST, are_begun};
 
 /// The state of a [`Checker`](crate::Checker) as plain numbers, in memory of the caller's own: of a program in C, or of
 /// one that keeps many.
@@ -124,14 +123,6 @@ fn are_counted(within: Within, offset: usize) -> bool
         Within::Nothing => true,
         Within::Bytes(more) | Within::Text(more) => more < offset,
     }
-}
-
-/// Whether the bytes are too few for a whole title.
-fn are_begun(bytes: &[u8]) -> bool
-    ensures yes { result ≡ true → length bytes.now ≤ affix_len (slice_index bytes.now 0 % 32) }
-    ensures no { result ≡ false → affix_len (slice_index bytes.now 0 % 32) < length bytes.now }
-{
-    bytes.is_empty() || bytes.len() <= row_of(bytes[0]).affix.len()
 }
 
 /// Whether the shortest spelling alone is taken, by its number.

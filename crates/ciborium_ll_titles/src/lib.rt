@@ -4,7 +4,7 @@
 //! `cbor_copy`.
 #![tactic(auto)]
 
-ghost use Rattle.std.specs.Prelude.{◌≡◌, ◌+◌, ◌%◌, IfSome, IfNone, length, slice_index};
+ghost use Rattle.std.specs.Prelude.{◌≡◌, ◌+◌, ◌%◌, ◌<◌, ◌≤◌, IfSome, IfNone, length, slice_index, true, false};
 ghost use Rattle.std.specs.Int.{to_be_bytes, w16, w32, w64};
 ghost use Rattle.ciborium_ll_grammar.specs.Title.{BeginsRefused, IsReserved, affix_len};
 ghost use Rattle.ciborium_ll_grammar.specs.Parts.{IsMinor, IsParts, minor_affix, minor_code, title_bytes};
@@ -12,6 +12,18 @@ ghost use Rattle.ciborium_ll_grammar.specs.TitleRows.{IsAffix, IsTitleKind};
 
 use ciborium_ll_grammar::hdr::table::{Affix, TitleKind, row_of};
 use ciborium_ll_grammar::hdr::{Minor, Title};
+
+/// How many bytes the longest title has: a first one and eight behind it.
+pub const LONGEST: usize = 9;
+
+/// Whether the bytes are too few for a whole title, as no bytes are.
+#[inline(always)]
+pub fn are_begun(bytes: &[u8]) -> bool
+    ensures yes { result ≡ true → length bytes.now ≤ affix_len (slice_index bytes.now 0 % 32) }
+    ensures no { result ≡ false → affix_len (slice_index bytes.now 0 % 32) < length bytes.now }
+{
+    bytes.is_empty() || bytes.len() <= row_of(bytes[0]).affix.len()
+}
 
 /// The minor of a first byte, with the number that it holds or that the bytes behind it are. A reserved one is none.
 #[inline(always)]
