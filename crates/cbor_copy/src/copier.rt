@@ -1,6 +1,6 @@
 //! The copier: one byte more, and what it puts out.
 
-ghost use Rattle.std.specs.Prelude.{◌≡◌, ◌+◌, ◌<◌, ◌≤◌, [], length, slice_index, take, true};
+ghost use Rattle.std.specs.Prelude.{◌≡◌, ◌+◌, ◌<◌, ◌≤◌, [], length, take, true};
 ghost use Rattle.cbor_copy.specs.Fronts.{has_left, most_front, open_count};
 ghost use Rattle.cbor_copy.specs.Blocked.{is_blocked};
 ghost use Rattle.cbor_copy.specs.Spots.{IsWhole};
@@ -60,7 +60,7 @@ pub struct Copier {
 }
 
 impl Copier {
-    ghost use Rattle.std.specs.Prelude.{ℕ, ◌-◌, ◌++◌, ◌∷◌, ◌↔◌, ◌⊎◌, List, drop, false, IfSome};
+    ghost use Rattle.std.specs.Prelude.{ℕ, ◌-◌, ◌++◌, ◌↔◌, ◌⊎◌, List, drop, false, IfSome};
     ghost use Rattle.ciborium_ll_text.specs.States.{after_byte};
     ghost use Rattle.cbor_copy.specs.Copying.{IsAt, IsCopied, spot_of};
     ghost use Rattle.cbor_copy.specs.Snapshots.{Holds};

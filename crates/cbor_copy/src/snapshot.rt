@@ -1,7 +1,6 @@
 //! A copier's state as plain numbers.
 
-ghost use Rattle.std.specs.Prelude.{◌≡◌, ◌<◌, ◌≤◌, ◌%◌, length, slice_index, true, false};
-ghost use Rattle.ciborium_ll_grammar.specs.Title.{affix_len};
+ghost use Rattle.std.specs.Prelude.{◌≡◌, ◌<◌, ◌≤◌, length, true, false};
 ghost use Rattle.cbor_copy.specs.Fronts.{has_left, most_cut, most_front, open_count};
 ghost use Rattle.cbor_copy.specs.Snapshots.{IsState};
 

@@ -1,8 +1,7 @@
 //! A checker's state as plain numbers.
 
-ghost use Rattle.std.specs.Prelude.{◌≡◌, ◌<◌, ◌≤◌, ◌%◌, length, slice_index, true, false, IfNone, IfSome, IsSome};
+ghost use Rattle.std.specs.Prelude.{◌≡◌, ◌<◌, ◌≤◌, true, false, IfNone, IfSome, IsSome};
 ghost use Rattle.cbor_feed.specs.Piece.{TakesPiece};
-ghost use Rattle.ciborium_ll_grammar.specs.Title.{affix_len};
 ghost use Rattle.cbor_feed.specs.Opens.{open_count};
 ghost use Rattle.cbor_feed.specs.Spots.{Spot};
 ghost use Rattle.cbor_feed.specs.Snapshots.{Holds, IsState, strict_in};
