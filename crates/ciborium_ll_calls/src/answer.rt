@@ -53,10 +53,12 @@ pub struct CllReport {
     pub consumed: u64,
     /// How many bytes it wrote.
     pub written: u64,
-    /// Of `Syntax`, `BreakDue` and `TooDeep` the offset in the bytes that the answer names, of `Short` how many bytes
-    /// more are due at least, and of `Ok` the length of an item that was fed, where the call says so; else 0.
+    /// Of `Syntax`, `BreakDue` and `TooDeep` the offset in the bytes that the answer names. Of `Short`, where the call
+    /// is `cll_recode`, `cll_strict`, `cll_skip` or one of a checker or of a copier of an item, how many bytes more are
+    /// due at least, or 0 where nothing that may follow makes it good. Of `Ok`, where the call is `cll_checker_feed` or
+    /// `cll_item_copier_feed`, the length of the item. Else 0.
     pub place: u64,
-    /// Of a copy and of a strict check how many elements were done whole, else 0.
+    /// Of `cll_recode` and `cll_strict` how many elements were done whole, else 0.
     pub elements: u64,
     /// Of both the offset behind the last of them, else 0.
     pub whole: u64,

@@ -15,7 +15,8 @@ pub struct CllHeader {
     /// The number; the length or the count; or the raw bits of a float. It is 0 for a break and for the indefinite
     /// forms.
     pub value: u64,
-    /// The kind, by its number.
+    /// The kind, by its number: 0 positive, 1 negative, 2 bytes, 3 text, 4 array, 5 map, 6 tag, 7 simple, 8 half,
+    /// 9 single, 10 double, 11 break.
     pub kind: u8,
     /// 1 for the indefinite forms, else 0.
     pub indefinite: u8,

@@ -10,7 +10,7 @@ mod texts;
 
 pub use self::cose::{CoseError, MAP_DEPTH, Sign1, Span, read_sign1};
 pub use self::maps::{Entry, write_strings};
-pub use self::shortest::shortest_item_len;
+pub use self::shortest::{DEPTH, shortest_item_len};
 pub use self::streams::normalise;
 pub use self::sums::{SumError, sum_numbers};
 pub use self::texts::{TextError, read_string};
