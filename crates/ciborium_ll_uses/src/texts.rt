@@ -1,7 +1,7 @@
 //! A text of any length, read whole.
 
-ghost use Rattle.std.specs.Prelude.{◌≡◌, ◌≤◌, ◌+◌, ℕ, List, [], None, Some, IfErr, IfOk, IsOk, OnErr, OnOk};
-ghost use Rattle.std.specs.Prelude.{length, string_bytes, string_len};
+ghost use Rattle.std.specs.Prelude.{◌≡◌, ◌≤◌, ◌<◌, ◌+◌, ℕ, List, [], None, Some, IfErr, IfOk, IsOk, OnErr, OnOk};
+ghost use Rattle.std.specs.Prelude.{length, string_bytes, string_len, vec_capacity, vec_len};
 ghost use Rattle.std.specs.Io.KnownBytes.{Appends};
 ghost use Rattle.ciborium_ll.specs.Decoding.{MovesOn, strict_of};
 ghost use Rattle.ciborium_ll.specs.Segments.{progress_of, string_decoder, string_reference, string_strict};
@@ -171,6 +171,7 @@ impl Write for Gathered {
 
         // Its own.
         ensures nothing { OnErr result (self.new.bytes.items ≡ self.old.bytes.items) }
+        ensures full { OnErr result (vec_capacity self.old.bytes < vec_len self.old.bytes + length «data».now) }
     {
         match self.bytes.extend_from_slice(data) {
             Ok(()) => Ok(()),
