@@ -25,9 +25,7 @@ pub fn shortest_item_len(bytes: &[u8]) -> Option<usize>
     // Each of the item's elements has to be there in the one spelling that a strict decoder takes.
     let mut rest = &bytes[..len];
     'elements: while !rest.is_empty() {
-        let Some(element) = strict_len(rest, 1) else {
-            return None;
-        };
+        let element = strict_len(rest, 1)?;
         rest = &rest[element..];
     }
     Some(len)

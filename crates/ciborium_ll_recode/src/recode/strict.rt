@@ -16,9 +16,7 @@ use ciborium_ll_io::io::{Discard, SliceReader};
 /// the only one. This is for whoever checks a message that was signed as bytes.
 ///
 /// ```rust
-/// let Some(element) = strict_len(rest, 1) else {
-///     return None;
-/// };
+/// let element = strict_len(rest, 1)?;
 /// rest = &rest[element..];
 /// ```
 pub fn strict_len(bytes: &[u8], count: usize) -> Option<usize>
