@@ -11,10 +11,7 @@ use ciborium_ll_grammar::hdr::{Minor, Title};
 pub(crate) fn title_in(parts: &CllHeader, width: u32) -> Option<Title>
     ensures { WideOf parts.now width result }
 {
-    match parts.header() {
-        Some(header) => wide_title(header, width),
-        None => None,
-    }
+    wide_title(parts.header()?, width)
 }
 
 /// The title of a header with so many bytes behind its first one, if there is one.
@@ -59,10 +56,10 @@ fn other(may: bool, width: u32, number: u64) -> Option<Title>
 fn numbered(major: u8, width: u32, number: u64) -> Option<Title>
     ensures { result ≡ numbered_in major width number }
 {
-    match minor(width, number) {
-        Some(minor) => Some(Title { major, minor }),
-        None => None,
-    }
+    Some(Title {
+        major,
+        minor: minor(width, number)?,
+    })
 }
 
 /// A number in so many bytes, where it fits them.
@@ -83,7 +80,7 @@ fn minor(width: u32, number: u64) -> Option<Minor>
 fn held(fits: bool, minor: Minor) -> Option<Minor>
     ensures { result ≡ held fits minor }
 {
-    if fits { Some(minor) } else { None }
+    fits.then_some(minor)
 }
 
 /// A length under a major type, or the indefinite form.
