@@ -31,8 +31,6 @@ pub(crate) fn due_behind(bytes: &[u8], depth: usize, strict: bool) -> usize
     let mut checker = fresh(depth, strict);
     match checker.feed(bytes).progress {
         Progress::More(due) => due,
-        Progress::Ended(_) => 0,
-        Progress::Fault(_) => 0,
-        Progress::TooLong => 0,
+        Progress::Ended(_) | Progress::Fault(_) | Progress::TooLong => 0,
     }
 }

@@ -1,4 +1,4 @@
-use Rattle.std.proofs.Common.{[]}
+use Rattle.std.proofs.Common.{rules, [], inl, inr}
 use Rattle.cbor_feed.specs.Checking.{spot_of}
 use Rattle.ciborium_ll_calls.proofs.ItemDue.{some_lack, none_follow, none_ended}
 use Rattle.ciborium_ll_calls.proofs.due.due_behind.Goals as goal
@@ -17,12 +17,19 @@ pub returns-in-Ended : goal.returns-in-Ended
 returns-in-Ended c =
     let strict = c.args.strict in
     let depth = c.args.depth in
-    let tells = rw c.in-Ended.is at c.feed.ensures.tells strict depth [] c.fresh-checker.ensures in
-    absurd (none_ended strict depth c.args.bytes.now c.requires.cut c.feed.result.taken c.in-Ended.field-0 tells)
-
-pub returns-in-Fault : goal.returns-in-Fault
-returns-in-Fault c =
-    let strict = c.args.strict in
-    let depth = c.args.depth in
-    let tells = rw c.in-Fault.is at c.feed.ensures.tells strict depth [] c.fresh-checker.ensures in
-    none_follow strict depth c.args.bytes.now c.requires.cut c.feed.result.taken c.in-Fault.field-0 tells
+    let bytes = c.args.bytes.now in
+    let cut = c.requires.cut in
+    let taken = c.feed.result.taken in
+    let tells = c.feed.ensures.tells strict depth [] c.fresh-checker.ensures in
+    elim c.in-Ended.is [
+      | inl ended ↦ absurd (none_ended strict depth bytes cut taken ended.0 (rw ended.1 at tells))
+      | inr others ↦ (
+          elim others [
+            | inl fault ↦ none_follow strict depth bytes cut taken fault.0 (rw fault.1 at tells)
+            | inr long ↦ (
+                let told = rw long at tells in
+                search rules
+                )
+          ]
+          )
+    ]
