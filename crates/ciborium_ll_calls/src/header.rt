@@ -67,8 +67,7 @@ impl CllHeader {
         ensures { Says result header }
     {
         match minor {
-            Minor::Small(n) => CllHeader::definite(7, n),
-            Minor::One(n) => CllHeader::definite(7, n),
+            Minor::Small(n) | Minor::One(n) => CllHeader::definite(7, n),
             Minor::Two(n) => CllHeader::definite(8, n),
             Minor::Four(n) => CllHeader::definite(9, n),
             Minor::Eight(n) => CllHeader::definite(10, n),

@@ -1,25 +1,28 @@
-use Rattle.std.proofs.Common.{arith}
+use Rattle.std.proofs.Common.{arith, inl, inr}
 use Rattle.ciborium_ll_grammar.specs.Title.{Small, One, Two, Four, Eight}
 use Rattle.ciborium_ll_calls.proofs.TitleParts.{says_parts}
 use Rattle.ciborium_ll_calls.proofs.header.CllHeader.of_other.Goals as goal
 
 pub returns-in-Small : goal.returns-in-Small
 returns-in-Small c =
-    says_parts c.definite.result 7 Small c.in-Small.n c.args.header (omega (arith))
-    (rw c.in-Small.is at c.requires.minor) (rw c.in-Small.is at c.requires.title) c.definite.ensures.kind
-    c.definite.ensures.value c.definite.ensures.definite
-
-pub returns-in-One : goal.returns-in-One
-returns-in-One c =
-    says_parts c.definite-in-One.result 7 One c.in-One.n c.args.header (omega (arith))
-    (rw c.in-One.is at c.requires.minor) (rw c.in-One.is at c.requires.title) c.definite-in-One.ensures.kind
-    c.definite-in-One.ensures.value c.definite-in-One.ensures.definite
+    elim c.in-Small.is [
+      | inl small ↦ (
+          says_parts c.definite-in-Small.result 7 Small c.in-Small.n c.args.header (omega (arith))
+          (rw small at c.requires.minor) (rw small at c.requires.title) c.definite-in-Small.ensures.kind
+          c.definite-in-Small.ensures.value c.definite-in-Small.ensures.definite
+          )
+      | inr one ↦ (
+          says_parts c.definite-in-Small.result 7 One c.in-Small.n c.args.header (omega (arith))
+          (rw one at c.requires.minor) (rw one at c.requires.title) c.definite-in-Small.ensures.kind
+          c.definite-in-Small.ensures.value c.definite-in-Small.ensures.definite
+          )
+    ]
 
 pub returns-in-Two : goal.returns-in-Two
 returns-in-Two c =
-    says_parts c.definite-in-Two.result 7 Two c.in-Two.n c.args.header (omega (arith))
-    (rw c.in-Two.is at c.requires.minor) (rw c.in-Two.is at c.requires.title) c.definite-in-Two.ensures.kind
-    c.definite-in-Two.ensures.value c.definite-in-Two.ensures.definite
+    says_parts c.definite.result 7 Two c.in-Two.n c.args.header (omega (arith))
+    (rw c.in-Two.is at c.requires.minor) (rw c.in-Two.is at c.requires.title) c.definite.ensures.kind
+    c.definite.ensures.value c.definite.ensures.definite
 
 pub returns-in-Four : goal.returns-in-Four
 returns-in-Four c =
