@@ -11,6 +11,7 @@ ghost use Rattle.ciborium_ll_calls.specs.Feeding.{end_answer, end_number, fault_
 ghost use Rattle.ciborium_ll_calls.specs.Feeding.{progress_answer, progress_number};
 
 use crate::answer::{CllAnswer, CllReport};
+use crate::due::fresh;
 use cbor_feed::{Checker, End, Fault, Progress, Snapshot};
 
 /// What stands in front of a checker that was set up: "ciborium" in ASCII.
@@ -31,7 +32,7 @@ const _: () = prove!(size_of::<CllChecker>() == 2368);
 impl CllChecker {
     /// Makes a checker the one that is kept, and says whether there is one.
     #[inline(always)]
-    fn restore(&self, checker: &mut Checker) -> bool
+    fn load_into(&self, checker: &mut Checker) -> bool
         ensures some { result ≡ true → IsKept self.now (spot_of checker.new) }
         ensures found { (spot : Spot) → IsKept self.now spot → result ≡ true }
         ensures same { (spot : Spot) → IsKept self.now spot → spot_of checker.new ≡ spot }
@@ -82,12 +83,7 @@ pub(crate) fn init(checker: &mut CllChecker, depth: usize, strict: bool)
     requires { depth ≤ 256 }
     ensures { IsSetUp strict depth checker.new }
 {
-    let fresh = if strict {
-        Checker::strict(depth)
-    } else {
-        Checker::new(depth)
-    };
-    fresh.save(&mut checker.state);
+    fresh(depth, strict).save(&mut checker.state);
     checker.mark = MARK;
 }
 
@@ -118,7 +114,7 @@ pub(crate) fn end(checker: &CllChecker, report: &mut CllReport) -> CllAnswer
     ensures argument { IsNoChecker checker.now → (result ≡ a.Argument) × Reports report.new 0 0 0 }
 {
     let mut restored = Checker::new(0);
-    if !checker.restore(&mut restored) {
+    if !checker.load_into(&mut restored) {
         report.say(0, 0, 0);
         return CllAnswer::Argument;
     }

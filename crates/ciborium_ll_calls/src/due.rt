@@ -9,7 +9,7 @@ ghost use Rattle.ciborium_ll_calls.specs.Lacking.{ItemLacks};
 use cbor_feed::{Checker, Progress};
 
 /// A checker to which nothing came, of any spelling or of the shortest alone.
-fn fresh(depth: usize, strict: bool) -> Checker
+pub(crate) fn fresh(depth: usize, strict: bool) -> Checker
     requires { depth ≤ 256 }
     ensures { IsFed strict depth [] (spot_of result) }
 {

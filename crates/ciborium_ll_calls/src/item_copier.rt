@@ -34,7 +34,7 @@ const _: () = prove!(size_of::<CllItemCopier>() == 2432);
 impl CllItemCopier {
     /// Makes a copier the one that is kept, and says whether there is one.
     #[inline(always)]
-    fn restore(&self, copier: &mut ItemCopier) -> bool
+    fn load_into(&self, copier: &mut ItemCopier) -> bool
         ensures some { result ≡ true → IsItemCopier self.now (item_spot copier.new) (kept_spot copier.new) }
         ensures found { (item : Spot) (elements : Elements) → IsItemCopier self.now item elements → result ≡ true }
         ensures same { (item : Spot) (elements : Elements) → IsItemCopier self.now item elements
@@ -107,7 +107,7 @@ pub(crate) fn feed(
         → (result ≡ a.Argument) × (copier.new ≡ copier.old) × (out.new ≡ out.old) × Reports report.new 0 0 0 }
 {
     let mut restored = ItemCopier::new(0);
-    if !copier.restore(&mut restored) {
+    if !copier.load_into(&mut restored) {
         report.say(0, 0, 0);
         return CllAnswer::Argument;
     }
@@ -126,7 +126,7 @@ pub(crate) fn end(copier: &CllItemCopier, report: &mut CllReport) -> CllAnswer
     ensures argument { IsNoItemCopier copier.now → (result ≡ a.Argument) × Reports report.new 0 0 0 }
 {
     let mut restored = ItemCopier::new(0);
-    if !copier.restore(&mut restored) {
+    if !copier.load_into(&mut restored) {
         report.say(0, 0, 0);
         return CllAnswer::Argument;
     }

@@ -9,8 +9,8 @@ use Rattle.ciborium_ll_calls.proofs.item_copier.end.Goals as goal
 
 pub returns-clause-ended : goal.returns-clause-ended
 returns-clause-ended c = λ strict depth fed given item elements is kept.
-    let copier = c.restore.new.copier in
-    let same = c.restore.ensures.same item elements kept in
+    let copier = c.load_into.new.copier in
+    let same = c.load_into.ensures.same item elements kept in
     let here = subst (λ (z : Spot). IsItemCopiedTo strict depth fed given z (kept_spot copier)) (sym same.0)
     (subst (λ (z : Elements). IsItemCopiedTo strict depth fed given item z) (sym same.1) is) in
     subst (λ (z : Spot). EndsItem strict depth fed given z elements c.told_end-told.result.0 c.say-2.new.self) same.0
@@ -21,4 +21,4 @@ returns-clause-ended c = λ strict depth fed given item elements is kept.
     c.told_end-told.ensures.answer c.told_end-told.ensures.number c.say-2.ensures))
 
 pub returns-clause-argument : goal.returns-clause-argument
-returns-clause-argument c = λ none. absurd (none _ _ (c.restore.ensures.some (search rules)))
+returns-clause-argument c = λ none. absurd (none _ _ (c.load_into.ensures.some (search rules)))

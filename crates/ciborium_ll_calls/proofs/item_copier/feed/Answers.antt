@@ -13,10 +13,10 @@ returns-clause-fed c = λ strict depth fed given item elements is kept.
     let bytes = c.args.bytes.now in
     let out = c.feed-copied.new.out in
     let copied = c.feed-copied.result in
-    let copier = c.restore.new.copier in
+    let copier = c.load_into.new.copier in
     let new : CllItemCopier = record { mark = c.args.copier.now.mark; state = c.save.new.snapshot } in
     let gives = c.feed-copied.ensures in
-    let same = c.restore.ensures.same item elements kept in
+    let same = c.load_into.ensures.same item elements kept in
     let here = subst (λ (z : Spot). IsItemCopiedTo strict depth fed given z (kept_spot copier)) (sym same.0)
     (subst (λ (z : Elements). IsItemCopiedTo strict depth fed given item z) (sym same.1) is) in
     subst (λ (z : Spot). FeedsItem strict depth fed given z elements bytes c.args.out.now c.told_progress-told.result.0
@@ -37,4 +37,4 @@ returns-clause-fed c = λ strict depth fed given item elements is kept.
     c.told_progress-told.ensures.answer c.told_progress-told.ensures.number c.say-2.ensures))
 
 pub returns-clause-argument : goal.returns-clause-argument
-returns-clause-argument c = λ none. absurd (none _ _ (c.restore.ensures.some (search rules)))
+returns-clause-argument c = λ none. absurd (none _ _ (c.load_into.ensures.some (search rules)))
