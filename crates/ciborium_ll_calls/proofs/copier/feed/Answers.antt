@@ -1,4 +1,4 @@
-use Rattle.std.proofs.Common.{◌≡◌, subst, sym}
+use Rattle.std.proofs.Common.{rules, ◌≡◌, subst, sym}
 use Rattle.cbor_copy.specs.Copying.{IsCopiedTo, spot_of}
 use Rattle.cbor_copy.specs.Spots.{Spot}
 use Rattle.ciborium_ll_calls.specs.declared.copier.CllCopier.{CllCopier}
@@ -25,3 +25,6 @@ returns-clause-fed c = λ count fed given spot is kept.
 
 pub returns-clause-argument : goal.returns-clause-argument
 returns-clause-argument c = λ none. absurd (none _ c.in-Some.ensures.some)
+
+pub returns-clause-within : goal.returns-clause-within
+returns-clause-within c = search rules
