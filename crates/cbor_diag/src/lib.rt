@@ -41,7 +41,7 @@ impl<E, F> From<Error<E>> for DiagError<E, F> {
 }
 
 /// Shows the one item that is next in diagnostic notation (RFC 8949, section 8), as UTF-8, with tags, arrays and maps
-/// nested at most `depth` levels deep.
+/// nested at most `depth` levels deep. The depth is at most 256.
 ///
 /// Where the writer does not fail the item is read as `cbor_skip::skip_item` reads it: `Ok` says that one whole item
 /// was there, each body of a text UTF-8, and the decoder is behind it; `Read` carries the error that `skip_item`

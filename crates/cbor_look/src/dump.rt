@@ -34,7 +34,7 @@ pub enum DumpError<E, W> {
 }
 
 /// Shows a sequence of items (RFC 8742) in rows, up to an end, with tags, arrays and maps nested at most `depth` levels
-/// deep. A strict dump takes the shortest spelling alone.
+/// deep. The depth is at most 256. A strict dump takes the shortest spelling alone.
 ///
 /// `Ok` has what the reader answered where a further item would begin. Before an error all that was read is shown; the
 /// last row has the bytes at fault, where some were read. Nothing is read ahead of the rows, and no memory is taken.

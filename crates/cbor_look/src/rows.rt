@@ -67,7 +67,7 @@ fn spaces<W: fmt::Write>(f: &mut fmt::Formatter<W>, count: usize) -> fmt::Result
     Ok(())
 }
 
-/// Writes bytes as digits, and tells how many columns they take.
+/// Writes bytes as digits, with spaces between them.
 fn digits<W: fmt::Write>(f: &mut fmt::Formatter<W>, bytes: &[u8]) -> fmt::Result {
     let mut gap = "";
     for byte in bytes {
@@ -158,22 +158,29 @@ fn quoted<W: fmt::Write>(f: &mut fmt::Formatter<W>, bytes: &[u8]) -> fmt::Result
     f.write_str("\"")
 }
 
+/// Writes what stands between the bytes of a row and what they mean.
+fn margin<W: fmt::Write>(f: &mut fmt::Formatter<W>, row: Row<'_>) -> fmt::Result {
+    let level = row.level.min(MOST_INDENT);
+    let width = (3 * level).saturating_add(row.bytes.len().saturating_mul(3));
+    spaces(f, COLUMNS.saturating_sub(width))?;
+    f.write_str(" # ")?;
+    spaces(f, 2 * level)
+}
+
 impl fmt::Display for Row<'_> {
     /// The bytes as digits, indented by the level, and behind a `#` what they mean.
     fn fmt<W: fmt::Write>(&self, f: &mut fmt::Formatter<W>) -> fmt::Result {
-        let level = self.level.min(MOST_INDENT);
-        spaces(f, 3 * level)?;
+        spaces(f, 3 * self.level.min(MOST_INDENT))?;
         digits(f, self.bytes)?;
-        if let Meaning::Bytes | Meaning::Fault = self.meaning {
-            return Ok(());
-        }
-        let width = (3 * level).saturating_add(self.bytes.len().saturating_mul(3));
-        spaces(f, COLUMNS.saturating_sub(width))?;
-        f.write_str(" # ")?;
-        spaces(f, 2 * level)?;
         match self.meaning {
-            Meaning::Header(value) => header(f, value),
-            Meaning::Text => quoted(f, self.bytes),
+            Meaning::Header(value) => {
+                margin(f, *self)?;
+                header(f, value)
+            }
+            Meaning::Text => {
+                margin(f, *self)?;
+                quoted(f, self.bytes)
+            }
             Meaning::Bytes | Meaning::Fault => Ok(()),
         }
     }

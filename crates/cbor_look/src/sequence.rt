@@ -33,7 +33,8 @@ pub struct Stopped<E> {
     pub error: SkipError<E>,
 }
 
-/// Reads items up to the end, with tags, arrays and maps nested at most `depth` levels deep.
+/// Reads items up to the end, with tags, arrays and maps nested at most `depth` levels deep. The depth is at most 256,
+/// and the buffer has four bytes at least.
 ///
 /// `Ok` says that whole items were there, and that the reader failed where a further one would begin, before a byte of
 /// it came. Over a reader that fails only where bytes are missing that is the end of a sequence (RFC 8742). Of a strict

@@ -21,7 +21,8 @@ pub enum NotOne<E> {
     More(usize, Result<Header, Error<E>>),
 }
 
-/// Reads one item, with tags, arrays and maps nested at most `depth` levels deep, and the end behind it.
+/// Reads one item, with tags, arrays and maps nested at most `depth` levels deep, and the end behind it. The depth is at
+/// most 256, and the buffer has four bytes at least.
 ///
 /// `Ok` says that one whole item was there, and that the reader failed behind it before a byte more came. Over a reader
 /// that fails only where bytes are missing that is the end. What follows an item is read for as long as one title. Of a

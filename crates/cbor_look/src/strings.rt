@@ -17,7 +17,7 @@ use ciborium_ll::io::Read;
 use ciborium_ll::{Decoder, Error, Header};
 
 /// The kind of a string: a byte string or a text string.
-#[derive(Clone, Copy, PartialEq, Eq)]
+#[derive(Clone, Copy)]
 pub(crate) enum Kind {
     /// A byte string.
     Bytes,

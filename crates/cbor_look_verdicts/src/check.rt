@@ -51,7 +51,8 @@ pub fn end_verdict(fault: Option<ReadFault>) -> Result<(), Verdict>
     }
 }
 
-/// Checks what is wanted: one item, or a sequence of items.
+/// Checks what is wanted: one item, or a sequence of items, with tags, arrays and maps nested at most `depth` levels
+/// deep. The depth is at most 256.
 ///
 /// What the library answers is said as it is: the numbers of items and bytes, or the fault with its offset. Where a
 /// steady reader tells its bytes, the offset fits, and no header waits on a strict decoder, all is well exactly where

@@ -27,7 +27,8 @@ pub fn diag_verdict<E: Drop, F>(
     }
 }
 
-/// Writes items, each with a line end behind it. `Ok` has what the reader answered where a further one would begin.
+/// Writes items, each with a line end behind it, with tags, arrays and maps nested at most `depth` levels deep. The depth
+/// is at most 256. `Ok` has what the reader answered where a further one would begin.
 /// Where the writer does not fail, whole items were read, each as `skip_item` reads it, up to where the reader failed
 /// with nothing consumed, or a further one stopped as `skip_item` says.
 pub fn items<R: Read, W: Write>(

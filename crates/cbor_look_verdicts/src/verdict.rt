@@ -56,7 +56,7 @@ pub enum Verdict {
     },
     /// The bytes at this offset are no CBOR that could stand there.
     Syntax(usize),
-    /// The bytes end at this offset, within an item.
+    /// The input ends within an item. Up to this offset whole titles and pieces of bodies were read.
     Short(usize),
     /// At this offset a break ends nothing.
     Break(usize),
