@@ -16,6 +16,7 @@ ghost use Rattle.cbor_look.specs.StringRows.{ShowsRest, kind_of};
 ghost use Rattle.cbor_look.specs.TitleRows.{DrawsTitle, ShowsAll, ShowsTitle};
 ghost use Rattle.cbor_look.specs.Walks.{IsDue, IsValue};
 
+use crate::left::fault_row;
 use crate::rows::{Meaning, Row, Rows};
 use crate::strings::{Kind, body, pieces};
 use crate::taken::Taken;
@@ -118,18 +119,10 @@ pub(crate) fn fault<E: Drop, S: Rows>(
         → Draws (S.drawn rows.old) (S.drawn rows.new) (fault_lines level offset (taken_bytes taken.now)) }
     ensures says { SaysFault error result }
 {
-    if taken.len() > 0 {
-        let row = Row {
-            level,
-            offset,
-            bytes: taken.bytes(),
-            meaning: Meaning::Fault,
-        };
-        if let Err(fault) = rows.row(row) {
-            return DumpError::Rows(fault);
-        }
+    match fault_row(taken, offset, level, rows) {
+        Ok(()) => DumpError::Item(SkipError::Read(error)),
+        Err(refused) => DumpError::Rows(refused),
     }
-    DumpError::Item(SkipError::Read(error))
 }
 
 /// Shows what was read for a row.
@@ -150,10 +143,7 @@ pub(crate) fn shown<E, S: Rows>(
         bytes: taken.bytes(),
         meaning,
     };
-    match rows.row(row) {
-        Ok(()) => Ok(()),
-        Err(fault) => Err(DumpError::Rows(fault)),
-    }
+    rows.row(row).map_err(|fault| DumpError::Rows(fault))
 }
 
 /// Shows a title that was read at this offset, and the rest of the string that it begins.

@@ -36,7 +36,7 @@ where
 }
 
 /// Shows bytes at fault, where there are some.
-fn fault_row<S: Rows>(
+pub(crate) fn fault_row<S: Rows>(
     taken: &Taken,
     offset: usize,
     level: usize,

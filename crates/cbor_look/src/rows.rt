@@ -5,7 +5,7 @@ ghost use Rattle.std.specs.declared.option.Option.{Option};
 ghost use Rattle.cbor_look.specs.Levels.{Line};
 ghost use Rattle.cbor_look.specs.Dumps.{Draws};
 
-use ciborium_ll::{Float, Header};
+use ciborium_ll::{Float, Header, simple};
 use std::fmt;
 
 /// How many columns the bytes of a row take at least.
@@ -91,19 +91,16 @@ fn counted<W: fmt::Write>(
 
 /// Writes the integer -1 - `number`.
 fn negative<W: fmt::Write>(f: &mut fmt::Formatter<W>, number: u64) -> fmt::Result {
-    match number.checked_add(1) {
-        Some(number) => write!(f, "-{number}"),
-        None => f.write_str("-18446744073709551616"),
-    }
+    write!(f, "{}", -1 - i128::from(number))
 }
 
 /// Writes a simple value (RFC 7049, 2.3).
 fn simple<W: fmt::Write>(f: &mut fmt::Formatter<W>, number: u8) -> fmt::Result {
     match number {
-        20 => f.write_str("false"),
-        21 => f.write_str("true"),
-        22 => f.write_str("null"),
-        23 => f.write_str("undefined"),
+        simple::FALSE => f.write_str("false"),
+        simple::TRUE => f.write_str("true"),
+        simple::NULL => f.write_str("null"),
+        simple::UNDEFINED => f.write_str("undefined"),
         _ => write!(f, "simple {number}"),
     }
 }
