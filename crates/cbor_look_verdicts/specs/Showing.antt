@@ -1,6 +1,8 @@
--- What `diag` reads of a sequence of items (RFC 8742), as long as the writer does not fail.
-use Rattle.std.specs.Prelude.{◌≡◌, ℕ, Result, Ok, Err}
+-- What `diag` reads of a sequence of items (RFC 8742), as long as the writer does not fail, and how a line ends.
+use Rattle.std.specs.Prelude.{◌≡◌, ℕ, [], ◌∷◌, Result, Ok, Err, IsSome}
 use Rattle.ciborium_ll.specs.Types.Read.{Ghosts}
+use Rattle.ciborium_ll.specs.Types.Write.{Ghosts as Sink}
+use Rattle.ciborium_ll.specs.Encoding.{WritesAll}
 use Rattle.ciborium_ll.specs.Types.Decoder.{Decoder}
 use Rattle.ciborium_ll.specs.Types.Error.TheVariants as e
 use Rattle.cbor_skip.specs.declared.SkipError.{SkipError}
@@ -20,6 +22,15 @@ module _ {E F : Type 0} where
   abbrev pub EndsShow : DiagError E F → ℕ → ℕ → Result E (DiagError E F) → Type 0
   EndsShow error place stop (Ok fault) = (error ≡ d.Read (s.Read (e.Io fault))) × (stop ≡ place)
   EndsShow error place stop (Err other) = (other ≡ error) × (IsEndOfItems error place stop → ⊥)
+
+module _ {W F : Type 0} (sink : Sink W F) where
+  -- a line feed was written, and then what was kept back was passed on. A writer that tells its room, and so keeps
+  -- nothing back, has just that byte more
+  pub record EndsLine (old new : W) : Type 0 where
+    pub between : W
+    pub ends : WritesAll sink old (10 ∷ []) between
+    pub passed_on : sink.flushed between new
+    pub just : IsSome (sink.room old) → WritesAll sink old (10 ∷ []) new
 
 module _ {R E : Type 0} (source : Ghosts R E) where
   -- so many items were read, and where a further one is due the reader failed with nothing consumed

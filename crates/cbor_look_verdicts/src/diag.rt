@@ -1,8 +1,8 @@
 //! Items in diagnostic notation, one behind the other, and what is found behind them.
 
-ghost use Rattle.std.specs.Prelude.{◌≡◌, ◌≤◌};
+ghost use Rattle.std.specs.Prelude.{◌≡◌, ◌≤◌, OnOk};
 ghost use Rattle.cbor_look_verdicts.specs.Checking.{diag_said};
-ghost use Rattle.cbor_look_verdicts.specs.Showing.{EndsShow, ShowsItems};
+ghost use Rattle.cbor_look_verdicts.specs.Showing.{EndsLine, EndsShow, ShowsItems};
 
 use crate::check::{end_verdict, failed_or, fault_of};
 use crate::verdict::Verdict;
@@ -28,9 +28,11 @@ pub fn diag_verdict<E: Drop, F>(
 }
 
 /// Writes items, each with a line end behind it, with tags, arrays and maps nested at most `depth` levels deep. The depth
-/// is at most 256. `Ok` has what the reader answered where a further one would begin.
-/// Where the writer does not fail, whole items were read, each as `skip_item` reads it, up to where the reader failed
-/// with nothing consumed, or a further one stopped as `skip_item` says.
+/// is at most 256. `Ok` has what the reader answered where a further one would begin. Where the writer does not fail,
+/// whole items were read, each as `skip_item` reads it, up to where the reader failed with nothing consumed, or a further
+/// one stopped as `skip_item` says.
+///
+/// No clause says what is written of all items together. That each has its line is tested.
 pub fn items<R: Read, W: Write>(
     decoder: &mut Decoder<R>,
     writer: &mut W,
@@ -51,8 +53,10 @@ pub fn items<R: Read, W: Write>(
     }
 }
 
-/// Ends the line of an item, and keeps nothing of it back.
-fn line_ended<W: Write>(writer: &mut W) -> Result<(), W::Error> {
+/// Ends the line of an item, and keeps nothing of it back, as far as the writer says that of a flush.
+fn line_ended<W: Write>(writer: &mut W) -> Result<(), W::Error>
+    ensures { OnOk result (EndsLine W.Write writer.old writer.new) }
+{
     writer.write_all(b"\n")?;
     writer.flush()
 }
