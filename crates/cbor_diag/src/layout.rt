@@ -50,10 +50,10 @@ impl Line {
         }
         match (self.layout, header) {
             (_, Header::Tag(_)) => Ok(()),
-            (Layout::Indented, _) => self.begin::<E, W>(writer),
-            (Layout::OneLine, Header::Array(None) | Header::Map(None)) => say::<E, W>(writer, b" "),
+            (Layout::Indented, _) => self.begin(writer),
+            (Layout::OneLine, Header::Array(None) | Header::Map(None)) => say(writer, b" "),
             (Layout::OneLine, _) if is_first => Ok(()),
-            (Layout::OneLine, _) => say::<E, W>(writer, b" "),
+            (Layout::OneLine, _) => say(writer, b" "),
         }
     }
 
@@ -67,11 +67,10 @@ impl Line {
         ensures { IfErr result IsWriting }
     {
         match (self.layout, header) {
-            (_, Header::Array(None) | Header::Map(None)) if is_empty => say::<E, W>(writer, b" "),
-            (Layout::Indented, Header::Array(_) | Header::Map(_)) if !is_empty => self.begin::<
-                E,
-                W,
-            >(writer),
+            (_, Header::Array(None) | Header::Map(None)) if is_empty => say(writer, b" "),
+            (Layout::Indented, Header::Array(_) | Header::Map(_)) if !is_empty => {
+                self.begin(writer)
+            }
             _ => Ok(()),
         }
     }

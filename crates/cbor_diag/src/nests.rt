@@ -90,7 +90,7 @@ pub(crate) fn show_item<R: Read, W: Write>(
             open::<R::Error, W>(writer, header)?;
             let inner = line.within(header);
             let is_empty = show_within(decoder, writer, header, depth - 1, inner)?;
-            close::<R::Error, W>(writer, line, header, is_empty)
+            close(writer, line, header, is_empty)
         }
         _ => show_plain(decoder, writer, header),
     }
@@ -107,9 +107,9 @@ fn before<E, W: Write>(
     ensures { IfErr result IsWriting }
 {
     if is_value {
-        say::<E, W>(writer, b": ")
+        say(writer, b": ")
     } else {
-        line.before::<E, W>(writer, header, is_first)
+        line.before(writer, header, is_first)
     }
 }
 
@@ -119,10 +119,10 @@ fn open<E, W: Write>(writer: &mut W, header: Header) -> Result<(), DiagError<E, 
 {
     match header {
         Header::Tag(number) => said(put_two(writer, Buffer::new().format(number).as_bytes(), b"(")),
-        Header::Array(Some(_)) => say::<E, W>(writer, b"["),
-        Header::Array(None) => say::<E, W>(writer, b"[_"),
-        Header::Map(Some(_)) => say::<E, W>(writer, b"{"),
-        Header::Map(None) => say::<E, W>(writer, b"{_"),
+        Header::Array(Some(_)) => say(writer, b"["),
+        Header::Array(None) => say(writer, b"[_"),
+        Header::Map(Some(_)) => say(writer, b"{"),
+        Header::Map(None) => say(writer, b"{_"),
         _ => Ok(()),
     }
 }
@@ -138,9 +138,9 @@ fn close<E, W: Write>(
 {
     line.behind::<E, W>(writer, header, is_empty)?;
     match header {
-        Header::Tag(_) => say::<E, W>(writer, b")"),
-        Header::Array(_) => say::<E, W>(writer, b"]"),
-        Header::Map(_) => say::<E, W>(writer, b"}"),
+        Header::Tag(_) => say(writer, b")"),
+        Header::Array(_) => say(writer, b"]"),
+        Header::Map(_) => say(writer, b"}"),
         _ => Ok(()),
     }
 }

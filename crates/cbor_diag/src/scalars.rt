@@ -35,24 +35,18 @@ pub(crate) fn show_negative<W: Write>(writer: &mut W, number: u64) -> Result<(),
 pub(crate) fn show_simple<W: Write>(writer: &mut W, number: u8) -> Result<(), W::Error>
     ensures { WritesBytes W.Write writer.old result (simple_text number) writer.new }
 {
-    if number == simple::FALSE {
-        return put(writer, b"false");
+    match number {
+        simple::FALSE => put(writer, b"false"),
+        simple::TRUE => put(writer, b"true"),
+        simple::NULL => put(writer, b"null"),
+        simple::UNDEFINED => put(writer, b"undefined"),
+        _ => put_three(
+            writer,
+            b"simple(",
+            Buffer::new().format(number).as_bytes(),
+            b")",
+        ),
     }
-    if number == simple::TRUE {
-        return put(writer, b"true");
-    }
-    if number == simple::NULL {
-        return put(writer, b"null");
-    }
-    if number == simple::UNDEFINED {
-        return put(writer, b"undefined");
-    }
-    put_three(
-        writer,
-        b"simple(",
-        Buffer::new().format(number).as_bytes(),
-        b")",
-    )
 }
 
 /// A width of floats: how many bits its fraction has, and its least and greatest exponent, as a double has them.

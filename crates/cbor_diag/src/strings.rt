@@ -24,7 +24,7 @@ use crate::DiagError;
 use crate::put::say;
 use cbor_skip::SkipError;
 use ciborium_ll::io::{Read, Write};
-use ciborium_ll::{Body, Bytes, Chunked, Decoder, RecodeError, Segments, Text};
+use ciborium_ll::{Body, Chunked, Decoder, RecodeError, Segments};
 
 /// Shows a byte string, behind its header with this length.
 pub(crate) fn show_bytes<R: Read, W: Write>(
@@ -40,7 +40,7 @@ pub(crate) fn show_bytes<R: Read, W: Write>(
     ensures moves_on { OnOk result (MovesOn R.Read decoder.old decoder.new) }
 {
     let mut segments = decoder.bytes(len);
-    show_segments::<R, W, Bytes>(&mut segments, writer, Quotes::Hex, len.is_none())
+    show_segments(&mut segments, writer, Quotes::Hex, len.is_none())
 }
 
 /// Shows a text string, behind its header with this length.
@@ -57,7 +57,7 @@ pub(crate) fn show_text<R: Read, W: Write>(
     ensures moves_on { OnOk result (MovesOn R.Read decoder.old decoder.new) }
 {
     let mut segments = decoder.text(len);
-    show_segments::<R, W, Text>(&mut segments, writer, Quotes::Text, len.is_none())
+    show_segments(&mut segments, writer, Quotes::Text, len.is_none())
 }
 
 /// Shows the segments of a string that was just begun, in brackets where it is of the indefinite form.
@@ -106,8 +106,8 @@ fn open<E, W: Write>(
 {
     match (is_open, is_first) {
         (false, _) => Ok(()),
-        (true, true) => say::<E, W>(writer, b"(_ "),
-        (true, false) => say::<E, W>(writer, b", "),
+        (true, true) => say(writer, b"(_ "),
+        (true, false) => say(writer, b", "),
     }
 }
 
@@ -123,8 +123,8 @@ fn close<E, W: Write>(
 {
     match (is_open, is_empty) {
         (false, _) => Ok(()),
-        (true, true) => say::<E, W>(writer, quotes.none()),
-        (true, false) => say::<E, W>(writer, b")"),
+        (true, true) => say(writer, quotes.none()),
+        (true, false) => say(writer, b")"),
     }
 }
 
@@ -151,7 +151,7 @@ fn show_body<R: Read, W: Write, P: Chunked>(
         Err(RecodeError::Read(error)) => return Err(DiagError::Read(SkipError::Read(error))),
         Err(RecodeError::Write(fault)) => return Err(DiagError::Write(fault)),
     }
-    say::<R::Error, W>(writer, quotes.closing())
+    say(writer, quotes.closing())
 }
 
 /// Shows what stands between the quotes of that body.

@@ -97,29 +97,15 @@ fn digit(number: u8) -> u8
 fn show_escaped<W: Write>(writer: &mut W, byte: u8) -> Result<(), W::Error>
     ensures { WritesBytes W.Write writer.old result (escaped_text byte) writer.new }
 {
-    if byte == b'"' {
-        return put(writer, b"\\\"");
+    match byte {
+        b'"' => put(writer, b"\\\""),
+        b'\\' => put(writer, b"\\\\"),
+        0x08 => put(writer, b"\\b"),
+        b'\t' => put(writer, b"\\t"),
+        b'\n' => put(writer, b"\\n"),
+        0x0c => put(writer, b"\\f"),
+        b'\r' => put(writer, b"\\r"),
+        0..=0x1f => put_two(writer, b"\\u00", &[digit(byte / 16), digit(byte % 16)]),
+        _ => put(writer, &[byte]),
     }
-    if byte == b'\\' {
-        return put(writer, b"\\\\");
-    }
-    if byte == 0x08 {
-        return put(writer, b"\\b");
-    }
-    if byte == b'\t' {
-        return put(writer, b"\\t");
-    }
-    if byte == b'\n' {
-        return put(writer, b"\\n");
-    }
-    if byte == 0x0c {
-        return put(writer, b"\\f");
-    }
-    if byte == b'\r' {
-        return put(writer, b"\\r");
-    }
-    if byte < 0x20 {
-        return put_two(writer, b"\\u00", &[digit(byte / 16), digit(byte % 16)]);
-    }
-    put(writer, &[byte])
 }
