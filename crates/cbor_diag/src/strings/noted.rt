@@ -22,11 +22,10 @@ impl Model for Noted {
 }
 
 impl Noted {
-    /// What is read off this value.
-    pub(super) fn of<T, M: Tells<T>>(value: &T) -> Noted
-        ensures { result.bytes ≡ M.told value.now }
+    /// What is read off `_value`.
+    pub(super) fn of<T, M: Tells<T>>(_value: &T) -> Noted
+        ensures { result.bytes ≡ M.told _value.now }
     {
-        let _ = value;
         Noted {
             marker: PhantomData,
         }
