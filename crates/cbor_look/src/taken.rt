@@ -7,6 +7,7 @@ ghost use Rattle.ciborium_ll.specs.Decoding.{offset_of, waiting_of, Passes};
 use crate::fronts::{header_of, is_cut, is_text};
 use ciborium_ll::io::Read;
 use ciborium_ll::{Decoder, Error, Header};
+use ciborium_ll_grammar::hdr::table::row_of;
 
 /// How many bytes a row has at most.
 pub(crate) const MOST_BYTES: usize = 16;
@@ -137,11 +138,5 @@ fn affix_len(first: u8) -> usize
     ensures few { result ≤ 8 }
     ensures value { result ≡ affix_len (first % 32) }
 {
-    match first % 32 {
-        24 => 1,
-        25 => 2,
-        26 => 4,
-        27 => 8,
-        _ => 0,
-    }
+    row_of(first).affix.len()
 }
