@@ -76,10 +76,8 @@ impl<W: io::Write> Printer<W> {
     /// Prints what is found at the end, behind the rows.
     fn end(&mut self, verdict: &Verdict) -> io::Result<()> {
         self.line.clear();
-        match write!(self.line, "# {verdict}") {
-            Ok(()) => self.put(true),
-            Err(_) => Err(io::Error::from(io::ErrorKind::OutOfMemory)),
-        }
+        write!(self.line, "# {verdict}")?;
+        self.put(true)
     }
 }
 
@@ -93,10 +91,8 @@ impl<W: io::Write> Rows for Printer<W> {
     /// The error is that of the writer, or says that there is no memory for the line.
     fn row(&mut self, row: Row<'_>) -> io::Result<()> {
         self.below = level_below(&row);
-        match self.set_line(row) {
-            Ok(()) => self.put(matches!(row.meaning, Meaning::Fault)),
-            Err(_) => Err(io::Error::from(io::ErrorKind::OutOfMemory)),
-        }
+        self.set_line(row)?;
+        self.put(matches!(row.meaning, Meaning::Fault))
     }
 }
 
@@ -112,12 +108,9 @@ fn level_below(row: &Row<'_>) -> usize {
 fn first_hash(line: &[u8]) -> usize
     ensures { result ≤ length line.now }
 {
-    for (at, byte) in line.iter().enumerate() {
-        if *byte == b'#' {
-            return at;
-        }
-    }
-    line.len()
+    line.iter()
+        .position(|byte| *byte == b'#')
+        .unwrap_or(line.len())
 }
 
 /// Dumps what a reader gives, up to its end. Behind a fault a line says what it is. Each line that is whole is flushed
