@@ -17,7 +17,7 @@ pub struct Digits<R> {
 }
 
 /// Where in the text the next byte stands.
-#[derive(Clone, Copy, PartialEq, Eq)]
+#[derive(Clone, Copy)]
 enum State {
     /// A byte may begin.
     Between,

@@ -3,11 +3,9 @@
 ghost use Rattle.std.specs.Prelude.{◌≡◌, ◌+◌, ◌-◌, ◌≤◌, ◌<◌, length, false, IfOk, IsTrue, None};
 ghost use Rattle.std.proofs.Common.{rules};
 
+use crate::check::ROOM;
 use ciborium_ll::io::{Failures, Read, ReadFault};
 use std::io;
-
-/// How many bytes are read ahead at most.
-const ROOM: usize = 8192;
 
 /// A read failed.
 #[derive(Drop)]
