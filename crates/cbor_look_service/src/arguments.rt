@@ -26,7 +26,7 @@ pub enum View {
 /// When a dump has colors.
 #[derive(Clone, Copy)]
 pub enum Colors {
-    /// Where standard output is a terminal, and the environment names no `NO_COLOR`.
+    /// Where standard output is a terminal, and the environment has no `NO_COLOR`, or an empty one.
     Auto,
     /// Always.
     Always,
@@ -64,7 +64,7 @@ impl Options {
             offsets: false,
             colors: Colors::Auto,
             layout: Layout::OneLine,
-            depth: 256,
+            depth: MOST_DEPTH as usize,
         }
     }
 
@@ -146,7 +146,7 @@ impl Options {
 
 /// Whether a word is an option. `-` names a file.
 fn is_option(word: &str) -> bool {
-    word.as_bytes().starts_with(b"-") && word != "-"
+    word.starts_with('-') && word != "-"
 }
 
 /// What the words ask for.

@@ -11,8 +11,7 @@ pub const ROOM: usize = 8192;
 
 /// Checks what a reader gives, up to its end.
 ///
-/// A reader of a file reads ahead and is never steady, so of a file it is said only that what the library answers is
-/// said as it is.
+/// No clause says what is found: that is tested. Over any decoder it is the contract of `wanted`.
 pub fn check_input<R: io::Read + Drop>(reader: R, options: Options) -> Verdict {
     let mut ahead = [0; ROOM];
     let reader = BufferedReader::new(reader, &mut ahead);
