@@ -60,7 +60,7 @@ impl<W: io::Write> Printer<W> {
         let (at, color) = if is_fault {
             (0, FAULT)
         } else {
-            (first_hash(line), MEANING)
+            (first_hash(self.line.as_str()), MEANING)
         };
         if self.colors && at < line.len() {
             self.writer.write_all(&line[..at])?;
@@ -105,12 +105,10 @@ fn level_below(row: &Row<'_>) -> usize {
 }
 
 /// Where the first `#` stands, or the length of the line where none does.
-fn first_hash(line: &[u8]) -> usize
+fn first_hash(line: &str) -> usize
     ensures { result ≤ length line.now }
 {
-    line.iter()
-        .position(|byte| *byte == b'#')
-        .unwrap_or(line.len())
+    line.find('#').unwrap_or(line.len())
 }
 
 /// Dumps what a reader gives, up to its end. Behind a fault a line says what it is. Each line that is whole is flushed
