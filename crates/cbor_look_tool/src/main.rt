@@ -40,10 +40,10 @@ fn main(rt: HostRuntime) -> ExitCode {
 /// The words behind the program's name. The error is that of the arguments, or says that there is no memory.
 fn words_of(rt: &HostRuntime) -> io::Result<Vec<String>> {
     let mut words = Vec::new(rt.alloc());
-    for word in env::args(rt)?.skip(1) {
-        words
-            .push(word)
-            .map_err(|_| io::Error::from(io::ErrorKind::OutOfMemory))?;
+    let mut arguments = env::args(rt)?;
+    let _ = arguments.next();
+    for word in arguments {
+        words.push(word)?;
     }
     Ok(words)
 }

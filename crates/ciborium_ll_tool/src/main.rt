@@ -36,9 +36,7 @@ fn words_of(rt: &HostRuntime) -> io::Result<Vec<String>> {
     let mut arguments = env::args(rt)?;
     let _ = arguments.next();
     for word in arguments {
-        if words.push(word).is_err() {
-            return Err(io::Error::from(io::ErrorKind::OutOfMemory));
-        }
+        words.push(word)?;
     }
     Ok(words)
 }
