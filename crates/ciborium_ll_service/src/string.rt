@@ -1,6 +1,6 @@
 //! Strings that are read chunk by chunk.
 
-ghost use Rattle.std.specs.Prelude.{◌≡◌, ◌<◌, ◌+◌, ◌*◌, cond, length, IfOk};
+ghost use Rattle.std.specs.Prelude.{◌≡◌};
 ghost use Rattle.ciborium_ll_decoder.specs.Chunks.{segment_reference};
 ghost use Rattle.ciborium_ll_decoder.specs.Segments.{string_reference};
 
@@ -12,13 +12,11 @@ use ciborium_ll_requests::answer::{Last, chunk_line, last_line, segment_line};
 use ciborium_ll_requests::request::Numbered;
 use std::alloc::{AllocError, Global};
 
-/// Why the reading of a string stopped.
+/// Why the reading of a string stopped before its end.
 #[derive(Drop)]
 enum Stop {
     /// The item is no string.
     Other,
-    /// The string has ended.
-    Ended,
     /// The bytes at this offset are no part of it.
     Syntax(usize),
     /// Bytes are missing.
@@ -41,6 +39,12 @@ impl From<Error<EndOfFile>> for Stop {
     }
 }
 
+impl From<AllocError> for Stop {
+    fn from(_refused: AllocError) -> Stop {
+        Stop::Unwritten
+    }
+}
+
 /// Answers `chunks`: a line for each segment, chunk and end of a segment, and one for what ended the string.
 pub fn chunks(alloc: Global, asked: &Numbered, sink: &mut String) -> Result<(), AllocError> {
     let mut buffer = vec![in alloc; 0u8; asked.number]?;
@@ -55,29 +59,26 @@ fn chunks_within(
     sink: &mut String,
 ) -> Result<(), AllocError> {
     let mut decoder = Decoder::from(SliceReader::new(bytes));
-    let stop = string(alloc, &mut decoder, bytes.len(), buffer, sink);
-    stop_line(stop, decoder.offset(), sink)
+    let outcome = string(alloc, &mut decoder, bytes.len(), buffer, sink);
+    outcome_line(outcome, decoder.offset(), sink)
 }
 
-/// Writes what a stop at this offset is for the answer.
-fn stop_line(stop: Stop, offset: usize, sink: &mut String) -> Result<(), AllocError> {
-    match stopped(stop, offset) {
-        Some(last) => last_line(last, sink),
-        None => Err(AllocError),
-    }
-}
-
-/// What a stop at this offset is for the answer, where one can be written.
-fn stopped(stop: Stop, offset: usize) -> Option<Last> {
-    match stop {
-        Stop::Other => Some(Last::Other),
-        Stop::Ended => Some(Last::End(offset)),
-        Stop::Syntax(place) => Some(Last::Syntax(place)),
-        Stop::Short => Some(Last::Short(offset)),
-        Stop::Stuck => Some(Last::Stuck),
-        Stop::Room => Some(Last::Room),
-        Stop::Unwritten => None,
-    }
+/// Writes what the end of a string at this offset is for the answer, or a stop there.
+fn outcome_line(
+    outcome: Result<(), Stop>,
+    offset: usize,
+    sink: &mut String,
+) -> Result<(), AllocError> {
+    let last = match outcome {
+        Ok(()) => Last::End(offset),
+        Err(Stop::Other) => Last::Other,
+        Err(Stop::Syntax(place)) => Last::Syntax(place),
+        Err(Stop::Short) => Last::Short(offset),
+        Err(Stop::Stuck) => Last::Stuck,
+        Err(Stop::Room) => Last::Room,
+        Err(Stop::Unwritten) => return Err(AllocError),
+    };
+    last_line(last, sink)
 }
 
 /// Reads a string of at most so many bytes.
@@ -87,16 +88,15 @@ fn string(
     most: usize,
     buffer: &mut [u8],
     sink: &mut String,
-) -> Stop {
-    match decoder.pull() {
-        Ok(Header::Bytes(length)) => {
+) -> Result<(), Stop> {
+    match decoder.pull()? {
+        Header::Bytes(length) => {
             segment_lines::<Bytes>(alloc, &mut decoder.bytes(length), most, buffer, sink)
         }
-        Ok(Header::Text(length)) => {
+        Header::Text(length) => {
             segment_lines::<Text>(alloc, &mut decoder.text(length), most, buffer, sink)
         }
-        Ok(_) => Stop::Other,
-        Err(error) => Stop::from(error),
+        _ => Err(Stop::Other),
     }
 }
 
@@ -107,76 +107,35 @@ fn segment_lines<P: Chunked>(
     most: usize,
     buffer: &mut [u8],
     sink: &mut String,
-) -> Stop
+) -> Result<(), Stop>
     ensures { string_reference segments.new ≡ string_reference segments.old }
 {
     'segments: for _ in 0..=most {
-        if let Some(stop) = next_segment(alloc, segments, buffer, sink) {
-            return stop;
-        }
+        let Some(body) = segments.advance()? else {
+            return Ok(());
+        };
+        segment_line(body.length, sink)?;
+        chunk_lines(alloc, &mut segments.segment(body), buffer, sink)?;
     }
-    Stop::Room
+    Err(Stop::Room)
 }
 
-/// Reads the next segment, to its end. It is `None` there.
-fn next_segment<P: Chunked>(
-    alloc: Global,
-    segments: &mut Segments<'_, SliceReader<'_>, P>,
-    buffer: &mut [u8],
-    sink: &mut String,
-) -> Option<Stop>
-    ensures { string_reference segments.new ≡ string_reference segments.old }
-{
-    match segments.advance() {
-        Ok(Some(body)) => match segment_line(body.length, sink) {
-            Ok(()) => chunk_lines(alloc, &mut segments.segment(body), buffer, sink),
-            Err(_) => Some(Stop::Unwritten),
-        },
-        Ok(None) => Some(Stop::Ended),
-        Err(error) => Some(Stop::from(error)),
-    }
-}
-
-/// Reads a segment. It is `None` at the segment's end.
+/// Reads a segment to its end. Of two empty chunks in a row the second is a stop.
 fn chunk_lines<P: Chunked>(
     alloc: Global,
     segment: &mut Segment<'_, SliceReader<'_>, P>,
     buffer: &mut [u8],
     sink: &mut String,
-) -> Option<Stop>
+) -> Result<(), Stop>
     ensures { segment_reference segment.new ≡ segment_reference segment.old }
 {
     let mut was_empty = false;
-    'chunks: loop {
-        match P::chunk(segment, buffer) {
-            Ok(Some(chunk)) => match told(alloc, chunk, was_empty, sink) {
-                Ok(is_empty) => was_empty = is_empty,
-                Err(stop) => return Some(stop),
-            },
-            Ok(None) => return end_told(sink),
-            Err(error) => return Some(Stop::from(error)),
+    'chunks: while let Some(chunk) = P::chunk(segment, buffer)? {
+        if was_empty && chunk.is_empty() {
+            return Err(Stop::Stuck);
         }
+        was_empty = chunk.is_empty();
+        chunk_line(alloc, chunk, sink)?;
     }
-}
-
-/// Writes the line of a chunk, and tells whether it is empty. Of two empty ones in a row the second is a stop.
-fn told(alloc: Global, chunk: &[u8], was_empty: bool, sink: &mut String) -> Result<bool, Stop>
-    ensures { IfOk result (λ is_empty. cond is_empty 0 1 < 2 * length chunk.now + cond was_empty 0 1) }
-{
-    let is_empty = chunk.is_empty();
-    if was_empty && is_empty {
-        return Err(Stop::Stuck);
-    }
-    match chunk_line(alloc, chunk, sink) {
-        Ok(()) => Ok(is_empty),
-        Err(_) => Err(Stop::Unwritten),
-    }
-}
-
-/// Writes the line of a segment's end.
-fn end_told(sink: &mut String) -> Option<Stop> {
-    match sink.push_str("stop\n") {
-        Ok(()) => None,
-        Err(_) => Some(Stop::Unwritten),
-    }
+    Ok(sink.push_str("stop\n")?)
 }
