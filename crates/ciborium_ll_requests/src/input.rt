@@ -32,13 +32,13 @@ pub struct Lines<R> {
 impl<R: io::Read + Drop> Lines<R> {
     /// The lines of a reader. The error says that there is no memory for a buffer.
     pub fn new(alloc: Global, reader: R) -> Result<Lines<R>, AllocError> {
-        match BufReader::new(alloc, reader) {
-            Ok(reader) => Ok(Lines {
-                reader,
-                has_ended: false,
-            }),
-            Err(_) => Err(AllocError),
-        }
+        let Ok(reader) = BufReader::new(alloc, reader) else {
+            return Err(AllocError);
+        };
+        Ok(Lines {
+            reader,
+            has_ended: false,
+        })
     }
 
     /// Puts the next line in place of what `line` holds, without its line feed. It tells whether there was one.

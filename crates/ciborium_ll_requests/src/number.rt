@@ -29,10 +29,7 @@ pub fn number_of(word: &str) -> Option<u32>
     if bytes[0] == b'0' && bytes.len() > 1 {
         return None;
     }
-    match word.parse::<u32>() {
-        Ok(number) => Some(number),
-        Err(_) => None,
-    }
+    word.parse::<u32>().ok()
 }
 
 /// The number that a word spells, where it is at most so much.
@@ -54,8 +51,5 @@ pub fn limit_of(word: &str) -> Option<Option<usize>>
     if word == "*" {
         return Some(None);
     }
-    match number_of(word) {
-        Some(limit) => Some(Some(limit as usize)),
-        None => None,
-    }
+    Some(Some(number_of(word)? as usize))
 }

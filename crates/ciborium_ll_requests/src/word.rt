@@ -25,10 +25,8 @@ pub fn bytes_of(alloc: Global, word: &str) -> Result<Option<Vec<u8>>, AllocError
     }
     match hex::decode(alloc, word) {
         Ok(bytes) => Ok(Some(bytes)),
-        Err(error) => match error {
-            FromHexError::OutOfMemory => Err(AllocError),
-            _ => Ok(None),
-        },
+        Err(FromHexError::OutOfMemory) => Err(AllocError),
+        Err(_) => Ok(None),
     }
 }
 
