@@ -3,7 +3,6 @@
 ghost use Rattle.std.specs.Prelude.{◌≡◌};
 ghost use Rattle.ciborium_ll_service.specs.Fault.{fault_of, fault_of_copy};
 
-use crate::memory::OutOfMemory;
 use ciborium_ll_decoder::copy::RecodeError;
 use ciborium_ll_decoder::dec::Error;
 use ciborium_ll_requests::input::LineError;
@@ -67,17 +66,6 @@ impl From<AllocError> for ToolError {
     }
 }
 
-impl From<OutOfMemory> for ToolError {
-    ghost use Rattle.std.specs.Prelude.{◌≡◌};
-    ghost use Rattle.ciborium_ll_service.specs.declared.fault.ToolError.TheVariants.{Memory};
-
-    ghost from_gives = { λ _ error. error ≡ Memory };
-
-    fn from(_refused: OutOfMemory) -> ToolError {
-        ToolError::Memory
-    }
-}
-
 impl From<LineError> for ToolError {
     fn from(error: LineError) -> ToolError {
         match error {
@@ -115,18 +103,6 @@ impl fmt::Display for ToolError {
 }
 
 impl error::Error for ToolError {}
-
-impl fmt::Display for OutOfMemory {
-    ghost use Rattle.std.specs.Prelude.{Some, codes};
-
-    ghost output = { λ _. Some (codes "there is no memory left") };
-
-    fn fmt<W: fmt::Write>(&self, f: &mut fmt::Formatter<W>) -> fmt::Result {
-        f.write_str("there is no memory left")
-    }
-}
-
-impl error::Error for OutOfMemory {}
 
 /// The fault that ended a run.
 pub fn fault_of_run(error: &ToolError) -> Fault

@@ -29,9 +29,6 @@ fn a_writer_in_memory(rt: HostRuntime) -> Result<(), Fail> {
     counts(&mut writer)?;
     let is_written = writer.into_vec().as_slice() == [1, 2, 3].as_slice();
     holds(&rt, is_written, "three bytes in three parts");
-    let refused = ToolError::from(OutOfMemory);
-    let is_told = matches!(refused, ToolError::Memory);
-    holds(&rt, is_told, "a refusal");
     Ok(())
 }
 
