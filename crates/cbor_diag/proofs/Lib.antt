@@ -1,5 +1,6 @@
 mod BodyShowLaws
 mod FloatLaws
+mod ItemTextLaws
 mod ItemLaws
 mod QuoteLaws
 mod QuotedLaws

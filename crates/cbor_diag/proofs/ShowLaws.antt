@@ -19,7 +19,7 @@ use Rattle.cbor_skip.specs.declared.SkipError.TheVariants as s
 use Rattle.cbor_diag.specs.declared.DiagError.{DiagError}
 use Rattle.cbor_diag.specs.declared.DiagError.TheVariants as d
 use Rattle.cbor_diag.specs.Floats.{IsFloatText}
-use Rattle.cbor_diag.specs.Showing.{IsWriting, OnReading, OnString, ShowsFirst, ShowsHeader, ShowsText, nothing, said_of}
+use Rattle.cbor_diag.specs.Showing.{IsWriting, OnReading, OnString, ShowsHeader, ShowsText, said_of}
 use Rattle.cbor_diag.specs.Writing.{ShowsOne}
 
 module _ {E F : Type 0} where
@@ -124,10 +124,3 @@ module _ {R E W F : Type 0} (source : Ghosts R E) (sink : Sink W F) where
       (shown.text, shown.is_text, shown.written)
   float_said header float old new (Err fault) result is same shown = rw (is, same)
       (shown.text, shown.is_text, shown.written)
-
-  -- where no header was pulled, nothing was written
-  pub shows_nothing : (before old new : Decoder R) (error : Error E) (writer : W) → before ≡ old
-      → PullsHeader source before (Err error) new
-      → ShowsFirst source sink (sides old writer) (Err (d.Read (s.Read error))) (sides new writer)
-  shows_nothing before old new error writer same fails =
-      nothing error (subst (λ (first : Decoder R). PullsHeader source first (Err error) new) same fails) refl refl

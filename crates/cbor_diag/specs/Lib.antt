@@ -1,5 +1,7 @@
 pub mod DiagTexts
 pub mod Floats
+pub mod ItemStops
+pub mod ItemTexts
 pub mod Notation
 pub mod Quoting
 pub mod Showing

@@ -58,27 +58,19 @@ module _ {R E : Type 0} (source : Ghosts R E) where
     pub moves_on : OnOk result (MovesOn source old new)
 
 module _ {E W F : Type 0} (sink : Sink W F) where
-  -- the text was written, where there is one: all of it, or a beginning where the writer failed
+  -- the text was written, all of it, or a beginning where the writer failed
   abbrev pub ShowsText : Option (List ℕ) → W → Result (Unit {0}) (DiagError E F) → W → Type 0
-  ShowsText None old result new = Unit {0}
+  ShowsText None old result new = ⊥
   ShowsText (Some text) old (Ok done) new = WritesBytes sink {T = Unit {0}} old (Ok done) text new
   ShowsText (Some text) old (Err (d.Write fault)) new = WritesBytes sink {T = Unit {0}} old (Err fault) text new
   ShowsText (Some text) old (Err (d.Read error)) new = ⊥
 
 module _ {R E W F : Type 0} (source : Ghosts R E) (sink : Sink W F) where
-  -- behind a header its item was read and its text written, where that is an integer, a simple value, a float or a
-  -- string: of a float a text that fits, and of a string that of the bodies that were read
+  -- behind the header of an integer, a simple value, a float or a string its item was read and its text written: of a
+  -- float a text that fits, and of a string that of the bodies that were read
   abbrev pub ShowsHeader : Header → Sides R W → Result (Unit {0}) (DiagError E F) → Sides R W → Type 0
   ShowsHeader (h.Float float) old result new =
       (text : List ℕ) × IsFloatText float text × ShowsText sink (Some text) old.writer result new.writer
   ShowsHeader (h.Bytes len) old result new = ShowsString source sink Bytes q.Hex len 64 old result new
   ShowsHeader (h.Text len) old result new = ShowsString source sink Text q.Text len 64 old result new
   ShowsHeader header old result new = ShowsText sink (header_text header) old.writer result new.writer
-
-  -- What `diagnose` writes of the title in front: where a header was pulled that has a text, just that. Where none was
-  -- pulled, nothing was written
-  pub data ShowsFirst (old : Sides R W) (result : Result (Unit {0}) (DiagError E F)) (new : Sides R W) : Type 0 where
-    nothing : (error : Error E) → PullsHeader source old.decoder (Err error) new.decoder
-        → result ≡ Err (d.Read (s.Read error)) → new.writer ≡ old.writer → ShowsFirst old result new
-    first : (header : Header) (titled : Decoder R) → PullsTitle source old.decoder header titled
-        → ShowsHeader header (sides titled old.writer) result new → ShowsFirst old result new

@@ -1,10 +1,10 @@
 //! Where an item of an array or a map stands on the page.
 
-ghost use Rattle.std.specs.Prelude.{◌≤◌, ◌<◌, IfErr};
-ghost use Rattle.cbor_diag.specs.Showing.{IsWriting};
+ghost use Rattle.std.specs.Prelude.{◌≡◌, ◌<◌, ◌++◌};
+ghost use Rattle.ciborium_ll.specs.Encoding.{WritesBytes};
+ghost use Rattle.cbor_diag.specs.ItemTexts.{comma, item_space, last_space, level_within, nest_last, nest_space, new_line};
 
-use crate::DiagError;
-use crate::put::say;
+use crate::put::put;
 use ciborium_ll::Header;
 use ciborium_ll::io::Write;
 
@@ -26,62 +26,109 @@ pub(crate) struct Line {
 
 impl Line {
     /// The line of what the header contains.
-    pub(crate) fn within(self, header: Header) -> Line {
+    pub(crate) fn within(self, header: Header) -> Line
+        requires { self.level < 256 }
+        ensures layout { result.layout ≡ self.layout }
+        ensures level { result.level ≡ level_within header self.level }
+    {
         match header {
             Header::Array(_) | Header::Map(_) => Line {
                 layout: self.layout,
-                level: self.level.saturating_add(1),
+                level: self.level + 1,
             },
             _ => self,
         }
     }
 
     /// Writes what stands in front of an item: behind the bracket of the header that contains it, or another item.
-    pub(crate) fn before<E, W: Write>(
+    pub(crate) fn before<W: Write>(
         self,
         writer: &mut W,
         header: Header,
         is_first: bool,
-    ) -> Result<(), DiagError<E, W::Error>>
-        ensures { IfErr result IsWriting }
+    ) -> Result<(), W::Error>
+        ensures { WritesBytes W.Write writer.old result
+            (comma is_first ++ nest_space header self.layout self.level is_first) writer.new }
     {
-        if !is_first {
-            say::<E, W>(writer, b",")?;
+        if is_first {
+            return self.space(writer, header, is_first);
         }
-        match (self.layout, header) {
-            (_, Header::Tag(_)) => Ok(()),
-            (Layout::Indented, _) => self.begin(writer),
-            (Layout::OneLine, Header::Array(None) | Header::Map(None)) => say(writer, b" "),
-            (Layout::OneLine, _) if is_first => Ok(()),
-            (Layout::OneLine, _) => say(writer, b" "),
-        }
+        put(writer, b",")?;
+        self.space(writer, header, is_first)
     }
 
-    /// Writes what stands behind the last item, in front of the bracket of the header that contains it.
-    pub(crate) fn behind<E, W: Write>(
-        self,
-        writer: &mut W,
-        header: Header,
-        is_empty: bool,
-    ) -> Result<(), DiagError<E, W::Error>>
-        ensures { IfErr result IsWriting }
+    /// Writes the space in front of an item within the header.
+    fn space<W: Write>(self, writer: &mut W, header: Header, is_first: bool) -> Result<(), W::Error>
+        ensures { WritesBytes W.Write writer.old result (nest_space header self.layout self.level is_first)
+            writer.new }
     {
-        match (self.layout, header) {
-            (_, Header::Array(None) | Header::Map(None)) if is_empty => say(writer, b" "),
-            (Layout::Indented, Header::Array(_) | Header::Map(_)) if !is_empty => {
-                self.begin(writer)
+        match header {
+            Header::Array(len) | Header::Map(len) => {
+                self.item_space(writer, len.is_none(), is_first)
             }
             _ => Ok(()),
         }
     }
 
-    /// Begins a line.
-    fn begin<E, W: Write>(self, writer: &mut W) -> Result<(), DiagError<E, W::Error>>
-        ensures { IfErr result IsWriting }
+    /// Writes the space in front of an item of an array or a map, which may be of the indefinite form.
+    fn item_space<W: Write>(
+        self,
+        writer: &mut W,
+        is_open: bool,
+        is_first: bool,
+    ) -> Result<(), W::Error>
+        ensures { WritesBytes W.Write writer.old result (item_space self.layout self.level is_open is_first)
+            writer.new }
     {
-        say::<E, W>(writer, b"\n")?;
+        match self.layout {
+            Layout::Indented => self.begin(writer),
+            Layout::OneLine if is_first && !is_open => Ok(()),
+            Layout::OneLine => put(writer, b" "),
+        }
+    }
+
+    /// Writes what stands behind the last item, in front of the bracket of the header that contains it.
+    pub(crate) fn behind<W: Write>(
+        self,
+        writer: &mut W,
+        header: Header,
+        is_empty: bool,
+    ) -> Result<(), W::Error>
+        ensures { WritesBytes W.Write writer.old result (nest_last header self.layout self.level is_empty)
+            writer.new }
+    {
+        match header {
+            Header::Array(len) | Header::Map(len) => {
+                self.last_space(writer, len.is_none(), is_empty)
+            }
+            _ => Ok(()),
+        }
+    }
+
+    /// Writes the space in front of the closing bracket of an array or a map, which may be of the indefinite form.
+    fn last_space<W: Write>(
+        self,
+        writer: &mut W,
+        is_open: bool,
+        is_empty: bool,
+    ) -> Result<(), W::Error>
+        ensures { WritesBytes W.Write writer.old result (last_space self.layout self.level is_open is_empty)
+            writer.new }
+    {
+        match self.layout {
+            _ if is_empty && is_open => put(writer, b" "),
+            Layout::Indented if !is_empty => self.begin(writer),
+            _ => Ok(()),
+        }
+    }
+
+    /// Begins a line.
+    fn begin<W: Write>(self, writer: &mut W) -> Result<(), W::Error>
+        ensures { WritesBytes W.Write writer.old result (new_line self.level) writer.new }
+    {
+        put(writer, b"\n")?;
         'levels: for _level in 0..self.level {
-            say::<E, W>(writer, b"  ")?;
+            put(writer, b"  ")?;
         }
         Ok(())
     }

@@ -1,19 +1,22 @@
 //! Items, and what tags, arrays and maps contain.
 
-ghost use Rattle.std.specs.Prelude.{◌≡◌, ◌≤◌, Bool, Err, IfErr, None, Ok, OnOk, if◌then◌else◌};
+ghost use Rattle.std.specs.Prelude.{◌≡◌, ◌≤◌, ◌+◌, ◌++◌, Bool, Err, None, Ok, OnOk, if◌then◌else◌};
 ghost use Rattle.ciborium_ll.specs.Types.Decoder.{Decoder as AnyDecoder};
 ghost use Rattle.ciborium_ll.specs.Title.{title_len};
 ghost use Rattle.ciborium_ll.specs.Decoding.{IsSteady, MovesOn, PullsTitle, offset_of, waiting_of};
+ghost use Rattle.ciborium_ll.specs.Encoding.{WritesBytes};
 ghost use Rattle.ciborium_ll.specs.Sides.{sides};
 ghost use Rattle.cbor_skip.specs.Due.{IsNest};
 ghost use Rattle.cbor_skip.specs.Remaining.{closes};
 ghost use Rattle.cbor_skip.specs.Skipping.{SkipsWithin};
-ghost use Rattle.cbor_diag.specs.Showing.{IsWriting, OnReading, ReadsFrom, ShowsHeader};
+ghost use Rattle.cbor_diag.specs.ItemTexts.{item_lead, nest_closing, nest_last, nest_opening};
+ghost use Rattle.cbor_diag.specs.ItemStops.{ShowsRest, ShowsWithin};
+ghost use Rattle.cbor_diag.specs.Showing.{OnReading, ReadsFrom};
 
 use crate::DiagError;
 use crate::layout::Line;
 use crate::plain::show_plain;
-use crate::put::{put_two, said, say};
+use crate::put::{put, put_two, said};
 use cbor_skip::{Remaining, SkipError};
 use ciborium_ll::io::{Read, Write};
 use ciborium_ll::{Decoder, Header};
@@ -29,7 +32,10 @@ pub(crate) fn show_within<R: Read, W: Write>(
     line: Line,
 ) -> Result<bool, DiagError<R::Error, W::Error>>
     requires nest { IsNest header }
+    requires shallow { line.level + depth ≤ 256 }
     ensures reads { OnReading (λ answer. SkipsWithin R.Read header depth 64 decoder.old answer decoder.new) result }
+    ensures shown { ShowsWithin R.Read W.Write line.layout line.level header (sides decoder.old writer.old) result
+        (sides decoder.new writer.new) }
     ensures moves_on { OnOk result (MovesOn R.Read decoder.old decoder.new) }
 {
     let mut remaining = Remaining::behind(header);
@@ -40,7 +46,7 @@ pub(crate) fn show_within<R: Read, W: Write>(
         if let Header::Break = next {
             return at_break(remaining, place, is_first);
         }
-        before::<R::Error, W>(writer, line, header, remaining.is_value(), is_first)?;
+        said(before(writer, line, header, remaining.is_value(), is_first))?;
         show_item(decoder, writer, next, place, depth, line)?;
         remaining = remaining.after_item();
         is_first = false;
@@ -75,10 +81,11 @@ pub(crate) fn show_item<R: Read, W: Write>(
     requires none_waits { waiting_of decoder.old ≡ None }
     requires covered { title_len header ≤ offset_of decoder.old }
     requires no_break { header ≡ Header.Break → ⊥ }
+    requires shallow { line.level + depth ≤ 256 }
     ensures reads { (before : AnyDecoder R) (outer : Bool) → place ≡ offset_of before
         → PullsTitle R.Read before header decoder.old → (IsSteady R.Read before → IsSteady R.Read decoder.old)
         → OnReading (λ answer. ReadsFrom R.Read outer depth 64 before answer decoder.new) result }
-    ensures text { ShowsHeader R.Read W.Write header (sides decoder.old writer.old) result
+    ensures shown { ShowsRest R.Read W.Write line.layout line.level header (sides decoder.old writer.old) result
         (sides decoder.new writer.new) }
     ensures moves_on { OnOk result (MovesOn R.Read decoder.old decoder.new) }
 {
@@ -87,60 +94,62 @@ pub(crate) fn show_item<R: Read, W: Write>(
             if depth == 0 {
                 return Err(DiagError::Read(SkipError::Deep(place)));
             }
-            open::<R::Error, W>(writer, header)?;
+            said(open(writer, header))?;
             let inner = line.within(header);
             let is_empty = show_within(decoder, writer, header, depth - 1, inner)?;
-            close(writer, line, header, is_empty)
+            said(close(writer, line, header, is_empty))
         }
         _ => show_plain(decoder, writer, header),
     }
 }
 
 /// Writes what stands in front of an item.
-fn before<E, W: Write>(
+fn before<W: Write>(
     writer: &mut W,
     line: Line,
     header: Header,
     is_value: bool,
     is_first: bool,
-) -> Result<(), DiagError<E, W::Error>>
-    ensures { IfErr result IsWriting }
+) -> Result<(), W::Error>
+    ensures { WritesBytes W.Write writer.old result (item_lead header line.layout line.level is_value is_first)
+        writer.new }
 {
     if is_value {
-        say(writer, b": ")
+        put(writer, b": ")
     } else {
         line.before(writer, header, is_first)
     }
 }
 
 /// Writes what stands in front of the items of a tag, an array or a map.
-fn open<E, W: Write>(writer: &mut W, header: Header) -> Result<(), DiagError<E, W::Error>>
-    ensures { IfErr result IsWriting }
+fn open<W: Write>(writer: &mut W, header: Header) -> Result<(), W::Error>
+    ensures { WritesBytes W.Write writer.old result (nest_opening header) writer.new }
 {
     match header {
-        Header::Tag(number) => said(put_two(writer, Buffer::new().format(number).as_bytes(), b"(")),
-        Header::Array(Some(_)) => say(writer, b"["),
-        Header::Array(None) => say(writer, b"[_"),
-        Header::Map(Some(_)) => say(writer, b"{"),
-        Header::Map(None) => say(writer, b"{_"),
+        Header::Tag(number) => put_two(writer, Buffer::new().format(number).as_bytes(), b"("),
+        Header::Array(Some(_)) => put(writer, b"["),
+        Header::Array(None) => put(writer, b"[_"),
+        Header::Map(Some(_)) => put(writer, b"{"),
+        Header::Map(None) => put(writer, b"{_"),
         _ => Ok(()),
     }
 }
 
 /// Writes what stands behind them.
-fn close<E, W: Write>(
+fn close<W: Write>(
     writer: &mut W,
     line: Line,
     header: Header,
     is_empty: bool,
-) -> Result<(), DiagError<E, W::Error>>
-    ensures { IfErr result IsWriting }
+) -> Result<(), W::Error>
+    ensures { WritesBytes W.Write writer.old result
+        (nest_last header line.layout line.level is_empty ++ nest_closing header) writer.new }
 {
-    line.behind::<E, W>(writer, header, is_empty)?;
+    line.behind(writer, header, is_empty)?;
     match header {
-        Header::Tag(_) => say(writer, b")"),
-        Header::Array(_) => say(writer, b"]"),
-        Header::Map(_) => say(writer, b"}"),
+        Header::Tag(_) => put(writer, b")"),
+        Header::Array(_) => put(writer, b"]"),
+        Header::Map(_) => put(writer, b"}"),
         _ => Ok(()),
     }
 }

@@ -6,6 +6,8 @@ ghost use Rattle.ciborium_ll.specs.Title.{title_len};
 ghost use Rattle.ciborium_ll.specs.Decoding.{IsSteady, MovesOn, PullsTitle, offset_of, waiting_of};
 ghost use Rattle.ciborium_ll.specs.Sides.{sides};
 ghost use Rattle.cbor_skip.specs.Due.{IsNest};
+ghost use Rattle.cbor_diag.specs.declared.layout.Layout.{Layout};
+ghost use Rattle.cbor_diag.specs.ItemTexts.{RestShown};
 ghost use Rattle.cbor_diag.specs.Showing.{OnReading, ReadsFrom, ShowsHeader};
 
 use crate::DiagError;
@@ -30,6 +32,8 @@ pub(crate) fn show_plain<R: Read, W: Write>(
         → OnReading (λ answer. ReadsFrom R.Read outer depth 64 before answer decoder.new) result }
     ensures text { ShowsHeader R.Read W.Write header (sides decoder.old writer.old) result
         (sides decoder.new writer.new) }
+    ensures shown { (layout : Layout) (level : ℕ) → OnOk result (RestShown R.Read W.Write layout level header
+        (sides decoder.old writer.old) (sides decoder.new writer.new)) }
     ensures moves_on { OnOk result (MovesOn R.Read decoder.old decoder.new) }
 {
     match header {

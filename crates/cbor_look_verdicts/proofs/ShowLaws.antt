@@ -1,13 +1,17 @@
--- What the loop over the items of a show read.
+-- What the loop over the items of a show read and wrote.
 use Rattle.std.proofs.Common.{◌≡◌, ℕ, Result, Ok, Err, ◌∙◌, sym, subst}
 use Rattle.ciborium_ll.specs.Types.Read.{Ghosts}
+use Rattle.ciborium_ll.specs.Types.Write.{Ghosts as Sink}
+use Rattle.ciborium_ll.specs.Sides.{Sides}
 use Rattle.ciborium_ll.specs.Types.Decoder.{Decoder}
 use Rattle.cbor_skip.specs.Skipping.{SkipsItem}
 use Rattle.cbor_diag.specs.declared.DiagError.{DiagError}
 use Rattle.cbor_diag.specs.declared.DiagError.TheVariants as d
 use Rattle.cbor_diag.specs.Showing.{OnReading}
 use Rattle.cbor_look.specs.Sequences.{IsEnd, ReadsItems}
-use Rattle.cbor_look_verdicts.specs.Showing.{EndsShow, IsEndOfItems, ShowsItems}
+use Rattle.cbor_diag.specs.declared.layout.Layout.{Layout}
+use Rattle.cbor_diag.specs.ItemStops.{ItemStops}
+use Rattle.cbor_look_verdicts.specs.Showing.{EndsShow, IsEndOfItems, ShowsItems, ShowsLines, WritesItems, at_item}
 
 module _ {R E F : Type 0} (source : Ghosts R E) where
   -- the error of the show behind whole items, as it ends
@@ -37,3 +41,14 @@ module _ {R E F : Type 0} (source : Ghosts R E) where
         (subst (λ (n : ℕ). IsEnd stops n new.offset) (sym here) is_end)));
   }
   show_ends depth count place stop old between new error (Err (d.Write fault)) reads fails is here there = tt
+
+module _ {R E W F : Type 0} (source : Ghosts R E) (sink : Sink W F) (layout : Layout) where
+  -- behind whole lines the show of one more item ended, by what its error says
+  pub lines_end : (count place stop : ℕ) (old between new : Sides R W) (error : DiagError E F)
+      (result : Result E (DiagError E F)) → ShowsLines source sink layout count old between
+      → ItemStops source sink layout between error new → EndsShow error place stop result
+      → WritesItems source sink layout old result new
+  lines_end count place stop old between new error (Ok fault) lines stops is = at_item count between lines
+      (subst (λ (x : DiagError E F). ItemStops source sink layout between x new) is.0 stops)
+  lines_end count place stop old between new error (Err other) lines stops is = at_item count between lines
+      (subst (λ (x : DiagError E F). ItemStops source sink layout between x new) (sym is.0) stops)

@@ -1,8 +1,9 @@
--- What `diag` reads of a sequence of items (RFC 8742), as long as the writer does not fail, and how a line ends.
-use Rattle.std.specs.Prelude.{◌≡◌, ℕ, [], ◌∷◌, Result, Ok, Err, IsSome}
+-- What `diag` reads and writes of a sequence of items (RFC 8742), and how a line ends.
+use Rattle.std.specs.Prelude.{◌≡◌, ℕ, zero, suc, ◌+◌, ◌⊎◌, [], ◌∷◌, Result, Ok, Err, IsSome}
 use Rattle.ciborium_ll.specs.Types.Read.{Ghosts}
 use Rattle.ciborium_ll.specs.Types.Write.{Ghosts as Sink}
-use Rattle.ciborium_ll.specs.Encoding.{WritesAll}
+use Rattle.ciborium_ll.specs.Encoding.{WritesAll, WritesFront}
+use Rattle.ciborium_ll.specs.Sides.{Sides, sides}
 use Rattle.ciborium_ll.specs.Types.Decoder.{Decoder}
 use Rattle.ciborium_ll.specs.Types.Error.TheVariants as e
 use Rattle.cbor_skip.specs.declared.SkipError.{SkipError}
@@ -10,6 +11,9 @@ use Rattle.cbor_skip.specs.declared.SkipError.TheVariants as s
 use Rattle.cbor_skip.specs.Skipping.{SkipsItem}
 use Rattle.cbor_diag.specs.declared.DiagError.{DiagError}
 use Rattle.cbor_diag.specs.declared.DiagError.TheVariants as d
+use Rattle.cbor_diag.specs.declared.layout.Layout.{Layout}
+use Rattle.cbor_diag.specs.ItemTexts.{ItemShown}
+use Rattle.cbor_diag.specs.ItemStops.{ItemStops}
 use Rattle.cbor_look.specs.Sequences.{IsEnd, ReadsItems}
 
 module _ {E F : Type 0} where
@@ -31,6 +35,21 @@ module _ {W F : Type 0} (sink : Sink W F) where
     pub ends : WritesAll sink old (10 ∷ []) between
     pub passed_on : sink.flushed between new
     pub just : IsSome (sink.room old) → WritesAll sink old (10 ∷ []) new
+
+  -- a line feed was written, and what was kept back was not passed on. Of a writer that tells its room the bytes and the
+  -- room are as the line feed left them
+  pub record KeepsLine (old new : W) : Type 0 where
+    pub between : W
+    pub ends : WritesAll sink old (10 ∷ []) between
+    pub fails : sink.failures new ≡ sink.failures between + 1
+    pub bytes : IsSome (sink.room old) → sink.written new ≡ sink.written between
+    pub room : IsSome (sink.room old) → sink.room new ≡ sink.room between
+
+  -- the end of a line, by the answer: where one of the two calls failed it was the last one, so the line feed was not
+  -- written, or it was written and kept back
+  abbrev pub EndsOrFails : {T : Type 0} → W → Result T F → W → Type 0
+  EndsOrFails old (Ok done) new = EndsLine old new
+  EndsOrFails old (Err fault) new = WritesFront sink old (10 ∷ []) new ⊎ KeepsLine old new
 
 module _ {R E : Type 0} (source : Ghosts R E) where
   -- so many items were read, and where a further one is due the reader failed with nothing consumed
@@ -55,3 +74,25 @@ module _ {R E : Type 0} (source : Ghosts R E) where
   ShowsItems depth old (Ok fault) new = EndsItems depth old fault new
   ShowsItems depth old (Err (d.Read error)) new = StopsItems depth old error new
   ShowsItems depth old (Err (d.Write fault)) new = Unit {0}
+
+module _ {R E W F : Type 0} (source : Ghosts R E) (sink : Sink W F) (layout : Layout) where
+  -- so many items were shown, each on a line of its own: its text, and an end of the line
+  pub data ShowsLines : ℕ → Sides R W → Sides R W → Type 0 where
+    none : {now : Sides R W} → ShowsLines zero now now
+    more : {count : ℕ} {old now : Sides R W} {between : Decoder R} {shown new : W} → ShowsLines count old now
+        → ItemShown source sink layout now (sides between shown) → EndsLine sink shown new
+        → ShowsLines (suc count) old (sides between new)
+
+  -- behind whole lines the show of one more item ended with this error, or its line could not be ended
+  pub data StopsLines (old : Sides R W) (error : DiagError E F) (new : Sides R W) : Type 0 where
+    at_item : (count : ℕ) (between : Sides R W) → ShowsLines count old between
+        → ItemStops source sink layout between error new → StopsLines old error new
+    at_end : (count : ℕ) (between : Sides R W) (shown : W) (fault : F) → ShowsLines count old between
+        → ItemShown source sink layout between (sides new.decoder shown)
+        → EndsOrFails sink {T = Unit {0}} shown (Err fault) new.writer → error ≡ d.Write fault
+        → StopsLines old error new
+
+  -- the show of a sequence, by its answer: the fault of a read with nothing consumed is that of a further item
+  abbrev pub WritesItems : Sides R W → Result E (DiagError E F) → Sides R W → Type 0
+  WritesItems old (Ok fault) new = StopsLines old (d.Read (s.Read (e.Io fault))) new
+  WritesItems old (Err error) new = StopsLines old error new

@@ -1,8 +1,9 @@
 //! Items in diagnostic notation, one behind the other, and what is found behind them.
 
-ghost use Rattle.std.specs.Prelude.{◌≡◌, ◌≤◌, OnOk};
+ghost use Rattle.std.specs.Prelude.{◌≡◌, ◌≤◌};
+ghost use Rattle.ciborium_ll.specs.Sides.{sides};
 ghost use Rattle.cbor_look_verdicts.specs.Checking.{diag_said};
-ghost use Rattle.cbor_look_verdicts.specs.Showing.{EndsLine, EndsShow, ShowsItems};
+ghost use Rattle.cbor_look_verdicts.specs.Showing.{EndsOrFails, EndsShow, ShowsItems, WritesItems};
 
 use crate::check::{end_verdict, failed_or, fault_of};
 use crate::verdict::Verdict;
@@ -32,7 +33,8 @@ pub fn diag_verdict<E: Drop, F>(
 /// whole items were read, each as `skip_item` reads it, up to where the reader failed with nothing consumed, or a further
 /// one stopped as `skip_item` says.
 ///
-/// No clause says what is written of all items together. That each has its line is tested.
+/// Of each whole item the text was written as `diagnose` says, and a line feed behind it, which was passed on at once.
+/// Behind the last one stands what `diagnose` says of the item at which it stopped, or a line that could not be ended.
 pub fn items<R: Read, W: Write>(
     decoder: &mut Decoder<R>,
     writer: &mut W,
@@ -40,7 +42,9 @@ pub fn items<R: Read, W: Write>(
     layout: Layout,
 ) -> Result<R::Error, DiagError<R::Error, W::Error>>
     requires { depth ≤ 256 }
-    ensures { ShowsItems R.Read depth decoder.old result decoder.new }
+    ensures reads { ShowsItems R.Read depth decoder.old result decoder.new }
+    ensures writes { WritesItems R.Read W.Write layout (sides decoder.old writer.old) result
+        (sides decoder.new writer.new) }
 {
     'items: loop {
         let place = decoder.offset();
@@ -55,7 +59,7 @@ pub fn items<R: Read, W: Write>(
 
 /// Ends the line of an item, and keeps nothing of it back, as far as the writer says that of a flush.
 fn line_ended<W: Write>(writer: &mut W) -> Result<(), W::Error>
-    ensures { OnOk result (EndsLine W.Write writer.old writer.new) }
+    ensures { EndsOrFails W.Write writer.old result writer.new }
 {
     writer.write_all(b"\n")?;
     writer.flush()

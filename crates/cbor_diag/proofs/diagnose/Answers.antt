@@ -2,10 +2,10 @@ use Rattle.std.proofs.Common.{◌≡◌, Err, refl, false}
 use Rattle.std.proofs.lemmas.Result.{err_from_is_err_and}
 use Rattle.cbor_skip.specs.declared.SkipError.TheVariants as s
 use Rattle.cbor_diag.specs.declared.DiagError.TheVariants as d
-use Rattle.ciborium_ll.specs.Types.Header.TheVariants as h
 use Rattle.cbor_skip.proofs.ItemSteps.{pull_stops, stops_here}
-use Rattle.cbor_diag.specs.Showing.{first}
-use Rattle.cbor_diag.proofs.ShowLaws.{moved_then, shows_nothing}
+use Rattle.cbor_diag.specs.ItemStops.{at_break}
+use Rattle.cbor_diag.proofs.ItemTextLaws.{item_shown, no_item}
+use Rattle.cbor_diag.proofs.ShowLaws.{moved_then}
 use Rattle.cbor_diag.proofs.diagnose.Goals as goal
 
 pub returns-in_err-header-clause-reads : goal.returns-in_err-header-clause-reads
@@ -20,15 +20,15 @@ returns-in_err-header-clause-reads g c =
       moves_on = tt;
     })
 
-pub returns-in_err-header-clause-text : goal.returns-in_err-header-clause-text
-returns-in_err-header-clause-text g c =
+pub returns-in_err-header-clause-shown : goal.returns-in_err-header-clause-shown
+returns-in_err-header-clause-shown g c =
     let error = c.in_err-header.field-0.0 in
     let from = err_from_is_err_and c.from_residual.result c.from_residual.ensures.1 in
     let is_error = from.1 in
     let is_same = from.2 in
     let same : c.from_residual.result ≡ Err (d.Read (s.Read error)) = cc in
-    rw same (shows_nothing g.R.Read g.W.Write _ c.args.decoder.now _ error c.args.writer.now c.offset-place.ensures.same
-    c.in_err-header.ensures.header)
+    rw same (no_item g.R.Read g.W.Write c.args.layout _ c.args.decoder.now _ error c.args.writer.now
+    c.offset-place.ensures.same c.in_err-header.ensures.header)
 
 pub returns-in-Break-clause-reads : goal.returns-in-Break-clause-reads
 returns-in-Break-clause-reads g c = record {
@@ -40,9 +40,9 @@ returns-in-Break-clause-reads g c = record {
   moves_on = tt;
 }
 
-pub returns-in-Break-clause-text : goal.returns-in-Break-clause-text
-returns-in-Break-clause-text g c =
-    first h.Break _ (rw (c.offset-place.ensures.same, c.in-Break.is) at c.in_ok-header.ensures.header) tt
+pub returns-in-Break-clause-shown : goal.returns-in-Break-clause-shown
+returns-in-Break-clause-shown g c =
+    at_break (rw (c.offset-place.ensures.same, c.in-Break.is) at c.in_ok-header.ensures.header)
 
 pub returns-clause-reads : goal.returns-clause-reads
 returns-clause-reads g c =
@@ -54,6 +54,9 @@ returns-clause-reads g c =
           (rw c.offset-place.ensures.same at c.in_ok-header.ensures.moves_on) c.show_item.ensures.moves_on;
     }
 
-pub returns-clause-text : goal.returns-clause-text
-returns-clause-text g c =
-    first _ _ (rw c.offset-place.ensures.same at c.in_ok-header.ensures.header) c.show_item.ensures.text
+pub returns-clause-shown : goal.returns-clause-shown
+returns-clause-shown g c =
+    let pulled = rw c.offset-place.ensures.same at c.in_ok-header.ensures.header in
+    let steady = rw c.offset-place.ensures.same at c.in_ok-header.ensures.moves_on.steady in
+    item_shown g.R.Read g.W.Write c.args.layout _ c.args.decoder.now _ _ _ c.show_item.result pulled steady
+    c.show_item.ensures.shown

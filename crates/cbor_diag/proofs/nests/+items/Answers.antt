@@ -1,7 +1,8 @@
-use Rattle.std.proofs.Common.{◌≡◌, ◌-◌, suc, Bool, true, false, Result, Err, sym, subst, refl, inl, inr}
+use Rattle.std.proofs.Common.{◌≡◌, ◌-◌, ◌<◌, suc, Bool, true, false, Result, Err, sym, subst, refl, inl, inr}
 use Rattle.std.proofs.Common.{arith}
 use Rattle.std.proofs.lemmas.Result.{err_from_is_err_and}
-use Rattle.ciborium_ll.proofs.DecodingLaws.{MovesOn-none, MovesOn-then}
+use Rattle.ciborium_ll.proofs.DecodingLaws.{MovesOn-none, MovesOn-then, nearer}
+use Rattle.ciborium_ll_decoder.proofs.NestLaws.{title_some}
 use Rattle.cbor_skip.specs.declared.SkipError.{SkipError}
 use Rattle.cbor_skip.specs.declared.SkipError.TheVariants as s
 use Rattle.cbor_diag.specs.declared.DiagError.TheVariants as d
@@ -12,6 +13,10 @@ use Rattle.cbor_skip.proofs.ItemSteps.{none_read, one_more, stops_here, pull_sto
 use Rattle.cbor_diag.specs.Showing.{ReadsFrom}
 use Rattle.cbor_diag.proofs.ShowLaws.{break_said, reading_stops, reading_unread, when_err, when_ok}
 use Rattle.cbor_diag.proofs.ItemLaws.{ItemRead, nest_deep, nest_read, nest_stops}
+use Rattle.cbor_diag.specs.ItemStops.{deep}
+use Rattle.cbor_diag.proofs.ItemTextLaws.{break_shown, item_stops, items_begin, items_closed, items_done, items_more}
+use Rattle.cbor_diag.proofs.ItemTextLaws.{lead_stops, nest_shown, opening_stops, plain_shown, said_failed, said_wrote}
+use Rattle.cbor_diag.proofs.ItemTextLaws.{title_stops, within_stops}
 use Rattle.cbor_diag.proofs.nests.+items.Goals as goal
 
 -- ---- an item
@@ -42,10 +47,11 @@ pub show_item-returns-in_ok-is_empty-in-Tag-clause-reads : goal.show_item-return
 show_item-returns-in_ok-is_empty-in-Tag-clause-reads g t c = λ before outer at pulled steady.
     let level : suc (c.args.depth - 1) ≡ c.args.depth = omega (arith, c.if-depth-eq0.false) in
     nest_read g.R.Read outer c.args.depth before c.args.decoder.now steady (c.args.depth - 1) c.args.header
-    c.show_within.new.decoder c.close.result level pulled c.in_ok-is_empty-in-Tag.ensures.reads c.close.ensures
+    c.show_within.new.decoder c.said-in-Tag.result level pulled c.in_ok-is_empty-in-Tag.ensures.reads
+    c.said-in-Tag.ensures.writing
 
-pub show_item-returns-in_err-open-in-Tag-clause-moves_on : goal.show_item-returns-in_err-open-in-Tag-clause-moves_on
-show_item-returns-in_err-open-in-Tag-clause-moves_on g t c =
+pub show_item-returns-in_err-said-in-Tag-clause-moves_on : goal.show_item-returns-in_err-said-in-Tag-clause-moves_on
+show_item-returns-in_err-said-in-Tag-clause-moves_on g t c =
     let residual = c.from_residual in
     when_err _ residual.result residual.ensures.0
 
@@ -54,21 +60,22 @@ show_item-returns-in_err-is_empty-in-Tag-clause-moves_on g t c =
     let residual = c.from_residual-in_err-is_empty-in-Tag in
     when_err _ residual.result residual.ensures.0
 
-pub show_item-returns-in_err-open-in-Tag-clause-reads : goal.show_item-returns-in_err-open-in-Tag-clause-reads
-show_item-returns-in_err-open-in-Tag-clause-reads g t c = λ before outer at pulled steady.
+pub show_item-returns-in_err-said-in-Tag-clause-reads : goal.show_item-returns-in_err-said-in-Tag-clause-reads
+show_item-returns-in_err-said-in-Tag-clause-reads g t c = λ before outer at pulled steady.
     let from = err_from_is_err_and c.from_residual.result c.from_residual.ensures.1 in
     let is_error = from.1 in
     let is_same = from.2 in
-    let error = c.in_err-open-in-Tag.field-0.0 in
+    let error = c.in_err-said-in-Tag.field-0.0 in
     let same : c.from_residual.result ≡ Err error = cc in
     rw same (reading_unread (Unit {0}) (ItemRead g.R.Read outer c.args.depth before c.args.decoder.now) error
-    c.in_err-open-in-Tag.ensures)
+    c.in_err-said-in-Tag.ensures.writing)
 
 -- ---- the items within a nest
 
 pub show_within-items-init : goal.show_within-items-init
 show_within-items-init g t c = record {
   so_far = none_read g.R.Read c.behind-remaining.ensures;
+  items = items_begin g.R.Read g.W.Write _ _ c.args.header _ _ c.behind-remaining.ensures;
   moves_on = MovesOn-none g.R.Read c.args.decoder.now;
 }
 
@@ -135,8 +142,13 @@ show_within-items-preserved g t c =
     let pulled = rw c.offset-place.ensures.same at c.in_ok-next.ensures.header in
     let first = rw c.offset-place.ensures.same at c.in_ok-next.ensures.moves_on in
     let item = c.in_ok-show_item.ensures.reads c.items.decoder false c.offset-place.ensures.value pulled first.steady in
+    let led = said_wrote g.W.Write _ _ c.before-in-items.result c.said.result _ _ c.said.ensures.same c.in_ok-said.was
+    c.before-in-items.ensures in
     record {
       so_far = one_more g.R.Read c.items.invariant.so_far (c.after_item-remaining.ensures c.args.header) item;
+      items = items_more g.R.Read g.W.Write _ _ c.args.header _ _ _ c.items.is_first c.is_value.result _ _ c.in_ok-next.next
+          _ _ c.items.invariant.items (c.after_item-remaining.ensures c.args.header) c.is_value.ensures pulled first.steady
+          led c.in_ok-show_item.ensures.shown;
       moves_on = MovesOn-then g.R.Read _ _ _ c.items.invariant.moves_on
           (MovesOn-then g.R.Read _ _ _ first c.in_ok-show_item.ensures.moves_on);
     }
@@ -146,9 +158,9 @@ show_within-returns-in_err-next-clause-moves_on g t c =
     let residual = c.from_residual in
     when_err _ residual.result residual.ensures.0
 
-pub show_within-returns-in_err-before-clause-moves_on : goal.show_within-returns-in_err-before-clause-moves_on
-show_within-returns-in_err-before-clause-moves_on g t c =
-    let residual = c.from_residual-in_err-before in
+pub show_within-returns-in_err-said-clause-moves_on : goal.show_within-returns-in_err-said-clause-moves_on
+show_within-returns-in_err-said-clause-moves_on g t c =
+    let residual = c.from_residual-in_err-said in
     when_err _ residual.result residual.ensures.0
 
 pub show_within-returns-in_err-show_item-clause-moves_on : goal.show_within-returns-in_err-show_item-clause-moves_on
@@ -156,17 +168,17 @@ show_within-returns-in_err-show_item-clause-moves_on g t c =
     let residual = c.from_residual-in_err-show_item in
     when_err _ residual.result residual.ensures.0
 
-pub show_within-returns-in_err-before-clause-reads : goal.show_within-returns-in_err-before-clause-reads
-show_within-returns-in_err-before-clause-reads g t c =
-    let residual = c.from_residual-in_err-before in
+pub show_within-returns-in_err-said-clause-reads : goal.show_within-returns-in_err-said-clause-reads
+show_within-returns-in_err-said-clause-reads g t c =
+    let residual = c.from_residual-in_err-said in
     let from = err_from_is_err_and residual.result residual.ensures.1 in
     let is_error = from.1 in
     let is_same = from.2 in
-    let error = c.in_err-before.field-0.0 in
+    let error = c.in_err-said.field-0.0 in
     let same : residual.result ≡ Err error = cc in
     let Holds : Result (Unit {0}) (SkipError g.row.R-Error.Denot) → Type 0 =
     λ answer. SkipsWithin g.R.Read c.args.header c.args.depth 64 c.args.decoder.now answer c.pull.new.self in
-    rw same (reading_unread Bool Holds error c.in_err-before.ensures)
+    rw same (reading_unread Bool Holds error c.in_err-said.ensures.writing)
 
 pub show_within-returns-clause-moves_on : goal.show_within-returns-clause-moves_on
 show_within-returns-clause-moves_on g t c = c.items.invariant.moves_on
@@ -178,5 +190,100 @@ show_item-returns-in_default-clause-reads g t c = λ before outer at pulled stea
 pub show_item-returns-in_default-clause-moves_on : goal.show_item-returns-in_default-clause-moves_on
 show_item-returns-in_default-clause-moves_on g t c = c.show_plain.ensures.moves_on
 
-pub show_item-returns-in_default-clause-text : goal.show_item-returns-in_default-clause-text
-show_item-returns-in_default-clause-text g t c = c.show_plain.ensures.text
+-- ---- what was written
+
+pub show_item-returns-then-depth-eq0-clause-shown : goal.show_item-returns-then-depth-eq0-clause-shown
+show_item-returns-then-depth-eq0-clause-shown g t c = deep
+
+pub show_item-returns-in_err-said-in-Tag-clause-shown : goal.show_item-returns-in_err-said-in-Tag-clause-shown
+show_item-returns-in_err-said-in-Tag-clause-shown g t c =
+    let from = err_from_is_err_and c.from_residual.result c.from_residual.ensures.1 in
+    let is_error = from.1 in
+    let is_same = from.2 in
+    let error = c.in_err-said-in-Tag.field-0.0 in
+    let same : c.from_residual.result ≡ Err error = cc in
+    rw same (opening_stops g.R.Read g.W.Write c.args.header _ _ _ _ _ error
+    (said_failed g.W.Write _ _ c.open.result c.said.result error _ c.said.ensures.same c.in_err-said-in-Tag.was
+    c.open.ensures))
+
+pub show_item-returns-in_err-is_empty-in-Tag-clause-shown : goal.show_item-returns-in_err-is_empty-in-Tag-clause-shown
+show_item-returns-in_err-is_empty-in-Tag-clause-shown g t c =
+    let residual = c.from_residual-in_err-is_empty-in-Tag in
+    let from = err_from_is_err_and residual.result residual.ensures.1 in
+    let is_error = from.1 in
+    let is_same = from.2 in
+    let error = c.in_err-is_empty-in-Tag.field-0.0 in
+    let same : residual.result ≡ Err error = cc in
+    let opened = said_wrote g.W.Write _ _ c.open.result c.said.result _ _ c.said.ensures.same c.in_ok-said-in-Tag.was
+    c.open.ensures in
+    rw same (within_stops g.R.Read g.W.Write c.args.header _ _ _ _ _ _ _ _ error c.within-inner.ensures.layout
+    c.within-inner.ensures.level opened c.in_err-is_empty-in-Tag.ensures.shown)
+
+pub show_item-returns-in_ok-is_empty-in-Tag-clause-shown : goal.show_item-returns-in_ok-is_empty-in-Tag-clause-shown
+show_item-returns-in_ok-is_empty-in-Tag-clause-shown g t c =
+    let opened = said_wrote g.W.Write _ _ c.open.result c.said.result _ _ c.said.ensures.same c.in_ok-said-in-Tag.was
+    c.open.ensures in
+    nest_shown g.R.Read g.W.Write c.args.header _ _ _ _ c.in_ok-is_empty-in-Tag.is_empty _ _ _ _ _ _ c.close.result
+    c.said-in-Tag.result c.within-inner.ensures.layout c.within-inner.ensures.level opened
+    c.in_ok-is_empty-in-Tag.ensures.shown c.said-in-Tag.ensures.same c.close.ensures
+
+pub show_item-returns-in_default-clause-shown : goal.show_item-returns-in_default-clause-shown
+show_item-returns-in_default-clause-shown g t c =
+    plain_shown g.R.Read g.W.Write _ _ c.args.header _ _ c.show_plain.result c.show_plain.ensures.text
+    (c.show_plain.ensures.shown c.args.line.layout c.args.line.level)
+
+pub show_within-returns-in_err-next-clause-shown : goal.show_within-returns-in_err-next-clause-shown
+show_within-returns-in_err-next-clause-shown g t c =
+    let error = c.in_err-next.field-0.0 in
+    let from = err_from_is_err_and c.from_residual.result c.from_residual.ensures.1 in
+    let is_error = from.1 in
+    let is_same = from.2 in
+    let same : c.from_residual.result ≡ Err (d.Read (s.Read error)) = cc in
+    rw same (title_stops g.R.Read g.W.Write _ _ c.args.header _ _ _ _ _ _ c.items.invariant.items)
+
+pub show_within-returns-in-Break-clause-shown : goal.show_within-returns-in-Break-clause-shown
+show_within-returns-in-Break-clause-shown g t c =
+    let pulled = rw (c.offset-place.ensures.same, c.in-Break.is) at c.in_ok-next.ensures.header in
+    let steady = rw c.offset-place.ensures.same at c.in_ok-next.ensures.moves_on.steady in
+    break_shown g.R.Read g.W.Write _ _ c.args.header (closes c.items.remaining) _ _ _ _ c.at_break.result
+    c.items.is_first c.offset-place.result c.items.invariant.items c.at_break.ensures
+    (λ may. items_closed g.R.Read g.W.Write _ _ c.args.header _ _ _ _ _ c.items.invariant.items may pulled steady)
+
+pub show_within-returns-in_err-said-clause-shown : goal.show_within-returns-in_err-said-clause-shown
+show_within-returns-in_err-said-clause-shown g t c =
+    let residual = c.from_residual-in_err-said in
+    let from = err_from_is_err_and residual.result residual.ensures.1 in
+    let is_error = from.1 in
+    let is_same = from.2 in
+    let error = c.in_err-said.field-0.0 in
+    let same : residual.result ≡ Err error = cc in
+    let pulled = rw c.offset-place.ensures.same at c.in_ok-next.ensures.header in
+    rw same (lead_stops g.R.Read g.W.Write _ _ c.args.header _ _ _ c.is_value.result _ c.in_ok-next.next _ error _
+    c.items.invariant.items c.is_value.ensures pulled (said_failed g.W.Write _ _ c.before-in-items.result c.said.result
+    error _ c.said.ensures.same c.in_err-said.was c.before-in-items.ensures))
+
+pub show_within-returns-in_err-show_item-clause-shown : goal.show_within-returns-in_err-show_item-clause-shown
+show_within-returns-in_err-show_item-clause-shown g t c =
+    let residual = c.from_residual-in_err-show_item in
+    let from = err_from_is_err_and residual.result residual.ensures.1 in
+    let is_error = from.1 in
+    let is_same = from.2 in
+    let error = c.in_err-show_item.field-0.0 in
+    let same : residual.result ≡ Err error = cc in
+    let pulled = rw c.offset-place.ensures.same at c.in_ok-next.ensures.header in
+    let led = said_wrote g.W.Write _ _ c.before-in-items.result c.said.result _ _ c.said.ensures.same c.in_ok-said.was
+    c.before-in-items.ensures in
+    rw same (item_stops g.R.Read g.W.Write _ _ c.args.header _ _ _ c.is_value.result _ _ c.in_ok-next.next _ _ error
+    c.items.invariant.items c.is_value.ensures pulled led c.in_err-show_item.ensures.shown)
+
+pub show_within-returns-clause-shown : goal.show_within-returns-clause-shown
+show_within-returns-clause-shown g t c =
+    let done : is_done c.items.remaining ≡ true = sym c.items-test.ensures in
+    items_done g.R.Read g.W.Write _ _ c.args.header _ _ _ _ c.items.invariant.items done
+
+pub show_within-items-smaller : goal.show_within-items-smaller
+show_within-items-smaller g t c =
+    let pulled = rw c.offset-place.ensures.same at c.in_ok-next.ensures.header in
+    let some = title_some pulled.title c.in_ok-next.next pulled.is_title in
+    let risen : c.items.decoder.offset < c.pull.new.self.offset = omega (arith, pulled.offset, some) in
+    nearer c.items.decoder c.pull.new.self c.show_item.new.decoder risen c.in_ok-show_item.ensures.moves_on.rises

@@ -1,6 +1,8 @@
 use Rattle.std.proofs.Common.{◌+◌, ◌-◌, ◌*◌, ◌^◌}
 use Rattle.ciborium_ll.specs.Decoding.{MovesOn}
 use Rattle.cbor_skip.proofs.ItemSteps.{SoFar}
+use Rattle.ciborium_ll.specs.Sides.{sides}
+use Rattle.cbor_diag.proofs.ItemTextLaws.{ItemsFar}
 use Rattle.cbor_diag.proofs.nests.+items.Given as goal
 
 abbrev pub decreases-show_item : goal.decreases-show_item
@@ -12,6 +14,8 @@ decreases-show_within g l = 2 * l.depth + 1
 abbrev pub invariant-show_within-items : goal.invariant-show_within-items
 invariant-show_within-items g l = record {
   so_far : SoFar g.R.Read l.fn.header l.depth l.fn.decoder l.decoder l.remaining;
+  items : ItemsFar g.R.Read g.W.Write l.fn.line.layout l.fn.line.level l.fn.header (sides l.fn.decoder l.fn.writer)
+      l.remaining l.is_first (sides l.decoder l.writer);
   moves_on : MovesOn g.R.Read l.fn.decoder l.decoder;
 }
 

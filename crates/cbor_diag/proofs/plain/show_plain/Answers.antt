@@ -1,11 +1,13 @@
-use Rattle.std.proofs.Common.{[], sym, subst}
+use Rattle.std.proofs.Common.{[], ap, sym, subst}
 use Rattle.ciborium_ll.specs.Types.Header.{Header}
 use Rattle.ciborium_ll.specs.Items.{Completes, positive, negative, float, simple}
 use Rattle.ciborium_ll.specs.Strings.{Bytes, Text}
 use Rattle.ciborium_ll.proofs.DecodingLaws.{MovesOn-none}
 use Rattle.cbor_skip.specs.Skipping.{strictness}
 use Rattle.cbor_diag.proofs.ShowLaws.{float_said, said_text, when_ok}
+use Rattle.cbor_diag.specs.Notation.{header_text}
 use Rattle.cbor_diag.proofs.ItemLaws.{scalar_read, string_read}
+use Rattle.cbor_diag.proofs.ItemTextLaws.{float_shown, scalar_shown, string_shown}
 use Rattle.cbor_diag.proofs.plain.show_plain.Goals as goal
 
 pub returns-in-Positive-clause-reads : goal.returns-in-Positive-clause-reads
@@ -98,3 +100,33 @@ returns-in-Float-clause-moves_on g c =
 pub returns-in-Simple-clause-moves_on : goal.returns-in-Simple-clause-moves_on
 returns-in-Simple-clause-moves_on g c =
     when_ok _ c.said-in-Simple.result (MovesOn-none g.R.Read c.args.decoder.now)
+
+pub returns-in-Positive-clause-shown : goal.returns-in-Positive-clause-shown
+returns-in-Positive-clause-shown g c = λ layout level.
+    scalar_shown g.R.Read g.W.Write layout level c.args.header _ _ _ _ c.show_positive.result c.said.result
+    (ap header_text c.in-Positive.is) c.said.ensures.same c.show_positive.ensures
+
+pub returns-in-Negative-clause-shown : goal.returns-in-Negative-clause-shown
+returns-in-Negative-clause-shown g c = λ layout level.
+    scalar_shown g.R.Read g.W.Write layout level c.args.header _ _ _ _ c.show_negative.result c.said-in-Negative.result
+    (ap header_text c.in-Negative.is) c.said-in-Negative.ensures.same c.show_negative.ensures
+
+pub returns-in-Simple-clause-shown : goal.returns-in-Simple-clause-shown
+returns-in-Simple-clause-shown g c = λ layout level.
+    scalar_shown g.R.Read g.W.Write layout level c.args.header _ _ _ _ c.show_simple.result c.said-in-Simple.result
+    (ap header_text c.in-Simple.is) c.said-in-Simple.ensures.same c.show_simple.ensures
+
+pub returns-in-Float-clause-shown : goal.returns-in-Float-clause-shown
+returns-in-Float-clause-shown g c = λ layout level.
+    rw c.in-Float.is (float_shown g.R.Read g.W.Write layout level c.in-Float.float _ _ _ c.show_float.result
+    c.said-in-Float.result c.said-in-Float.ensures.same c.show_float.ensures)
+
+pub returns-in-Bytes-clause-shown : goal.returns-in-Bytes-clause-shown
+returns-in-Bytes-clause-shown g c = λ layout level.
+    rw c.in-Bytes.is (string_shown g.R.Read g.W.Write layout level Bytes c.in-Bytes.len 64 _ _ c.show_bytes.result
+    c.show_bytes.ensures.text)
+
+pub returns-in-Text-clause-shown : goal.returns-in-Text-clause-shown
+returns-in-Text-clause-shown g c = λ layout level.
+    rw c.in-Text.is (string_shown g.R.Read g.W.Write layout level Text c.in-Text.len 64 _ _ c.show_text.result
+    c.show_text.ensures.text)

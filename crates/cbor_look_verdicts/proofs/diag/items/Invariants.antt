@@ -1,9 +1,15 @@
 use Rattle.std.proofs.Common.{◌-◌, ◌^◌, ℕ}
+use Rattle.ciborium_ll.specs.Sides.{sides}
 use Rattle.cbor_look.specs.Sequences.{ReadsItems}
+use Rattle.cbor_look_verdicts.specs.Showing.{ShowsLines}
 use Rattle.cbor_look_verdicts.proofs.diag.items.Given as goal
 
 abbrev pub invariant-items : goal.invariant-items
-invariant-items g l = (count : ℕ) × ReadsItems g.R.Read l.depth count l.fn.decoder l.decoder
+invariant-items g l = record {
+  count : ℕ;
+  reads : ReadsItems g.R.Read l.depth count l.fn.decoder l.decoder;
+  lines : ShowsLines g.R.Read g.W.Write l.layout count (sides l.fn.decoder l.fn.writer) (sides l.decoder l.writer);
+}
 
 -- each item takes a byte
 abbrev pub decreases-items : goal.decreases-items

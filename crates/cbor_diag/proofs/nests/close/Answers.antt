@@ -1,0 +1,14 @@
+use Rattle.std.proofs.Common.{◌≡◌, ap, codes}
+use Rattle.ciborium_ll.proofs.EncodingLaws.{WritesBytes-then}
+use Rattle.cbor_diag.specs.ItemTexts.{nest_closing}
+use Rattle.cbor_diag.proofs.nests.close.Goals as goal
+
+pub returns-in-Array : goal.returns-in-Array
+returns-in-Array g c =
+    let closing : nest_closing c.args.header ≡ codes "]" = ap nest_closing c.in-Array.is in
+    WritesBytes-then g.W.Write _ _ _ _ _ _ c.in_ok-behind.ensures (rw closing c.put-in-Array.ensures)
+
+pub returns-in-Map : goal.returns-in-Map
+returns-in-Map g c =
+    let closing : nest_closing c.args.header ≡ codes "}" = ap nest_closing c.in-Map.is in
+    WritesBytes-then g.W.Write _ _ _ _ _ _ c.in_ok-behind.ensures (rw closing c.put-in-Map.ensures)

@@ -1,0 +1,99 @@
+-- What was written of an item by the time at which its show ended with an error.
+use Rattle.std.specs.Prelude.{◌≡◌, ℕ, ◌++◌, Bool, List, Result, Ok, Err}
+use Rattle.ciborium_ll.specs.Types.Read.{Ghosts as Reader}
+use Rattle.ciborium_ll.specs.Types.Write.{Ghosts as Writer}
+use Rattle.ciborium_ll.specs.Types.Decoder.{Decoder}
+use Rattle.ciborium_ll.specs.Types.Error.{Error}
+use Rattle.ciborium_ll.specs.Types.Header.{Header}
+use Rattle.ciborium_ll.specs.Types.Header.TheVariants as h
+use Rattle.ciborium_ll.specs.Decoding.{Passes, PullsHeader, PullsTitle}
+use Rattle.ciborium_ll.specs.Encoding.{WritesAll, WritesFront}
+use Rattle.ciborium_ll.specs.Sides.{Sides, sides}
+use Rattle.cbor_skip.specs.declared.SkipError.{SkipError}
+use Rattle.cbor_skip.specs.declared.SkipError.TheVariants as s
+use Rattle.cbor_diag.specs.declared.DiagError.{DiagError}
+use Rattle.cbor_diag.specs.declared.DiagError.TheVariants as d
+use Rattle.cbor_diag.specs.declared.layout.Layout.{Layout}
+use Rattle.cbor_diag.specs.ItemTexts.{nest_opening, nest_closing, nest_last, item_lead, level_within, is_value_at}
+use Rattle.cbor_diag.specs.ItemTexts.{is_first_at, AreShown, RestShown, WithinShown, ItemShown}
+use Rattle.cbor_diag.specs.Showing.{ShowsHeader}
+
+module _ {R E W F : Type 0} (source : Reader R E) (sink : Writer W F) (layout : Layout) where
+  -- behind the header so many items were read, and their text was written
+  pub record WithinBegun (level : ℕ) (header : Header) (count : ℕ) (old now : Sides R W) : Type 0 where
+    pub items : List ℕ
+    pub text : List ℕ
+    pub shown : AreShown layout level header count items text
+    pub passed : Passes source old.decoder items now.decoder
+    pub written : WritesAll sink old.writer text now.writer
+
+  mutual
+    -- `RestStops level header old error new`: behind its header the show of an item of this level ended with the error
+    pub data RestStops : ℕ → Header → Sides R W → DiagError E F → Sides R W → Type 0 where
+      -- in an item that contains no others
+      plain : {level : ℕ} {header : Header} {old new : Sides R W} {error : DiagError E F}
+          → ShowsHeader source sink header old (Err error) new → RestStops level header old error new
+      -- where no level is left: nothing was written
+      deep : {level place : ℕ} {header : Header} {now : Sides R W}
+          → RestStops level header now (d.Read (s.Deep place)) now
+      -- where the writer failed in front of the items
+      opening : {level : ℕ} {header : Header} {old : Sides R W} {fault : F} {new : W}
+          → WritesFront sink old.writer (nest_opening header) new
+          → RestStops level header old (d.Write fault) (sides old.decoder new)
+      -- where the show of the items ended
+      within : {level : ℕ} {header : Header} {old new : Sides R W} {error : DiagError E F} {opened : W}
+          → WritesAll sink old.writer (nest_opening header) opened
+          → WithinStops (level_within header level) header (sides old.decoder opened) error new
+          → RestStops level header old error new
+      -- where the writer failed behind them
+      closing : {level : ℕ} {header : Header} {old : Sides R W} {fault : F} {empty : Bool} {between : Sides R W}
+          {opened new : W} → WritesAll sink old.writer (nest_opening header) opened
+          → WithinShown source sink layout (level_within header level) header (sides old.decoder opened) empty between
+          → WritesFront sink between.writer (nest_last header layout level empty ++ nest_closing header) new
+          → RestStops level header old (d.Write fault) (sides between.decoder new)
+
+    -- `WithinStops level header old error new`: behind the header some items of this level were shown, and where one
+    -- more is due the show ended with the error
+    pub data WithinStops : ℕ → Header → Sides R W → DiagError E F → Sides R W → Type 0 where
+      -- no title came, or a break that may not stand there: nothing more was written
+      title : {level count : ℕ} {header : Header} {old between : Sides R W} {error : SkipError E} {new : Decoder R}
+          → WithinBegun level header count old between
+          → WithinStops level header old (d.Read error) (sides new between.writer)
+      -- the writer failed in front of the item
+      lead : {level count : ℕ} {header next : Header} {old between : Sides R W} {titled : Decoder R} {fault : F} {new : W}
+          → WithinBegun level header count old between → PullsTitle source between.decoder next titled
+          → WritesFront sink between.writer
+          (item_lead header layout level (is_value_at header count) (is_first_at count)) new
+          → WithinStops level header old (d.Write fault) (sides titled new)
+      -- the show of the item ended
+      item : {level count : ℕ} {header next : Header} {old between new : Sides R W} {titled : Decoder R} {led : W}
+          {error : DiagError E F} → WithinBegun level header count old between
+          → PullsTitle source between.decoder next titled
+          → WritesAll sink between.writer
+          (item_lead header layout level (is_value_at header count) (is_first_at count)) led
+          → RestStops level next (sides titled led) error new → WithinStops level header old error new
+
+  -- the show of an item ended with the error: no title came, or a break, and nothing was written; or behind its title
+  pub data ItemStops (old : Sides R W) : DiagError E F → Sides R W → Type 0 where
+    no_title : {error : Error E} {new : Decoder R} → PullsHeader source old.decoder (Err error) new
+        → ItemStops old (d.Read (s.Read error)) (sides new old.writer)
+    at_break : {place : ℕ} {new : Decoder R} → PullsTitle source old.decoder h.Break new
+        → ItemStops old (d.Read (s.Break place)) (sides new old.writer)
+    behind : {header : Header} {titled : Decoder R} {error : DiagError E F} {new : Sides R W}
+        → PullsTitle source old.decoder header titled → RestStops 0 header (sides titled old.writer) error new
+        → ItemStops old error new
+
+  -- the show of the rest of an item, by its answer
+  abbrev pub ShowsRest : ℕ → Header → Sides R W → Result (Unit {0}) (DiagError E F) → Sides R W → Type 0
+  ShowsRest level header old (Ok done) new = RestShown source sink layout level header old new
+  ShowsRest level header old (Err error) new = RestStops level header old error new
+
+  -- the show of what the header contains, by its answer, which says whether that is nothing
+  abbrev pub ShowsWithin : ℕ → Header → Sides R W → Result Bool (DiagError E F) → Sides R W → Type 0
+  ShowsWithin level header old (Ok empty) new = WithinShown source sink layout level header old empty new
+  ShowsWithin level header old (Err error) new = WithinStops level header old error new
+
+  -- the show of one item, by its answer
+  abbrev pub ShowsItem : Sides R W → Result (Unit {0}) (DiagError E F) → Sides R W → Type 0
+  ShowsItem old (Ok done) new = ItemShown source sink layout old new
+  ShowsItem old (Err error) new = ItemStops old error new
