@@ -1,11 +1,10 @@
 //! What is found by a check of an input, and how each answer of the library is said.
 
 ghost use Rattle.std.specs.Prelude.{◌≡◌, ◌≤◌, ◌↔◌, ℕ, List};
-ghost use Rattle.ciborium_ll.specs.Decoding.{offset_of, strict_of};
+ghost use Rattle.ciborium_ll.specs.Decoding.{IsFreshAs, offset_of, strict_of};
 ghost use Rattle.ciborium_ll.specs.Items.{IsItem};
 ghost use Rattle.cbor_skip.specs.SkippingTold.{IsReadyToSkip};
 ghost use Rattle.cbor_look.specs.Sequences.{IsSequence};
-ghost use Rattle.cbor_look.specs.Takings.{IsAlike};
 ghost use Rattle.cbor_look_verdicts.specs.Checking.{Finds, FindsAll, FindsOne, IsWanted, IsWell, Says, SaysItems, SaysOne};
 ghost use Rattle.cbor_look_verdicts.specs.Checking.{end_said, fault_said, sequence_said, single_said, unless_failed};
 
@@ -19,9 +18,9 @@ use ciborium_ll::{Decoder, Error};
 /// How many bytes of a string are read at once.
 const BUFFER_SIZE: usize = 512;
 
-/// A decoder of what a reader gives, strict where that is asked for.
+/// A decoder at the start of what a reader gives, strict where that is asked for.
 pub fn decoder_of<R: Read>(reader: R, strict: bool) -> Decoder<R>
-    ensures { IsAlike strict result }
+    ensures { IsFreshAs strict reader 0 result }
 {
     if strict {
         Decoder::strict(reader)
