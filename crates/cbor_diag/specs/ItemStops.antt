@@ -1,5 +1,5 @@
 -- What was written of an item by the time at which its show ended with an error.
-use Rattle.std.specs.Prelude.{◌≡◌, ℕ, ◌++◌, Bool, List, Result, Ok, Err}
+use Rattle.std.specs.Prelude.{ℕ, ◌++◌, Bool, List, Result, Ok, Err}
 use Rattle.ciborium_ll.specs.Types.Read.{Ghosts as Reader}
 use Rattle.ciborium_ll.specs.Types.Write.{Ghosts as Writer}
 use Rattle.ciborium_ll.specs.Types.Decoder.{Decoder}

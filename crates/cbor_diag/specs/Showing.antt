@@ -1,14 +1,14 @@
 -- What a show of an item does to its decoder, as long as the writer does not fail, and what it writes of a header.
-use Rattle.std.specs.Prelude.{◌≡◌, ℕ, Bool, List, Option, Some, None, Result, Ok, Err, OnOk}
+use Rattle.std.specs.Prelude.{ℕ, Bool, List, Option, Some, None, Result, Ok, Err, OnOk}
 use Rattle.ciborium_ll.specs.Types.Read.{Ghosts}
 use Rattle.ciborium_ll.specs.Types.Write.{Ghosts as Sink}
 use Rattle.ciborium_ll.specs.Types.Header.{Header}
 use Rattle.ciborium_ll.specs.Types.Header.TheVariants as h
 use Rattle.ciborium_ll.specs.Types.Decoder.{Decoder}
 use Rattle.ciborium_ll.specs.Types.Error.{Error}
-use Rattle.ciborium_ll.specs.Decoding.{MovesOn, PullsHeader, PullsTitle}
+use Rattle.ciborium_ll.specs.Decoding.{MovesOn}
 use Rattle.ciborium_ll.specs.Encoding.{WritesBytes}
-use Rattle.ciborium_ll.specs.Sides.{Sides, sides}
+use Rattle.ciborium_ll.specs.Sides.{Sides}
 use Rattle.ciborium_ll.specs.Strings.{Bytes, Text}
 use Rattle.cbor_skip.specs.declared.SkipError.{SkipError}
 use Rattle.cbor_skip.specs.declared.SkipError.TheVariants as s

@@ -7,7 +7,6 @@ use Rattle.cbor_copy_item.specs.declared.progress.End.{End}
 use Rattle.cbor_copy_item.specs.declared.progress.End.TheVariants as e
 use Rattle.cbor_copy_item.specs.Telling.{IsMore, IsRoom, Tells, TellsEnd, end_of}
 use Rattle.cbor_copy_item.specs.Telling.{IsAnswer as IsProgress}
-use Rattle.cbor_feed.specs.declared.phase.Fault.{Fault}
 use Rattle.cbor_feed.specs.declared.phase.Fault.TheVariants as f
 use Rattle.cbor_feed.specs.Spots.{Spot}
 use Rattle.cbor_feed.specs.Telling.{is_due}

@@ -15,6 +15,10 @@ code a.BreakDue = 5
 code a.TooDeep = 6
 code a.Argument = 7
 
+-- the number of some answer
+abbrev pub IsCode : ℕ → Type 0
+IsCode number = (answer : CllAnswer) × (number ≡ code answer)
+
 -- the number of a version, as the header for C has it
 abbrev pub version_code : ℕ → ℕ → ℕ → ℕ
 version_code major minor patch = 65536 * major + 256 * minor + patch

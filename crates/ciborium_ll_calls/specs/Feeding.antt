@@ -82,8 +82,13 @@ SaysOf strict depth whole a.Short number = Tells strict depth whole (r.More numb
 SaysOf strict depth whole a.Syntax number = Tells strict depth whole (r.Fault (f.Syntax number))
 SaysOf strict depth whole a.BreakDue number = Tells strict depth whole (r.Fault (f.Break number))
 SaysOf strict depth whole a.TooDeep number = Tells strict depth whole (r.Fault (f.Deep number))
-SaysOf strict depth whole a.TooLong number = Tells strict depth whole r.TooLong
+SaysOf strict depth whole a.TooLong number = Tells strict depth whole r.TooLong × (number ≡ 0)
 SaysOf strict depth whole answer number = ⊥
+
+-- whatever stood in the memory of the checker: no more was taken than there is, and nothing is written
+pub record TakesWithin (bytes : List ℕ) (report : CllReport) : Type 0 where
+  pub taken : report.consumed ≤ length bytes
+  pub written : report.written ≡ 0
 
 -- what `cll_checker_feed` does with a piece, for a checker that has come to the old spot: so many of its bytes were
 -- taken, all of them where more are due and none where none was due. The answer says what it does of all bytes so far,

@@ -6,7 +6,7 @@ ghost use Rattle.cbor_feed.specs.Spots.{Spot};
 ghost use Rattle.cbor_feed.specs.Steps.{IsFed};
 ghost use Rattle.ciborium_ll_calls.specs.declared.answer.CllAnswer.TheVariants as a;
 ghost use Rattle.ciborium_ll_calls.specs.Answers.{Reports};
-ghost use Rattle.ciborium_ll_calls.specs.Feeding.{EndsFed, Feeds, IsKept, IsNoChecker, IsSetUp};
+ghost use Rattle.ciborium_ll_calls.specs.Feeding.{EndsFed, Feeds, IsKept, IsNoChecker, IsSetUp, TakesWithin};
 ghost use Rattle.ciborium_ll_calls.specs.Feeding.{end_answer, end_number, fault_answer, fault_place};
 ghost use Rattle.ciborium_ll_calls.specs.Feeding.{progress_answer, progress_number};
 
@@ -91,6 +91,7 @@ pub(crate) fn init(checker: &mut CllChecker, depth: usize, strict: bool)
 pub(crate) fn feed(checker: &mut CllChecker, bytes: &[u8], report: &mut CllReport) -> CllAnswer
     ensures fed { (strict : Bool) (depth : ℕ) (fed : List ℕ) (spot : Spot) → IsFed strict depth fed spot → IsKept checker.old spot
         → Feeds strict depth fed spot bytes.now result report.new checker.new }
+    ensures within { TakesWithin bytes.now report.new }
     ensures argument { IsNoChecker checker.old
         → (result ≡ a.Argument) × (checker.new ≡ checker.old) × Reports report.new 0 0 0 }
 {

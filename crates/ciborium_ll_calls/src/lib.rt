@@ -19,11 +19,11 @@ ghost use Rattle.ciborium_ll_text.specs.Text.{IsCharacters};
 ghost use Rattle.cbor_skip.specs.ItemFaults.{ItemInFront};
 ghost use Rattle.ciborium_ll_calls.specs.declared.answer.CllAnswer.{CllAnswer};
 ghost use Rattle.ciborium_ll_calls.specs.declared.answer.CllAnswer.TheVariants as a;
-ghost use Rattle.ciborium_ll_calls.specs.Answers.{Reports, code, version_code};
+ghost use Rattle.ciborium_ll_calls.specs.Answers.{IsCode, Reports, code, version_code};
 ghost use Rattle.ciborium_ll_calls.specs.Checking.{Checks};
 ghost use Rattle.ciborium_ll_calls.specs.Copying.{CopiesInto, CopiesAnyhow, HasRoom, copy_answer, copy_place};
 ghost use Rattle.ciborium_ll_calls.specs.Counting.{CountsCopy, CountsElements, CountsStrictly};
-ghost use Rattle.ciborium_ll_calls.specs.Feeding.{EndsFed, Feeds, IsKept, IsNoChecker, IsSetUp};
+ghost use Rattle.ciborium_ll_calls.specs.Feeding.{EndsFed, Feeds, IsKept, IsNoChecker, IsSetUp, TakesWithin};
 ghost use Rattle.ciborium_ll_calls.specs.ItemPieces.{EndsItem, FeedsItem, IsItemCopiedTo, IsItemCopier, IsItemSetUp};
 ghost use Rattle.ciborium_ll_calls.specs.ItemPieces.{IsNoItemCopier};
 ghost use Rattle.ciborium_ll_calls.specs.Lacking.{ElementsLack, ItemLacks};
@@ -434,6 +434,8 @@ pub fn cll_checker_feed(checker: &mut CllChecker, bytes: &[u8], report: &mut Cll
     ensures fed { (strict : Bool) (depth : ℕ) (fed : List ℕ) (spot : Spot) → IsFed strict depth fed spot → IsKept checker.old spot
         → (answer : CllAnswer) × (result ≡ code answer)
         × Feeds strict depth fed spot bytes.now answer report.new checker.new }
+    ensures answers { IsCode result }
+    ensures within { TakesWithin bytes.now report.new }
     ensures argument { IsNoChecker checker.old
         → (result ≡ code a.Argument) × (checker.new ≡ checker.old) × Reports report.new 0 0 0 }
 {
@@ -444,6 +446,7 @@ pub fn cll_checker_feed(checker: &mut CllChecker, bytes: &[u8], report: &mut Cll
 pub fn cll_checker_end(checker: &CllChecker, report: &mut CllReport) -> u32
     ensures ended { (strict : Bool) (depth : ℕ) (fed : List ℕ) (spot : Spot) → IsFed strict depth fed spot → IsKept checker.now spot
         → (answer : CllAnswer) × (result ≡ code answer) × EndsFed strict depth fed spot answer report.new }
+    ensures answers { IsCode result }
     ensures argument { IsNoChecker checker.now → (result ≡ code a.Argument) × Reports report.new 0 0 0 }
 {
     checker::end(checker, report).code()
@@ -468,6 +471,7 @@ pub fn cll_copier_feed(
     ensures fed { (count : ℕ) (fed given : List ℕ) (spot : CopySpot) → IsCopiedTo count fed given spot
         → IsCopier copier.old spot → (answer : CllAnswer) × (result ≡ code answer)
         × FeedsCopied count fed given spot bytes.now out.old answer out.new report.new copier.new }
+    ensures answers { IsCode result }
     ensures within { StaysWithin bytes.now out.old out.new report.new }
     ensures argument { IsNoCopier copier.old → (result ≡ code a.Argument) × (copier.new ≡ copier.old)
         × (out.new ≡ out.old) × Reports report.new 0 0 0 }
@@ -480,6 +484,7 @@ pub fn cll_copier_end(copier: &CllCopier, report: &mut CllReport) -> u32
     ensures ended { (count : ℕ) (fed given : List ℕ) (spot : CopySpot) → IsCopiedTo count fed given spot
         → IsCopier copier.now spot → (answer : CllAnswer) × (result ≡ code answer)
         × EndsCopied count fed given spot answer report.new }
+    ensures answers { IsCode result }
     ensures argument { IsNoCopier copier.now → (result ≡ code a.Argument) × Reports report.new 0 0 0 }
 {
     copier::end(copier, report).code()
@@ -521,6 +526,7 @@ pub fn cll_item_copier_feed(
         → IsItemCopiedTo strict depth fed given item elements → IsItemCopier copier.old item elements
         → (answer : CllAnswer) × (result ≡ code answer)
         × FeedsItem strict depth fed given item elements bytes.now out.old answer out.new report.new copier.new }
+    ensures answers { IsCode result }
     ensures within { StaysWithin bytes.now out.old out.new report.new }
     ensures argument { IsNoItemCopier copier.old → (result ≡ code a.Argument) × (copier.new ≡ copier.old)
         × (out.new ≡ out.old) × Reports report.new 0 0 0 }
@@ -534,6 +540,7 @@ pub fn cll_item_copier_end(copier: &CllItemCopier, report: &mut CllReport) -> u3
         → IsItemCopiedTo strict depth fed given item elements → IsItemCopier copier.now item elements
         → (answer : CllAnswer) × (result ≡ code answer)
         × EndsItem strict depth fed given item elements answer report.new }
+    ensures answers { IsCode result }
     ensures argument { IsNoItemCopier copier.now → (result ≡ code a.Argument) × Reports report.new 0 0 0 }
 {
     item_copier::end(copier, report).code()

@@ -8,7 +8,7 @@ abbrev pub invariant-items : goal.invariant-items
 invariant-items g l = record {
   count : ℕ;
   reads : ReadsItems g.R.Read l.depth count l.fn.decoder l.decoder;
-  lines : ShowsLines g.R.Read g.W.Write l.layout count (sides l.fn.decoder l.fn.writer) (sides l.decoder l.writer);
+  lines : ShowsLines g.R.Read g.W.Write l.fn.layout count (sides l.fn.decoder l.fn.writer) (sides l.decoder l.writer);
 }
 
 -- each item takes a byte
