@@ -310,6 +310,9 @@ uint32_t cll_item_copier_init_strict(cll_item_copier *copier, uint32_t depth);
  * goes on behind 2^64 - 1 bytes. CLL_ARGUMENT where no copier was set up there, or what stands there now is that of
  * none: nothing was taken or written, and nothing has changed. After CLL_OK and after a fault a further call takes and
  * writes nothing, and answers the same.
+ *
+ * Not all memory that was overwritten is found out by CLL_ARGUMENT. But whatever stands there, no call reads or writes
+ * beyond what it is given.
  */
 uint32_t cll_item_copier_feed(cll_item_copier *copier, const uint8_t *data, size_t len, uint8_t *out, size_t room,
     cll_report *report);
