@@ -13,9 +13,9 @@ use ciborium_ll_text::state::State;
 #[derive(Clone, Copy, Debug, PartialEq, Eq)]
 pub enum Fault {
     /// At this offset stands a title that is none or may not stand within its string, and for a strict checker also a
-    /// longer one, a simple value below 32 in two bytes, or an open within a string. Or a body is no text: of that it is
-    /// the offset of its title, or, where a whole string's title is longer than its shortest one, of the byte from which
-    /// the shortest would reach the body.
+    /// longer one, a simple value below 32 in two bytes, or an open within a string. Or a body is no text: of that it
+    /// is the offset of its title, or, where a whole string's title is longer than its shortest one, of the byte from
+    /// which the shortest would reach the body.
     Syntax(usize),
     /// At this offset a break stands where an item is due and none may end: outside of arrays and maps of indefinite
     /// length, or in place of a value in such a map.
