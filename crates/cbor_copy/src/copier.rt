@@ -589,7 +589,7 @@ impl Copier {
     }
 
     /// The copier that [`Copier::save`] made the numbers of, or none where they are those of no state. Not all memory
-    /// that was overwritten is found out so ([`Snapshot`]).
+    /// that was overwritten is found out so, as `Snapshot` says.
     pub fn restore(snapshot: &Snapshot) -> Option<Copier>
         ensures some { IfSome result (λ copier. Holds snapshot.now (spot_of copier)) }
         ensures same { (spot : Spot) → Holds snapshot.now spot → IsAt result spot }

@@ -293,7 +293,7 @@ impl ItemCopier {
 
     /// Becomes the copier that [`ItemCopier::save`] wrote, and says whether there was one. Where the numbers of the
     /// checker or those of the copier are of no state, it stays as it was. Not all memory that was overwritten is found
-    /// out so ([`Snapshot`]).
+    /// out so, as `Snapshot` says.
     #[inline(always)]
     pub fn load(&mut self, snapshot: &Snapshot) -> bool
         ensures some { result ≡ true → Holds snapshot.now (item_spot self.new) (kept_spot self.new) }

@@ -138,7 +138,7 @@ impl Checker {
     }
 
     /// Becomes the checker that [`Checker::save`] wrote, and says whether there is one. Where the numbers are those of
-    /// no state, it stays as it was. Not all memory that was overwritten is found out so ([`Snapshot`]).
+    /// no state, it stays as it was. Not all memory that was overwritten is found out so, as `Snapshot` says.
     #[inline(always)]
     pub fn load(&mut self, snapshot: &Snapshot) -> bool
         ensures some { result ≡ true → Holds snapshot.now (spot_of self.new) }
