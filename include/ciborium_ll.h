@@ -260,12 +260,12 @@ uint32_t cll_copier_init(cll_copier *copier, uint64_t count);
  * taken. CLL_SHORT where more is due: all of `data` was taken, and all is written that can be before more comes. Of a
  * title and of a character that are cut nothing is written. CLL_ROOM where `out` is full, and there is more to write:
  * what was not taken of `data` has to be given again, and where that is nothing, a call with no bytes writes the rest.
- * `written` is then `room`, so a call that has some room always gets on. CLL_SYNTAX where that many elements never begin as
- * the bytes so far do: it comes with the first byte of which that is so, in a text that is no UTF-8 with the byte that
- * goes wrong, and what was written is the spelling of what stands in front of the fault. CLL_TOO_LONG where the
- * elements go on behind 2^64 - 1 bytes. CLL_ARGUMENT where no copier was set up there, or what stands there now is that
- * of none: nothing was taken or written, and nothing has changed. After CLL_OK and after CLL_SYNTAX a further call
- * takes and writes nothing, and answers the same.
+ * `written` is then `room`, so a call that has some room always gets on. CLL_SYNTAX where that many elements never
+ * begin as the bytes so far do: it comes with the first byte of which that is so, which is taken, in a text that is no
+ * UTF-8 with the byte that goes wrong, and what was written is the spelling of what stands in front of the fault.
+ * CLL_TOO_LONG where the elements go on behind 2^64 - 1 bytes. CLL_ARGUMENT where no copier was set up there, or what
+ * stands there now is that of none: nothing was taken or written, and nothing has changed. After CLL_OK and after
+ * CLL_SYNTAX a further call takes and writes nothing, and answers the same.
  *
  * Not all memory that was overwritten is found out by CLL_ARGUMENT. But whatever stands there, no call reads or writes
  * beyond what it is given.
@@ -310,6 +310,9 @@ uint32_t cll_item_copier_init_strict(cll_item_copier *copier, uint32_t depth);
  * goes on behind 2^64 - 1 bytes. CLL_ARGUMENT where no copier was set up there, or what stands there now is that of
  * none: nothing was taken or written, and nothing has changed. After CLL_OK and after a fault a further call takes and
  * writes nothing, and answers the same.
+ *
+ * Not all memory that was overwritten is found out by CLL_ARGUMENT. But whatever stands there, no call reads or writes
+ * beyond what it is given.
  */
 uint32_t cll_item_copier_feed(cll_item_copier *copier, const uint8_t *data, size_t len, uint8_t *out, size_t room,
     cll_report *report);

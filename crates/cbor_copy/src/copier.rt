@@ -499,16 +499,17 @@ impl Copier {
     /// pending. Behind what was written `out` is as it was.
     ///
     /// Every title becomes the shortest one of its header. The bodies of a string of indefinite length stay the
-    /// segments that they were, in one string: strings within it lose their opens and breaks. Of a text whole
-    /// characters are written.
+    /// segments that they were, in one string: strings within it lose their opens and breaks. Of a title and of a
+    /// character that aren't whole nothing is written. Where `out` is full within one, the rest comes with the next
+    /// call.
     ///
     /// `More` says that all of the piece was taken, and all that can be written of the bytes so far is: where no more
     /// come, a copy of so many elements is short, with just this written, and some bytes more make so many elements.
     /// `Room` says that `out` is full, and there is more to write, and with that one of the other answers is so: the
     /// rest of the piece is to be given again. It never comes where nothing was pending and `out` has eight bytes more
-    /// than the piece. `Ended` says that so many elements came, and just their shortest
-    /// spelling is written, as `recode` writes it; what follows in the piece is not taken. `Syntax` says that no such
-    /// elements begin as the bytes so far do; it comes with the first byte of which that is so, and what is written is
+    /// than the piece. `Ended` says that so many elements came, and just their shortest spelling is written, as
+    /// `recode` writes it; what follows in the piece is not taken. `Syntax` says that no such elements begin as the
+    /// bytes so far do; it comes with the first byte of which that is so, which counts as taken, and what is written is
     /// what a copy writes that is at a fault of this place, with some bytes behind those so far. A later call takes and
     /// writes nothing, and answers the same. `TooLong` says that `usize::MAX` bytes came, and the elements go on; none
     /// of the others is taken; else it says what `More` does.
@@ -587,8 +588,8 @@ impl Copier {
         }
     }
 
-    /// The copier that [`Copier::save`] made the numbers of, or none where they are those of no copier: where memory was
-    /// overwritten, or never written.
+    /// The copier that [`Copier::save`] made the numbers of, or none where they are those of no state. Not all memory
+    /// that was overwritten is found out so, as `Snapshot` says.
     pub fn restore(snapshot: &Snapshot) -> Option<Copier>
         ensures some { IfSome result (λ copier. Holds snapshot.now (spot_of copier)) }
         ensures same { (spot : Spot) → Holds snapshot.now spot → IsAt result spot }

@@ -15,8 +15,9 @@ use ciborium_ll_titles::{LONGEST, are_begun};
 /// again. Which number means what is theirs; numbers that are all 0 are no state. It has no bytes between its fields
 /// and none behind them.
 ///
-/// What is saved is restored as it was: the numbers are those of one copier alone, which has come as far and has the
-/// same bytes to write. Of any other numbers none is made, whatever they are.
+/// What is saved is restored as it was. Numbers of no state are refused: those with a kind that there isn't, or with a
+/// number out of the few bounds that there are. So not all memory that was overwritten is found out: numbers that were
+/// changed into those of another state are taken for that, also where no bytes lead to it.
 #[derive(Drop)]
 #[repr(C)]
 pub struct Snapshot {

@@ -112,7 +112,8 @@ impl ItemCopier {
 
     /// A copier of an item that takes its shortest spelling alone (RFC 7049, 3.9): each title is the shortest of its
     /// header, no simple value from 24 to 31 stands there, and strings within an open one have a definite length. The
-    /// `depth` is that of [`ItemCopier::new`], and at most 256.
+    /// `depth` is that of [`ItemCopier::new`], and at most 256. Any other title is the fault that
+    /// [`Checker::strict`] names, with the same byte.
     pub fn strict(depth: usize) -> ItemCopier
         requires { depth ≤ 256 }
         ensures { IsItemCopied true depth [] [] result }
@@ -219,16 +220,17 @@ impl ItemCopier {
     /// input is cut into pieces, and how long the outputs are, changes nothing of what is written in all.
     ///
     /// Every title becomes the shortest one of its header. The bodies of a string of indefinite length stay the
-    /// segments that they were, in one string: strings within it lose their opens and breaks. Of a text whole
-    /// characters are written.
+    /// segments that they were, in one string: strings within it lose their opens and breaks. Of a title and of a
+    /// character that aren't whole nothing is written. Where `out` is full within one, the rest comes with the next
+    /// call.
     ///
     /// `More` says that all of the piece was taken, that all that can be written of the bytes so far is, and that at
     /// least so many bytes are due. `Room` says that `out` is full, and there is more to write: the rest of the piece
     /// is to be given again. `Ended` says that the item is whole, that it is written, and how many bytes of it came;
     /// what follows in the piece is not taken. `Fault` says that no item begins as the bytes so far do; it comes with
-    /// the first byte of which that is so, and what is written is the spelling of what came before that byte. A later
-    /// call takes and writes nothing, and answers the same. `TooLong` says that `usize::MAX` bytes came, and the item
-    /// goes on; none of the others is taken.
+    /// the first byte of which that is so, which counts as taken, and what is written is the spelling of what came
+    /// before that byte. A later call takes and writes nothing, and answers the same. `TooLong` says that `usize::MAX`
+    /// bytes came, and the item goes on; none of the others is taken.
     pub fn feed(&mut self, bytes: &[u8], out: &mut [u8]) -> Copied
         ensures taken { result.taken ≤ length bytes.now }
         ensures written { result.written ≤ length out.old }
@@ -289,8 +291,9 @@ impl ItemCopier {
         snapshot.copier = self.copier.save();
     }
 
-    /// Becomes the copier that [`ItemCopier::save`] wrote, and says whether there was one. Where the numbers are those of
-    /// no checker or of no copier, since memory was overwritten or never written, it stays as it was.
+    /// Becomes the copier that [`ItemCopier::save`] wrote, and says whether there was one. Where the numbers of the
+    /// checker or those of the copier are of no state, it stays as it was. Not all memory that was overwritten is found
+    /// out so, as `Snapshot` says.
     #[inline(always)]
     pub fn load(&mut self, snapshot: &Snapshot) -> bool
         ensures some { result ≡ true → Holds snapshot.now (item_spot self.new) (kept_spot self.new) }

@@ -12,6 +12,10 @@ use cbor_copy::Copier;
 /// [`ItemCopier::save`](crate::ItemCopier::save) writes it, and [`ItemCopier::restore`](crate::ItemCopier::restore)
 /// makes a copier of it again. Numbers that are all 0 are no state. It has no bytes between its fields and none behind
 /// them.
+///
+/// What is saved is restored as it was. The numbers of the checker and those of the copier are tested each by
+/// themselves, and not against each other. So not all memory that was overwritten is found out: those of two different
+/// saves are taken too.
 #[derive(Drop)]
 #[repr(C)]
 pub struct Snapshot {

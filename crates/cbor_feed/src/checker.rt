@@ -42,6 +42,9 @@ impl Checker {
     /// A checker of an item in its shortest spelling (RFC 7049, 3.9): each title is the shortest of its header, no
     /// simple value from 24 to 31 stands there, and strings within an open one have a definite length. The `depth` is
     /// that of [`Checker::new`], and at most 256.
+    ///
+    /// A longer title, such a value or an open within a string is a `Syntax` at the title's offset, which comes with
+    /// the first byte that shows it, as `19 00` does. But a nest too deep is `Deep`, whatever its title.
     #[inline(always)]
     pub fn strict(depth: usize) -> Checker
         requires { depth ≤ 256 }
@@ -100,8 +103,8 @@ impl Checker {
     /// How a list of bytes is cut into pieces changes nothing: fed some bytes and then a piece, a checker is as one
     /// that was fed both, joined. `More` says that at least so many bytes are due: the rest of a title or a body.
     /// `Ended` has the item's length. `Fault` says that no item begins as the bytes so far do; it comes with the first
-    /// byte of which that is so. `TooLong` says that `usize::MAX` bytes came, and the item goes on; none of the others
-    /// is taken.
+    /// byte of which that is so, which counts as taken. `TooLong` says that `usize::MAX` bytes came, and the item goes
+    /// on; none of the others is taken.
     #[inline(always)]
     pub fn feed(&mut self, bytes: &[u8]) -> Feed
         ensures taken { result.taken ≤ length bytes.now }
@@ -135,7 +138,7 @@ impl Checker {
     }
 
     /// Becomes the checker that [`Checker::save`] wrote, and says whether there is one. Where the numbers are those of
-    /// no checker, since memory was overwritten or never written, it stays as it was.
+    /// no state, it stays as it was. Not all memory that was overwritten is found out so, as `Snapshot` says.
     #[inline(always)]
     pub fn load(&mut self, snapshot: &Snapshot) -> bool
         ensures some { result ≡ true → Holds snapshot.now (spot_of self.new) }

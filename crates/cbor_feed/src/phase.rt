@@ -12,7 +12,8 @@ use ciborium_ll_text::state::State;
 /// title isn't the shortest: a strict checker names the nest. Laws of `cbor_feed_laws` say so.
 #[derive(Clone, Copy, Debug, PartialEq, Eq)]
 pub enum Fault {
-    /// A title that is none or may not stand within its string, at this offset; or a body that is no text. Of that it
+    /// At this offset stands a title that is none or may not stand within its string, and for a strict checker also a
+    /// longer one, a simple value below 32 in two bytes, or an open within a string. Or a body is no text: of that it
     /// is the offset of its title, or, where a whole string's title is longer than its shortest one, of the byte from
     /// which the shortest would reach the body.
     Syntax(usize),

@@ -20,8 +20,8 @@ pub enum Progress {
 /// The answer to a piece.
 #[derive(Clone, Copy, Debug, PartialEq, Eq)]
 pub struct Feed {
-    /// How many bytes of the piece were taken: all of them, or those up to the end of the item or up to the fault, or of
-    /// `TooLong` those that a `usize` still counts.
+    /// How many bytes of the piece were taken: all of them, or those up to the end of the item or up to and with the
+    /// byte at fault, or of `TooLong` those that a `usize` still counts.
     pub taken: usize,
     /// How far the item has come.
     pub progress: Progress,

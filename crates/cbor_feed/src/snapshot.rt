@@ -20,8 +20,9 @@ use ciborium_ll_titles::{LONGEST, are_begun};
 /// of it again. Which number means what is theirs; numbers that are all 0 are no state. It has no bytes between its
 /// fields and none behind them.
 ///
-/// What is saved is restored as it was: the numbers are those of one checker alone, which has come as far. Of any other
-/// numbers none is made, whatever they are.
+/// What is saved is restored as it was. Numbers of no state are refused: those with a kind that there isn't, or with a
+/// number out of the few bounds that there are. So not all memory that was overwritten is found out: numbers that were
+/// changed into those of another state are taken for that, also where no bytes lead to it.
 #[derive(Drop)]
 #[repr(C)]
 pub struct Snapshot {
@@ -81,7 +82,7 @@ impl Snapshot {
     /// Gives the checker that these numbers are of the next piece of its item. They become those of the checker behind
     /// that, just as [`Checker::restore`](crate::Checker::restore), [`Checker::feed`](crate::Checker::feed) and
     /// [`Checker::save`](crate::Checker::save) make them, but the numbers of nests are changed where they stand, and not
-    /// copied. Where they are those of no checker, there is no answer, and they stay as they were.
+    /// copied. Where they are those of no state, there is no answer, and they stay as they were.
     #[inline(always)]
     pub fn feed(&mut self, bytes: &[u8]) -> Option<Feed>
         ensures found { (spot : Spot) → Holds self.old spot → IsSome result }

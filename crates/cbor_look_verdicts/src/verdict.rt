@@ -54,7 +54,9 @@ pub enum Verdict {
         /// How many bytes they take.
         bytes: usize,
     },
-    /// The bytes at this offset are no CBOR that could stand there.
+    /// The bytes at this offset are no CBOR that could stand there. Of a body that is no text it is the offset of its
+    /// title, or, where a whole string's title is longer than its shortest one, of the byte from which the shortest
+    /// would reach the body.
     Syntax(usize),
     /// The input ends within an item. Up to this offset whole titles and pieces of bodies were read.
     Short(usize),

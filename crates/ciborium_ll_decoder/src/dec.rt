@@ -12,7 +12,9 @@ use ciborium_ll_io::io::{Failures, Read};
 pub enum Error<T> {
     /// The reader failed, and this is its error.
     Io(T),
-    /// The bytes at this offset are no CBOR that could stand there.
+    /// The bytes at this offset are no CBOR that could stand there. Of a body that is no text it is the offset of its
+    /// title, or, where a whole string's title is longer than its shortest one, of the byte from which the shortest
+    /// would reach the body.
     Syntax(usize),
     /// The offset would pass `usize::MAX`, or so many opens of a string of indefinite length stand within one another
     /// that they can't be counted.
@@ -137,8 +139,9 @@ impl<R: Read> Decoder<R> {
     ///
     /// The errors are `Syntax` with the offset of the title's start, for one of the 27 first bytes with which no title
     /// begins, and that byte is consumed; `Io` where the reader failed; and `TooLong` where the offset can't take the
-    /// next read. After the last two a first byte that was read stays consumed, and no more. Over a steady reader `Io`
-    /// says that the bytes end before a title or inside it.
+    /// next read. After the last two a first byte that was read stays consumed, and no more; of `Io` this is said over
+    /// a steady reader, and over any other one that no more than a byte is. Over a steady reader `Io` says that the
+    /// bytes end before a title or inside it.
     ///
     /// A strict decoder answers `Syntax` also for a title that isn't the shortest of its header, and for a simple value
     /// below 32 in two bytes. All of that title is then consumed. See [`Decoder::push`] and [`Decoder::strict`].
