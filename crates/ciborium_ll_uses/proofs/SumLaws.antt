@@ -1,5 +1,6 @@
 -- The loop over the integers of an array.
-use Rattle.std.proofs.Common.{ℕ, suc, ◌<◌, ℤ, pos, [], ◌++◌, Option, Result, Ok, Err, subst, sym, inr, arith}
+use Rattle.std.proofs.Common.{ℕ, suc, ◌<◌, ℤ, pos, [], ◌++◌, Option, Result, Ok, Err, true, false, subst, sym, inr}
+use Rattle.std.proofs.Common.{arith}
 use Rattle.ciborium_ll.specs.Types.Read.{Ghosts}
 use Rattle.ciborium_ll.specs.Types.Header.TheVariants as h
 use Rattle.ciborium_ll.specs.Types.Decoder.{Decoder}
@@ -8,7 +9,8 @@ use Rattle.ciborium_ll.proofs.DecodingLaws.{Passes-none, Passes-pull}
 use Rattle.ciborium_ll.proofs.NestLaws.{title_some}
 use Rattle.ciborium_ll_uses.specs.declared.sums.SumError.{SumError}
 use Rattle.ciborium_ll_uses.specs.declared.sums.SumError.TheVariants as s
-use Rattle.ciborium_ll_uses.specs.Sums.{HaveSum, none, more, AddsInteger, ReadsIntegers, SumsOrStops, SumsBehind}
+use Rattle.ciborium_ll_uses.specs.Sums.{HaveSum, none, more, AddsInteger, ReadsIntegers, StopsNext, SumsOrStops}
+use Rattle.ciborium_ll_uses.specs.Sums.{SumsBehind}
 
 module _ {R E : Type 0} (source : Ghosts R E) where
   pub reads_none : (old : Decoder R) → ReadsIntegers source old 0 (pos 0) old
@@ -29,6 +31,20 @@ module _ {R E : Type 0} (source : Ghosts R E) where
       → old.offset < new.offset
   adds_rises total sum old new adds =
       omega (arith, adds.pulled.offset, title_some adds.pulled.title adds.header adds.pulled.is_title)
+
+  -- what is no break is none where no break may end the array
+  pub stops_counted : (total : ℤ) (old new : Decoder R) (error : SumError E) → StopsNext source true total old error new
+      → StopsNext source false total old error new
+  stops_counted total old new (s.Read error) stops = stops
+  stops_counted total old new (s.NoArray at) stops = absurd stops
+  stops_counted total old new (s.NoNumber at) stops = record {
+    header = stops.header;
+    pulled = stops.pulled;
+    place = stops.place;
+    no_integer = stops.no_integer;
+    no_end = λ closable. absurd cc;
+  }
+  stops_counted total old new (s.OutOfRange at) stops = stops
 
   -- what is said of the integers is said of the array
   pub opens_array : (len : Option ℕ) (old opened new : Decoder R) (result : Result ℤ (SumError E))

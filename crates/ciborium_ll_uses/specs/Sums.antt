@@ -1,6 +1,6 @@
 -- The sum of an array of integers.
 use Rattle.std.specs.Prelude.{◌≡◌, ℕ, zero, suc, ◌<◌, ℤ, pos, negsuc, ◌+ℤ◌, FitsSigned, ◌⊎◌, List, [], ◌++◌, Option}
-use Rattle.std.specs.Prelude.{Some, None, Result, Ok, Err}
+use Rattle.std.specs.Prelude.{Bool, true, false, Some, None, Result, Ok, Err}
 use Rattle.std.specs.Int.{w64}
 use Rattle.ciborium_ll.specs.Types.Read.{Ghosts}
 use Rattle.ciborium_ll.specs.Types.Header.{Header}
@@ -16,6 +16,11 @@ abbrev pub IsInteger : Header → ℤ → Type 0
 IsInteger (h.Positive n) number = number ≡ pos n
 IsInteger (h.Negative n) number = number ≡ negsuc n
 IsInteger header number = ⊥
+
+-- whether a break may end the array with this header: it is of indefinite length (RFC 7049, 2.2.1)
+abbrev pub is_closable : Header → Bool
+is_closable (h.Array None) = true
+is_closable header = false
 
 -- `HaveSum count bytes total`: the bytes are titles of so many integers, and the total is their sum (RFC 7049, 2.1)
 pub data HaveSum : ℕ → List ℕ → ℤ → Type 0 where
@@ -34,12 +39,13 @@ module _ {R E : Type 0} (source : Ghosts R E) where
     pub is_integer : IsInteger header number
     pub sum-is : sum ≡ total +ℤ number
 
-  -- a header came that is no integer
-  pub record MeetsNoInteger (old : Decoder R) (at : ℕ) (new : Decoder R) : Type 0 where
+  -- a header came that is no integer, nor a break where one may end the array
+  pub record MeetsNoInteger (closable : Bool) (old : Decoder R) (at : ℕ) (new : Decoder R) : Type 0 where
     pub header : Header
     pub pulled : PullsTitle source old header new
     pub place : at ≡ old.offset
     pub no_integer : (number : ℤ) → IsInteger header number → ⊥
+    pub no_end : closable ≡ true → header ≡ h.Break → ⊥
 
   -- an integer came with which the sum is out of range
   pub record PassesRange (total : ℤ) (old : Decoder R) (at : ℕ) (new : Decoder R) : Type 0 where
@@ -50,18 +56,18 @@ module _ {R E : Type 0} (source : Ghosts R E) where
     pub is_integer : IsInteger header number
     pub no_room : FitsSigned w64 (total +ℤ number) → ⊥
 
-  -- no sum with one integer more
-  abbrev pub StopsNext : ℤ → Decoder R → SumError E → Decoder R → Type 0
-  StopsNext total old (s.Read error) new = PullsHeader source old (Err error) new
-  StopsNext total old (s.NoArray at) new = ⊥
-  StopsNext total old (s.NoNumber at) new = MeetsNoInteger old at new
-  StopsNext total old (s.OutOfRange at) new = PassesRange total old at new
+  -- no sum with one integer more, where a break may end the array or not
+  abbrev pub StopsNext : Bool → ℤ → Decoder R → SumError E → Decoder R → Type 0
+  StopsNext closable total old (s.Read error) new = PullsHeader source old (Err error) new
+  StopsNext closable total old (s.NoArray at) new = ⊥
+  StopsNext closable total old (s.NoNumber at) new = MeetsNoInteger closable old at new
+  StopsNext closable total old (s.OutOfRange at) new = PassesRange total old at new
 
   -- the sum with one integer more, or a break (RFC 7049, 2.1 and 2.2.1)
   abbrev pub AddsNext : ℤ → Decoder R → Result (Option ℤ) (SumError E) → Decoder R → Type 0
   AddsNext total old (Ok (Some sum)) new = AddsInteger total old sum new
   AddsNext total old (Ok None) new = PullsTitle source old h.Break new
-  AddsNext total old (Err error) new = StopsNext total old error new
+  AddsNext total old (Err error) new = StopsNext true total old error new
 
   -- ---- those of an array
 
@@ -97,7 +103,7 @@ module _ {R E : Type 0} (source : Ghosts R E) where
     pub between : Decoder R
     pub goes_on : ArrayGoesOn header count
     pub reads : ReadsIntegers old count total between
-    pub stops : StopsNext total between error new
+    pub stops : StopsNext (is_closable header) total between error new
 
   -- the sum of the integers behind the header of an array, by the answer
   abbrev pub SumsBehind : Header → Decoder R → Result ℤ (SumError E) → Decoder R → Type 0

@@ -5,7 +5,7 @@ use mir.Val.{SFits, to_z}
 use Rattle.std.proofs.lemmas.Int.{to_z-of_z}
 use Rattle.ciborium_ll.specs.Types.Header.TheVariants as h
 use Rattle.ciborium_ll.proofs.DecodingLaws.{MovesOn-none, MovesOn-then}
-use Rattle.ciborium_ll_uses.proofs.SumLaws.{reads_none, reads_more}
+use Rattle.ciborium_ll_uses.proofs.SumLaws.{reads_none, reads_more, stops_counted}
 use Rattle.ciborium_ll_uses.proofs.sums.sum_counted.Goals as goal
 
 pub numbers-init : goal.numbers-init
@@ -29,6 +29,7 @@ returns-in-None-clause-sums g c =
         pulled = pulled;
         place = c.offset-place.ensures.value;
         no_integer = λ number is. is;
+        no_end = λ closable. absurd cc;
       };
     }
 
@@ -44,7 +45,8 @@ returns-in_err-sum-clause-sums g c =
       between = c.numbers.decoder;
       goes_on = omega (arith, c.numbers-test.true);
       reads = c.numbers.invariant.reads;
-      stops = rw c.offset-place.ensures.same at c.in_err-sum.ensures.adds;
+      stops = stops_counted g.R.Read (to_z w64 c.numbers.total-bits) c.numbers.decoder c.next_sum.new.decoder
+          c.in_err-sum.field-0.0 (rw c.offset-place.ensures.same at c.in_err-sum.ensures.adds);
     })
 
 pub numbers-preserved : goal.numbers-preserved
