@@ -110,6 +110,10 @@ rest_none xs rest n split all =
     let lengths = ap length split in
     no_bytes rest (omega (arith, lengths, length-append (take n xs) rest, length-take-le n xs (omega arith)))
 
+-- where nothing is left, all is in front of it
+pub all_gone : (xs rest : List ℕ) → rest ≡ [] → (front : List ℕ) × (xs ≡ front ++ rest)
+all_gone xs rest none = (xs, sym (ap (λ l. xs ++ l) none ∙ append-nil xs))
+
 -- with nothing held, the writer within takes bytes
 pub append_known-sent : (a b : Option (List ℕ)) (held bs : List ℕ) → held ≡ [] → Appends a b bs
     → Appends (append_known a held) (append_known b held) bs

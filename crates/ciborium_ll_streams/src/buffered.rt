@@ -3,7 +3,7 @@
 //! An `io::Error` has many bytes, and each function that hands one on clears and copies them. So a fault is kept aside
 //! here, and the call answers only that there is one. What the lent slice holds is moved without a call of std.
 
-ghost use Rattle.std.specs.Prelude.{◌≡◌, ◌+◌, ◌≤◌, ◌<◌, None, Some, IsTrue, IsOk, IsSome};
+ghost use Rattle.std.specs.Prelude.{◌≡◌, ◌+◌, ◌≤◌, ◌<◌, ◌++◌, None, Some, IsTrue, IsOk, IsSome};
 ghost use Rattle.std.specs.Prelude.{IfSome, IfOk, OnOk, OnErr, [], length, take};
 ghost use Rattle.std.specs.Io.KnownBytes.{Appends, Consumes, IsAtEnd, Keeps};
 ghost use Rattle.std.proofs.Common.{rules};
@@ -188,7 +188,7 @@ impl<'a, T: io::Read> Read for BufferedReader<'a, T> {
 
     ghost steady_is_told = { λ _ h. Prim.search rules };
 
-    /// Fills the whole of `data` from what was read ahead, else by as many single calls of `read` as that takes.
+    /// Fills the whole of `data` from the front of what was read ahead, else by as many single calls of `read` as that takes.
     ///
     /// After an error the fault is kept: `End` where a call moved no byte, behind which none that is told is left, and
     /// `Failed` where a call failed. The bytes that came before it then stand at the front of `data`, and are fewer
@@ -208,7 +208,8 @@ impl<'a, T: io::Read> Read for BufferedReader<'a, T> {
 
         // The reader's own.
         ensures within { length «data».old ≤ length (buffered_read_ahead self.old)
-            → IsOk result × (buffered_source self.new ≡ buffered_source self.old) }
+            → IsOk result × (buffered_source self.new ≡ buffered_source self.old)
+            × (buffered_read_ahead self.old ≡ «data».new ++ buffered_read_ahead self.new) }
         ensures part { OnErr result
             (ConsumesPart (buffered_ahead T.remaining self.old) (buffered_ahead T.remaining self.new) «data».new) }
         ensures same { OnOk result (buffered_read_fault self.new ≡ buffered_read_fault self.old) }
@@ -238,13 +239,16 @@ pub struct BufferedWriter<'a, T> {
 }
 
 impl<'a, T: io::Write> BufferedWriter<'a, T> {
-    ghost use Rattle.ciborium_ll_streams.specs.Buffers.{buffered_kept_back, buffered_sink, buffered_write_failures};
+    ghost use Rattle.ciborium_ll_streams.specs.Buffers.{KeepsAlone, KeepsRest, buffered_capacity, buffered_kept_back};
+    ghost use Rattle.ciborium_ll_streams.specs.Buffers.{buffered_sink, buffered_space, buffered_write_failures};
     ghost use Rattle.ciborium_ll_streams.specs.Buffers.{buffered_write_fault, buffered_written};
 
-    /// A writer behind all that was written within. Nothing is kept back yet.
+    /// A writer behind all that was written within. Nothing is kept back yet, and the whole slice is space.
     pub fn new(sink: T, buffer: &'a mut [u8]) -> BufferedWriter<'a, T>
         ensures sink { buffered_sink result ≡ sink }
         ensures kept_back { buffered_kept_back result ≡ [] }
+        ensures space { buffered_space result ≡ length buffer.old }
+        ensures capacity { buffered_capacity result ≡ length buffer.old }
         ensures written { buffered_written T.contents result ≡ T.contents sink }
         ensures fault { buffered_write_fault result ≡ None }
         ensures failures { buffered_write_failures result ≡ 0 }
@@ -270,6 +274,8 @@ impl<'a, T: io::Write> BufferedWriter<'a, T> {
         ensures none { buffered_write_fault self.new ≡ None }
         ensures sink { buffered_sink self.new ≡ buffered_sink self.old }
         ensures kept_back { buffered_kept_back self.new ≡ buffered_kept_back self.old }
+        ensures space { buffered_space self.new ≡ buffered_space self.old }
+        ensures capacity { buffered_capacity self.new ≡ buffered_capacity self.old }
         ensures written { buffered_written T.contents self.new ≡ buffered_written T.contents self.old }
         ensures failures { buffered_write_failures self.new ≡ buffered_write_failures self.old }
     {
@@ -301,13 +307,16 @@ impl<'a, T: io::Write> BufferedWriter<'a, T> {
             (Appends (buffered_written T.contents self.old) (buffered_written T.contents self.new) «data».now) }
         ensures part { OnErr result
             (AppendsPart (buffered_written T.contents self.old) (buffered_written T.contents self.new) «data».now) }
+        ensures alone { OnOk result (KeepsAlone «data».now self.new) }
+        ensures rest { OnErr result (KeepsRest self.old self.new) }
         ensures ok { OnOk result (buffered_write_failures self.new ≡ buffered_write_failures self.old) }
         ensures err { OnErr result (buffered_write_failures self.new ≡ buffered_write_failures self.old + 1) }
+        ensures capacity { buffered_capacity self.new ≡ buffered_capacity self.old }
         ensures same { OnOk result (buffered_write_fault self.new ≡ buffered_write_fault self.old) }
         ensures fault { OnErr result (IsSome (buffered_write_fault self.new)) }
     {
         self.send()?;
-        if data.len() <= self.window.room() {
+        if data.len() <= self.window.capacity() {
             self.window.put(data);
             return Ok(());
         }
@@ -321,6 +330,9 @@ impl<'a, T: io::Write> BufferedWriter<'a, T> {
     fn send(&mut self) -> Result<(), FaultKept>
         ensures bytes { Keeps (buffered_written T.contents self.old) (buffered_written T.contents self.new) }
         ensures empty { OnOk result (buffered_kept_back self.new ≡ []) }
+        ensures whole { OnOk result (buffered_space self.new ≡ buffered_capacity self.new) }
+        ensures rest { OnErr result (KeepsRest self.old self.new) }
+        ensures capacity { buffered_capacity self.new ≡ buffered_capacity self.old }
         ensures ok { OnOk result (buffered_write_failures self.new ≡ buffered_write_failures self.old) }
         ensures err { OnErr result (buffered_write_failures self.new ≡ buffered_write_failures self.old + 1) }
         ensures same { OnOk result (buffered_write_fault self.new ≡ buffered_write_fault self.old) }
@@ -342,6 +354,8 @@ impl<'a, T: io::Write> BufferedWriter<'a, T> {
         ensures kept { buffered_write_fault self.new ≡ Some fault }
         ensures written { buffered_written T.contents self.new ≡ buffered_written T.contents self.old }
         ensures kept_back { buffered_kept_back self.new ≡ buffered_kept_back self.old }
+        ensures space { buffered_space self.new ≡ buffered_space self.old }
+        ensures capacity { buffered_capacity self.new ≡ buffered_capacity self.old }
         ensures failures { buffered_write_failures self.new ≡ buffered_write_failures self.old + 1 }
     {
         self.failures.raise();
@@ -351,7 +365,8 @@ impl<'a, T: io::Write> BufferedWriter<'a, T> {
 }
 
 impl<'a, T: io::Write> Write for BufferedWriter<'a, T> {
-    ghost use Rattle.ciborium_ll_streams.specs.Buffers.{buffered_kept_back, buffered_room, buffered_sink};
+    ghost use Rattle.ciborium_ll_streams.specs.Buffers.{KeepsAlone, KeepsBack, KeepsRest, buffered_capacity};
+    ghost use Rattle.ciborium_ll_streams.specs.Buffers.{buffered_kept_back, buffered_room, buffered_sink, buffered_space};
     ghost use Rattle.ciborium_ll_streams.specs.Buffers.{buffered_write_failures, buffered_write_fault, buffered_written};
 
     type Error = FaultKept;
@@ -367,11 +382,13 @@ impl<'a, T: io::Write> Write for BufferedWriter<'a, T> {
 
     ghost target = { λ _. None };
 
-    /// Keeps the whole of `data` back, or writes what was kept back first and then `data`.
+    /// Keeps the whole of `data` back, by no call of the writer within, where the slice has space for it behind what it
+    /// holds. Else it writes what was kept back first, and then keeps `data` back where the whole slice has room for
+    /// it, or writes it.
     ///
     /// After an error the fault is kept: `Zero` where a call moved no byte, and `Failed` where a call failed. A
-    /// beginning of `data` was then written or kept back, and not the whole of it. What was kept back before is lost
-    /// by no failure.
+    /// beginning of `data` was then written, and not the whole of it. What was kept back before is lost by no failure:
+    /// what could not be written is kept back still.
     #[inline(always)]
     fn write_all(&mut self, data: &[u8]) -> Result<(), FaultKept>
         // The trait's.
@@ -386,8 +403,13 @@ impl<'a, T: io::Write> Write for BufferedWriter<'a, T> {
 
         // The writer's own.
         ensures empty { length «data».now ≡ 0 → IsOk result × (buffered_sink self.new ≡ buffered_sink self.old) }
+        ensures within { length «data».now ≤ buffered_space self.old
+            → IsOk result × KeepsBack self.old «data».now self.new }
+        ensures beyond { OnOk result (buffered_space self.old < length «data».now → KeepsAlone «data».now self.new) }
         ensures part { OnErr result
             (AppendsPart (buffered_written T.contents self.old) (buffered_written T.contents self.new) «data».now) }
+        ensures rest { OnErr result (KeepsRest self.old self.new) }
+        ensures capacity { buffered_capacity self.new ≡ buffered_capacity self.old }
         ensures same { OnOk result (buffered_write_fault self.new ≡ buffered_write_fault self.old) }
         ensures fault { OnErr result (IsSome (buffered_write_fault self.new)) }
     {
@@ -398,7 +420,7 @@ impl<'a, T: io::Write> Write for BufferedWriter<'a, T> {
         self.write_on(data)
     }
 
-    /// Writes what was kept back, and flushes the writer within.
+    /// Writes what was kept back, and flushes the writer within. The whole slice is space then.
     ///
     /// After an error the fault is kept. What could not be written is kept back still.
     fn flush(&mut self) -> Result<(), FaultKept>
@@ -414,6 +436,9 @@ impl<'a, T: io::Write> Write for BufferedWriter<'a, T> {
         // The writer's own.
         ensures keeps { Keeps (buffered_written T.contents self.old) (buffered_written T.contents self.new) }
         ensures sent { OnOk result (buffered_kept_back self.new ≡ []) }
+        ensures whole { OnOk result (buffered_space self.new ≡ buffered_capacity self.new) }
+        ensures rest { OnErr result (KeepsRest self.old self.new) }
+        ensures capacity { buffered_capacity self.new ≡ buffered_capacity self.old }
         ensures same { OnOk result (buffered_write_fault self.new ≡ buffered_write_fault self.old) }
         ensures fault { OnErr result (IsSome (buffered_write_fault self.new)) }
     {

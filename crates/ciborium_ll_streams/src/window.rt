@@ -1,6 +1,6 @@
 //! Bytes that wait in a part of a slice.
 
-ghost use Rattle.std.specs.Prelude.{◌≡◌, ◌-◌, ◌≤◌, ◌<◌, ◌++◌, [], IfOk, OnErr, length, take};
+ghost use Rattle.std.specs.Prelude.{◌≡◌, ◌+◌, ◌≤◌, ◌<◌, ◌++◌, [], IfOk, OnErr, length, take};
 ghost use Rattle.std.specs.Io.KnownBytes.{Consumes, IsAtEnd, Keeps};
 
 use ciborium_ll_io::io::copy_chunk;
@@ -17,11 +17,13 @@ pub(super) struct Window<'a> {
 }
 
 impl<'a> Window<'a> {
-    ghost use Rattle.ciborium_ll_streams.specs.Buffers.{held};
+    ghost use Rattle.ciborium_ll_streams.specs.Buffers.{held, window_capacity, window_room};
 
     /// A window that holds nothing, and has the whole slice as its space.
     pub(super) fn new(space: &'a mut [u8]) -> Window<'a>
-        ensures { held result ≡ [] }
+        ensures held { held result ≡ [] }
+        ensures room { window_room result ≡ length space.old }
+        ensures capacity { window_capacity result ≡ length space.old }
     {
         Window {
             space,
@@ -56,7 +58,7 @@ impl<'a> Window<'a> {
 
     /// How many bytes the space has.
     pub(super) fn capacity(&self) -> usize
-        ensures { result ≡ length self.now.space.now }
+        ensures { result ≡ window_capacity self.now }
     {
         self.space.len()
     }
@@ -64,7 +66,7 @@ impl<'a> Window<'a> {
     /// How many bytes fit behind those that are held.
     #[inline(always)]
     pub(super) fn room(&self) -> usize
-        ensures { result ≡ length self.now.space.now - self.now.end }
+        ensures { result ≡ window_room self.now }
     {
         self.space.len() - self.end
     }
@@ -79,11 +81,13 @@ impl<'a> Window<'a> {
         self.skip(data.len());
     }
 
-    /// Gives up bytes at the front.
+    /// Gives up bytes at the front, which makes no more room.
     #[inline(always)]
     pub(super) fn skip(&mut self, count: usize)
         requires { count ≤ length (held self.old) }
-        ensures { held self.old ≡ take count (held self.old) ++ held self.new }
+        ensures held { held self.old ≡ take count (held self.old) ++ held self.new }
+        ensures room { window_room self.new ≡ window_room self.old }
+        ensures capacity { window_capacity self.new ≡ window_capacity self.old }
     {
         self.start += count;
     }
@@ -91,8 +95,10 @@ impl<'a> Window<'a> {
     /// Puts bytes behind those that are held.
     #[inline(always)]
     pub(super) fn put(&mut self, data: &[u8])
-        requires { length «data».now ≤ length self.old.space.now - self.old.end }
-        ensures { held self.new ≡ held self.old ++ «data».now }
+        requires { length «data».now ≤ window_room self.old }
+        ensures held { held self.new ≡ held self.old ++ «data».now }
+        ensures room { window_room self.old ≡ window_room self.new + length «data».now }
+        ensures capacity { window_capacity self.new ≡ window_capacity self.old }
     {
         let end = self.end + data.len();
         copy_chunk(&mut self.space[self.end..end], data);
@@ -103,8 +109,8 @@ impl<'a> Window<'a> {
     pub(super) fn restart(&mut self)
         requires { held self.old ≡ [] }
         ensures held { held self.new ≡ [] }
-        ensures room { self.new.end ≡ 0 }
-        ensures space { length self.new.space.now ≡ length self.old.space.now }
+        ensures room { window_room self.new ≡ window_capacity self.new }
+        ensures capacity { window_capacity self.new ≡ window_capacity self.old }
     {
         self.start = 0;
         self.end = 0;
@@ -113,7 +119,7 @@ impl<'a> Window<'a> {
     /// Reads once, where nothing is held. It tells how many bytes there are now, none only at the end.
     pub(super) fn fill<R: io::Read>(&mut self, from: &mut R) -> io::Result<usize>
         requires held { held self.old ≡ [] }
-        requires space { 0 < length self.old.space.now }
+        requires capacity { 0 < window_capacity self.old }
         ensures count { IfOk result (λ n. n ≡ length (held self.new)) }
         ensures bytes { IfOk result (λ _. Consumes (R.remaining from.old) (R.remaining from.new) (held self.new)) }
         ensures end { IfOk result (λ n. n ≡ 0 → IsAtEnd (R.remaining from.new)) }

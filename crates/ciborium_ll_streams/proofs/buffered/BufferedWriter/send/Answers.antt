@@ -9,17 +9,17 @@ restart-requires g c =
     let waiting = held c.args.self.now.window in
     let sent = c.write_calls-count.result.0 in
     let all = rw c.in-Ok.is at c.write_calls-count.ensures.ok in
-    rest_none waiting _ sent c.skip.ensures (all ∙ ap length c.held.ensures)
+    rest_none waiting _ sent c.skip.ensures.held (all ∙ ap length c.held.ensures)
 
 pub returns-in-Ok-clause-bytes : goal.returns-in-Ok-clause-bytes
 returns-in-Ok-clause-bytes g c =
     let waiting = held c.args.self.now.window in
     let sent = c.write_calls-count.result.0 in
     let all = rw c.in-Ok.is at c.write_calls-count.ensures.ok in
-    let none = rest_none waiting _ sent c.skip.ensures (all ∙ ap length c.held.ensures) in
+    let none = rest_none waiting _ sent c.skip.ensures.held (all ∙ ap length c.held.ensures) in
     append_known-moved _ _ (take sent waiting) _ waiting (rw c.held.ensures at c.write_calls-count.ensures.bytes)
-    (c.skip.ensures ∙ ap (λ l. take sent waiting ++ l) (none ∙ sym c.restart.ensures.held))
+    (c.skip.ensures.held ∙ ap (λ l. take sent waiting ++ l) (none ∙ sym c.restart.ensures.held))
 
 pub returns-in-Err-clause-bytes : goal.returns-in-Err-clause-bytes
 returns-in-Err-clause-bytes g c = rw c.failed.ensures.written (append_known-moved _ _ _ _ _
-    (rw c.held.ensures at c.write_calls-count.ensures.bytes) c.skip.ensures)
+    (rw c.held.ensures at c.write_calls-count.ensures.bytes) c.skip.ensures.held)
