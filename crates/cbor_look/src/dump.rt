@@ -37,8 +37,12 @@ pub enum DumpError<E, W> {
 /// Shows a sequence of items (RFC 8742) in rows, up to an end, with tags, arrays and maps nested at most `depth` levels
 /// deep. The depth is at most 256. A strict dump takes the shortest spelling alone.
 ///
-/// `Ok` has what the reader answered where a further item would begin. Before an error all that was read is shown; the
-/// last row has the bytes at fault, where some were read. Nothing is read ahead of the rows, and no memory is taken.
+/// `Ok` has what the reader answered where a further item would begin. Before an error all that was read is shown.
+/// Nothing is read ahead of the rows, and no memory is taken.
+///
+/// No row means a fault but the last one before an error. Where bytes are no item (`Error::Syntax`) that one does, and
+/// where a read stopped for another reason it may. A break where none may stand, and the title of a nest too deep, are
+/// shown as what they are.
 ///
 /// Each row stands at its level, and has the offset of its first byte. The level of a title is the number of tags,
 /// arrays, maps and opens that it stands within in the grammar, and a break that closes one has the level of its title;

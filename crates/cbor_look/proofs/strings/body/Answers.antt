@@ -1,7 +1,7 @@
 use Rattle.std.proofs.Common.{[], ◌++◌, arith}
 use Rattle.cbor_look.specs.Takings.{taken_bytes}
 use Rattle.cbor_look.specs.StringRows.{kind_of}
-use Rattle.cbor_look.proofs.DumpLaws.{not_taken, shows_none}
+use Rattle.cbor_look.proofs.DumpLaws.{fault_ends, not_taken, shows_none}
 use Rattle.ciborium_ll.proofs.DecodingLaws.{exit_is, Passes-none}
 use Rattle.cbor_look.proofs.StringLaws.{taken_all, part_fails, part_shown, writable_none, body_stops}
 use Rattle.cbor_look.proofs.PullLaws.{passes_idle}
@@ -31,7 +31,9 @@ returns-in-Err g c = record {
         bytes = so_far.front ++ row;
         shows = part_fails g.R.Read depth start opens nests outer title (kind_of c.args.kind) c.args.len c.rows.left
             c.args.level c.offset-offset.result _ _ _ row _ _ _ (record { due = due; is_title = p; below = level }) at
-            so_far takes c.read_part.ensures.most c.offset-offset.ensures.value (c.fault.ensures.draws all);
+            so_far takes c.read_part.ensures.most c.offset-offset.ensures.value (c.fault.ensures.draws all)
+            (fault_ends c.in-Err.error c.fault.result c.args.level c.offset-offset.result row c.fault.ensures.says all
+            ((rw c.in-Err.is at c.read_part.ensures.fault) c.rows-test.true));
         whole = tt;
         passed = λ alike. tt;
         stops = λ alike.
