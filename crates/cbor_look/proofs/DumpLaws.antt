@@ -3,7 +3,7 @@ use Rattle.std.proofs.Common.{◌≡◌, ℕ, ◌+◌, List, [], ◌∷◌, ◌+
 use Rattle.std.proofs.Common.{append_assoc, append-nil, inl, inr, arith}
 use Rattle.ciborium_ll.specs.Types.Read.{Ghosts}
 use Rattle.ciborium_ll.specs.Types.Decoder.{Decoder}
-use Rattle.cbor_look.specs.Levels.{Line, bytes_of, Stands, AllStand}
+use Rattle.cbor_look.specs.Levels.{Line, bytes_of, IsFilled, Stands, AllStand}
 use Rattle.cbor_look.specs.Endings.{IsMeant, AreMeant, EndAtFault, Ending, Meant, AtFault, Either, EndAs}
 use Rattle.cbor_look.specs.Endings.{ending_before}
 use Rattle.ciborium_ll.specs.Types.Error.{Error}
@@ -47,7 +47,8 @@ stand_then depth start before [] second a b =
 stand_then depth start before (line ∷ first) second a b = (
   a.0,
   a.1,
-  stand_then depth start (before ++ line.bytes) first second a.2
+  a.2,
+  stand_then depth start (before ++ line.bytes) first second a.3
       (subst (λ (z : List ℕ). AllStand depth start z second)
       (sym (append_assoc before line.bytes (bytes_of first))) b),
 )
@@ -122,12 +123,12 @@ lines_then {how} depth start old middle new before first second a b = record {
 
 -- one line
 pub lines_one : {how : Ending} (depth start : ℕ) (old new : Option (List Line)) (before : List ℕ) (line : Line)
-    → Draws old new (line ∷ []) → line.offset ≡ start + length before → Stands depth before line.meaning line
-    → EndAs how (line ∷ []) → Lines depth start old new before line.bytes how
-lines_one depth start old new before line drawn offset stands ends = record {
+    → Draws old new (line ∷ []) → line.offset ≡ start + length before → IsFilled line.bytes
+    → Stands depth before line.meaning line → EndAs how (line ∷ []) → Lines depth start old new before line.bytes how
+lines_one depth start old new before line drawn offset filled stands ends = record {
   lines = line ∷ [];
   drawn = drawn;
-  stand = (offset, stands, tt);
+  stand = (offset, filled, stands, tt);
   joined = append-nil line.bytes;
   ends = ends;
 }

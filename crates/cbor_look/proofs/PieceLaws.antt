@@ -26,13 +26,14 @@ use Rattle.ciborium_ll.specs.Elements.{AreWritable}
 use Rattle.ciborium_ll.proofs.ElementLaws.{AreWritable-append}
 use Rattle.cbor_look.specs.declared.rows.Meaning.TheVariants as m
 use Rattle.cbor_look.specs.Takings.{IsAlike, most_bytes, Takes}
-use Rattle.cbor_look.specs.Levels.{Line, Nest, StandsWithin, AreOpen, none, more, TitleDue, title_level}
+use Rattle.cbor_look.specs.Levels.{IsWithinTitle, Line, Nest, StandsWithin, AreOpen, none, more, TitleDue, title_level}
 use Rattle.cbor_look.specs.Dumps.{Draws, fault_lines, SaysFault, Shows}
 use Rattle.cbor_look.specs.Endings.{Ending, Meant, EndAs}
 use Rattle.cbor_look.specs.StringRows.{EndsString, IsPart, StopsRest}
 use Rattle.cbor_look.specs.declared.strings.Part.{Part}
 use Rattle.cbor_look.specs.declared.strings.Part.TheVariants as p
 use Rattle.cbor_look.proofs.DumpLaws.{shows_none, shows_then}
+use Rattle.cbor_look.proofs.RowLaws.{within_few}
 use Rattle.cbor_look.proofs.TitleLaws.{title_line, break_bytes}
 use Rattle.cbor_look.proofs.StringLaws.{lines_fault, next_offset, add_string, add_open, close_inner, close_last}
 use Rattle.cbor_look.proofs.StringLaws.{not_open, taken_any, taken_none, taken_then}
@@ -153,15 +154,21 @@ module _ {R E : Type 0} (source : Ghosts R E) where
     -- what was read before a fault
     pub within_fails : {how : Ending} (then_drawn : Option (List Line)) (row : List ℕ) (offset : ℕ) (new : Decoder R)
         → Takes source between row new → offset ≡ between.offset
-        → Draws middle then_drawn (fault_lines inner offset row) → EndAs how (fault_lines inner offset row)
+        → Draws middle then_drawn (fault_lines inner offset row) → IsWithinTitle row
+        → EndAs how (fault_lines inner offset row)
         → Shows source depth start drawn then_drawn (items ++ title) (so_far.bytes ++ row) how old new
-    within_fails then_drawn row offset new takes at drawn_fault ends =
+    within_fails then_drawn row offset new takes at drawn_fault within ends =
         shows_then source depth start drawn middle then_drawn (items ++ title) so_far.bytes row old between new
         so_far.shows (record {
           lines = lines_fault depth start middle then_drawn ((items ++ title) ++ so_far.bytes) inner offset row
               drawn_fault (at ∙ here)
-              (inl (record { nests = nests; opens = suc so_far.opens; due = due_within; level = so_far.level }))
-              ends;
+              (inl (record {
+                nests = nests;
+                opens = suc so_far.opens;
+                due = due_within;
+                no_more = within;
+                level = so_far.level;
+              })) (within_few row within) ends;
           takes = takes;
         })
 

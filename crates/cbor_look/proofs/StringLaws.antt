@@ -25,7 +25,7 @@ use Rattle.cbor_look.specs.declared.rows.Meaning.TheVariants as m
 use Rattle.cbor_look.specs.declared.strings.Kind.{Kind as CodeKind}
 use Rattle.cbor_look.specs.declared.strings.Kind.TheVariants as k
 use Rattle.cbor_look.specs.Takings.{most_bytes, Takes, Keeps}
-use Rattle.cbor_look.specs.Levels.{Line, Nest, AreOpen, none, more, TitleDue, HasBody, Stands}
+use Rattle.cbor_look.specs.Levels.{Line, Nest, AreOpen, none, more, TitleDue, HasBody, IsFilled, Stands}
 use Rattle.cbor_look.specs.Dumps.{Draws, fault_lines, Lines, SaysFault, Shows}
 use Rattle.cbor_look.specs.Endings.{Ending, IsMeant, Meant, EndAs}
 use Rattle.cbor_look.specs.StringRows.{EndsString, StopsRest, kind_of, meaning_of}
@@ -37,11 +37,12 @@ use Rattle.cbor_look.proofs.PullLaws.{passes_idle}
 pub lines_fault : {how : Ending} (depth start : ℕ) (old new : Option (List Line)) (before : List ℕ) (level offset : ℕ)
     (bytes : List ℕ) → Draws old new (fault_lines level offset bytes) → offset ≡ start + length before
     → Stands depth before m.Fault (record { level = level; offset = offset; bytes = bytes; meaning = m.Fault })
-    → EndAs how (fault_lines level offset bytes) → Lines depth start old new before bytes how
-lines_fault depth start old new before level offset [] drawn at stands ends =
+    → length bytes ≤ most_bytes → EndAs how (fault_lines level offset bytes)
+    → Lines depth start old new before bytes how
+lines_fault depth start old new before level offset [] drawn at stands few ends =
     record { lines = []; drawn = drawn; stand = tt; joined = refl; ends = ends }
-lines_fault depth start old new before level offset (byte ∷ bytes) drawn at stands ends =
-    lines_one depth start old new before _ drawn at stands ends
+lines_fault depth start old new before level offset (byte ∷ bytes) drawn at stands few ends =
+    lines_one depth start old new before _ drawn at (omega arith, few) stands ends
 
 -- ---- bodies
 
@@ -121,10 +122,11 @@ module _ {R E : Type 0} (source : Ghosts R E) where
       → old.offset ≡ start + length (outer ++ title)
       → (so_far : SoFar depth start drawn middle (outer ++ title) kind len left old between)
       → Takes source between bytes new → length bytes ≤ left → offset ≡ between.offset
-      → Draws middle then_drawn (fault_lines level offset bytes) → EndAs how (fault_lines level offset bytes)
+      → Draws middle then_drawn (fault_lines level offset bytes) → length bytes ≤ most_bytes
+      → EndAs how (fault_lines level offset bytes)
       → Shows source depth start drawn then_drawn (outer ++ title) (so_far.front ++ bytes) how old new
   part_fails depth start opens nests outer title kind len left level offset drawn middle then_drawn bytes old between
-      new at begun so_far takes few here drawn_fault ends =
+      new at begun so_far takes few here drawn_fault fit ends =
       let counted = so_far.counted in
       shows_then source depth start drawn middle then_drawn (outer ++ title) so_far.front bytes old between new
       so_far.shows (record {
@@ -135,7 +137,7 @@ module _ {R E : Type 0} (source : Ghosts R E) where
               kind,
               body_here depth opens nests outer title kind len level at so_far.front bytes
                   (omega (arith, counted, few)) offset m.Fault,
-            )) ends;
+            )) fit ends;
         takes = takes;
       })
 
@@ -147,10 +149,10 @@ module _ {R E : Type 0} (source : Ghosts R E) where
       → Takes source between bytes new → length bytes ≤ left → offset ≡ between.offset
       → IsWritable (kind_of kind) bytes → (between.waiting ≡ None → Passes source between bytes new)
       → Draws middle then_drawn (record { level = level; offset = offset; bytes = bytes; meaning = meaning_of kind } ∷
-      [])
+      []) → IsFilled bytes
       → SoFar depth start drawn then_drawn (outer ++ title) (kind_of kind) len (left - length bytes) old new
   part_shown depth start opens nests outer title kind len left level offset drawn middle then_drawn bytes old between
-      new at begun so_far takes few here written went drawn_line =
+      new at begun so_far takes few here written went drawn_line filled =
       let counted = so_far.counted in
       let fits : length so_far.front + length bytes ≤ len = omega (arith, counted, few) in
       record {
@@ -159,7 +161,7 @@ module _ {R E : Type 0} (source : Ghosts R E) where
             new so_far.shows (record {
               lines = lines_one depth start middle then_drawn ((outer ++ title) ++ so_far.front) _ drawn_line
                   (here ∙ next_offset depth start drawn middle (outer ++ title) so_far.front old between so_far.shows
-                  begun)
+                  begun) filled
                   (part_stands kind depth ((outer ++ title) ++ so_far.front) _
                   (body_here depth opens nests outer title (kind_of kind) len level at so_far.front bytes fits offset
                   (meaning_of kind)) written) (part_meant kind, tt);

@@ -17,7 +17,7 @@ use Rattle.cbor_look.specs.declared.walk.Walk.{Walk}
 use Rattle.cbor_look.specs.Takings.{HasFault, Takes}
 use Rattle.cbor_look.specs.Endings.{Ending, Meant, EndAs, ending}
 use Rattle.cbor_look.specs.Levels.{Line, Nest, StandsBehind, StandsWithin, outside, inside, none, TitleDue}
-use Rattle.cbor_look.specs.Levels.{title_level}
+use Rattle.cbor_look.specs.Levels.{IsWithinTitle, title_level}
 use Rattle.ciborium_ll.specs.Types.Error.{Error}
 use Rattle.cbor_look.specs.Dumps.{AreTaken, Draws, EndsTitles, fault_lines, Lines, Shows, ShowsBehind}
 use Rattle.cbor_skip.specs.declared.SkipError.TheVariants as s
@@ -31,6 +31,7 @@ use Rattle.cbor_look.specs.TitleRows.{DrawsTitle, ShowsAll, ShowsTitle, StopsAlo
 use Rattle.cbor_look.specs.Takings.{IsAlike}
 use Rattle.cbor_look.specs.Walks.{IsValue, IsDue, IsBehindItem, Breaks}
 use Rattle.cbor_look.proofs.ItemRows.{nothing}
+use Rattle.cbor_look.proofs.RowLaws.{title_filled, within_few}
 use Rattle.cbor_look.proofs.WalkLaws.{stands_any}
 use Rattle.cbor_look.proofs.StringLaws.{lines_fault}
 use Rattle.cbor_look.proofs.TakingLaws.{takes_none}
@@ -80,7 +81,7 @@ pub title_line : (depth start : ℕ) (old new : Option (List Line)) (before titl
     → Draws old new (record { level = level; offset = place; bytes = title; meaning = m.Header x } ∷ [])
     → Lines depth start old new before title Meant
 title_line depth start old new before title x level place nests opens due p same at drawn =
-    lines_one depth start old new before _ drawn at
+    lines_one depth start old new before _ drawn at (title_filled title x p)
     (record { nests = nests; opens = opens; due = due; is_title = p; level = same }) (tt, tt)
 
 -- outside of strings, where the level is that of the walk
@@ -257,9 +258,10 @@ module _ {R E : Type 0} (source : Ghosts R E) where
       (walk : Walk) (row : List ℕ) (place level : ℕ) (old between new : Decoder R)
       → (up : UpTo strict depth drawn middle walk old between)
       → Takes source between row new → place ≡ between.offset → level ≡ walk.used
-      → Draws middle then_drawn (fault_lines level place row) → EndAs how (fault_lines level place row)
+      → Draws middle then_drawn (fault_lines level place row) → IsWithinTitle row
+      → EndAs how (fault_lines level place row)
       → Shows source depth old.offset drawn then_drawn [] (up.bytes ++ row) how old new
-  up_fails strict depth drawn middle then_drawn walk row place level old between new up takes at same drawn_fault ends =
+  up_fails strict depth drawn middle then_drawn walk row place level old between new up takes at same drawn_fault within ends =
       let used = up.due.keeps.used in
       let moved = up.shows.takes.offset in
       shows_then source depth old.offset drawn middle then_drawn [] up.bytes row old between new up.shows (record {
@@ -270,8 +272,9 @@ module _ {R E : Type 0} (source : Ghosts R E) where
               opens = 0;
               due = due_here depth up.due.nests up.bytes
                   (up.whole, stands_any strict depth up.whole up.due.nests up.bytes up.due.within);
+              no_more = within;
               level = omega (arith, same, used);
-            })) ends;
+            })) (within_few row within) ends;
         takes = takes;
       })
 
@@ -295,12 +298,12 @@ module _ {R E : Type 0} (source : Ghosts R E) where
       (result : Result E (DumpError E W)) → (up : UpTo strict depth drawn middle walk old between)
       → Takes source between row new → place ≡ between.offset → level ≡ walk.used
       → Draws middle then_drawn (fault_lines level place row) → EndsTitles error level (length row) result
-      → HasFault error row → AreTaken result → ShowsAll source strict depth drawn then_drawn result old new
+      → IsWithinTitle row → HasFault error row → AreTaken result → ShowsAll source strict depth drawn then_drawn result old new
   up_ended strict depth drawn middle then_drawn walk row place level old between new error (Ok fault) up takes at same
-      drawn_fault ends some taken =
+      drawn_fault ends within some taken =
       let none = nothing row ends.2 in
       let shows = up_fails strict depth drawn middle then_drawn walk row place level old between new up takes at same
-      drawn_fault (subst (λ (z : List ℕ). EndAs Meant (fault_lines level place z)) (sym none) tt) in
+      drawn_fault within (subst (λ (z : List ℕ). EndAs Meant (fault_lines level place z)) (sym none) tt) in
       let items = walk_ended strict depth up.whole walk up.bytes up.due (sym same ∙ ends.1) in
       record {
         bytes = up.bytes ++ row;
@@ -312,9 +315,9 @@ module _ {R E : Type 0} (source : Ghosts R E) where
         );
       }
   up_ended strict depth drawn middle then_drawn walk row place level old between new error (Err why) up takes at same
-      drawn_fault ends some taken = record {
+      drawn_fault ends within some taken = record {
         bytes = up.bytes ++ row;
         shows = up_fails strict depth drawn middle then_drawn walk row place level old between new up takes at same
-            drawn_fault (fault_ends error why level place row ends.0 taken some);
+            drawn_fault within (fault_ends error why level place row ends.0 taken some);
         whole = tt;
       }

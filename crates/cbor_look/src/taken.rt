@@ -26,6 +26,7 @@ impl Taken {
     ghost use Rattle.ciborium_ll_text.specs.Text.{IsCharacters};
     ghost use Rattle.cbor_look.specs.Takings.{HasFault, IsAlike, IsIdle, IsLast, Keeps, PullsRow, ReadsOn, taken_bytes};
     ghost use Rattle.cbor_look.specs.Parts.{ReadsText};
+    ghost use Rattle.cbor_look.specs.Levels.{IsWithinTitle};
 
     /// None.
     pub(crate) fn new() -> Taken
@@ -100,6 +101,7 @@ impl Taken {
         ensures passes { waiting_of decoder.old ≡ None
             → IfOk result (λ _. Passes R.Read decoder.old (taken_bytes self.new) decoder.new) }
         ensures fault { IfErr result (λ error. HasFault error (taken_bytes self.new)) }
+        ensures within { IfErr result (λ _. IsWithinTitle (taken_bytes self.new)) }
         ensures pulls { IsAlike strict decoder.old → place ≡ offset_of decoder.old
             → PullsRow R.Read decoder.old result decoder.new }
     {
