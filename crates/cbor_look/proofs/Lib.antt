@@ -2,6 +2,7 @@ pub mod ItemRows
 pub mod SequenceLaws
 pub mod SingleLaws
 pub mod TakingLaws
+pub mod RowLaws
 pub mod PullLaws
 pub mod LeftLaws
 mod PartLaws

@@ -26,12 +26,14 @@ use Rattle.ciborium_ll.specs.Elements.{AreWritable}
 use Rattle.ciborium_ll.proofs.ElementLaws.{AreWritable-append}
 use Rattle.cbor_look.specs.declared.rows.Meaning.TheVariants as m
 use Rattle.cbor_look.specs.Takings.{IsAlike, most_bytes, Takes}
-use Rattle.cbor_look.specs.Levels.{Line, Nest, StandsWithin, AreOpen, none, more, TitleDue, title_level}
+use Rattle.cbor_look.specs.Levels.{IsWithinTitle, Line, Nest, StandsWithin, AreOpen, none, more, TitleDue, title_level}
 use Rattle.cbor_look.specs.Dumps.{Draws, fault_lines, SaysFault, Shows}
+use Rattle.cbor_look.specs.Endings.{Ending, Meant, EndAs}
 use Rattle.cbor_look.specs.StringRows.{EndsString, IsPart, StopsRest}
 use Rattle.cbor_look.specs.declared.strings.Part.{Part}
 use Rattle.cbor_look.specs.declared.strings.Part.TheVariants as p
 use Rattle.cbor_look.proofs.DumpLaws.{shows_none, shows_then}
+use Rattle.cbor_look.proofs.RowLaws.{within_few}
 use Rattle.cbor_look.proofs.TitleLaws.{title_line, break_bytes}
 use Rattle.cbor_look.proofs.StringLaws.{lines_fault, next_offset, add_string, add_open, close_inner, close_last}
 use Rattle.cbor_look.proofs.StringLaws.{not_open, taken_any, taken_none, taken_then}
@@ -93,7 +95,7 @@ module _ {R E : Type 0} (source : Ghosts R E) where
     pub one : strict ≡ true → opens ≡ zero
     pub level : inner ≡ length nests + suc opens
     pub is : title ++ bytes ≡ parts
-    pub shows : Shows source depth start drawn then_drawn (items ++ title) bytes old new
+    pub shows : Shows source depth start drawn then_drawn (items ++ title) bytes Meant old new
     pub passed : old.waiting ≡ None → Passes source old bytes new
 
   pub within_first : (strict : Bool) (depth start : ℕ) (drawn : Option (List Line)) (nests : List Nest)
@@ -150,16 +152,23 @@ module _ {R E : Type 0} (source : Ghosts R E) where
         passes_alike source strict old between so_far.bytes (so_far.passed alike.none_waits) alike
 
     -- what was read before a fault
-    pub within_fails : (then_drawn : Option (List Line)) (row : List ℕ) (offset : ℕ) (new : Decoder R)
+    pub within_fails : {how : Ending} (then_drawn : Option (List Line)) (row : List ℕ) (offset : ℕ) (new : Decoder R)
         → Takes source between row new → offset ≡ between.offset
-        → Draws middle then_drawn (fault_lines inner offset row)
-        → Shows source depth start drawn then_drawn (items ++ title) (so_far.bytes ++ row) old new
-    within_fails then_drawn row offset new takes at drawn_fault =
+        → Draws middle then_drawn (fault_lines inner offset row) → IsWithinTitle row
+        → EndAs how (fault_lines inner offset row)
+        → Shows source depth start drawn then_drawn (items ++ title) (so_far.bytes ++ row) how old new
+    within_fails then_drawn row offset new takes at drawn_fault within ends =
         shows_then source depth start drawn middle then_drawn (items ++ title) so_far.bytes row old between new
         so_far.shows (record {
           lines = lines_fault depth start middle then_drawn ((items ++ title) ++ so_far.bytes) inner offset row
               drawn_fault (at ∙ here)
-              (inl (record { nests = nests; opens = suc so_far.opens; due = due_within; level = so_far.level }));
+              (inl (record {
+                nests = nests;
+                opens = suc so_far.opens;
+                due = due_within;
+                no_more = within;
+                level = so_far.level;
+              })) (within_few row within) ends;
           takes = takes;
         })
 
@@ -168,7 +177,7 @@ module _ {R E : Type 0} (source : Ghosts R E) where
         (new : Decoder R) → Takes source between row new → offset ≡ between.offset → IsTitle row x
         → level ≡ title_level x nests (suc so_far.opens)
         → Draws middle then_drawn (record { level = level; offset = offset; bytes = row; meaning = m.Header x } ∷ [])
-        → Shows source depth start drawn then_drawn (items ++ title) (so_far.bytes ++ row) old new
+        → Shows source depth start drawn then_drawn (items ++ title) (so_far.bytes ++ row) Meant old new
     within_title then_drawn row x offset level new takes at p same drawn_line =
         shows_then source depth start drawn middle then_drawn (items ++ title) so_far.bytes row old between new
         so_far.shows (record {
@@ -184,7 +193,7 @@ module _ {R E : Type 0} (source : Ghosts R E) where
     pub within_open : (then_drawn : Option (List Line)) (row : List ℕ) (new : Decoder R)
         → strict ≡ false → (between.waiting ≡ None → Passes source between row new)
         → IsTitle row (kind_header kind None)
-        → Shows source depth start drawn then_drawn (items ++ title) (so_far.bytes ++ row) old new
+        → Shows source depth start drawn then_drawn (items ++ title) (so_far.bytes ++ row) Meant old new
         → Within strict depth start drawn then_drawn nests items title kind (inner + 1) old new
     within_open then_drawn row new any went p shows =
         let level = so_far.level in
@@ -212,7 +221,7 @@ module _ {R E : Type 0} (source : Ghosts R E) where
         (row : List ℕ) (level : ℕ) (new : Decoder R)
         → (between.waiting ≡ None → Passes source between row new) → IsTitle row h.Break
         → level ≡ length nests + suc opens
-        → Shows source depth start drawn then_drawn (items ++ title) (so_far.bytes ++ row) old new
+        → Shows source depth start drawn then_drawn (items ++ title) (so_far.bytes ++ row) Meant old new
         → Within strict depth start drawn then_drawn nests items title kind level old new
     inner_break opens e any then_drawn row level new went p same shows = record {
       opens = opens;
@@ -234,7 +243,7 @@ module _ {R E : Type 0} (source : Ghosts R E) where
     pub within_break : (then_drawn : Option (List Line)) (row : List ℕ) (level : ℕ) (new : Decoder R)
         → (between.waiting ≡ None → Passes source between row new) → IsTitle row h.Break
         → level ≡ title_level h.Break nests (suc so_far.opens) → (level ≡ length nests → ⊥)
-        → Shows source depth start drawn then_drawn (items ++ title) (so_far.bytes ++ row) old new
+        → Shows source depth start drawn then_drawn (items ++ title) (so_far.bytes ++ row) Meant old new
         → Within strict depth start drawn then_drawn nests items title kind level old new
     within_break then_drawn row level new went p same further shows =
         let less : so_far.opens ≡ suc (so_far.opens - 1) = omega (arith, same, further) in
@@ -253,16 +262,17 @@ module _ {R E : Type 0} (source : Ghosts R E) where
         so_far.sound so_far.taken)
 
     -- a piece: its title, and then its body
-    pub within_piece : (titled_drawn then_drawn : Option (List Line)) (row body : List ℕ) (titled new : Decoder R)
-        → Shows source depth start drawn titled_drawn (items ++ title) (so_far.bytes ++ row) old titled
-        → Shows source depth start titled_drawn then_drawn ((items ++ so_far.parts) ++ row) body titled new
-        → Shows source depth start drawn then_drawn (items ++ title) (so_far.bytes ++ (row ++ body)) old new
-    within_piece titled_drawn then_drawn row body titled new first shows =
+    pub within_piece : {how : Ending} (titled_drawn then_drawn : Option (List Line)) (row body : List ℕ)
+        (titled new : Decoder R)
+        → Shows source depth start drawn titled_drawn (items ++ title) (so_far.bytes ++ row) Meant old titled
+        → Shows source depth start titled_drawn then_drawn ((items ++ so_far.parts) ++ row) body how titled new
+        → Shows source depth start drawn then_drawn (items ++ title) (so_far.bytes ++ (row ++ body)) how old new
+    within_piece {how} titled_drawn then_drawn row body titled new first shows =
         let same : (items ++ so_far.parts) ++ row ≡ (items ++ title) ++ (so_far.bytes ++ row) =
         ap (λ (z : List ℕ). z ++ row) (sym before_is) ∙ append_assoc (items ++ title) so_far.bytes row in
-        let second = subst (λ (z : List ℕ). Shows source depth start titled_drawn then_drawn z body titled new) same
+        let second = subst (λ (z : List ℕ). Shows source depth start titled_drawn then_drawn z body how titled new) same
         shows in
-        subst (λ (z : List ℕ). Shows source depth start drawn then_drawn (items ++ title) z old new)
+        subst (λ (z : List ℕ). Shows source depth start drawn then_drawn (items ++ title) z how old new)
         (append_assoc so_far.bytes row body)
         (shows_then source depth start drawn titled_drawn then_drawn (items ++ title) (so_far.bytes ++ row) body old
         titled new first second)
@@ -271,7 +281,7 @@ module _ {R E : Type 0} (source : Ghosts R E) where
         → IsTitle row (kind_header kind (Some len)) → IsTakenTitle strict row (kind_header kind (Some len))
         → length body ≡ len → IsWritable kind body
         → (between.waiting ≡ None → Passes source between (row ++ body) new)
-        → Shows source depth start drawn then_drawn (items ++ title) (so_far.bytes ++ (row ++ body)) old new
+        → Shows source depth start drawn then_drawn (items ++ title) (so_far.bytes ++ (row ++ body)) Meant old new
         → Within strict depth start drawn then_drawn nests items title kind inner old new
     within_whole then_drawn row body len new p g long written went shows =
         let p' = subst (λ (n : ℕ). IsTitle row (kind_header kind (Some n))) (sym long) p in

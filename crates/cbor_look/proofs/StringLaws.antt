@@ -25,22 +25,24 @@ use Rattle.cbor_look.specs.declared.rows.Meaning.TheVariants as m
 use Rattle.cbor_look.specs.declared.strings.Kind.{Kind as CodeKind}
 use Rattle.cbor_look.specs.declared.strings.Kind.TheVariants as k
 use Rattle.cbor_look.specs.Takings.{most_bytes, Takes, Keeps}
-use Rattle.cbor_look.specs.Levels.{Line, Nest, AreOpen, none, more, TitleDue, HasBody, Stands}
+use Rattle.cbor_look.specs.Levels.{Line, Nest, AreOpen, none, more, TitleDue, HasBody, IsFilled, Stands}
 use Rattle.cbor_look.specs.Dumps.{Draws, fault_lines, Lines, SaysFault, Shows}
+use Rattle.cbor_look.specs.Endings.{Ending, IsMeant, Meant, EndAs}
 use Rattle.cbor_look.specs.StringRows.{EndsString, StopsRest, kind_of, meaning_of}
 use Rattle.cbor_look.proofs.DumpLaws.{lines_one, shows_then}
 use Rattle.cbor_look.proofs.PullLaws.{passes_idle}
 
 -- ---- what was read before a fault
 
-pub lines_fault : (depth start : ℕ) (old new : Option (List Line)) (before : List ℕ) (level offset : ℕ)
+pub lines_fault : {how : Ending} (depth start : ℕ) (old new : Option (List Line)) (before : List ℕ) (level offset : ℕ)
     (bytes : List ℕ) → Draws old new (fault_lines level offset bytes) → offset ≡ start + length before
     → Stands depth before m.Fault (record { level = level; offset = offset; bytes = bytes; meaning = m.Fault })
-    → Lines depth start old new before bytes
-lines_fault depth start old new before level offset [] drawn at stands =
-    record { lines = []; drawn = drawn; stand = tt; joined = refl }
-lines_fault depth start old new before level offset (byte ∷ bytes) drawn at stands =
-    lines_one depth start old new before _ drawn at stands
+    → length bytes ≤ most_bytes → EndAs how (fault_lines level offset bytes)
+    → Lines depth start old new before bytes how
+lines_fault depth start old new before level offset [] drawn at stands few ends =
+    record { lines = []; drawn = drawn; stand = tt; joined = refl; ends = ends }
+lines_fault depth start old new before level offset (byte ∷ bytes) drawn at stands few ends =
+    lines_one depth start old new before _ drawn at (omega arith, few) stands ends
 
 -- ---- bodies
 
@@ -79,6 +81,10 @@ body_here depth opens nests outer title kind len level at front bytes fits offse
   level = let e = at.below in omega (arith, e);
 }
 
+part_meant : (kind : CodeKind) → IsMeant (meaning_of kind)
+part_meant k.Bytes = tt
+part_meant k.Text = tt
+
 part_stands : (kind : CodeKind) (depth : ℕ) (before : List ℕ) (line : Line)
     → HasBody depth before (kind_of kind) line → IsWritable (kind_of kind) line.bytes
     → Stands depth before (meaning_of kind) line
@@ -97,29 +103,30 @@ module _ {R E : Type 0} (source : Ghosts R E) where
   pub record SoFar (depth start : ℕ) (drawn then_drawn : Option (List Line)) (before : List ℕ) (kind : Kind)
       (len left : ℕ) (old new : Decoder R) : Type 0 where
     pub front : List ℕ
-    pub shows : Shows source depth start drawn then_drawn before front old new
+    pub shows : Shows source depth start drawn then_drawn before front Meant old new
     pub counted : length front + left ≡ len
     pub written : IsWritable kind front
     pub passed : old.waiting ≡ None → Passes source old front new
 
   -- where the next line begins
   pub next_offset : (depth start : ℕ) (drawn then_drawn : Option (List Line)) (before bytes : List ℕ)
-      (old new : Decoder R) → Shows source depth start drawn then_drawn before bytes old new
+      (old new : Decoder R) → Shows source depth start drawn then_drawn before bytes Meant old new
       → old.offset ≡ start + length before → new.offset ≡ start + length (before ++ bytes)
   next_offset depth start drawn then_drawn before bytes old new shows at =
       let moved = shows.takes.offset in omega (arith, moved, at, length-append before bytes)
 
   -- what was read of a body, behind what was shown of it
-  pub part_fails : (depth start opens : ℕ) (nests : List Nest) (outer title : List ℕ) (kind : Kind)
+  pub part_fails : {how : Ending} (depth start opens : ℕ) (nests : List Nest) (outer title : List ℕ) (kind : Kind)
       (len left level offset : ℕ) (drawn middle then_drawn : Option (List Line)) (bytes : List ℕ)
       (old between new : Decoder R) → AtBody depth opens nests outer title kind len level
       → old.offset ≡ start + length (outer ++ title)
       → (so_far : SoFar depth start drawn middle (outer ++ title) kind len left old between)
       → Takes source between bytes new → length bytes ≤ left → offset ≡ between.offset
-      → Draws middle then_drawn (fault_lines level offset bytes)
-      → Shows source depth start drawn then_drawn (outer ++ title) (so_far.front ++ bytes) old new
+      → Draws middle then_drawn (fault_lines level offset bytes) → length bytes ≤ most_bytes
+      → EndAs how (fault_lines level offset bytes)
+      → Shows source depth start drawn then_drawn (outer ++ title) (so_far.front ++ bytes) how old new
   part_fails depth start opens nests outer title kind len left level offset drawn middle then_drawn bytes old between
-      new at begun so_far takes few here drawn_fault =
+      new at begun so_far takes few here drawn_fault fit ends =
       let counted = so_far.counted in
       shows_then source depth start drawn middle then_drawn (outer ++ title) so_far.front bytes old between new
       so_far.shows (record {
@@ -130,7 +137,7 @@ module _ {R E : Type 0} (source : Ghosts R E) where
               kind,
               body_here depth opens nests outer title kind len level at so_far.front bytes
                   (omega (arith, counted, few)) offset m.Fault,
-            ));
+            )) fit ends;
         takes = takes;
       })
 
@@ -142,10 +149,10 @@ module _ {R E : Type 0} (source : Ghosts R E) where
       → Takes source between bytes new → length bytes ≤ left → offset ≡ between.offset
       → IsWritable (kind_of kind) bytes → (between.waiting ≡ None → Passes source between bytes new)
       → Draws middle then_drawn (record { level = level; offset = offset; bytes = bytes; meaning = meaning_of kind } ∷
-      [])
+      []) → IsFilled bytes
       → SoFar depth start drawn then_drawn (outer ++ title) (kind_of kind) len (left - length bytes) old new
   part_shown depth start opens nests outer title kind len left level offset drawn middle then_drawn bytes old between
-      new at begun so_far takes few here written went drawn_line =
+      new at begun so_far takes few here written went drawn_line filled =
       let counted = so_far.counted in
       let fits : length so_far.front + length bytes ≤ len = omega (arith, counted, few) in
       record {
@@ -154,10 +161,10 @@ module _ {R E : Type 0} (source : Ghosts R E) where
             new so_far.shows (record {
               lines = lines_one depth start middle then_drawn ((outer ++ title) ++ so_far.front) _ drawn_line
                   (here ∙ next_offset depth start drawn middle (outer ++ title) so_far.front old between so_far.shows
-                  begun)
+                  begun) filled
                   (part_stands kind depth ((outer ++ title) ++ so_far.front) _
                   (body_here depth opens nests outer title (kind_of kind) len level at so_far.front bytes fits offset
-                  (meaning_of kind)) written);
+                  (meaning_of kind)) written) (part_meant kind, tt);
               takes = takes;
             });
         counted = omega (arith, counted, few, length-append so_far.front bytes);

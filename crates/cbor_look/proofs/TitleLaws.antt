@@ -14,11 +14,12 @@ use Rattle.cbor_skip.specs.Due.{IsNest}
 use Rattle.cbor_skip.proofs.ItemSteps.{item_of}
 use Rattle.cbor_look.specs.declared.rows.Meaning.TheVariants as m
 use Rattle.cbor_look.specs.declared.walk.Walk.{Walk}
-use Rattle.cbor_look.specs.Takings.{Takes}
+use Rattle.cbor_look.specs.Takings.{HasFault, Takes}
+use Rattle.cbor_look.specs.Endings.{Ending, Meant, EndAs, ending}
 use Rattle.cbor_look.specs.Levels.{Line, Nest, StandsBehind, StandsWithin, outside, inside, none, TitleDue}
-use Rattle.cbor_look.specs.Levels.{title_level}
+use Rattle.cbor_look.specs.Levels.{IsWithinTitle, title_level}
 use Rattle.ciborium_ll.specs.Types.Error.{Error}
-use Rattle.cbor_look.specs.Dumps.{Draws, EndsTitles, fault_lines, Lines, Shows, ShowsBehind}
+use Rattle.cbor_look.specs.Dumps.{AreTaken, Draws, EndsTitles, fault_lines, Lines, Shows, ShowsBehind}
 use Rattle.cbor_skip.specs.declared.SkipError.TheVariants as s
 use Rattle.cbor_look.specs.declared.dump.DumpError.TheVariants as d
 use Rattle.ciborium_ll.specs.Decoding.{Passes}
@@ -30,9 +31,11 @@ use Rattle.cbor_look.specs.TitleRows.{DrawsTitle, ShowsAll, ShowsTitle, StopsAlo
 use Rattle.cbor_look.specs.Takings.{IsAlike}
 use Rattle.cbor_look.specs.Walks.{IsValue, IsDue, IsBehindItem, Breaks}
 use Rattle.cbor_look.proofs.ItemRows.{nothing}
+use Rattle.cbor_look.proofs.RowLaws.{title_filled, within_few}
 use Rattle.cbor_look.proofs.WalkLaws.{stands_any}
 use Rattle.cbor_look.proofs.StringLaws.{lines_fault}
-use Rattle.cbor_look.proofs.DumpLaws.{lines_one, lines_then, shows_none, shows_then, shows_read}
+use Rattle.cbor_look.proofs.TakingLaws.{takes_none}
+use Rattle.cbor_look.proofs.DumpLaws.{fault_ends, lines_one, lines_then, shows_then, shows_read}
 
 -- ---- levels
 
@@ -76,10 +79,10 @@ pub title_line : (depth start : ℕ) (old new : Option (List Line)) (before titl
     (level place : ℕ) (nests : List Nest) (opens : ℕ) → TitleDue depth nests opens before → IsTitle title x
     → level ≡ title_level x nests opens → place ≡ start + length before
     → Draws old new (record { level = level; offset = place; bytes = title; meaning = m.Header x } ∷ [])
-    → Lines depth start old new before title
+    → Lines depth start old new before title Meant
 title_line depth start old new before title x level place nests opens due p same at drawn =
-    lines_one depth start old new before _ drawn at
-    (record { nests = nests; opens = opens; due = due; is_title = p; level = same })
+    lines_one depth start old new before _ drawn at (title_filled title x p)
+    (record { nests = nests; opens = opens; due = due; is_title = p; level = same }) (tt, tt)
 
 -- outside of strings, where the level is that of the walk
 pub walk_line : (strict : Bool) (depth whole start : ℕ) (old new : Option (List Line)) (before title : List ℕ)
@@ -87,7 +90,7 @@ pub walk_line : (strict : Bool) (depth whole start : ℕ) (old new : Option (Lis
     (level place : ℕ) (walk : Walk) (due : IsDue strict depth whole walk before) → IsTitle title x
     → title_level x due.nests 0 ≡ length due.nests + 0 → level ≡ walk.used → place ≡ start + length before
     → Draws old new (record { level = level; offset = place; bytes = title; meaning = m.Header x } ∷ [])
-    → Lines depth start old new before title
+    → Lines depth start old new before title Meant
 walk_line strict depth whole start old new before title x level place walk due p plain same at drawn =
     let used = due.keeps.used in
     let counted : length due.nests ≡ length due.nests + 0 = omega arith in
@@ -101,7 +104,7 @@ pub break_line : (strict : Bool) (depth whole start : ℕ) (old new : Option (Li
     → level ≡ walk.used
     → place ≡ start + length before
     → Draws old new (record { level = level; offset = place; bytes = title; meaning = m.Header h.Break } ∷ [])
-    → Lines depth start old new before title
+    → Lines depth start old new before title Meant
 break_line strict depth whole start old new before title level place closed walk breaks p same at drawn =
     title_line depth start old new before title h.Break level place breaks.nests 0
     (due_here depth breaks.nests before (whole, stands_any strict depth whole breaks.nests before breaks.within)) p
@@ -197,26 +200,27 @@ module _ {R E : Type 0} (source : Ghosts R E) where
       R)
       : Type 0 where
     pub bytes : List ℕ
-    pub shows : Shows source depth old.offset drawn then_drawn [] bytes old new
+    pub shows : Shows source depth old.offset drawn then_drawn [] bytes Meant old new
     pub whole : ℕ
     pub due : IsDue strict depth whole walk bytes
     pub came : IsAlike strict old → Comes strict depth walk old new
 
-  pub title_then : (depth start : ℕ) (drawn middle then_drawn : Option (List Line)) (before title bytes : List ℕ)
-      (old new : Decoder R) → Lines depth start drawn middle before title
-      → Shows source depth start middle then_drawn (before ++ title) bytes old new
-      → ShowsBehind source depth start drawn then_drawn before title bytes old new
+  pub title_then : {how : Ending} (depth start : ℕ) (drawn middle then_drawn : Option (List Line))
+      (before title bytes : List ℕ) (old new : Decoder R) → Lines depth start drawn middle before title Meant
+      → Shows source depth start middle then_drawn (before ++ title) bytes how old new
+      → ShowsBehind source depth start drawn then_drawn before title bytes how old new
   title_then depth start drawn middle then_drawn before title bytes old new first rest = record {
     lines = lines_then depth start drawn middle then_drawn before title bytes first rest.lines;
     takes = rest.takes;
   }
 
-  pub title_only : (depth start : ℕ) (drawn then_drawn : Option (List Line)) (before title : List ℕ)
-      (decoder : Decoder R) → Lines depth start drawn then_drawn before title
-      → ShowsBehind source depth start drawn then_drawn before title [] decoder decoder
-  title_only depth start drawn then_drawn before title decoder first =
-      title_then depth start drawn then_drawn then_drawn before title [] decoder decoder first
-      (shows_none source depth start then_drawn (before ++ title) decoder)
+  pub title_only : {how : Ending} (depth start : ℕ) (drawn then_drawn : Option (List Line)) (before title : List ℕ)
+      (decoder : Decoder R) → Lines depth start drawn then_drawn before title how
+      → ShowsBehind source depth start drawn then_drawn before title [] how decoder decoder
+  title_only {how} depth start drawn then_drawn before title decoder lines = record {
+    lines = subst (λ (z : List ℕ). Lines depth start drawn then_drawn before z how) (sym (append-nil title)) lines;
+    takes = takes_none source decoder;
+  }
 
   alone_stops : {W : Type 0} (strict : Bool) (depth whole : ℕ) (header : Header) (place : ℕ) (before : List ℕ)
       (decoder : Decoder R)
@@ -250,12 +254,14 @@ module _ {R E : Type 0} (source : Ghosts R E) where
   }
 
   -- what was read of a title before a fault
-  pub up_fails : (strict : Bool) (depth : ℕ) (drawn middle then_drawn : Option (List Line)) (walk : Walk) (row : List ℕ)
-      (place level : ℕ) (old between new : Decoder R) → (up : UpTo strict depth drawn middle walk old between)
+  pub up_fails : {how : Ending} (strict : Bool) (depth : ℕ) (drawn middle then_drawn : Option (List Line))
+      (walk : Walk) (row : List ℕ) (place level : ℕ) (old between new : Decoder R)
+      → (up : UpTo strict depth drawn middle walk old between)
       → Takes source between row new → place ≡ between.offset → level ≡ walk.used
-      → Draws middle then_drawn (fault_lines level place row)
-      → Shows source depth old.offset drawn then_drawn [] (up.bytes ++ row) old new
-  up_fails strict depth drawn middle then_drawn walk row place level old between new up takes at same drawn_fault =
+      → Draws middle then_drawn (fault_lines level place row) → IsWithinTitle row
+      → EndAs how (fault_lines level place row)
+      → Shows source depth old.offset drawn then_drawn [] (up.bytes ++ row) how old new
+  up_fails strict depth drawn middle then_drawn walk row place level old between new up takes at same drawn_fault within ends =
       let used = up.due.keeps.used in
       let moved = up.shows.takes.offset in
       shows_then source depth old.offset drawn middle then_drawn [] up.bytes row old between new up.shows (record {
@@ -266,8 +272,9 @@ module _ {R E : Type 0} (source : Ghosts R E) where
               opens = 0;
               due = due_here depth up.due.nests up.bytes
                   (up.whole, stands_any strict depth up.whole up.due.nests up.bytes up.due.within);
+              no_more = within;
               level = omega (arith, same, used);
-            }));
+            })) (within_few row within) ends;
         takes = takes;
       })
 
@@ -275,10 +282,10 @@ module _ {R E : Type 0} (source : Ghosts R E) where
   pub up_title : {W : Type 0} (strict : Bool) (depth whole place : ℕ) (header : Header) (drawn middle then_drawn :
       Option (List Line)) (before : List ℕ)
       (walk : Walk) (row : List ℕ) (result : Result (Unit {0}) (DumpError E W)) (old between titled new : Decoder R)
-      → Shows source depth old.offset drawn middle [] before old between → Takes source between row titled
+      → Shows source depth old.offset drawn middle [] before Meant old between → Takes source between row titled
       → (title : ShowsTitle source depth whole old.offset middle then_drawn before row header walk strict place result
       titled new)
-      → Shows source depth old.offset drawn then_drawn [] (before ++ (row ++ title.bytes)) old new
+      → Shows source depth old.offset drawn then_drawn [] (before ++ (row ++ title.bytes)) (ending result) old new
   up_title strict depth whole place header drawn middle then_drawn before walk row result old between titled new shows
       takes title =
       shows_then source depth old.offset drawn middle then_drawn [] before (row ++ title.bytes) old between new shows
@@ -291,12 +298,12 @@ module _ {R E : Type 0} (source : Ghosts R E) where
       (result : Result E (DumpError E W)) → (up : UpTo strict depth drawn middle walk old between)
       → Takes source between row new → place ≡ between.offset → level ≡ walk.used
       → Draws middle then_drawn (fault_lines level place row) → EndsTitles error level (length row) result
-      → ShowsAll source strict depth drawn then_drawn result old new
+      → IsWithinTitle row → HasFault error row → AreTaken result → ShowsAll source strict depth drawn then_drawn result old new
   up_ended strict depth drawn middle then_drawn walk row place level old between new error (Ok fault) up takes at same
-      drawn_fault ends =
+      drawn_fault ends within some taken =
       let none = nothing row ends.2 in
       let shows = up_fails strict depth drawn middle then_drawn walk row place level old between new up takes at same
-      drawn_fault in
+      drawn_fault within (subst (λ (z : List ℕ). EndAs Meant (fault_lines level place z)) (sym none) tt) in
       let items = walk_ended strict depth up.whole walk up.bytes up.due (sym same ∙ ends.1) in
       record {
         bytes = up.bytes ++ row;
@@ -308,9 +315,9 @@ module _ {R E : Type 0} (source : Ghosts R E) where
         );
       }
   up_ended strict depth drawn middle then_drawn walk row place level old between new error (Err why) up takes at same
-      drawn_fault ends = record {
+      drawn_fault ends within some taken = record {
         bytes = up.bytes ++ row;
         shows = up_fails strict depth drawn middle then_drawn walk row place level old between new up takes at same
-            drawn_fault;
+            drawn_fault within (fault_ends error why level place row ends.0 taken some);
         whole = tt;
       }

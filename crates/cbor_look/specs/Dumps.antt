@@ -12,6 +12,7 @@ use Rattle.cbor_look.specs.declared.rows.Meaning.TheVariants as m
 use Rattle.ciborium_ll.specs.Decoding.{offset_limit, view}
 use Rattle.cbor_look.specs.Takings.{IsIdle, Takes, most_bytes}
 use Rattle.cbor_look.specs.Levels.{Line, bytes_of, AllStand}
+use Rattle.cbor_look.specs.Endings.{Ending, EndAs}
 
 -- each line was taken, though a fault stands behind them
 abbrev pub IsTaken : {E W : Type 0} → DumpError E W → Type 0
@@ -56,24 +57,27 @@ fault_lines level offset [] = []
 fault_lines level offset (byte ∷ bytes) =
     record { level = level; offset = offset; bytes = byte ∷ bytes; meaning = m.Fault } ∷ []
 
--- behind the bytes before, which begin at the start, lines of these bytes were drawn, each of which stands at its level
-pub record Lines (depth start : ℕ) (old new : Option (List Line)) (before bytes : List ℕ) : Type 0 where
+-- behind the bytes before, which begin at the start, lines of these bytes were drawn: each stands at its level, and they
+-- end so
+pub record Lines (depth start : ℕ) (old new : Option (List Line)) (before bytes : List ℕ) (ending : Ending)
+    : Type 0 where
   pub lines : List Line
   pub drawn : Draws old new lines
   pub stand : AllStand depth start before lines
   pub joined : bytes_of lines ≡ bytes
+  pub ends : EndAs ending lines
 
 module _ {R E : Type 0} (source : Ghosts R E) where
   -- lines were drawn of just the bytes that were consumed
   pub record Shows (depth start : ℕ) (drawn then_drawn : Option (List Line)) (before bytes : List ℕ)
-      (old new : Decoder R) : Type 0 where
-    pub lines : Lines depth start drawn then_drawn before bytes
+      (ending : Ending) (old new : Decoder R) : Type 0 where
+    pub lines : Lines depth start drawn then_drawn before bytes ending
     pub takes : Takes source old bytes new
 
   -- the bytes consumed before were drawn, and then that
   pub record ShowsBehind (depth start : ℕ) (drawn then_drawn : Option (List Line)) (before row bytes : List ℕ)
-      (old new : Decoder R) : Type 0 where
-    pub lines : Lines depth start drawn then_drawn before (row ++ bytes)
+      (ending : Ending) (old new : Decoder R) : Type 0 where
+    pub lines : Lines depth start drawn then_drawn before (row ++ bytes) ending
     pub takes : Takes source old bytes new
 
   -- What was left behind a dump is shown at the level: in a line, where there is some, are just bytes that were consumed,

@@ -1,15 +1,16 @@
 -- At which level each line of a dump stands: within how many tags, arrays, maps and opens.
-use Rattle.std.specs.Prelude.{◌≡◌, ℕ, zero, suc, ◌+◌, ◌-◌, ◌≤◌, ◌⊎◌, Bool, true, false, List, [], ◌∷◌, ◌++◌, length}
-use Rattle.std.specs.Prelude.{Some, None, if◌then◌else◌}
+use Rattle.std.specs.Prelude.{◌≡◌, ℕ, zero, suc, ◌+◌, ◌-◌, ◌%◌, ◌<◌, ◌≤◌, ◌⊎◌, Bool, true, false, List, [], ◌∷◌, ◌++◌}
+use Rattle.std.specs.Prelude.{length, Some, None, if◌then◌else◌}
 use Rattle.ciborium_ll.specs.Types.Header.{Header}
 use Rattle.ciborium_ll.specs.Types.Header.TheVariants as h
-use Rattle.ciborium_ll.specs.Title.{IsTitle}
+use Rattle.ciborium_ll.specs.Title.{IsTitle, affix_len}
 use Rattle.ciborium_ll.specs.Strings.{Kind, Bytes, Text, kind_header, AreStrings, IsWritable}
 use Rattle.ciborium_ll.specs.Elements.{AreWritable}
 use Rattle.ciborium_ll.specs.Items.{AreItems, IsTakenTitle}
 use Rattle.cbor_skip.specs.Due.{TakesMore, may_close}
 use Rattle.cbor_look.specs.declared.rows.Meaning.{Meaning}
 use Rattle.cbor_look.specs.declared.rows.Meaning.TheVariants as m
+use Rattle.cbor_look.specs.Takings.{most_bytes}
 
 -- ---- within what a title stands
 
@@ -102,11 +103,17 @@ pub record HasBody (depth : ℕ) (before : List ℕ) (kind : Kind) (line : Line)
   pub fits : length front + length line.bytes ≤ len
   pub level : line.level ≡ suc (length nests + opens)
 
--- behind these bytes the line has what was read of a title at fault, at the level of one that is due
+-- behind the first byte stand no more than it announces: the bytes are a title, or a beginning of one (RFC 7049, 2.1)
+abbrev pub IsWithinTitle : List ℕ → Type 0
+IsWithinTitle [] = Unit {0}
+IsWithinTitle (byte ∷ rest) = length rest ≤ affix_len (byte % 32)
+
+-- behind these bytes the line has what was read of a title at fault, and no more, at the level of one that is due
 pub record HasNoTitle (depth : ℕ) (before : List ℕ) (line : Line) : Type 0 where
   pub nests : List Nest
   pub opens : ℕ
   pub due : TitleDue depth nests opens before
+  pub no_more : IsWithinTitle line.bytes
   pub level : line.level ≡ length nests + opens
 
 -- behind these bytes the line has what it says that it has, at its level
@@ -116,8 +123,12 @@ Stands depth before m.Bytes line = HasBody depth before Bytes line
 Stands depth before m.Text line = HasBody depth before Text line × IsWritable Text line.bytes
 Stands depth before m.Fault line = HasNoTitle depth before line ⊎ ((kind : Kind) × HasBody depth before kind line)
 
--- each of the lines does, and has the offset of its first byte, where the bytes before begin at the start
+-- a line has a byte, and no more than 16
+abbrev pub IsFilled : List ℕ → Type 0
+IsFilled bytes = (0 < length bytes) × (length bytes ≤ most_bytes)
+
+-- each of the lines does, is filled, and has the offset of its first byte, where the bytes before begin at the start
 abbrev pub AllStand : ℕ → ℕ → List ℕ → List Line → Type 0
 AllStand depth start before [] = Unit {0}
 AllStand depth start before (line ∷ lines) = (line.offset ≡ start + length before)
-    × Stands depth before line.meaning line × AllStand depth start (before ++ line.bytes) lines
+    × IsFilled line.bytes × Stands depth before line.meaning line × AllStand depth start (before ++ line.bytes) lines

@@ -5,6 +5,7 @@ use Rattle.std.specs.Io.KnownBytes.{Consumes}
 use Rattle.ciborium_ll.specs.Types.Read.{Ghosts}
 use Rattle.ciborium_ll.specs.Types.Decoder.{Decoder}
 use Rattle.ciborium_ll.specs.Types.Error.{Error}
+use Rattle.ciborium_ll.specs.Types.Error.TheVariants as e
 use Rattle.ciborium_ll.specs.Types.Header.{Header}
 use Rattle.ciborium_ll.specs.Title.{IsTitle, IsStrictTitle, IsRefused}
 use Rattle.ciborium_ll.specs.Decoding.{offset_limit, view, IsSteady, PullsHeader, PullsTitle, ReadsBytes}
@@ -25,6 +26,11 @@ abbrev pub Means : Bool → List ℕ → Option Header → Type 0
 Means strict bytes (Some header) = IsTitle bytes header × (IsTrue strict → IsStrictTitle bytes header)
 Means strict bytes None = ((byte : ℕ) × IsRefused byte × (bytes ≡ byte ∷ []))
     ⊎ (IsTrue strict × ((header : Header) × IsTitle bytes header × (IsStrictTitle bytes header → ⊥)))
+
+-- where bytes are at fault, some were read
+abbrev pub HasFault : {E : Type 0} → Error E → List ℕ → Type 0
+HasFault (e.Syntax at) bytes = 0 < length bytes
+HasFault error bytes = Unit {0}
 
 -- no header waits, and the decoder is as strict
 pub record IsAlike {R : Type 0} (strict : Bool) (decoder : Decoder R) : Type 0 where

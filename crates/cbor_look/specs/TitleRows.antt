@@ -14,6 +14,7 @@ use Rattle.cbor_look.specs.declared.dump.DumpError.TheVariants as d
 use Rattle.cbor_look.specs.declared.walk.Walk.{Walk}
 use Rattle.cbor_look.specs.Levels.{Line, Nest, StandsBehind, closes_one}
 use Rattle.cbor_look.specs.Dumps.{Lines, Shows, ShowsBehind}
+use Rattle.cbor_look.specs.Endings.{ending}
 use Rattle.cbor_look.specs.Walks.{IsDueBehind, IsDeepest}
 use Rattle.cbor_look.specs.Takings.{IsAlike, most_bytes}
 use Rattle.cbor_look.specs.Sequences.{IsSequence}
@@ -47,7 +48,7 @@ module _ {E W : Type 0} where
   pub record DrawsTitle (strict : Bool) (depth whole start : ℕ) (drawn then_drawn : Option (List Line))
       (before title : List ℕ) (header : Header) (walk : Walk) (place : ℕ)
       (result : Result (Unit {0}) (DumpError E W)) : Type 0 where
-    pub lines : Lines depth start drawn then_drawn before title
+    pub lines : Lines depth start drawn then_drawn before title (ending result)
     pub due : OnOk result (IsDueBehind strict depth whole walk (before ++ title))
     pub stops : StopsAlone strict depth whole header place before result
 
@@ -70,17 +71,18 @@ module _ {R E W : Type 0} (source : Ghosts R E) where
       (header : Header) (walk : Walk) (strict : Bool) (place : ℕ) (result : Result (Unit {0}) (DumpError E W))
       (old new : Decoder R) : Type 0 where
     pub bytes : List ℕ
-    pub shows : ShowsBehind source depth start drawn then_drawn before title bytes old new
+    pub shows : ShowsBehind source depth start drawn then_drawn before title bytes (ending result) old new
     pub due : OnOk result (IsDueBehind strict depth whole walk (before ++ (title ++ bytes)))
     pub passed : IsAlike strict old → OnOk result (Passes source old bytes new)
     pub stops : IsAlike strict old → StopsTitle strict depth whole header place before old result new
 
 module _ {R E W : Type 0} (source : Ghosts R E) where
-  -- Lines were drawn of just the bytes that were consumed, and each stands at its level. Where all is well, the bytes
-  -- are a sequence of items (RFC 8742), in any spelling or in the shortest one
+  -- Lines were drawn of just the bytes that were consumed, each stands at its level, and none is at fault but the last
+  -- one before an error (`ending`). Where all is well, the bytes are a sequence of items (RFC 8742), in any spelling or
+  -- in the shortest one
   pub record ShowsAll (strict : Bool) (depth : ℕ) (drawn then_drawn : Option (List Line)) (result : Result E
       (DumpError E W))
       (old new : Decoder R) : Type 0 where
     pub bytes : List ℕ
-    pub shows : Shows source depth old.offset drawn then_drawn [] bytes old new
+    pub shows : Shows source depth old.offset drawn then_drawn [] bytes (ending result) old new
     pub whole : OnOk result (IsSequence strict depth bytes)

@@ -37,15 +37,19 @@ pub enum DumpError<E, W> {
 /// Shows a sequence of items (RFC 8742) in rows, up to an end, with tags, arrays and maps nested at most `depth` levels
 /// deep. The depth is at most 256. A strict dump takes the shortest spelling alone.
 ///
-/// `Ok` has what the reader answered where a further item would begin. Before an error all that was read is shown; the
-/// last row has the bytes at fault, where some were read. Nothing is read ahead of the rows, and no memory is taken.
+/// `Ok` has what the reader answered where a further item would begin. Before an error all that was read is shown.
+/// Nothing is read ahead of the rows, and no memory is taken.
 ///
-/// Each row stands at its level, and has the offset of its first byte. The level of a title is the number of tags,
-/// arrays, maps and opens that it stands within in the grammar, and a break that closes one has the level of its title;
-/// a part of a body stands a level deeper than its string's title. This holds after a fault too, unless a row was not
-/// taken. Where the reader is steady and no header waits, the bytes of the rows, one behind the other, are just those
-/// that were consumed, and on `Ok` they are a sequence of items to the depth, of a strict dump in their shortest
-/// spelling.
+/// No row means a fault but the last one before an error. Where bytes are no item (`Error::Syntax`) that one does, and
+/// where a read stopped for another reason it may. It has what was read of one title, or of a body. A break where none
+/// may stand, and the title of a nest too deep, are shown as what they are.
+///
+/// Each row has from 1 to 16 bytes, stands at its level, and has the offset of its first byte. The level of a title is
+/// the number of tags, arrays, maps and opens that it stands within in the grammar, and a break that closes one has the
+/// level of its title; a part of a body stands a level deeper than its string's title. This holds after a fault too,
+/// unless a row was not taken. Where the reader is steady and no header waits, the bytes of the rows, one behind the
+/// other, are just those that were consumed, and on `Ok` they are a sequence of items to the depth, of a strict dump in
+/// their shortest spelling.
 ///
 /// Where no header waits, and the decoder is as strict as the dump, it does what `check` could do through a buffer of
 /// 16 bytes, and answers the same, unless a row was not taken. Where besides a steady reader tells its bytes and the

@@ -35,7 +35,7 @@ pub struct Row<'a> {
     pub level: usize,
     /// The offset of its first byte.
     pub offset: usize,
-    /// Its bytes: at most 16.
+    /// Its bytes: in a dump from 1 to 16.
     pub bytes: &'a [u8],
     /// What they mean.
     pub meaning: Meaning,

@@ -24,8 +24,9 @@ impl Taken {
     ghost use Rattle.ciborium_ll.specs.Items.{IsTakenTitle};
     ghost use Rattle.ciborium_ll.specs.Title.{IsTitle};
     ghost use Rattle.ciborium_ll_text.specs.Text.{IsCharacters};
-    ghost use Rattle.cbor_look.specs.Takings.{IsAlike, IsIdle, IsLast, Keeps, PullsRow, ReadsOn, taken_bytes};
+    ghost use Rattle.cbor_look.specs.Takings.{HasFault, IsAlike, IsIdle, IsLast, Keeps, PullsRow, ReadsOn, taken_bytes};
     ghost use Rattle.cbor_look.specs.Parts.{ReadsText};
+    ghost use Rattle.cbor_look.specs.Levels.{IsWithinTitle};
 
     /// None.
     pub(crate) fn new() -> Taken
@@ -99,6 +100,8 @@ impl Taken {
         ensures taken { IfOk result (λ header. IsTakenTitle strict (taken_bytes self.new) header) }
         ensures passes { waiting_of decoder.old ≡ None
             → IfOk result (λ _. Passes R.Read decoder.old (taken_bytes self.new) decoder.new) }
+        ensures fault { IfErr result (λ error. HasFault error (taken_bytes self.new)) }
+        ensures within { IfErr result (λ _. IsWithinTitle (taken_bytes self.new)) }
         ensures pulls { IsAlike strict decoder.old → place ≡ offset_of decoder.old
             → PullsRow R.Read decoder.old result decoder.new }
     {
@@ -120,6 +123,7 @@ impl Taken {
         ensures keeps { Keeps R.Read (taken_bytes self.old) (taken_bytes self.new) decoder.old decoder.new }
         ensures most { length (taken_bytes self.new) ≤ left }
         ensures some { IfOk result (λ _. 0 < left → 0 < length (taken_bytes self.new)) }
+        ensures fault { IfErr result (λ error. HasFault error (taken_bytes self.new)) }
         ensures text { IfOk result (λ whole. IsTrue whole → IsCharacters (taken_bytes self.new)) }
         ensures reads { 0 < left → waiting_of decoder.old ≡ None
             → ReadsText R.Read left (taken_bytes self.new) decoder.old result decoder.new }

@@ -164,6 +164,28 @@ fn texts_of_dumps(rt: HostRuntime) {
     each_dumped(&rt, rt.alloc(), Options::new(), DUMPS, 10);
 }
 
+// Texts with characters that are escaped: a line feed, U+007F, U+009B, and those where what is escaped begins and ends.
+// Of these a space, `~` and U+00A0 stand for themselves.
+static ESCAPED: &str = "\
+= 63 0a6666
+63                                  # text 3
+   0a 66 66                         #   \"\\nff\"
+= 61 7f
+61                                  # text 1
+   7f                               #   \"\\u007f\"
+= 62 c29b
+62                                  # text 2
+   c2 9b                            #   \"\\u009b\"
+= 6a 00090d1f207ec29fc2a0
+6a                                  # text 10
+   00 09 0d 1f 20 7e c2 9f c2 a0    #   \"\\u0000\\t\\r\\u001f ~\\u009f\u{a0}\"
+";
+
+#[test]
+fn escapes_of_dumps(rt: HostRuntime) {
+    each_dumped(&rt, rt.alloc(), Options::new(), ESCAPED, 4);
+}
+
 // The same with offsets.
 static OFFSETS: &str = "\
 = 81f6

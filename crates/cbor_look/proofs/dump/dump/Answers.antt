@@ -46,7 +46,7 @@ returns-in-Err g c =
     record {
       shows = λ all. up_ended g.R.Read c.args.strict c.args.depth _ _ _ c.titles.walk row c.offset-place.result
           c.level-level.result _ _ _ c.in-Err.error c.ended.result up takes place level (c.ended.ensures.draws all)
-          ended;
+          ended (rw c.in-Err.is at c.read_title.ensures.within) (rw c.in-Err.is at c.read_title.ensures.fault) all;
       reads = reads;
       told = λ due alike ready all. answers_told g.R.Read c.args.depth c.args.decoder.now due ready c.ended.result _
           (reads alike all);

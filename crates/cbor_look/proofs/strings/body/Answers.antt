@@ -1,10 +1,11 @@
 use Rattle.std.proofs.Common.{[], ◌++◌, arith}
 use Rattle.cbor_look.specs.Takings.{taken_bytes}
 use Rattle.cbor_look.specs.StringRows.{kind_of}
-use Rattle.cbor_look.proofs.DumpLaws.{not_taken, shows_none}
+use Rattle.cbor_look.proofs.DumpLaws.{fault_ends, not_taken, shows_none}
 use Rattle.ciborium_ll.proofs.DecodingLaws.{exit_is, Passes-none}
 use Rattle.cbor_look.proofs.StringLaws.{taken_all, part_fails, part_shown, writable_none, body_stops}
 use Rattle.cbor_look.proofs.PullLaws.{passes_idle}
+use Rattle.cbor_look.proofs.RowLaws.{row_few}
 use Rattle.cbor_look.proofs.PartLaws.{part_behind}
 use Rattle.cbor_look.proofs.strings.body.Goals as goal
 
@@ -31,7 +32,9 @@ returns-in-Err g c = record {
         bytes = so_far.front ++ row;
         shows = part_fails g.R.Read depth start opens nests outer title (kind_of c.args.kind) c.args.len c.rows.left
             c.args.level c.offset-offset.result _ _ _ row _ _ _ (record { due = due; is_title = p; below = level }) at
-            so_far takes c.read_part.ensures.most c.offset-offset.ensures.value (c.fault.ensures.draws all);
+            so_far takes c.read_part.ensures.most c.offset-offset.ensures.value (c.fault.ensures.draws all)
+            (row_few c.read_part.new.taken) (fault_ends c.in-Err.error c.fault.result c.args.level c.offset-offset.result row c.fault.ensures.says all
+            ((rw c.in-Err.is at c.read_part.ensures.fault) c.rows-test.true));
         whole = tt;
         passed = λ alike. tt;
         stops = λ alike.
@@ -78,7 +81,8 @@ rows-preserved g c = record {
       c.args.level
       c.offset-offset.result _ _ _ row _ _ _ (record { due = due; is_title = p; below = level }) at so_far takes
       c.read_part.ensures.most c.offset-offset.ensures.value ok went
-      (rw c.meaning.ensures at (c.in_ok-shown.ensures.draws tt)) in
+      (rw c.meaning.ensures at (c.in_ok-shown.ensures.draws tt))
+      ((rw c.in_default.is at c.read_part.ensures.some) c.rows-test.true, row_few c.read_part.new.taken) in
       rw c.len-left.ensures.value shown;
   rises =
       let keeps = rw c.offset-offset.ensures.same at c.read_part.ensures.keeps in

@@ -2,14 +2,16 @@ use Rattle.std.proofs.Common.{◌≡◌, ℕ, ◌+◌, ◌++◌, ap, subst, sym,
 use Rattle.ciborium_ll.specs.Decoding.{PullsTitle}
 use Rattle.ciborium_ll.proofs.DecodingLaws.{exit_is, Passes-then}
 use Rattle.ciborium_ll.specs.Types.Header.{Header}
+use Rattle.ciborium_ll.specs.Types.Error.TheVariants.{Syntax}
 use Rattle.ciborium_ll.specs.Items.{IsTakenTitle}
 use Rattle.ciborium_ll.specs.Title.{IsTitle}
 use Rattle.ciborium_ll.proofs.NestLaws.{title_some}
 use Rattle.cbor_look.specs.Levels.{title_level}
 use Rattle.cbor_look.specs.Takings.{taken_bytes}
 use Rattle.cbor_look.specs.StringRows.{kind_of}
-use Rattle.cbor_look.proofs.DumpLaws.{not_taken}
+use Rattle.cbor_look.proofs.DumpLaws.{fault_ends, not_taken}
 use Rattle.cbor_look.proofs.StringLaws.{taken_all}
+use Rattle.cbor_look.proofs.RowLaws.{title_within}
 use Rattle.cbor_look.proofs.PullLaws.{passes_idle, passes_alike}
 use Rattle.cbor_look.proofs.PieceLaws.{alike_here, passed_row, within_no_title, within_other, within_body}
 use Rattle.cbor_look.proofs.PieceLaws.{within_first, within_fails, within_open, within_break, within_ends, within_title}
@@ -38,7 +40,9 @@ returns-in-Err g c = record {
         bytes = so_far.bytes ++ row;
         shows = within_fails g.R.Read c.args.strict depth start _ _ nests items title
             (kind_of c.args.kind) c.parts.inner _ _ stands
-            so_far at _ row c.offset-place.result _ takes place (c.fault.ensures.draws all);
+            so_far at _ row c.offset-place.result _ takes place (c.fault.ensures.draws all)
+            (rw c.in-Err.is at c.read_title.ensures.within) (fault_ends c.in-Err.error c.fault.result c.parts.inner c.offset-place.result row c.fault.ensures.says all
+            (rw c.in-Err.is at c.read_title.ensures.fault));
         whole = tt;
         passed = λ alike. tt;
         stops = λ alike.
@@ -65,7 +69,9 @@ returns-in-Other g c = record {
         bytes = so_far.bytes ++ row;
         shows = within_fails g.R.Read c.args.strict depth start _ _ nests items title
             (kind_of c.args.kind) c.parts.inner _ _ stands
-            so_far at _ row c.offset-place.result _ takes place (c.fault-in-Other.ensures.draws all);
+            so_far at _ row c.offset-place.result _ takes place (c.fault-in-Other.ensures.draws all)
+            (title_within row c.in-Ok.header c.in-Ok.ensures.title) (fault_ends (Syntax c.offset-place.result) c.fault-in-Other.result c.parts.inner c.offset-place.result row
+            c.fault-in-Other.ensures.says all (title_some row c.in-Ok.header c.in-Ok.ensures.title));
         whole = tt;
         passed = λ alike. tt;
         stops = λ alike.

@@ -1,0 +1,39 @@
+-- How many bytes a row has.
+use Rattle.std.proofs.Common.{ℕ, ◌%◌, ◌≤◌, Bool, true, false, List, [], ◌∷◌, length, if◌then◌else◌, ◌==◌, sym, subst, arith}
+use Rattle.std.proofs.lemmas.List.{length-take}
+use Rattle.ciborium_ll.specs.Types.Header.{Header}
+use Rattle.ciborium_ll.specs.Title.{IsTitle, affix_len}
+use Rattle.ciborium_ll.proofs.AffixLaws.{announced}
+use Rattle.ciborium_ll.proofs.NestLaws.{title_some}
+use Rattle.cbor_look.specs.declared.taken.Taken.{Taken}
+use Rattle.cbor_look.specs.Levels.{IsFilled, IsWithinTitle}
+use Rattle.cbor_look.specs.Takings.{most_bytes, taken_bytes}
+
+-- what was read for a row fits it
+pub row_few : (taken : Taken) → length (taken_bytes taken) ≤ most_bytes
+row_few taken = omega (arith, length-take taken.len taken.bytes, taken.within)
+
+either_few : (b : Bool) (x y : ℕ) → x ≤ 8 → y ≤ 8 → (if b then x else y) ≤ 8
+either_few true x y p q = p
+either_few false x y p q = q
+
+-- no first byte announces more than eight
+affix_few : (minor : ℕ) → affix_len minor ≤ 8
+affix_few minor =
+    either_few (minor == 24) 1 _ (omega arith) (either_few (minor == 25) 2 _ (omega arith)
+    (either_few (minor == 26) 4 _ (omega arith) (either_few (minor == 27) 8 0 (omega arith) (omega arith))))
+
+pub within_few : (bytes : List ℕ) → IsWithinTitle bytes → length bytes ≤ most_bytes
+within_few [] within = omega arith
+within_few (byte ∷ rest) within = let few = affix_few (byte % 32) in omega (arith, within, few)
+
+-- a title has as many behind its first byte as that announces
+pub title_within : (title : List ℕ) (x : Header) → IsTitle title x → IsWithinTitle title
+title_within title x p =
+    let front = announced title x p in
+    let long = front.long in
+    let within : IsWithinTitle (front.byte ∷ front.affix) = omega (arith, long) in
+    subst IsWithinTitle (sym front.is) within
+
+pub title_filled : (title : List ℕ) (x : Header) → IsTitle title x → IsFilled title
+title_filled title x p = (title_some title x p, within_few title (title_within title x p))
