@@ -27,8 +27,9 @@ pub fn same_faults()
         → (met : HasLongNest strict depth (fed ++ more)) → fault ≡ f.Deep (length met.before) }
 {}
 
-/// Where a checker names a fault, `skip_item` answers it, at its place, or that the bytes end too early, whatever
-/// follows: over any reader that tells its bytes.
+/// Where a checker names a fault, a skip of all the bytes that it was fed, whatever follows, answers it, at its place, or
+/// that the bytes end too early: to the same depth, as strict, and where the skip is as `SkipsTold` says, which
+/// `skip_item` promises over a steady reader, where the offset fits and no header waits on a strict decoder.
 pub fn skip_answers<R: Read>()
     ensures { (strict : Bool) (depth : ℕ) (fed more : List ℕ) (fault : Fault) → Names strict depth fed fault
         → (old new : Decoder R) (result : Result (Unit {0}) (SkipError R.Error))

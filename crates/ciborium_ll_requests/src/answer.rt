@@ -22,7 +22,7 @@ pub enum Last {
     Deep(usize),
     /// The item is no string.
     Other,
-    /// A buffer is too small for the next character.
+    /// A second chunk in a row is empty: the buffer is too small.
     Stuck,
     /// The offset has no room. No line is long enough for it.
     Room,
