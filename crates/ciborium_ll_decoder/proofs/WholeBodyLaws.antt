@@ -103,7 +103,7 @@ module _ {R E : Type 0} (source : Reader R E) (kind : Kind) (len room place : â„
     part = begun;
     count = length read;
     some = omega (arith, all, some);
-    more = omega (arith, all);
+    filled = omega (arith, all, held);
     fails = fails;
   }
   unread_ends read new (e.Syntax at) none all some held fails = absurd fails
@@ -111,8 +111,7 @@ module _ {R E : Type 0} (source : Reader R E) (kind : Kind) (len room place : â„
     between = old;
     part = begun;
     count = length read;
-    held = omega (arith, all, held);
-    more = omega (arith, all);
+    filled = omega (arith, all, held);
     full = fails.1;
     untouched = fails.2;
   }
