@@ -13,8 +13,9 @@ use Rattle.ciborium_ll.specs.Finishing.{BeginsRest, EndsBody, IsNoText}
 use Rattle.ciborium_ll.proofs.DecodingLaws.{Passes-none, Passes-then}
 use Rattle.ciborium_ll.proofs.TextLaws.{IsCharacters-append, IsCharacters-rest, IsCharacters-nil, some_front}
 use Rattle.ciborium_ll.proofs.TextLaws.{no_text_begins}
+use Rattle.ciborium_ll_text.proofs.FrontLaws.{IsStuck-nil, IsStuck-rest}
 use Rattle.ciborium_ll_text.specs.States.{after, after_byte}
-use Rattle.ciborium_ll_text.specs.Text.{IsCharacters, IsFront}
+use Rattle.ciborium_ll_text.specs.Text.{IsCharacters, IsFront, IsStuck}
 use Rattle.ciborium_ll_text.specs.declared.state.State.{State}
 use Rattle.ciborium_ll_text.specs.declared.state.State.TheVariants as t
 use Rattle.ciborium_ll_text.proofs.StateLaws.{after-append, text_ends, text_from, none_goes_on, some_goes_on}
@@ -99,6 +100,7 @@ record IsCut (bytes : List ℕ) : Type 0 where
   left : List ℕ
   parts : bytes ≡ front ++ left
   few : length left ≤ 3
+  stuck : IsStuck left
   text : IsCharacters front
 
 cut_of : (bytes : List ℕ) → is_inside (after t.Between bytes) ≡ true → IsCut bytes
@@ -107,7 +109,14 @@ cut_of bytes is =
     let more = some_goes_on bytes (inside_not (after t.Between bytes) is).1 in
     elim (cases_lt 3 (length f.1)) [
       | inl much ↦ absurd (no_text_begins bytes f.0 f.1 more.0 f.2 much more.1)
-      | inr few ↦ record { front = f.0; left = f.1; parts = f.2.parts; few = few; text = f.2.text }
+      | inr few ↦ record {
+        front = f.0;
+        left = f.1;
+        parts = f.2.parts;
+        few = few;
+        stuck = IsStuck-rest bytes f.0 f.1 f.2;
+        text = f.2.text;
+      }
     ]
 
 -- where no more is read the bytes are all that was left, or they are cut nowhere
@@ -148,14 +157,16 @@ no_text_then len left front read text counted (inr never) =
 module _ {R E : Type 0} (source : Ghosts R E) where
   -- of so much that is left these bytes were read, and of a text they are characters but for up to three
   abbrev begun : (kind : Kind) (left : ℕ) (old new : Decoder R) (read front behind : List ℕ) → read ≡ front ++ behind
-      → length behind ≤ most_kept kind → IsWritable kind front → length read ≤ left → Passes source old read new
+      → length behind ≤ most_kept kind → IsStuck behind → IsWritable kind front → length read ≤ left
+      → Passes source old read new
       → BeginsRest source kind [] left old new
-  begun kind left old new read front behind parts few sound most passed = record {
+  begun kind left old new read front behind parts few stuck sound most passed = record {
     read = read;
     front = front;
     left = behind;
     parts = parts;
     few = few;
+    stuck = stuck;
     sound = sound;
     within = most;
     passed = passed;
@@ -202,7 +213,8 @@ module _ {R E : Type 0} (source : Ghosts R E) where
       let counted = reads.counted in
       let zero = ap length empty in
       part_fails kind left place old old new reads.bytes error
-      (begun kind left old old [] [] [] refl (omega arith) (writable_first kind) (omega arith) (Passes-none source old))
+      (begun kind left old old [] [] [] refl (omega arith) IsStuck-nil (writable_first kind) (omega arith)
+      (Passes-none source old))
       none (omega (arith, counted, zero, any)) (omega (arith, counted)) (omega (arith, counted, most)) reads.reads
 
   -- a further one, behind bytes of a text that are cut
@@ -214,7 +226,7 @@ module _ {R E : Type 0} (source : Ghosts R E) where
       let cut = cut_of row inside in
       let counted = reads.counted in
       part_fails Text left place old between new reads.bytes error
-      (begun Text left old between row cut.front cut.left cut.parts cut.few cut.text (omega (arith, more)) passed)
+      (begun Text left old between row cut.front cut.left cut.parts cut.few cut.stuck cut.text (omega (arith, more)) passed)
       (passes_idle source old between row passed none) (omega (arith, counted, room))
       (omega (arith, counted, room, ap length cut.parts, length-append cut.front cut.left)) (omega (arith, counted, more))
       reads.reads
@@ -228,6 +240,7 @@ module _ {R E : Type 0} (source : Ghosts R E) where
     left = part.left;
     parts = ap (λ (z : List ℕ). front ++ z) part.parts ∙ sym (append_assoc front part.front part.left);
     few = part.few;
+    stuck = part.stuck;
     sound = writable_behind kind front part.front written part.sound;
     within = let within = part.within in omega (arith, within, counted, length-append front part.read);
     passed = Passes-then source old between new front part.read passed part.passed;

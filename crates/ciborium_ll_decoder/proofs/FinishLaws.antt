@@ -98,6 +98,7 @@ module _ {R E P : Type 0} {parser : Parser P} (source : Reader R E) where
       left = kept_bytes segment.kept;
       parts = so_far.parts;
       few = few_kept parser.kind segment.kept segment.text_alone;
+      stuck = segment.stuck;
       sound = so_far.sound;
       within = omega (arith, so_far.counted);
       passed = so_far.passed;

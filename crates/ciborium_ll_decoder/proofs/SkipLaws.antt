@@ -62,6 +62,7 @@ module _ {R E : Type 0} (source : Reader R E) (k : Kind) (len : ℕ) (old new : 
     left = part.left;
     parts = part.parts;
     few = part.few;
+    stuck = part.stuck;
     sound = part.sound;
     within = part.within;
     passed = Passes-then source old new between [] part.read passed part.passed;

@@ -13,6 +13,7 @@ use Rattle.ciborium_ll_decoder.proofs.DecodingLaws.{Passes-none}
 use Rattle.ciborium_ll_decoder.proofs.BodyLaws.{writable_nil, Passes-read}
 use Rattle.ciborium_ll_text.specs.Text.{IsCharacters, IsFront}
 use Rattle.ciborium_ll_text.proofs.TextLaws.{IsCharacters-nil}
+use Rattle.ciborium_ll_text.proofs.FrontLaws.{IsStuck-nil}
 
 -- any bytes are the body of a byte string
 textual : (kind : Kind) (bytes : List ℕ) → (IsWritable kind bytes → ⊥) → kind ≡ Text
@@ -89,6 +90,7 @@ module _ {R E : Type 0} (source : Reader R E) (kind : Kind) (len room place : �
     left = [];
     parts = refl;
     few = omega arith;
+    stuck = IsStuck-nil;
     sound = writable_nil kind;
     within = omega arith;
     passed = Passes-none source old;

@@ -11,7 +11,7 @@ use Rattle.ciborium_ll_decoder.specs.declared.seg.Segment.{Segment}
 use Rattle.ciborium_ll_decoder.specs.declared.seg.Segments.{Segments}
 use Rattle.ciborium_ll_grammar.specs.Title.{title_len}
 use Rattle.ciborium_ll_grammar.specs.Strings.{Kind, Text, IsWritable, kind_header, most_kept}
-use Rattle.ciborium_ll_text.specs.Text.{IsCharacters, BeginsNoText}
+use Rattle.ciborium_ll_text.specs.Text.{IsCharacters, IsStuck, BeginsNoText}
 use Rattle.ciborium_ll_decoder.specs.Kept.{kept_bytes}
 use Rattle.ciborium_ll_decoder.specs.Decoding.{offset_limit, MovesOn, Passes, ReadFails, IsUntouched}
 use Rattle.ciborium_ll_decoder.specs.Segments.{progress_of, string_decoder, string_reference, string_strict}
@@ -30,13 +30,15 @@ module _ {R E : Type 0} (source : Ghosts R E) (kind : Kind) (kept : List ℕ) (u
     pub sound : IsWritable kind (kept ++ read)
     pub passed : Passes source old read new
 
-  -- a beginning of the rest was read; of a text it is characters, but for up to three bytes behind them
+  -- a beginning of the rest was read; of a text it is characters, but for up to three bytes behind them, with which no
+  -- further text begins
   pub record BeginsRest (old between : Decoder R) : Type 0 where
     pub read : List ℕ
     pub front : List ℕ
     pub left : List ℕ
     pub parts : kept ++ read ≡ front ++ left
     pub few : length left ≤ most_kept kind
+    pub stuck : IsStuck left
     pub sound : IsWritable kind front
     pub within : length read ≤ unread
     pub passed : Passes source old read between
