@@ -177,11 +177,11 @@ module _ {R E : Type 0} (source : Ghosts R E) where
   module _ (strict : Bool) (depth : ℕ) (walk : Walk) (old now : Decoder R)
       (come : Comes source strict depth walk old now) where
     -- within these nests
-    stops_in : (nests : List Nest) → StandsBehind strict depth 0 nests come.bytes → (levels : ℕ)
+    stops_in : (room : ℕ) (nests : List Nest) → StandsBehind strict depth 0 nests come.bytes → (levels : ℕ)
         → length nests + levels ≡ depth → (error : SkipError E) (new : Decoder R)
-        → StopsDue source levels (closes_one nests 0) most_bytes now error new
-        → StopsItem source false depth most_bytes come.between error new
-    stops_in nests stands levels left error new stops = record {
+        → StopsDue source levels (closes_one nests 0) room now error new
+        → StopsItem source false depth room come.between error new
+    stops_in room nests stands levels left error new stops = record {
       bytes = come.bytes;
       levels = levels;
       closable = closes_one nests 0;
@@ -214,12 +214,14 @@ module _ {R E : Type 0} (source : Ghosts R E) where
         let used = come.due.keeps.used in
         let items = walk_ended strict depth 0 walk come.bytes come.due says.1 in
         let none = no_item strict depth come.bytes items in
-        let stopped = stops_in come.due.nests come.due.within (depth - length come.due.nests)
+        let stopped = stops_in most_bytes come.due.nests come.due.within (depth - length come.due.nests)
         (omega (arith, used, few)) (s.Read error) new (inl fails) in
         let counted = ap length none in
         let at = come.passed.offset in
         let here = says.2 in
         record {
+          room = most_bytes;
+          held = omega arith;
           checked = Ok (record { items = come.count; bytes = length come.reads.bytes; «end» = fault });
           answers = refl;
           checks = record {
@@ -233,9 +235,11 @@ module _ {R E : Type 0} (source : Ghosts R E) where
         }
     comes_end error len new (Err (d.Item why)) few fails moved says taken =
         let used = come.due.keeps.used in
-        let stopped = stops_in come.due.nests come.due.within (depth - length come.due.nests)
+        let stopped = stops_in most_bytes come.due.nests come.due.within (depth - length come.due.nests)
         (omega (arith, used, few)) (s.Read error) new (inl fails) in
         record {
+          room = most_bytes;
+          held = omega arith;
           checked = Err (record { items = come.count; place = come.between.offset; error = why });
           answers = refl;
           checks = record {
@@ -250,78 +254,113 @@ module _ {R E : Type 0} (source : Ghosts R E) where
         }
     comes_end error len new (Err (d.Rows fault)) few fails moved says taken = absurd taken
 
-    -- a title that was read, or the string behind it, by its error
+    -- a title that was read, or the string behind it, by its error: through a buffer of some room
+    record Stops (error : SkipError E) (new : Decoder R) : Type 0 where
+      room : ℕ
+      held : room ≤ most_bytes
+      stops : StopsItem source false depth room come.between error new
+
     title_stops : (error : SkipError E) (W : Type 0) (header : Header) (place : ℕ) (titled new : Decoder R)
         → PullsTitle source now header titled → (IsSteady source now → IsSteady source titled) → place ≡ now.offset
         → StopsTitle {R = R} {E = E} {W = W} source strict depth 0 header place come.bytes titled
         (Err (d.Item error)) new
-        → StopsItem source false depth most_bytes come.between error new
+        → Stops error new
     title_stops (s.Read error) W header place titled new pulled steady at stops =
         let due = stops.2 in
-        stops_in due.nests due.within (depth - length due.nests)
-        (stands_few strict depth due.nests come.bytes due.within)
-        (s.Read error) new (inr (record {
-          kind = stops.0;
-          len = stops.1;
-          titled = titled;
-          pulled = subst (λ (x : Header). PullsTitle source now x titled) due.is pulled;
-          steady = steady;
-          fails = stops.3;
-        }))
+        let fails = stops.3 in
+        record {
+          room = fails.room;
+          held = fails.held;
+          stops = stops_in fails.room due.nests due.within (depth - length due.nests)
+              (stands_few strict depth due.nests come.bytes due.within)
+              (s.Read error) new (inr (record {
+                kind = stops.0;
+                len = stops.1;
+                titled = titled;
+                pulled = subst (λ (x : Header). PullsTitle source now x titled) due.is pulled;
+                steady = steady;
+                fails = fails.skipped;
+              }));
+        }
     title_stops (s.Break at) W header place titled new pulled steady same stops =
         let due = stops.0 in
-        stops_in due.nests due.within (depth - length due.nests)
-        (stands_few strict depth due.nests come.bytes due.within)
-        (s.Break at) new (record {
-          not_closable = due.not_closable;
-          place = stops.2 ∙ same;
-          pulled = subst (λ (x : Decoder R). PullsTitle source now h.Break x) (sym stops.3)
-              (subst (λ (x : Header). PullsTitle source now x titled) stops.1 pulled);
-        })
+        record {
+          room = most_bytes;
+          held = omega arith;
+          stops = stops_in most_bytes due.nests due.within (depth - length due.nests)
+              (stands_few strict depth due.nests come.bytes due.within)
+              (s.Break at) new (record {
+                not_closable = due.not_closable;
+                place = stops.2 ∙ same;
+                pulled = subst (λ (x : Decoder R). PullsTitle source now h.Break x) (sym stops.3)
+                    (subst (λ (x : Header). PullsTitle source now x titled) stops.1 pulled);
+              });
+        }
     title_stops (s.Deep at) W header place titled new pulled steady same stops =
         let due = stops.0 in
-        stops_in due.nests due.within 0 (let full = due.full in omega (arith, full)) (s.Deep at) new (record {
-          none_left = refl;
-          place = stops.2 ∙ same;
-          header = header;
-          is_nest = stops.1;
-          pulled = subst (λ (x : Decoder R). PullsTitle source now header x) (sym stops.3) pulled;
-        })
+        record {
+          room = most_bytes;
+          held = omega arith;
+          stops = stops_in most_bytes due.nests due.within 0 (let full = due.full in omega (arith, full)) (s.Deep at) new
+              (record {
+                none_left = refl;
+                place = stops.2 ∙ same;
+                header = header;
+                is_nest = stops.1;
+                pulled = subst (λ (x : Decoder R). PullsTitle source now header x) (sym stops.3) pulled;
+              });
+        }
 
     pub comes_title : {W : Type 0} (error : DumpError E W) (header : Header) (place : ℕ) (titled new : Decoder R)
         → PullsTitle source now header titled → (IsSteady source now → IsSteady source titled) → place ≡ now.offset
         → titled.offset ≤ new.offset → now.offset < titled.offset
         → StopsTitle source strict depth 0 header place come.bytes titled (Err error) new → IsTaken error
         → ReadsAsCheck source depth most_bytes old (Err error) new
-    comes_title {W = W} (d.Item why) header place titled new pulled steady at rises some stops taken = record {
-      checked = Err (record { items = come.count; place = come.between.offset; error = why });
-      answers = refl;
-      checks = record {
-        between = come.between;
-        reads = come.reads;
-        place = refl;
-        fails = title_stops why W header place titled new pulled steady at stops;
-        no_end = let moved = come.passed.offset in further why come.between new (omega (arith, moved, rises, some));
-      };
-    }
+    comes_title {W = W} (d.Item why) header place titled new pulled steady at rises some stops taken =
+        let there = title_stops why W header place titled new pulled steady at stops in
+        record {
+          room = there.room;
+          held = there.held;
+          checked = Err (record { items = come.count; place = come.between.offset; error = why });
+          answers = refl;
+          checks = record {
+            between = come.between;
+            reads = come.reads;
+            place = refl;
+            fails = there.stops;
+            no_end =
+                let moved = come.passed.offset in further why come.between new (omega (arith, moved, rises, some));
+          };
+        }
     comes_title (d.Rows fault) header place titled new pulled steady at rises some stops taken = absurd taken
 
   -- ---- where the bytes are told
 
   module _ (depth : ℕ) (old : Decoder R) (due : List ℕ) (ready : IsReadyToSkip source most_bytes old due) where
+    -- less room is needed
+    ready_for : (room : ℕ) → room ≤ most_bytes → IsReadyToSkip source room old due
+    ready_for room held = record {
+      none_waits = ready.none_waits;
+      steady = ready.steady;
+      told = ready.told;
+      fits-title = ready.fits-title;
+      fits-chunk = omega (arith, held, ready.fits-chunk);
+    }
+
     pub answers_told : {W : Type 0} (result : Result E (DumpError E W)) (new : Decoder R)
         → ReadsAsCheck source depth most_bytes old result new → AnswersTold source depth due old result new
     answers_told result new reads = record {
       checked = reads.checked;
       answers = reads.answers;
-      told = check_told source depth most_bytes old due ready new reads.checked reads.checks;
+      told = check_told source depth reads.room old due (ready_for reads.room reads.held) new reads.checked reads.checks;
     }
 
     -- the answers are of one kind
     pub answers_exactly : {W : Type 0} (result : Result E (DumpError E W)) (new : Decoder R)
         → ReadsAsCheck source depth most_bytes old result new → IsOk result ↔ IsSequence old.strict depth due
     answers_exactly result new reads =
-        let exactly = check_exactly source depth most_bytes old due ready new reads.checked reads.checks in (
+        let exactly = check_exactly source depth reads.room old due (ready_for reads.room reads.held) new reads.checked
+        reads.checks in (
           λ ok. exactly.0 (both_ok reads.checked result reads.answers ok),
           λ is. ok_both reads.checked result reads.answers (exactly.1 is),
         )

@@ -13,14 +13,15 @@ use Rattle.ciborium_ll.specs.Finishing.{BeginsRest, EndsBody, IsNoText}
 use Rattle.ciborium_ll.proofs.DecodingLaws.{Passes-none, Passes-then}
 use Rattle.ciborium_ll.proofs.TextLaws.{IsCharacters-append, IsCharacters-rest, IsCharacters-nil, some_front}
 use Rattle.ciborium_ll.proofs.TextLaws.{no_text_begins}
+use Rattle.ciborium_ll_text.proofs.FrontLaws.{IsStuck-nil, IsStuck-rest}
 use Rattle.ciborium_ll_text.specs.States.{after, after_byte}
-use Rattle.ciborium_ll_text.specs.Text.{IsCharacters, IsFront}
+use Rattle.ciborium_ll_text.specs.Text.{IsCharacters, IsFront, IsStuck}
 use Rattle.ciborium_ll_text.specs.declared.state.State.{State}
 use Rattle.ciborium_ll_text.specs.declared.state.State.TheVariants as t
 use Rattle.ciborium_ll_text.proofs.StateLaws.{after-append, text_ends, text_from, none_goes_on, some_goes_on}
 use Rattle.ciborium_ll_text.proofs.LastEndLaws.{due, back, Back, begins, goes_on}
-use Rattle.cbor_look.specs.Takings.{most_bytes, ReadsOn}
-use Rattle.cbor_look.specs.Parts.{is_between, is_inside, IsSound, ReadsPart}
+use Rattle.cbor_look.specs.Takings.{ReadsOn}
+use Rattle.cbor_look.specs.Parts.{is_between, is_inside, FailsInBody, IsSound, ReadsPart}
 use Rattle.cbor_look.proofs.PullLaws.{passes_idle, first_passed}
 
 -- ---- states
@@ -99,6 +100,7 @@ record IsCut (bytes : List ℕ) : Type 0 where
   left : List ℕ
   parts : bytes ≡ front ++ left
   few : length left ≤ 3
+  stuck : IsStuck left
   text : IsCharacters front
 
 cut_of : (bytes : List ℕ) → is_inside (after t.Between bytes) ≡ true → IsCut bytes
@@ -107,7 +109,14 @@ cut_of bytes is =
     let more = some_goes_on bytes (inside_not (after t.Between bytes) is).1 in
     elim (cases_lt 3 (length f.1)) [
       | inl much ↦ absurd (no_text_begins bytes f.0 f.1 more.0 f.2 much more.1)
-      | inr few ↦ record { front = f.0; left = f.1; parts = f.2.parts; few = few; text = f.2.text }
+      | inr few ↦ record {
+        front = f.0;
+        left = f.1;
+        parts = f.2.parts;
+        few = few;
+        stuck = IsStuck-rest bytes f.0 f.1 f.2;
+        text = f.2.text;
+      }
     ]
 
 -- where no more is read the bytes are all that was left, or they are cut nowhere
@@ -145,48 +154,53 @@ no_text_then len left front read text counted (inr never) =
     inr (λ more both. never more (IsCharacters-rest front (read ++ more) text
     (subst IsCharacters (append_assoc front read more) both)))
 
-more_left : (len left front read count both : ℕ) → front + left ≡ len → both ≡ front + read → read + count ≤ left
-    → both + count ≤ len
-more_left len left front read count both counted split more = omega (arith, counted, split, more)
-
 module _ {R E : Type 0} (source : Ghosts R E) where
   -- of so much that is left these bytes were read, and of a text they are characters but for up to three
   abbrev begun : (kind : Kind) (left : ℕ) (old new : Decoder R) (read front behind : List ℕ) → read ≡ front ++ behind
-      → length behind ≤ most_kept kind → IsWritable kind front → length read ≤ left → Passes source old read new
+      → length behind ≤ most_kept kind → IsStuck behind → IsWritable kind front → length read ≤ left
+      → Passes source old read new
       → BeginsRest source kind [] left old new
-  begun kind left old new read front behind parts few sound most passed = record {
+  begun kind left old new read front behind parts few stuck sound most passed = record {
     read = read;
     front = front;
     left = behind;
     parts = parts;
     few = few;
+    stuck = stuck;
     sound = sound;
     within = most;
     passed = passed;
   }
 
-  -- and then a read of more failed
+  -- and then a read of more failed: as through a buffer that it fills, with what is kept
   part_fails : (kind : Kind) (left place : ℕ) (old between new : Decoder R) (bytes : List ℕ) (error : Error E)
       → (part : BeginsRest source kind [] left old between) → between.waiting ≡ None → 0 < length bytes
-      → length bytes ≤ 16 → length part.read + length bytes ≤ left → ReadsBytes source between (Err error) bytes new
-      → EndsBody source kind [] left most_bytes place old (Err error) new
+      → length part.left + length bytes ≤ 16 → length part.read + length bytes ≤ left
+      → ReadsBytes source between (Err error) bytes new → FailsInBody source kind left place old error new
   part_fails kind left place old between new bytes (e.Io fault) part none some few more fails = record {
-    between = between;
-    part = part;
-    count = length bytes;
-    some = some;
-    more = more;
-    fails = fails;
+    room = length part.left + length bytes;
+    held = few;
+    ends = record {
+      between = between;
+      part = part;
+      count = length bytes;
+      some = some;
+      filled = omega (arith, more);
+      fails = fails;
+    };
   }
   part_fails kind left place old between new bytes (e.Syntax at) part none some few more fails = absurd fails
   part_fails kind left place old between new bytes e.TooLong part none some few more fails = record {
-    between = between;
-    part = part;
-    count = length bytes;
+    room = length part.left + length bytes;
     held = few;
-    more = more;
-    full = fails.1;
-    untouched = fails.2;
+    ends = record {
+      between = between;
+      part = part;
+      count = length bytes;
+      filled = omega (arith, more);
+      full = fails.1;
+      untouched = fails.2;
+    };
   }
   part_fails kind left place old between new bytes e.Waiting part none some few more fails =
       absurd (let waits = rw none at fails.0 in cc)
@@ -194,27 +208,28 @@ module _ {R E : Type 0} (source : Ghosts R E) where
   -- the first read of a part
   pub first_part : (kind : Kind) (left place count : ℕ) (before row : List ℕ) (old new : Decoder R) (error : Error E)
       → before ≡ [] → old.waiting ≡ None → 0 < left → 0 < count → count ≤ left
-      → ReadsOn source count before row old (Err error) new
-      → EndsBody source kind [] left most_bytes place old (Err error) new
+      → ReadsOn source count before row old (Err error) new → FailsInBody source kind left place old error new
   first_part kind left place count before row old new error empty none some any most reads =
       let counted = reads.counted in
       let zero = ap length empty in
       part_fails kind left place old old new reads.bytes error
-      (begun kind left old old [] [] [] refl (omega arith) (writable_first kind) (omega arith) (Passes-none source old))
+      (begun kind left old old [] [] [] refl (omega arith) IsStuck-nil (writable_first kind) (omega arith)
+      (Passes-none source old))
       none (omega (arith, counted, zero, any)) (omega (arith, counted)) (omega (arith, counted, most)) reads.reads
 
   -- a further one, behind bytes of a text that are cut
   pub next_part : (left place : ℕ) (row next : List ℕ) (old between new : Decoder R) (error : Error E)
       → Passes source old row between → old.waiting ≡ None → length row < left → length row < 16
       → is_inside (after t.Between row) ≡ true → ReadsOn source 1 row next between (Err error) new
-      → EndsBody source Text [] left most_bytes place old (Err error) new
+      → FailsInBody source Text left place old error new
   next_part left place row next old between new error passed none more room inside reads =
       let cut = cut_of row inside in
       let counted = reads.counted in
       part_fails Text left place old between new reads.bytes error
-      (begun Text left old between row cut.front cut.left cut.parts cut.few cut.text (omega (arith, more)) passed)
-      (passes_idle source old between row passed none) (omega (arith, counted, room)) (omega (arith, counted))
-      (omega (arith, counted, more)) reads.reads
+      (begun Text left old between row cut.front cut.left cut.parts cut.few cut.stuck cut.text (omega (arith, more)) passed)
+      (passes_idle source old between row passed none) (omega (arith, counted, room))
+      (omega (arith, counted, room, ap length cut.parts, length-append cut.front cut.left)) (omega (arith, counted, more))
+      reads.reads
 
   abbrev begins_behind : (kind : Kind) (len left : ℕ) (front : List ℕ) (old between new : Decoder R)
       → Passes source old front between → IsWritable kind front → length front + left ≡ len
@@ -225,27 +240,26 @@ module _ {R E : Type 0} (source : Ghosts R E) where
     left = part.left;
     parts = ap (λ (z : List ℕ). front ++ z) part.parts ∙ sym (append_assoc front part.front part.left);
     few = part.few;
+    stuck = part.stuck;
     sound = writable_behind kind front part.front written part.sound;
     within = let within = part.within in omega (arith, within, counted, length-append front part.read);
     passed = Passes-then source old between new front part.read passed part.passed;
   }
 
   -- a part behind a front
-  pub part_behind : (kind : Kind) (len left place : ℕ) (front : List ℕ) (old between new : Decoder R)
+  ends_behind : (kind : Kind) (len left room place : ℕ) (front : List ℕ) (old between new : Decoder R)
       (error : Error E) → Passes source old front between → IsWritable kind front → length front + left ≡ len
-      → EndsBody source kind [] left most_bytes place between (Err error) new
-      → EndsBody source kind [] len most_bytes place old (Err error) new
-  part_behind kind len left place front old between new (e.Io fault) passed written counted ends = record {
+      → EndsBody source kind [] left room place between (Err error) new
+      → EndsBody source kind [] len room place old (Err error) new
+  ends_behind kind len left room place front old between new (e.Io fault) passed written counted ends = record {
     between = ends.between;
     part = begins_behind kind len left front old between ends.between passed written counted ends.part;
     count = ends.count;
     some = ends.some;
-    more = let more = ends.more in
-        let both = length-append front ends.part.read in more_left len left (length front) (length ends.part.read)
-        ends.count (length (front ++ ends.part.read)) counted both more;
+    filled = let filled = ends.filled in omega (arith, filled, counted, length-append front ends.part.read);
     fails = ends.fails;
   }
-  part_behind kind len left place front old between new (e.Syntax at) passed written counted ends =
+  ends_behind kind len left room place front old between new (e.Syntax at) passed written counted ends =
       let damaged = ends.1 in (
         ends.0,
         record {
@@ -262,18 +276,24 @@ module _ {R E : Type 0} (source : Ghosts R E) where
           passed = Passes-then source old between new front damaged.read passed damaged.passed;
         },
       )
-  part_behind kind len left place front old between new e.TooLong passed written counted ends = record {
+  ends_behind kind len left room place front old between new e.TooLong passed written counted ends = record {
     between = ends.between;
     part = begins_behind kind len left front old between ends.between passed written counted ends.part;
     count = ends.count;
-    held = ends.held;
-    more = let more = ends.more in
-        let both = length-append front ends.part.read in more_left len left (length front) (length ends.part.read)
-        ends.count (length (front ++ ends.part.read)) counted both more;
+    filled = let filled = ends.filled in omega (arith, filled, counted, length-append front ends.part.read);
     full = ends.full;
     untouched = ends.untouched;
   }
-  part_behind kind len left place front old between new e.Waiting passed written counted ends = absurd ends
+  ends_behind kind len left room place front old between new e.Waiting passed written counted ends = absurd ends
+
+  pub part_behind : (kind : Kind) (len left place : ℕ) (front : List ℕ) (old between new : Decoder R)
+      (error : Error E) → Passes source old front between → IsWritable kind front → length front + left ≡ len
+      → FailsInBody source kind left place between error new → FailsInBody source kind len place old error new
+  part_behind kind len left place front old between new error passed written counted fails = record {
+    room = fails.room;
+    held = fails.held;
+    ends = ends_behind kind len left fails.room place front old between new error passed written counted fails.ends;
+  }
 
   -- a part of the body of a byte string
   pub bytes_part : (left place count : ℕ) (before row : List ℕ) (old new : Decoder R)

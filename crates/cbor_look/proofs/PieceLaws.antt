@@ -338,19 +338,20 @@ module _ {R E : Type 0} (source : Ghosts R E) where
       passed = so_far.passed alike.none_waits;
     }
 
-    no_title_stops : (error : Error E) (new : Decoder R) → MeetsNoTitle source kind old error new
-        → StopsInside source kind most_bytes old error new
-    no_title_stops (e.Io fault) new meets = inl meets
-    no_title_stops (e.Syntax at) new meets = inl meets
-    no_title_stops e.TooLong new meets = inl meets
-    no_title_stops e.Waiting new meets = absurd meets.fails
+    -- of any room, as no byte of a body was read
+    no_title_stops : (room : ℕ) (error : Error E) (new : Decoder R) → MeetsNoTitle source kind old error new
+        → StopsInside source kind room old error new
+    no_title_stops room (e.Io fault) new meets = inl meets
+    no_title_stops room (e.Syntax at) new meets = inl meets
+    no_title_stops room e.TooLong new meets = inl meets
+    no_title_stops room e.Waiting new meets = absurd meets.fails
 
-    body_stops : (error : Error E) (new : Decoder R) → MeetsBody source kind most_bytes old error new
-        → StopsInside source kind most_bytes old error new
-    body_stops (e.Io fault) new meets = inr meets
-    body_stops (e.Syntax at) new meets = inr (inr meets)
-    body_stops e.TooLong new meets = inr meets
-    body_stops e.Waiting new meets = absurd meets.ends
+    body_stops : (room : ℕ) (error : Error E) (new : Decoder R) → MeetsBody source kind room old error new
+        → StopsInside source kind room old error new
+    body_stops room (e.Io fault) new meets = inr meets
+    body_stops room (e.Syntax at) new meets = inr (inr meets)
+    body_stops room e.TooLong new meets = inr meets
+    body_stops room e.Waiting new meets = absurd meets.ends
 
     -- no title came
     pub within_no_title : {W : Type 0} → IsTitle title (kind_header kind None) → (error : Error E)
@@ -358,12 +359,16 @@ module _ {R E : Type 0} (source : Ghosts R E) where
         → IsAlike strict old → StopsRest source kind None 0 old (Err why) new
     within_no_title p error new fails (d.Item (s.Read other)) says alike =
         let same : other ≡ error = cc in
-        subst (λ (x : Error E). StopsInside source kind most_bytes old x new) (sym same)
-        (no_title_stops error new (record {
-          between = between;
-          part = skips_inside p alike;
-          fails = fails;
-        }))
+        record {
+          room = most_bytes;
+          held = omega arith;
+          stops = subst (λ (x : Error E). StopsInside source kind most_bytes old x new) (sym same)
+              (no_title_stops most_bytes error new (record {
+                between = between;
+                part = skips_inside p alike;
+                fails = fails;
+              }));
+        }
     within_no_title p error new fails (d.Item (s.Break at)) says alike = absurd cc
     within_no_title p error new fails (d.Item (s.Deep at)) says alike = absurd cc
     within_no_title p error new fails (d.Rows fault) says alike = tt
@@ -375,18 +380,22 @@ module _ {R E : Type 0} (source : Ghosts R E) where
         → IsAlike strict old → StopsRest source kind None 0 old (Err why) new
     within_other p header place new pulled refused at (d.Item (s.Read other)) says alike =
         let same : other ≡ e.Syntax place = cc in
-        subst (λ (x : Error E). StopsInside source kind most_bytes old x new) (sym same)
-        (inr (inl (record {
-          between = between;
-          part = skips_inside p alike;
-          other = record {
-            header = header;
-            pulled = pulled;
-            refused = subst (λ (mode : Bool). IsRefusedIn mode kind header) (sym (alike_here alike).mode)
-                refused;
-            place = at;
-          };
-        })))
+        record {
+          room = most_bytes;
+          held = omega arith;
+          stops = subst (λ (x : Error E). StopsInside source kind most_bytes old x new) (sym same)
+              (inr (inl (record {
+                between = between;
+                part = skips_inside p alike;
+                other = record {
+                  header = header;
+                  pulled = pulled;
+                  refused = subst (λ (mode : Bool). IsRefusedIn mode kind header) (sym (alike_here alike).mode)
+                      refused;
+                  place = at;
+                };
+              })));
+        }
     within_other p header place new pulled refused at (d.Item (s.Break other)) says alike = absurd cc
     within_other p header place new pulled refused at (d.Item (s.Deep other)) says alike = absurd cc
     within_other p header place new pulled refused at (d.Rows fault) says alike = tt
@@ -398,15 +407,19 @@ module _ {R E : Type 0} (source : Ghosts R E) where
         → StopsRest source kind (Some len) place titled (Err why) new → place ≡ between.offset → IsAlike strict old
         → StopsRest source kind None 0 old (Err why) new
     within_body p len place titled new pulled steady (d.Item (s.Read error)) stops at alike =
-        body_stops error new (record {
-          between = between;
-          part = skips_inside p alike;
-          titled = titled;
-          len = len;
-          pulled = pulled;
-          steady = λ holds. steady ((so_far.passed alike.none_waits).steady holds);
-          ends = subst (λ (n : ℕ). EndsBody source kind [] len most_bytes n titled (Err error) new) at stops;
-        })
+        record {
+          room = stops.room;
+          held = stops.held;
+          stops = body_stops stops.room error new (record {
+            between = between;
+            part = skips_inside p alike;
+            titled = titled;
+            len = len;
+            pulled = pulled;
+            steady = λ holds. steady ((so_far.passed alike.none_waits).steady holds);
+            ends = subst (λ (n : ℕ). EndsBody source kind [] len stops.room n titled (Err error) new) at stops.ends;
+          });
+        }
     within_body p len place titled new pulled steady (d.Item (s.Break other)) stops at alike = absurd stops
     within_body p len place titled new pulled steady (d.Item (s.Deep other)) stops at alike = absurd stops
     within_body p len place titled new pulled steady (d.Rows fault) stops at alike = tt

@@ -12,7 +12,6 @@ use Rattle.ciborium_ll.specs.Items.{AreTakenStrings, IsTakenTitle}
 use Rattle.ciborium_ll.specs.StrictElements.{AreFlat, none as no_flat, more as more_flat}
 use Rattle.ciborium_ll.specs.Types.Error.{Error}
 use Rattle.ciborium_ll.specs.Decoding.{Passes}
-use Rattle.ciborium_ll.specs.Finishing.{EndsBody}
 use Rattle.cbor_skip.specs.declared.SkipError.TheVariants as s
 use Rattle.cbor_look.specs.declared.dump.DumpError.{DumpError}
 use Rattle.cbor_look.specs.declared.dump.DumpError.TheVariants as d
@@ -24,6 +23,7 @@ use Rattle.cbor_look.specs.declared.rows.Meaning.{Meaning}
 use Rattle.cbor_look.specs.declared.rows.Meaning.TheVariants as m
 use Rattle.cbor_look.specs.declared.strings.Kind.{Kind as CodeKind}
 use Rattle.cbor_look.specs.declared.strings.Kind.TheVariants as k
+use Rattle.cbor_look.specs.Parts.{FailsInBody}
 use Rattle.cbor_look.specs.Takings.{most_bytes, Takes, Keeps}
 use Rattle.cbor_look.specs.Levels.{Line, Nest, AreOpen, none, more, TitleDue, HasBody, IsFilled, Stands}
 use Rattle.cbor_look.specs.Dumps.{Draws, fault_lines, Lines, SaysFault, Shows}
@@ -261,11 +261,11 @@ close_last strict kind title bytes parts bodies
 module _ {R E W : Type 0} (source : Ghosts R E) where
   -- the body failed
   pub body_stops : (kind : Kind) (len place : ℕ) (old new : Decoder R) (error : Error E) (why : DumpError E W)
-      → SaysFault error why → EndsBody source kind [] len most_bytes place old (Err error) new
+      → SaysFault error why → FailsInBody source kind len place old error new
       → StopsRest source kind (Some len) place old (Err why) new
   body_stops kind len place old new error (d.Item (s.Read other)) says ends =
       let same : other ≡ error = cc in
-      subst (λ (x : Error E). EndsBody source kind [] len most_bytes place old (Err x) new) (sym same) ends
+      subst (λ (x : Error E). FailsInBody source kind len place old x new) (sym same) ends
   body_stops kind len place old new error (d.Item (s.Break at)) says ends = absurd cc
   body_stops kind len place old new error (d.Item (s.Deep at)) says ends = absurd cc
   body_stops kind len place old new error (d.Rows fault) says ends = tt

@@ -1,5 +1,5 @@
 -- A dump as a check: what `dump` consumes, and where and why it stops.
-use Rattle.std.specs.Prelude.{◌≡◌, ℕ, List, Result, Ok, Err}
+use Rattle.std.specs.Prelude.{◌≡◌, ℕ, ◌≤◌, List, Result, Ok, Err}
 use Rattle.ciborium_ll.specs.Types.Read.{Ghosts}
 use Rattle.ciborium_ll.specs.Types.Decoder.{Decoder}
 use Rattle.cbor_look.specs.declared.sequence.Sequence.{Sequence}
@@ -15,9 +15,12 @@ AnswersAs (Err stopped) (Err (d.Item error)) = stopped.error ≡ error
 AnswersAs checked result = ⊥
 
 module _ {R E W : Type 0} (source : Ghosts R E) where
-  -- a check through a buffer of so much room could have done what the dump did, and answers the same
-  pub record ReadsAsCheck (depth room : ℕ) (old : Decoder R) (result : Result E (DumpError E W)) (new : Decoder R)
+  -- a check through a buffer of some room, but of no more than so much, would do what the dump did, and answers the
+  -- same
+  pub record ReadsAsCheck (depth most : ℕ) (old : Decoder R) (result : Result E (DumpError E W)) (new : Decoder R)
       : Type 0 where
+    pub room : ℕ
+    pub held : room ≤ most
     pub checked : Result (Sequence E) (Stopped E)
     pub answers : AnswersAs checked result
     pub checks : ChecksItems source depth room old checked new

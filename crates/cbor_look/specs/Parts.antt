@@ -1,5 +1,5 @@
 -- What the read of a part of a body does, as a skip of the string does it.
-use Rattle.std.specs.Prelude.{ℕ, Bool, true, false, List, [], Result, Ok, Err}
+use Rattle.std.specs.Prelude.{ℕ, ◌≤◌, Bool, true, false, List, [], Result, Ok, Err}
 use Rattle.ciborium_ll.specs.Types.Read.{Ghosts}
 use Rattle.ciborium_ll.specs.Types.Decoder.{Decoder}
 use Rattle.ciborium_ll.specs.Types.Error.{Error}
@@ -28,15 +28,21 @@ IsSound left bytes true = IsCharacters bytes
 IsSound left bytes false = IsNoText [] left bytes
 
 module _ {R E : Type 0} (source : Ghosts R E) where
+  -- the read of a body of which so many bytes are left failed as that of a skip does, through a buffer of some room, but
+  -- of no more than a row has (RFC 7049, 2.1; RFC 3629, 4)
+  pub record FailsInBody (kind : Kind) (left place : ℕ) (old : Decoder R) (error : Error E) (new : Decoder R) : Type 0
+    where
+      pub room : ℕ
+      pub held : room ≤ most_bytes
+      pub ends : EndsBody source kind [] left room place old (Err error) new
+
   -- bytes of a text were read, of which so many were left, or the read of them failed as that of the whole body does
   -- (RFC 7049, 2.1; RFC 3629, 4)
   abbrev pub ReadsText : ℕ → List ℕ → Decoder R → Result Bool (Error E) → Decoder R → Type 0
   ReadsText left bytes old (Ok whole) new = Passes source old bytes new × IsSound left bytes whole
-  ReadsText left bytes old (Err error) new = (place : ℕ) → EndsBody source Text [] left most_bytes place old (Err
-      error) new
+  ReadsText left bytes old (Err error) new = (place : ℕ) → FailsInBody Text left place old error new
 
   -- the same of a body of either kind (RFC 7049, 2.1; RFC 3629, 4)
   abbrev pub ReadsPart : Kind → ℕ → ℕ → List ℕ → Decoder R → Result (Unit {0}) (Error E) → Decoder R → Type 0
   ReadsPart kind left place bytes old (Ok done) new = Passes source old bytes new
-  ReadsPart kind left place bytes old (Err error) new = EndsBody source kind [] left most_bytes place old (Err error)
-      new
+  ReadsPart kind left place bytes old (Err error) new = FailsInBody kind left place old error new

@@ -1,7 +1,9 @@
 -- What the rows of a string show of it.
-use Rattle.std.specs.Prelude.{◌≡◌, ℕ, Bool, false, List, [], ◌∷◌, ◌++◌, length, Option, Some, None, Result, Ok, Err, OnOk}
+use Rattle.std.specs.Prelude.{◌≡◌, ℕ, ◌≤◌, Bool, false, List, [], ◌∷◌, ◌++◌, length, Option, Some, None, Result, Ok, Err}
+use Rattle.std.specs.Prelude.{OnOk}
 use Rattle.ciborium_ll.specs.Types.Read.{Ghosts}
 use Rattle.ciborium_ll.specs.Types.Decoder.{Decoder}
+use Rattle.ciborium_ll.specs.Types.Error.{Error}
 use Rattle.ciborium_ll.specs.Types.Header.{Header}
 use Rattle.ciborium_ll.specs.Types.Header.TheVariants as h
 use Rattle.ciborium_ll.specs.Strings.{Kind, Bytes, Text, kind_header, AreStrings, IsWritable}
@@ -9,7 +11,6 @@ use Rattle.ciborium_ll.specs.Elements.{AreWritable}
 use Rattle.ciborium_ll.specs.Faults.{IsRefusedIn}
 use Rattle.ciborium_ll.specs.Items.{AreTakenStrings}
 use Rattle.ciborium_ll.specs.Decoding.{Passes}
-use Rattle.ciborium_ll.specs.Finishing.{EndsBody}
 use Rattle.ciborium_ll.specs.Skipping.{StopsInside}
 use Rattle.cbor_skip.specs.declared.SkipError.TheVariants as s
 use Rattle.cbor_look.specs.declared.dump.DumpError.{DumpError}
@@ -23,6 +24,7 @@ use Rattle.cbor_look.specs.declared.rows.Meaning.TheVariants as m
 use Rattle.cbor_look.specs.Levels.{Line}
 use Rattle.cbor_look.specs.Dumps.{Shows}
 use Rattle.cbor_look.specs.Endings.{ending}
+use Rattle.cbor_look.specs.Parts.{FailsInBody}
 use Rattle.cbor_look.specs.Takings.{IsAlike, most_bytes}
 
 -- a kind of string in the code, as the grammar has it
@@ -57,14 +59,22 @@ abbrev pub IsRest : Bool → Kind → Option ℕ → List ℕ → Type 0
 IsRest strict kind (Some len) bytes = (length bytes ≡ len) × IsWritable kind bytes
 IsRest strict kind None bytes = EndsString strict kind bytes
 
+module _ {R E : Type 0} (source : Ghosts R E) where
+  -- behind an open the read of a string failed as that of a skip does, through a buffer of some room, but of no more
+  -- than a row has (RFC 7049, 2.2.2)
+  pub record FailsInside (kind : Kind) (old : Decoder R) (error : Error E) (new : Decoder R) : Type 0 where
+    pub room : ℕ
+    pub held : room ≤ most_bytes
+    pub stops : StopsInside source kind room old error new
+
 module _ {R E W : Type 0} (source : Ghosts R E) where
-  -- how the read of what follows a string's title stops: as a skip of it does, through a buffer of as much room as a
-  -- row has; the place is that of the title of a body (RFC 7049, 2.2)
+  -- how the read of what follows a string's title stops: as a skip of it does; the place is that of the title of a body
+  -- (RFC 7049, 2.2)
   abbrev pub StopsRest : Kind → Option ℕ → ℕ → Decoder R → Result (Unit {0}) (DumpError E W) → Decoder R → Type 0
   StopsRest kind len place old (Ok done) new = Unit {0}
   StopsRest kind (Some len) place old (Err (d.Item (s.Read error))) new =
-      EndsBody source kind [] len most_bytes place old (Err error) new
-  StopsRest kind None place old (Err (d.Item (s.Read error))) new = StopsInside source kind most_bytes old error new
+      FailsInBody source kind len place old error new
+  StopsRest kind None place old (Err (d.Item (s.Read error))) new = FailsInside source kind old error new
   StopsRest kind len place old (Err (d.Item (s.Break at))) new = ⊥
   StopsRest kind len place old (Err (d.Item (s.Deep at))) new = ⊥
   StopsRest kind len place old (Err (d.Rows fault)) new = Unit {0}

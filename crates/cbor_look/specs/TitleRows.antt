@@ -1,7 +1,8 @@
 -- What the rows of a title show, and of the string that it begins.
-use Rattle.std.specs.Prelude.{◌≡◌, ℕ, Bool, false, List, [], ◌++◌, Option, Result, Ok, Err, OnOk}
+use Rattle.std.specs.Prelude.{◌≡◌, ℕ, ◌≤◌, Bool, false, List, [], ◌++◌, Option, Result, Ok, Err, OnOk}
 use Rattle.ciborium_ll.specs.Types.Read.{Ghosts}
 use Rattle.ciborium_ll.specs.Types.Decoder.{Decoder}
+use Rattle.ciborium_ll.specs.Types.Error.{Error}
 use Rattle.ciborium_ll.specs.Types.Header.{Header}
 use Rattle.ciborium_ll.specs.Types.Header.TheVariants as h
 use Rattle.ciborium_ll.specs.Strings.{Kind, kind_header}
@@ -52,6 +53,15 @@ module _ {E W : Type 0} where
     pub due : OnOk result (IsDueBehind strict depth whole walk (before ++ title))
     pub stops : StopsAlone strict depth whole header place before result
 
+module _ {R E : Type 0} (source : Ghosts R E) where
+  -- a string of this length failed as a skip of it does, through a buffer of some room, but of no more than a row has
+  -- (RFC 7049, 2.2)
+  pub record FailsInString (kind : Kind) (len : Option ℕ) (old : Decoder R) (error : Error E) (new : Decoder R)
+      : Type 0 where
+    pub room : ℕ
+    pub held : room ≤ most_bytes
+    pub skipped : SkipsString source kind len room old (Err error) new
+
 module _ {R E W : Type 0} (source : Ghosts R E) where
   -- how a title ends a dump, or the string that it begins, which stops as a skip of it does (RFC 7049, 2.2)
   abbrev pub StopsTitle : Bool → ℕ → ℕ → Header → ℕ → List ℕ → Decoder R → Result (Unit {0}) (DumpError E W)
@@ -59,7 +69,7 @@ module _ {R E W : Type 0} (source : Ghosts R E) where
   StopsTitle strict depth whole header place before old (Ok done) new = Unit {0}
   StopsTitle strict depth whole header place before old (Err (d.Item (s.Read error))) new =
       (kind : Kind) × (len : Option ℕ) × IsStringDue strict depth whole before header kind len
-      × SkipsString source kind len most_bytes old (Err error) new
+      × FailsInString source kind len old error new
   StopsTitle strict depth whole header place before old (Err (d.Item (s.Break at))) new =
       IsUnclosed strict depth whole before × (header ≡ h.Break) × (at ≡ place) × (new ≡ old)
   StopsTitle strict depth whole header place before old (Err (d.Item (s.Deep at))) new =

@@ -51,10 +51,10 @@ pub enum DumpError<E, W> {
 /// other, are just those that were consumed, and on `Ok` they are a sequence of items to the depth, of a strict dump in
 /// their shortest spelling.
 ///
-/// Where no header waits, and the decoder is as strict as the dump, it does what `check` could do through a buffer of
-/// 16 bytes, and answers the same, unless a row was not taken. Where besides a steady reader tells its bytes and the
-/// offset fits, `Ok` comes exactly where the bytes are a sequence of items to the depth; else the error is the fault
-/// behind the items before it.
+/// Where no header waits, and the decoder is as strict as the dump, it does what `check` would do through a buffer of
+/// some room, which is 16 bytes at most and may be less than `check` asks for, and answers the same, unless a row was
+/// not taken. Where besides a steady reader tells its bytes and the offset fits, `Ok` comes exactly where the bytes are
+/// a sequence of items to the depth; else the error is the fault behind the items before it.
 ///
 /// No clause says how rows are printed, nor what is consumed where a header waits, nor where a dump stops whose decoder
 /// is not as strict: a title is then taken or refused as the dump is strict or not.

@@ -277,7 +277,7 @@ module _ {R E : Type 0} (source : Ghosts R E) (depth room : ℕ) (old : Decoder 
 
     cut_body : (bytes : List ℕ) (k : Kind) (len start : ℕ) (at new : Decoder R)
         → ReachesItem (strictness old) depth bytes (BodyDue k len start)
-        → Passes source old bytes at → RestFails source k [] len at new → MeetsItemFault source (strictness old) depth due Short old new
+        → Passes source old bytes at → RestFails source k [] len room at new → MeetsItemFault source (strictness old) depth due Short old new
     cut_body bytes k len start at new reach passed fails =
         let c = came bytes at passed in
         let part = fails.part in
@@ -302,7 +302,7 @@ module _ {R E : Type 0} (source : Ghosts R E) (depth room : ℕ) (old : Decoder 
             reach = reach;
             is = c.parts;
             fault = CutBody part.front (part.left ++ gone.0)
-                (omega (arith, few, behind, fails.more, length-append part.read gone.0)) split part.sound
+                (omega (arith, few, behind, fails.filled, part.within, length-append part.read gone.0)) split part.sound
                 (omega (arith, parts, length-append part.front part.left))
                 (omega (arith, parts, part.few, length-append part.front part.left))
                 (omega (arith, behind, length-append part.read gone.0));
@@ -330,7 +330,7 @@ module _ {R E : Type 0} (source : Ghosts R E) (depth room : ℕ) (old : Decoder 
           whole,
           fits,
           full,
-          fails.held,
+          fails.filled,
           part.passed.offset,
           passed.offset,
           length-append part.read gone.0,

@@ -91,6 +91,7 @@ module _ {R E P W F : Type 0} {parser : Parser P} (source : Reader R E) (sink : 
             length-append chunk (kept_bytes new.kept),
           );
           few = few_kept parser.kind new.kept new.text_alone;
+          stuck = new.stuck;
           sound = more.sound;
           written = so_far.written;
           stopped = stopped;

@@ -98,30 +98,30 @@ module _ {R E P : Type 0} {parser : Parser P} (source : Reader R E) where
       left = kept_bytes segment.kept;
       parts = so_far.parts;
       few = few_kept parser.kind segment.kept segment.text_alone;
+      stuck = segment.stuck;
       sound = so_far.sound;
       within = omega (arith, so_far.counted);
       passed = so_far.passed;
     }
 
     abbrev rest_fails : (room : ℕ) (new : Segment R P parser) → 4 ≤ room → ChunkFails source room segment new
-        → RestFails source parser.kind (kept_bytes first.kept) first.unread first.decoder.now new.decoder.now
+        → RestFails source parser.kind (kept_bytes first.kept) first.unread room first.decoder.now new.decoder.now
     rest_fails room new four fails = record {
       between = segment.decoder.now;
       part = part;
       count = read_count room segment;
       some = omega (arith, four, fails.some_unread, three_kept segment.kept);
-      more = omega (arith, so_far.counted);
+      filled = omega (arith, four, so_far.counted, three_kept segment.kept);
       fails = fails.fails;
     }
 
-    abbrev rest_passes : (room : ℕ) (new : Segment R P parser) → ChunkPasses source room segment new
+    abbrev rest_passes : (room : ℕ) (new : Segment R P parser) → 4 ≤ room → ChunkPasses source room segment new
         → RestPasses source parser.kind (kept_bytes first.kept) first.unread room first.decoder.now new.decoder.now
-    rest_passes room new passes = record {
+    rest_passes room new four passes = record {
       between = segment.decoder.now;
       part = part;
       count = read_count room segment;
-      held = omega arith;
-      more = omega (arith, so_far.counted);
+      filled = omega (arith, four, so_far.counted, three_kept segment.kept);
       full = passes.full;
       untouched = passes.untouched;
     }
@@ -201,7 +201,7 @@ module _ {R E P : Type 0} {parser : Parser P} (source : Reader R E) where
       | inl stays ↦ absurd (let a = stays.damaged-before in let b = so_far.damage in cc)
       | inr found ↦ rest_damaged room at new steady (finds.place ∙ so_far.at) found
     ]
-    rest_ends room e.TooLong new four undamaged steady passes = (rest_passes room new passes, refl)
+    rest_ends room e.TooLong new four undamaged steady passes = (rest_passes room new four passes, refl)
     rest_ends room e.Waiting new four undamaged steady never = absurd never
 
     -- and of any
@@ -224,7 +224,7 @@ module _ {R E P : Type 0} {parser : Parser P} (source : Reader R E) where
           })
         ]
     rest_error room e.TooLong new four steady passes = inl
-        (record { undamaged = sym so_far.damage ∙ passes.sound; ends = rest_passes room new passes })
+        (record { undamaged = sym so_far.damage ∙ passes.sound; ends = rest_passes room new four passes })
     rest_error room e.Waiting new four steady never = absurd never
 
     -- the same of whatever a pull and the loop gave, if both are one error

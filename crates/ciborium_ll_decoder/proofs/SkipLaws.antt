@@ -62,6 +62,7 @@ module _ {R E : Type 0} (source : Reader R E) (k : Kind) (len : ℕ) (old new : 
     left = part.left;
     parts = part.parts;
     few = part.few;
+    stuck = part.stuck;
     sound = part.sound;
     within = part.within;
     passed = Passes-then source old new between [] part.read passed part.passed;
@@ -84,7 +85,7 @@ module _ {R E : Type 0} (source : Reader R E) (k : Kind) (len : ℕ) (old new : 
     part = begins_behind fails.between fails.part;
     count = fails.count;
     some = fails.some;
-    more = fails.more;
+    filled = fails.filled;
     fails = fails.fails;
   }
   ends_behind room place (e.Syntax at) ended damaged = (
@@ -105,8 +106,7 @@ module _ {R E : Type 0} (source : Reader R E) (k : Kind) (len : ℕ) (old new : 
     between = passes.between;
     part = begins_behind passes.between passes.part;
     count = passes.count;
-    held = passes.held;
-    more = passes.more;
+    filled = passes.filled;
     full = passes.full;
     untouched = passes.untouched;
   }

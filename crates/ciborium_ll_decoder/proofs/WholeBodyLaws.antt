@@ -13,6 +13,7 @@ use Rattle.ciborium_ll_decoder.proofs.DecodingLaws.{Passes-none}
 use Rattle.ciborium_ll_decoder.proofs.BodyLaws.{writable_nil, Passes-read}
 use Rattle.ciborium_ll_text.specs.Text.{IsCharacters, IsFront}
 use Rattle.ciborium_ll_text.proofs.TextLaws.{IsCharacters-nil}
+use Rattle.ciborium_ll_text.proofs.FrontLaws.{IsStuck-nil}
 
 -- any bytes are the body of a byte string
 textual : (kind : Kind) (bytes : List ℕ) → (IsWritable kind bytes → ⊥) → kind ≡ Text
@@ -89,6 +90,7 @@ module _ {R E : Type 0} (source : Reader R E) (kind : Kind) (len room place : �
     left = [];
     parts = refl;
     few = omega arith;
+    stuck = IsStuck-nil;
     sound = writable_nil kind;
     within = omega arith;
     passed = Passes-none source old;
@@ -103,7 +105,7 @@ module _ {R E : Type 0} (source : Reader R E) (kind : Kind) (len room place : �
     part = begun;
     count = length read;
     some = omega (arith, all, some);
-    more = omega (arith, all);
+    filled = omega (arith, all, held);
     fails = fails;
   }
   unread_ends read new (e.Syntax at) none all some held fails = absurd fails
@@ -111,8 +113,7 @@ module _ {R E : Type 0} (source : Reader R E) (kind : Kind) (len room place : �
     between = old;
     part = begun;
     count = length read;
-    held = omega (arith, all, held);
-    more = omega (arith, all);
+    filled = omega (arith, all, held);
     full = fails.1;
     untouched = fails.2;
   }

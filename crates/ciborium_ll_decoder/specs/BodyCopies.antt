@@ -5,6 +5,7 @@ use Rattle.ciborium_ll_io.specs.declared.io.Read.{Ghosts as Reader}
 use Rattle.ciborium_ll_io.specs.declared.io.Write.{Ghosts as Writer}
 use Rattle.ciborium_ll_io.specs.Writes.{WritesAll, WritesFront}
 use Rattle.ciborium_ll_grammar.specs.Strings.{Kind, IsWritable, most_kept}
+use Rattle.ciborium_ll_text.specs.Text.{IsStuck}
 use Rattle.ciborium_ll_decoder.specs.declared.copy.RecodeError.{RecodeError}
 use Rattle.ciborium_ll_decoder.specs.declared.copy.RecodeError.TheVariants as r
 use Rattle.ciborium_ll_decoder.specs.declared.dec.Decoder.{Decoder}
@@ -38,7 +39,7 @@ module _ {R E W F : Type 0} (source : Reader R E) (sink : Writer W F) (kind : Ki
         (handed_out source kind [] len room place old.decoder result new.decoder ends) new.writer
 
   -- the writer failed at a chunk, which came through a buffer of so much room. Of a text up to three bytes were read
-  -- behind it
+  -- behind it, with which no further text begins
   pub record BodyUnwritten (len room : ℕ) (old new : Sides R W) : Type 0 where
     pub front : List ℕ
     pub chunk : List ℕ
@@ -48,6 +49,7 @@ module _ {R E W F : Type 0} (source : Reader R E) (sink : Writer W F) (kind : Ki
     pub within : length front < len
     pub filled : length chunk + length kept ≡ min room (len - length front)
     pub few : length kept ≤ most_kept kind
+    pub stuck : IsStuck kept
     pub sound : IsWritable kind (front ++ chunk)
     pub written : WritesAll sink old.writer front between
     pub stopped : WritesFront sink between chunk new.writer

@@ -1,5 +1,5 @@
 -- What `finish` does with a segment: it reads what is left of the body.
-use Rattle.std.specs.Prelude.{◌≡◌, ℕ, ◌+◌, ◌-◌, ◌<◌, ◌≤◌, ◌⊎◌, true, false, List, [], ◌++◌, length, Some}
+use Rattle.std.specs.Prelude.{◌≡◌, ℕ, ◌+◌, ◌-◌, ◌<◌, ◌≤◌, ◌⊎◌, min, true, false, List, [], ◌++◌, length, Some}
 use Rattle.std.specs.Prelude.{Result, Ok, Err}
 use Rattle.ciborium_ll_io.specs.declared.io.Read.{Ghosts}
 use Rattle.ciborium_ll_decoder.specs.declared.dec.Decoder.{Decoder}
@@ -11,7 +11,7 @@ use Rattle.ciborium_ll_decoder.specs.declared.seg.Segment.{Segment}
 use Rattle.ciborium_ll_decoder.specs.declared.seg.Segments.{Segments}
 use Rattle.ciborium_ll_grammar.specs.Title.{title_len}
 use Rattle.ciborium_ll_grammar.specs.Strings.{Kind, Text, IsWritable, kind_header, most_kept}
-use Rattle.ciborium_ll_text.specs.Text.{IsCharacters, BeginsNoText}
+use Rattle.ciborium_ll_text.specs.Text.{IsCharacters, IsStuck, BeginsNoText}
 use Rattle.ciborium_ll_decoder.specs.Kept.{kept_bytes}
 use Rattle.ciborium_ll_decoder.specs.Decoding.{offset_limit, MovesOn, Passes, ReadFails, IsUntouched}
 use Rattle.ciborium_ll_decoder.specs.Segments.{progress_of, string_decoder, string_reference, string_strict}
@@ -30,33 +30,36 @@ module _ {R E : Type 0} (source : Ghosts R E) (kind : Kind) (kept : List ℕ) (u
     pub sound : IsWritable kind (kept ++ read)
     pub passed : Passes source old read new
 
-  -- a beginning of the rest was read; of a text it is characters, but for up to three bytes behind them
+  -- a beginning of the rest was read; of a text it is characters, but for up to three bytes behind them, with which no
+  -- further text begins
   pub record BeginsRest (old between : Decoder R) : Type 0 where
     pub read : List ℕ
     pub front : List ℕ
     pub left : List ℕ
     pub parts : kept ++ read ≡ front ++ left
     pub few : length left ≤ most_kept kind
+    pub stuck : IsStuck left
     pub sound : IsWritable kind front
     pub within : length read ≤ unread
     pub passed : Passes source old read between
 
-  -- the reader failed at more bytes of the rest
-  pub record RestFails (old new : Decoder R) : Type 0 where
+  -- the reader failed at more bytes of the rest: the bytes kept and those asked for fill the buffer, or are all that is
+  -- left of the body
+  pub record RestFails (room : ℕ) (old new : Decoder R) : Type 0 where
     pub between : Decoder R
     pub part : BeginsRest old between
     pub count : ℕ
     pub some : 0 < count
-    pub more : length part.read + count ≤ unread
+    pub filled : length part.left + count ≡ min room (length part.left + (unread - length part.read))
     pub fails : ReadFails source between count new
 
-  -- the offset can't take the read of more bytes of the rest, which are no more than the buffer holds
+  -- the offset can't take the read of more bytes of the rest, which with those kept fill the buffer, or are all that is
+  -- left of the body
   pub record RestPasses (room : ℕ) (old new : Decoder R) : Type 0 where
     pub between : Decoder R
     pub part : BeginsRest old between
     pub count : ℕ
-    pub held : count ≤ room
-    pub more : length part.read + count ≤ unread
+    pub filled : length part.left + count ≡ min room (length part.left + (unread - length part.read))
     pub full : offset_limit ≤ between.offset + count
     pub untouched : IsUntouched between new
 
@@ -76,7 +79,7 @@ module _ {R E : Type 0} (source : Ghosts R E) (kind : Kind) (kept : List ℕ) (u
   -- these are kept; it is read to its end through a buffer of so much room, by the answer
   abbrev pub EndsBody : ℕ → ℕ → Decoder R → Result (Unit {0}) (Error E) → Decoder R → Type 0
   EndsBody room place old (Ok done) new = ReadsRest old new
-  EndsBody room place old (Err (e.Io fault)) new = RestFails old new
+  EndsBody room place old (Err (e.Io fault)) new = RestFails room old new
   EndsBody room place old (Err (e.Syntax at)) new = (at ≡ place) × RestDamaged old new
   EndsBody room place old (Err e.TooLong) new = RestPasses room old new
   EndsBody room place old (Err e.Waiting) new = ⊥

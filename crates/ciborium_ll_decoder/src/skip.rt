@@ -21,7 +21,8 @@ use ciborium_ll_io::io::Read;
 /// `TooLong` that the offset can't take the next read. In a string of indefinite length an error stands behind a
 /// beginning of it: there `pull` failed, a title came that may not stand there, or the read of a body failed. In one of
 /// a definite length its body failed as `Segment::finish` fails, with the place where the header's shortest title would
-/// begin. What was read before an error is consumed.
+/// begin. The read of a body that `Io` or `TooLong` stops was to fill `buffer`, behind the bytes that are kept, or to
+/// take all that is left of the body. What was read before an error is consumed.
 ///
 /// The conditions are those of [`Decoder::bytes`], and `buffer` has four bytes at least. The decoder moves on as
 /// [`Decoder`] says, and `Waiting` never comes.

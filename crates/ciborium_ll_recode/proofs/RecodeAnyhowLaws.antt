@@ -152,7 +152,7 @@ module _ {R E W F : Type 0} {strict : Bool} (source : Reader R E) (sink : Writer
           body_short stops.bytes stops.marks stops.kind stops.len stops.start stops.between stops.titled passes.between
               new stops.reaches stops.copied
               stops.title passes.part stops.stopped.written passes.untouched.offset,
-          omega (arith, full, passes.held, passes.untouched.offset, le-max_right 8 room),
+          omega (arith, full, passes.filled, passes.untouched.offset, le-max_right 8 room),
         )
 
     pub unwritten : (new : Sides R W) → StopsWriting source sink count room old new

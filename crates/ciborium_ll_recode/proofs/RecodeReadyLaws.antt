@@ -97,7 +97,7 @@ module _ {R E W F : Type 0} {strict : Bool} (source : Reader R E) (sink : Writer
             is = c.parts;
             spelled = λ on. stops.strict (told.mode ∙ on) (told.none_waits on);
             fault = CutBody part.front (part.left ++ gone.0)
-                (omega (arith, few, behind, fails.more, length-append part.read gone.0)) split part.sound
+                (omega (arith, few, behind, fails.filled, part.within, length-append part.read gone.0)) split part.sound
                 (omega (arith, parts, length-append part.front part.left))
                 (omega (arith, parts, part.few, length-append part.front part.left))
                 (omega (arith, behind, length-append part.read gone.0));
@@ -178,7 +178,7 @@ module _ {R E W F : Type 0} {strict : Bool} (source : Reader R E) (sink : Writer
           whole,
           fits,
           full,
-          stops.stopped.ends.held,
+          stops.stopped.ends.filled,
           part.passed.offset,
           stops.copied.passed.offset,
           length-append part.read gone.0,

@@ -49,6 +49,7 @@ module _ {R E W F : Type 0} (source : Reader R E) (sink : Writer W F) where
     within = stops.within;
     filled = stops.filled;
     few = stops.few;
+    stuck = stops.stuck;
     sound = stops.sound;
     written = all_passed_on encoder stops.between stops.front stops.written;
     stopped = front_passed_on stops.between encoder' stops.chunk stops.stopped;

@@ -113,6 +113,7 @@ module _ {R E : Type 0} (source : Reader R E) where
           left = stops.kept;
           parts = sym (append_assoc stops.front stops.chunk stops.kept);
           few = stops.few;
+          stuck = stops.stuck;
           sound = stops.sound;
           within = omega (arith, stops.within, stops.filled, counted, chunked);
           passed = stops.passed;
