@@ -146,7 +146,7 @@ module _ {R E : Type 0} (source : Ghosts R E) where
 
   -- ---- why no more was read
 
-  -- a beginning of a body of this length was read, and the read of more of it failed
+  -- a beginning of a body of this length was read, and the read of more of it failed, which asked for at most 64 bytes
   pub record BodyFails (len : ℕ) (old : Decoder R) (error : Error E) (new : Decoder R) : Type 0 where
     pub read : List ℕ
     pub asked : List ℕ
@@ -154,6 +154,7 @@ module _ {R E : Type 0} (source : Ghosts R E) where
     pub passed : Passes source old read between
     pub some : 0 < length asked
     pub within : length read + length asked ≤ len
+    pub held : length asked ≤ 64
     pub fails : ReadsBytes source between (Err error) asked new
 
   -- the read of a map behind its title, by its answer: the rest of it was read, or of its items a beginning, and there

@@ -33,6 +33,7 @@ returns-in_err-read_exact-clause-fails g c =
     let some : 0 < c.min-size.result = search rules in
     let asked = length-take-le c.min-size.result c.chunks.buffer fits in
     let fewer : c.min-size.result ≤ c.chunks.left = search rules in
+    let held : c.min-size.result ≤ 64 = search rules in
     rw same (record {
       read = kept.0;
       asked = c.read_exact.new.data;
@@ -40,6 +41,7 @@ returns-in_err-read_exact-clause-fails g c =
       passed = rw c.offset-start.ensures.same at kept.2;
       some = omega (arith, asked, c.read_exact.auto.data, some);
       within = omega (arith, asked, c.read_exact.auto.data, fewer, kept.1);
+      held = omega (arith, asked, c.read_exact.auto.data, held);
       fails = c.in_err-read_exact.ensures.reads.read;
     })
 
