@@ -2,7 +2,7 @@
 use Rattle.std.proofs.Common.{◌≡◌, ℕ, ◌+◌, Bool, List, [], ◌++◌, length, take, drop, refl, sym, ap}
 use Rattle.std.proofs.Common.{subst, ◌∙◌, arith, append_assoc, append-nil, Result, Ok, Err, Option, Some, None, IsTrue, ◌<◌, ◌≤◌, ◌^◌}
 use Rattle.std.proofs.Common.{◌↔◌, length-append}
-use Rattle.std.proofs.Math.Seq.{take-length}
+use Rattle.std.proofs.Math.Seq.{take-length, drop-length}
 use Rattle.ciborium_ll_grammar.proofs.ItemLaws.{one_item}
 use Rattle.std.proofs.lemmas.List.{take-append-drop}
 use Rattle.ciborium_ll_io.specs.declared.io.Read.{Ghosts}
@@ -27,7 +27,7 @@ use Rattle.cbor_feed.specs.Spots.{Spot}
 use Rattle.cbor_feed.specs.Steps.{StepIn, IsFed}
 use Rattle.cbor_feed.specs.Telling.{progress_in, progress_of, IsAnswer, IsMore, Tells}
 use Rattle.cbor_feed_laws.specs.SameFaults.{Names, HasLongNest, NamesSyntax, AnswersFault}
-use Rattle.cbor_feed_laws.specs.SameFaults.{IsEnd, IsFault, BeginsNoItem}
+use Rattle.cbor_feed_laws.specs.SameFaults.{IsEnd, IsFault, BeginsNoItem, FeedTells, SkipTells}
 use Rattle.cbor_feed_laws.proofs.Runs.{Runs, faulted, goes, fed_runs, at, behind}
 use Rattle.cbor_feed_laws.proofs.TitleRuns.{taken_run}
 use Rattle.cbor_feed_laws.proofs.ItemRuns.{completes_run}
@@ -132,6 +132,25 @@ module _ {R E : Type 0} (source : Ghosts R E) (old new : Decoder R) where
       subst (λ (z : ℕ). AnswersFault s depth bytes fault z result) start
       (subst (λ (z : List ℕ). AnswersFault s depth z fault old.offset result) all here)
 
+  -- ---- the answer of a skip that began at the offset 0
+
+  module _ (start : old.offset ≡ 0) where
+    from_start : (at n : ℕ) → at ≡ old.offset + n → at ≡ n
+    from_start at n e = omega (arith, e, start)
+
+    pub skip_tells : (s : Bool) (depth : ℕ) (bytes : List ℕ) (result : Result (Unit {0}) (SkipError E))
+        → SkipsTold source s depth bytes old result new → SkipTells s depth bytes result
+    skip_tells s depth bytes (Ok done) told = told.front
+    skip_tells s depth bytes (Err (k.Break at)) told =
+        (told.fault, from_start at (length told.fault.before) told.place)
+    skip_tells s depth bytes (Err (k.Deep at)) told =
+        (told.fault, from_start at (length told.fault.before) told.place)
+    skip_tells s depth bytes (Err (k.Read (e.Syntax at))) told =
+        (told.2.fault, told.2.answered ∙ ap Syntax (sym (from_start at told.0 told.1)))
+    skip_tells s depth bytes (Err (k.Read (e.Io error))) told = (told.fault, told.answered)
+    skip_tells s depth bytes (Err (k.Read e.TooLong)) told = told
+    skip_tells s depth bytes (Err (k.Read e.Waiting)) told = told
+
 -- ---- what a checker answers, in terms of all bytes
 
 module _ (s : Bool) (depth taken : ℕ) (bytes : List ℕ) (spot : Spot) (room : length bytes + 1 < 2 ^ 64) where
@@ -146,6 +165,9 @@ module _ (s : Bool) (depth taken : ℕ) (bytes : List ℕ) (spot : Spot) (room :
 
   whole : taken ≡ length bytes → fed ≡ bytes
   whole e = ap (λ (n : ℕ). take n bytes) e ∙ take-length bytes
+
+  none_left : taken ≡ length bytes → drop taken bytes ≡ []
+  none_left e = ap (λ (n : ℕ). drop n bytes) e ∙ drop-length bytes
 
   -- where more is due no item is in front
   more_none : (due : ℕ) → Tells s depth fed (r.More due) → taken ≡ length bytes → ItemInFront s depth bytes → ⊥
@@ -188,6 +210,25 @@ module _ (s : Bool) (depth taken : ℕ) (bytes : List ℕ) (spot : Spot) (room :
   item_here front none = none [] (subst (ItemInFront s depth) (sym (append-nil bytes)) front)
 
   module _ (is_fed : IsFed s depth fed spot) where
+    told_by : (progress : Progress) → progress ≡ progress_of spot → (IsMore progress → taken ≡ length bytes)
+        → FeedTells s depth bytes progress
+    told_by progress answers all = record {
+      taken = fed;
+      rest = drop taken bytes;
+      is = sym all_bytes;
+      all = λ more. none_left (all more);
+      spot = spot;
+      is_fed = is_fed;
+      answers = answers;
+    }
+
+    pub feed_tells : (progress : Progress) → IsAnswer progress spot → Tells s depth fed progress
+        → (IsMore progress → taken ≡ length bytes) → FeedTells s depth bytes progress
+    feed_tells (r.More due) answers tells all = told_by (r.More due) answers all
+    feed_tells (r.Ended len) answers tells all = told_by (r.Ended len) answers all
+    feed_tells (r.Fault fault) answers tells all = told_by (r.Fault fault) answers all
+    feed_tells r.TooLong answers tells all = absurd (not_long tells)
+
     pub ended_exactly : (progress : Progress) → IsAnswer progress spot → Tells s depth fed progress
         → (IsMore progress → taken ≡ length bytes) → IsEnd progress ↔ ItemInFront s depth bytes
     ended_exactly (r.More due) answers tells all =

@@ -1,6 +1,7 @@
--- The fault that a checker of `cbor_feed` names, and what `skip_item` of `cbor_skip` answers to the same bytes with any
--- more behind them.
-use Rattle.std.specs.Prelude.{◌≡◌, ℕ, ◌+◌, ◌⊎◌, Bool, false, List, ◌++◌, length, Result, Ok, Err}
+-- What a checker of `cbor_feed` and `skip_item` of `cbor_skip` answer to some bytes; and the fault that the checker names,
+-- and what the skip answers to the same bytes with any more behind them.
+use Rattle.std.specs.Prelude.{◌≡◌, ℕ, ◌+◌, ◌⊎◌, Bool, false, List, [], ◌++◌, length, Result, Ok, Err}
+use Rattle.ciborium_ll_grammar.specs.Faults.{Short, Syntax}
 use Rattle.ciborium_ll_grammar.specs.declared.hdr.Header.{Header}
 use Rattle.ciborium_ll_grammar.specs.Title.{IsTitle}
 use Rattle.ciborium_ll_grammar.specs.Items.{IsTakenTitle}
@@ -8,14 +9,38 @@ use Rattle.ciborium_ll_decoder.specs.declared.dec.Error.TheVariants as e
 use Rattle.cbor_skip.specs.declared.SkipError.{SkipError}
 use Rattle.cbor_skip.specs.declared.SkipError.TheVariants as s
 use Rattle.cbor_skip.specs.Due.{IsNest, ItemDue}
-use Rattle.cbor_skip.specs.ItemFaults.{ItemInFront}
+use Rattle.cbor_skip.specs.ItemFaults.{HasDeepNest, HasEarlyBreak, HasItemFault, ItemInFront}
 use Rattle.cbor_feed.specs.declared.phase.Fault.{Fault}
 use Rattle.cbor_feed.specs.declared.phase.Fault.TheVariants as f
 use Rattle.cbor_feed.specs.declared.progress.Progress.{Progress}
 use Rattle.cbor_feed.specs.declared.progress.Progress.TheVariants as r
 use Rattle.cbor_feed.specs.Spots.{Spot}
 use Rattle.cbor_feed.specs.Steps.{IsFed}
-use Rattle.cbor_feed.specs.Telling.{progress_of}
+use Rattle.cbor_feed.specs.Telling.{progress_of, IsMore}
+
+-- the answer of a checker that was fed the bytes: it took a beginning of them, all of them where more are due, and it
+-- answers as the spot says to which what it took leads
+pub record FeedTells (strict : Bool) (depth : ℕ) (bytes : List ℕ) (progress : Progress) : Type 0 where
+  pub taken : List ℕ
+  pub rest : List ℕ
+  pub is : bytes ≡ taken ++ rest
+  pub all : IsMore progress → rest ≡ []
+  pub spot : Spot
+  pub is_fed : IsFed strict depth taken spot
+  pub answers : progress ≡ progress_of spot
+
+-- The answer of a skip of the bytes, which begins at the offset 0: an item is in front; a break or a nest stands where
+-- none may, at the place that is named; the bytes are at fault at that place; or they end too early
+abbrev pub SkipTells : {E : Type 0} → Bool → ℕ → List ℕ → Result (Unit {0}) (SkipError E) → Type 0
+SkipTells strict depth bytes (Ok done) = ItemInFront strict depth bytes
+SkipTells strict depth bytes (Err (s.Break at)) = (met : HasEarlyBreak strict depth bytes) × (at ≡ length met.before)
+SkipTells strict depth bytes (Err (s.Deep at)) = (met : HasDeepNest strict depth bytes) × (at ≡ length met.before)
+SkipTells strict depth bytes (Err (s.Read (e.Syntax at))) =
+    (met : HasItemFault strict depth bytes) × (met.answer ≡ Syntax at)
+SkipTells strict depth bytes (Err (s.Read (e.Io error))) =
+    (met : HasItemFault strict depth bytes) × (met.answer ≡ Short)
+SkipTells strict depth bytes (Err (s.Read e.TooLong)) = ⊥
+SkipTells strict depth bytes (Err (s.Read e.Waiting)) = ⊥
 
 -- fed these bytes, a checker answers this fault
 pub record Names (strict : Bool) (depth : ℕ) (fed : List ℕ) (fault : Fault) : Type 0 where

@@ -8,7 +8,7 @@ ghost use Rattle.cbor_feed.specs.Checking.{spot_of};
 ghost use Rattle.cbor_feed.specs.Steps.{IsFed};
 ghost use Rattle.cbor_feed.specs.declared.phase.Fault.{Fault};
 ghost use Rattle.cbor_feed.specs.declared.progress.Progress.TheVariants as r;
-ghost use Rattle.cbor_feed_laws.specs.SameFaults.{AnswersFault, BeginsNoItem, IsEnd, IsFault};
+ghost use Rattle.cbor_feed_laws.specs.SameFaults.{AnswersFault, BeginsNoItem, FeedTells, IsEnd, IsFault, SkipTells};
 
 pub mod laws;
 
@@ -23,6 +23,10 @@ const BUFFER_SIZE: usize = 64;
 /// What [`Checker::feed`] and [`skip_item`] answer to the same bytes, to an item nested at most `depth` levels deep, and
 /// where `strict` holds in its shortest spelling.
 ///
+/// The checker takes a beginning of the bytes, all of them where more are due, and answers what that leads to: how many
+/// are due, the item's length, or a fault. The skip answers that an item is in front, or what of the bytes stops it: a
+/// break, a nest too deep or a fault, each at its place, or that they end too early.
+///
 /// Where the checker names a fault the skip answers it, at its place, or that the bytes end too early. Where two faults
 /// stand at one place, a nest too deep whose title isn't the shortest one, the checker names the nest and the skip the
 /// title.
@@ -33,6 +37,8 @@ pub fn feed_and_skip(
 ) -> (Progress, Result<(), SkipError<EndOfFile>>)
     requires shallow { depth ≤ 256 }
     requires room { length bytes.now + BUFFER_SIZE ≤ usize.MAX }
+    ensures feed_told { FeedTells strict depth bytes.now result.0 }
+    ensures skip_told { SkipTells strict depth bytes.now result.1 }
     ensures ended { IsEnd result.0 ↔ ItemInFront strict depth bytes.now }
     ensures skipped { IsOk result.1 ↔ ItemInFront strict depth bytes.now }
     ensures faulted { IsFault result.0 ↔ BeginsNoItem strict depth bytes.now }
