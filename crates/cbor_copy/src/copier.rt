@@ -562,9 +562,10 @@ impl Copier {
         }
     }
 
-    /// How far the copy has come, as plain numbers, of which [`Copier::restore`] makes this copier again.
+    /// How far the copy has come, as plain numbers, of which [`Copier::restore`] makes this copier again. `spare` is 0.
     pub fn save(&self) -> Snapshot
-        ensures { Holds result (spot_of self.now) }
+        ensures holds { Holds result (spot_of self.now) }
+        ensures spare { result.spare ≡ 0 }
     {
         let (phase, number, text) = self.phase.numbers();
         let (strings, more) = self.within.numbers();

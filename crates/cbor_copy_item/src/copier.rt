@@ -281,9 +281,10 @@ impl ItemCopier {
     }
 
     /// Writes what has come so far into `snapshot`, as plain numbers, of which [`ItemCopier::restore`] makes this
-    /// copier again.
+    /// copier again. Of those of the copy of elements `spare` is 0.
     pub fn save(&self, snapshot: &mut Snapshot)
-        ensures { Holds snapshot.new (item_spot self.now) (kept_spot self.now) }
+        ensures holds { Holds snapshot.new (item_spot self.now) (kept_spot self.now) }
+        ensures spare { snapshot.new.copier.spare ≡ 0 }
     {
         self.checker.save(&mut snapshot.checker);
         snapshot.copier = self.copier.save();

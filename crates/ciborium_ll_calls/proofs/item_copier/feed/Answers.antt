@@ -33,7 +33,7 @@ returns-clause-fed c = λ strict depth fed given item elements is kept.
       ap item_spot stays.2,
       ap kept_spot stays.2,
     ))
-    (record { mark = kept.mark; state = c.save.ensures }) (gives.copied strict depth fed given here)
+    (record { mark = kept.mark; state = c.save.ensures.holds }) (gives.copied strict depth fed given here)
     c.told_progress-told.ensures.answer c.told_progress-told.ensures.number c.say-2.ensures))
 
 pub returns-clause-argument : goal.returns-clause-argument
