@@ -77,8 +77,8 @@ impl<E> From<SkipError<E>> for CoseError<E> {
 /// error of the read of the map.
 ///
 /// An error says that the bytes begin as one does, and that behind that beginning a strict decoder failed, a title came
-/// that may not stand there, or the read of a body or of the map failed. Of a body at most 64 bytes are asked for at
-/// once, so the offset that `TooLong` speaks of is that behind them. Else each span is where that part stands.
+/// that may not stand there, or the read of a body, by pieces of at most 64 bytes, or of the map failed. Else each span
+/// is where that part stands.
 pub fn read_sign1<'a>(bytes: &'a [u8]) -> Result<Sign1, CoseError<EndOfFile>>
     ensures begins { IfOk result (λ parts. BeginsSign1 bytes.now parts) }
     ensures stops { IfErr result (λ error. StopsSign1 ⟦<SliceReader<'a> as Read>⟧ bytes.now error) }
