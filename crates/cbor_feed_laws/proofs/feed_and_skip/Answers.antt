@@ -24,25 +24,6 @@ returns-clause-skip_told c =
     (skip_tells _ c.decoder_of-decoder.result c.skip_item-skipped.new.decoder fresh.offset _ c.args.depth bytes
     c.skip_item-skipped.result told)
 
-pub returns-clause-feed_told : goal.returns-clause-feed_told
-returns-clause-feed_told c =
-    let start = c.checker_of-checker.ensures in
-    feed_tells c.args.strict c.args.depth c.feed-fed.result.taken c.args.bytes.now _
-    (omega (arith, c.requires.room)) (c.feed-fed.ensures.fed c.args.strict c.args.depth [] start)
-    c.feed-fed.result.progress c.feed-fed.ensures.answers
-    (c.feed-fed.ensures.tells c.args.strict c.args.depth [] start) c.feed-fed.ensures.all
-
-pub returns-clause-skip_told : goal.returns-clause-skip_told
-returns-clause-skip_told c =
-    let fresh = c.decoder_of-decoder.ensures in
-    let bytes = c.args.bytes.now in
-    let told = c.skip_item-skipped.ensures.told bytes
-    (fresh_ready _ _ c.args.strict _ c.decoder_of-decoder.result bytes fresh refl c.new.ensures.ahead
-    (omega arith) (omega (arith, c.requires.room))) in
-    subst (λ (z : Bool). SkipTells z c.args.depth bytes c.skip_item-skipped.result) fresh.mode
-    (skip_tells _ c.decoder_of-decoder.result c.skip_item-skipped.new.decoder fresh.offset _ c.args.depth bytes
-    c.skip_item-skipped.result told)
-
 pub returns-clause-ended : goal.returns-clause-ended
 returns-clause-ended c =
     let start = c.checker_of-checker.ensures in
