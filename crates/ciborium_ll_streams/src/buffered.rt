@@ -367,8 +367,9 @@ impl<'a, T: io::Write> BufferedWriter<'a, T> {
 
 impl<'a, T: io::Write> Write for BufferedWriter<'a, T> {
     ghost use Rattle.ciborium_ll_streams.specs.Buffers.{KeepsAlone, KeepsBack, KeepsRest, buffered_capacity};
-    ghost use Rattle.ciborium_ll_streams.specs.Buffers.{buffered_kept_back, buffered_room, buffered_sink, buffered_space};
-    ghost use Rattle.ciborium_ll_streams.specs.Buffers.{buffered_write_failures, buffered_write_fault, buffered_written};
+    ghost use Rattle.ciborium_ll_streams.specs.Buffers.{buffered_kept_back, buffered_room, buffered_sink};
+    ghost use Rattle.ciborium_ll_streams.specs.Buffers.{buffered_space, buffered_write_failures, buffered_write_fault};
+    ghost use Rattle.ciborium_ll_streams.specs.Buffers.{buffered_written};
 
     type Error = FaultKept;
 
