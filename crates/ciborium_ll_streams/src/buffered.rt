@@ -188,7 +188,8 @@ impl<'a, T: io::Read> Read for BufferedReader<'a, T> {
 
     ghost steady_is_told = { λ _ h. Prim.search rules };
 
-    /// Fills the whole of `data` from the front of what was read ahead, else by as many single calls of `read` as that takes.
+    /// Fills the whole of `data` from the front of what was read ahead, else by as many single calls of `read` as that
+    /// takes.
     ///
     /// After an error the fault is kept: `End` where a call moved no byte, behind which none that is told is left, and
     /// `Failed` where a call failed. The bytes that came before it then stand at the front of `data`, and are fewer
@@ -366,8 +367,9 @@ impl<'a, T: io::Write> BufferedWriter<'a, T> {
 
 impl<'a, T: io::Write> Write for BufferedWriter<'a, T> {
     ghost use Rattle.ciborium_ll_streams.specs.Buffers.{KeepsAlone, KeepsBack, KeepsRest, buffered_capacity};
-    ghost use Rattle.ciborium_ll_streams.specs.Buffers.{buffered_kept_back, buffered_room, buffered_sink, buffered_space};
-    ghost use Rattle.ciborium_ll_streams.specs.Buffers.{buffered_write_failures, buffered_write_fault, buffered_written};
+    ghost use Rattle.ciborium_ll_streams.specs.Buffers.{buffered_kept_back, buffered_room, buffered_sink};
+    ghost use Rattle.ciborium_ll_streams.specs.Buffers.{buffered_space, buffered_write_failures, buffered_write_fault};
+    ghost use Rattle.ciborium_ll_streams.specs.Buffers.{buffered_written};
 
     type Error = FaultKept;
 
