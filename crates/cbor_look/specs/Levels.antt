@@ -103,7 +103,7 @@ pub record HasBody (depth : ℕ) (before : List ℕ) (kind : Kind) (line : Line)
   pub fits : length front + length line.bytes ≤ len
   pub level : line.level ≡ suc (length nests + opens)
 
--- behind the first byte stand no more than it announces: the bytes are a title, or a beginning of one (RFC 7049, 2.1)
+-- behind the first byte stand no more than it announces: of one title, whole or cut, or of none (RFC 7049, 2.1)
 abbrev pub IsWithinTitle : List ℕ → Type 0
 IsWithinTitle [] = Unit {0}
 IsWithinTitle (byte ∷ rest) = length rest ≤ affix_len (byte % 32)
