@@ -94,6 +94,13 @@ front_state bytes front rest state is same =
 pub between_text : (bytes : List ℕ) → is_between (after t.Between bytes) ≡ true → IsCharacters bytes
 between_text bytes is = text_from bytes (between_of (after t.Between bytes) is)
 
+-- bytes that end inside a character, and damaged ones, are no whole characters
+pub inside_broken : (bytes : List ℕ) → is_inside (after t.Between bytes) ≡ true → IsCharacters bytes → ⊥
+inside_broken bytes is text = let ended = ap is_inside (text_ends bytes text) in absurd cc
+
+pub between_broken : (bytes : List ℕ) → is_between (after t.Between bytes) ≡ false → IsCharacters bytes → ⊥
+between_broken bytes is text = let ended = ap is_between (text_ends bytes text) in absurd cc
+
 -- the bytes are characters and a beginning of one more
 record IsCut (bytes : List ℕ) : Type 0 where
   front : List ℕ

@@ -162,7 +162,7 @@ module _ {R E : Type 0} (source : Ghosts R E) where
         so_far.shows (record {
           lines = lines_fault depth start middle then_drawn ((items ++ title) ++ so_far.bytes) inner offset row
               drawn_fault (at ∙ here)
-              (inl (record {
+              (λ some. inl (record {
                 nests = nests;
                 opens = suc so_far.opens;
                 due = due_within;

@@ -1,5 +1,6 @@
 -- How many bytes a row has.
-use Rattle.std.proofs.Common.{ℕ, ◌%◌, ◌≤◌, Bool, true, false, List, [], ◌∷◌, length, if◌then◌else◌, ◌==◌, sym, subst, arith}
+use Rattle.std.proofs.Common.{ℕ, ◌%◌, ◌≤◌, Bool, true, false, List, [], ◌∷◌, length, if◌then◌else◌}
+use Rattle.std.proofs.Common.{◌==◌, sym, subst, arith}
 use Rattle.std.proofs.lemmas.List.{length-take}
 use Rattle.ciborium_ll.specs.Types.Header.{Header}
 use Rattle.ciborium_ll.specs.Title.{IsTitle, affix_len}

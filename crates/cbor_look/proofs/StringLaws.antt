@@ -1,5 +1,5 @@
 -- The lines of a string, behind its title.
-use Rattle.std.proofs.Common.{◌≡◌, ℕ, zero, suc, ◌+◌, ◌-◌, ◌≤◌, List, [], ◌∷◌, ◌++◌, length, Option, Some, None}
+use Rattle.std.proofs.Common.{◌≡◌, ℕ, zero, suc, ◌+◌, ◌-◌, ◌<◌, ◌≤◌, List, [], ◌∷◌, ◌++◌, length, Option, Some, None}
 use Rattle.std.proofs.Common.{Result, Ok, Err, inr, refl, sym, ap, subst, ◌∙◌, arith, append-nil, append_assoc}
 use Rattle.std.proofs.Common.{length-append, Bool, true, false}
 use Rattle.ciborium_ll.specs.Types.Read.{Ghosts}
@@ -25,7 +25,8 @@ use Rattle.cbor_look.specs.declared.strings.Kind.{Kind as CodeKind}
 use Rattle.cbor_look.specs.declared.strings.Kind.TheVariants as k
 use Rattle.cbor_look.specs.Parts.{FailsInBody}
 use Rattle.cbor_look.specs.Takings.{most_bytes, Takes, Keeps}
-use Rattle.cbor_look.specs.Levels.{Line, Nest, AreOpen, none, more, TitleDue, HasBody, IsFilled, Stands}
+use Rattle.cbor_look.specs.Levels.{Line, Nest, AreOpen, none, more, TitleDue, HasBody, HasNoText, IsFilled, Stands}
+use Rattle.cbor_look.specs.Parts.{IsBroken}
 use Rattle.cbor_look.specs.Dumps.{Draws, fault_lines, Lines, SaysFault, Shows}
 use Rattle.cbor_look.specs.Endings.{Ending, IsMeant, Meant, EndAs}
 use Rattle.cbor_look.specs.StringRows.{EndsString, StopsRest, kind_of, meaning_of}
@@ -36,13 +37,14 @@ use Rattle.cbor_look.proofs.PullLaws.{passes_idle}
 
 pub lines_fault : {how : Ending} (depth start : ℕ) (old new : Option (List Line)) (before : List ℕ) (level offset : ℕ)
     (bytes : List ℕ) → Draws old new (fault_lines level offset bytes) → offset ≡ start + length before
-    → Stands depth before m.Fault (record { level = level; offset = offset; bytes = bytes; meaning = m.Fault })
+    → (0 < length bytes
+    → Stands depth before m.Fault (record { level = level; offset = offset; bytes = bytes; meaning = m.Fault }))
     → length bytes ≤ most_bytes → EndAs how (fault_lines level offset bytes)
     → Lines depth start old new before bytes how
 lines_fault depth start old new before level offset [] drawn at stands few ends =
     record { lines = []; drawn = drawn; stand = tt; joined = refl; ends = ends }
 lines_fault depth start old new before level offset (byte ∷ bytes) drawn at stands few ends =
-    lines_one depth start old new before _ drawn at (omega arith, few) stands ends
+    lines_one depth start old new before _ drawn at (omega arith, few) (stands (omega arith)) ends
 
 -- ---- bodies
 
@@ -80,6 +82,11 @@ body_here depth opens nests outer title kind len level at front bytes fits offse
   fits = fits;
   level = let e = at.below in omega (arith, e);
 }
+
+no_text : (kind : Kind) (depth : ℕ) (before : List ℕ) (line : Line) → IsBroken kind line.bytes
+    → 0 < length line.bytes → HasBody depth before kind line → HasNoText depth before line
+no_text Bytes depth before line broken some body = let none = ap length broken in absurd (omega (arith, none, some))
+no_text Text depth before line broken some body = record { body = body; no_text = broken some }
 
 part_meant : (kind : CodeKind) → IsMeant (meaning_of kind)
 part_meant k.Bytes = tt
@@ -122,22 +129,20 @@ module _ {R E : Type 0} (source : Ghosts R E) where
       → old.offset ≡ start + length (outer ++ title)
       → (so_far : SoFar depth start drawn middle (outer ++ title) kind len left old between)
       → Takes source between bytes new → length bytes ≤ left → offset ≡ between.offset
-      → Draws middle then_drawn (fault_lines level offset bytes) → length bytes ≤ most_bytes
+      → Draws middle then_drawn (fault_lines level offset bytes) → IsBroken kind bytes → length bytes ≤ most_bytes
       → EndAs how (fault_lines level offset bytes)
       → Shows source depth start drawn then_drawn (outer ++ title) (so_far.front ++ bytes) how old new
   part_fails depth start opens nests outer title kind len left level offset drawn middle then_drawn bytes old between
-      new at begun so_far takes few here drawn_fault fit ends =
+      new at begun so_far takes few here drawn_fault broken fit ends =
       let counted = so_far.counted in
       shows_then source depth start drawn middle then_drawn (outer ++ title) so_far.front bytes old between new
       so_far.shows (record {
         lines = lines_fault depth start middle then_drawn ((outer ++ title) ++ so_far.front) level offset bytes
             drawn_fault
             (here ∙ next_offset depth start drawn middle (outer ++ title) so_far.front old between so_far.shows begun)
-            (inr (
-              kind,
-              body_here depth opens nests outer title kind len level at so_far.front bytes
-                  (omega (arith, counted, few)) offset m.Fault,
-            )) fit ends;
+            (λ some. inr (no_text kind depth _ _ broken some
+            (body_here depth opens nests outer title kind len level at so_far.front bytes
+            (omega (arith, counted, few)) offset m.Fault))) fit ends;
         takes = takes;
       })
 

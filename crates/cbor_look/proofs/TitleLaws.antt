@@ -261,13 +261,14 @@ module _ {R E : Type 0} (source : Ghosts R E) where
       → Draws middle then_drawn (fault_lines level place row) → IsWithinTitle row
       → EndAs how (fault_lines level place row)
       → Shows source depth old.offset drawn then_drawn [] (up.bytes ++ row) how old new
-  up_fails strict depth drawn middle then_drawn walk row place level old between new up takes at same drawn_fault within ends =
+  up_fails strict depth drawn middle then_drawn walk row place level old between new up takes at same drawn_fault
+      within ends =
       let used = up.due.keeps.used in
       let moved = up.shows.takes.offset in
       shows_then source depth old.offset drawn middle then_drawn [] up.bytes row old between new up.shows (record {
         lines = lines_fault depth old.offset middle then_drawn up.bytes level place row drawn_fault
             (omega (arith, at, moved))
-            (inl (record {
+            (λ some. inl (record {
               nests = up.due.nests;
               opens = 0;
               due = due_here depth up.due.nests up.bytes
@@ -298,7 +299,8 @@ module _ {R E : Type 0} (source : Ghosts R E) where
       (result : Result E (DumpError E W)) → (up : UpTo strict depth drawn middle walk old between)
       → Takes source between row new → place ≡ between.offset → level ≡ walk.used
       → Draws middle then_drawn (fault_lines level place row) → EndsTitles error level (length row) result
-      → IsWithinTitle row → HasFault error row → AreTaken result → ShowsAll source strict depth drawn then_drawn result old new
+      → IsWithinTitle row → HasFault error row → AreTaken result
+      → ShowsAll source strict depth drawn then_drawn result old new
   up_ended strict depth drawn middle then_drawn walk row place level old between new error (Ok fault) up takes at same
       drawn_fault ends within some taken =
       let none = nothing row ends.2 in

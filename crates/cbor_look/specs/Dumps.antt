@@ -57,8 +57,8 @@ fault_lines level offset [] = []
 fault_lines level offset (byte ∷ bytes) =
     record { level = level; offset = offset; bytes = byte ∷ bytes; meaning = m.Fault } ∷ []
 
--- behind the bytes before, which begin at the start, lines of these bytes were drawn: each stands at its level, and they
--- end so
+-- behind the bytes before, which begin at the start, lines of these bytes were drawn: each stands at its level, and
+-- they end so
 pub record Lines (depth start : ℕ) (old new : Option (List Line)) (before bytes : List ℕ) (ending : Ending)
     : Type 0 where
   pub lines : List Line

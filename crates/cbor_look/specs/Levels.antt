@@ -116,12 +116,17 @@ pub record HasNoTitle (depth : ℕ) (before : List ℕ) (line : Line) : Type 0 w
   pub no_more : IsWithinTitle line.bytes
   pub level : line.level ≡ length nests + opens
 
+-- behind these bytes the line has a part of a text's body that is no whole characters
+pub record HasNoText (depth : ℕ) (before : List ℕ) (line : Line) : Type 0 where
+  pub body : HasBody depth before Text line
+  pub no_text : IsWritable Text line.bytes → ⊥
+
 -- behind these bytes the line has what it says that it has, at its level
 abbrev pub Stands : ℕ → List ℕ → Meaning → Line → Type 0
 Stands depth before (m.Header header) line = HasTitle depth before header line
 Stands depth before m.Bytes line = HasBody depth before Bytes line
 Stands depth before m.Text line = HasBody depth before Text line × IsWritable Text line.bytes
-Stands depth before m.Fault line = HasNoTitle depth before line ⊎ ((kind : Kind) × HasBody depth before kind line)
+Stands depth before m.Fault line = HasNoTitle depth before line ⊎ HasNoText depth before line
 
 -- a line has a byte, and no more than 16
 abbrev pub IsFilled : List ℕ → Type 0

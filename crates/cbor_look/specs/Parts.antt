@@ -1,9 +1,9 @@
 -- What the read of a part of a body does, as a skip of the string does it.
-use Rattle.std.specs.Prelude.{ℕ, ◌≤◌, Bool, true, false, List, [], Result, Ok, Err}
+use Rattle.std.specs.Prelude.{◌≡◌, ℕ, ◌<◌, ◌≤◌, Bool, true, false, List, [], length, Result, Ok, Err}
 use Rattle.ciborium_ll.specs.Types.Read.{Ghosts}
 use Rattle.ciborium_ll.specs.Types.Decoder.{Decoder}
 use Rattle.ciborium_ll.specs.Types.Error.{Error}
-use Rattle.ciborium_ll.specs.Strings.{Kind, Text}
+use Rattle.ciborium_ll.specs.Strings.{Kind, Bytes, Text}
 use Rattle.ciborium_ll.specs.Decoding.{Passes}
 use Rattle.ciborium_ll.specs.Finishing.{EndsBody, IsNoText}
 use Rattle.ciborium_ll_text.specs.Text.{IsCharacters}
@@ -26,6 +26,11 @@ is_inside state = true
 abbrev pub IsSound : ℕ → List ℕ → Bool → Type 0
 IsSound left bytes true = IsCharacters bytes
 IsSound left bytes false = IsNoText [] left bytes
+
+-- what was read of a body at fault: of a byte string nothing, and of a text nothing or no whole characters
+abbrev pub IsBroken : Kind → List ℕ → Type 0
+IsBroken Bytes bytes = bytes ≡ []
+IsBroken Text bytes = 0 < length bytes → IsCharacters bytes → ⊥
 
 module _ {R E : Type 0} (source : Ghosts R E) where
   -- the read of a body of which so many bytes are left failed as that of a skip does, through a buffer of some room, but

@@ -41,8 +41,8 @@ pub enum DumpError<E, W> {
 /// Nothing is read ahead of the rows, and no memory is taken.
 ///
 /// No row means a fault but the last one before an error. Where bytes are no item (`Error::Syntax`) that one does, and
-/// where a read stopped for another reason it may. It has what was read of one title, or of a body. A break where none
-/// may stand, and the title of a nest too deep, are shown as what they are.
+/// where a read stopped for another reason it may. It has what was read of one title, or bytes of a text that are no
+/// whole characters. A break where none may stand, and the title of a nest too deep, are shown as what they are.
 ///
 /// Each row has from 1 to 16 bytes, stands at its level, and has the offset of its first byte. The level of a title is
 /// the number of tags, arrays, maps and opens that it stands within in the grammar, and a break that closes one has the

@@ -25,7 +25,8 @@ impl Taken {
     ghost use Rattle.ciborium_ll.specs.Title.{IsTitle};
     ghost use Rattle.ciborium_ll_text.specs.Text.{IsCharacters};
     ghost use Rattle.cbor_look.specs.Takings.{HasFault, IsAlike, IsIdle, IsLast, Keeps, PullsRow, ReadsOn, taken_bytes};
-    ghost use Rattle.cbor_look.specs.Parts.{ReadsText};
+    ghost use Rattle.cbor_look.specs.Parts.{IsBroken, ReadsText};
+    ghost use Rattle.ciborium_ll.specs.Strings.{Text};
     ghost use Rattle.cbor_look.specs.Levels.{IsWithinTitle};
 
     /// None.
@@ -124,6 +125,8 @@ impl Taken {
         ensures most { length (taken_bytes self.new) ≤ left }
         ensures some { IfOk result (λ _. 0 < left → 0 < length (taken_bytes self.new)) }
         ensures fault { IfErr result (λ error. HasFault error (taken_bytes self.new)) }
+        ensures broken { IfErr result (λ _. IsBroken Text (taken_bytes self.new)) }
+        ensures damaged { IfOk result (λ whole. whole ≡ false → IsBroken Text (taken_bytes self.new)) }
         ensures text { IfOk result (λ whole. IsTrue whole → IsCharacters (taken_bytes self.new)) }
         ensures reads { 0 < left → waiting_of decoder.old ≡ None
             → ReadsText R.Read left (taken_bytes self.new) decoder.old result decoder.new }

@@ -33,7 +33,8 @@ returns-in-Err g c = record {
         shows = part_fails g.R.Read depth start opens nests outer title (kind_of c.args.kind) c.args.len c.rows.left
             c.args.level c.offset-offset.result _ _ _ row _ _ _ (record { due = due; is_title = p; below = level }) at
             so_far takes c.read_part.ensures.most c.offset-offset.ensures.value (c.fault.ensures.draws all)
-            (row_few c.read_part.new.taken) (fault_ends c.in-Err.error c.fault.result c.args.level c.offset-offset.result row c.fault.ensures.says all
+            (rw c.in-Err.is at c.read_part.ensures.broken) (row_few c.read_part.new.taken)
+            (fault_ends c.in-Err.error c.fault.result c.args.level c.offset-offset.result row c.fault.ensures.says all
             ((rw c.in-Err.is at c.read_part.ensures.fault) c.rows-test.true));
         whole = tt;
         passed = λ alike. tt;

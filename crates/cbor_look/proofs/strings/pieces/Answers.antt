@@ -41,7 +41,8 @@ returns-in-Err g c = record {
         shows = within_fails g.R.Read c.args.strict depth start _ _ nests items title
             (kind_of c.args.kind) c.parts.inner _ _ stands
             so_far at _ row c.offset-place.result _ takes place (c.fault.ensures.draws all)
-            (rw c.in-Err.is at c.read_title.ensures.within) (fault_ends c.in-Err.error c.fault.result c.parts.inner c.offset-place.result row c.fault.ensures.says all
+            (rw c.in-Err.is at c.read_title.ensures.within)
+            (fault_ends c.in-Err.error c.fault.result c.parts.inner c.offset-place.result row c.fault.ensures.says all
             (rw c.in-Err.is at c.read_title.ensures.fault));
         whole = tt;
         passed = λ alike. tt;
@@ -70,7 +71,8 @@ returns-in-Other g c = record {
         shows = within_fails g.R.Read c.args.strict depth start _ _ nests items title
             (kind_of c.args.kind) c.parts.inner _ _ stands
             so_far at _ row c.offset-place.result _ takes place (c.fault-in-Other.ensures.draws all)
-            (title_within row c.in-Ok.header c.in-Ok.ensures.title) (fault_ends (Syntax c.offset-place.result) c.fault-in-Other.result c.parts.inner c.offset-place.result row
+            (title_within row c.in-Ok.header c.in-Ok.ensures.title)
+            (fault_ends (Syntax c.offset-place.result) c.fault-in-Other.result c.parts.inner c.offset-place.result row
             c.fault-in-Other.ensures.says all (title_some row c.in-Ok.header c.in-Ok.ensures.title));
         whole = tt;
         passed = λ alike. tt;

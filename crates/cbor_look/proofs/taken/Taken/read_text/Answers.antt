@@ -1,4 +1,4 @@
-use Rattle.std.proofs.Common.{◌≡◌, ◌++◌, true, ℕ, List, length, Err, arith, ap, sym, ◌∙◌}
+use Rattle.std.proofs.Common.{◌≡◌, ◌++◌, true, ℕ, List, length, Err, arith, ap, subst, sym, ◌∙◌}
 use Rattle.std.proofs.Common.{length-append}
 use Rattle.std.proofs.lemmas.Result.{err_from_is_err_and}
 use Rattle.ciborium_ll.specs.Strings.{Text}
@@ -9,6 +9,8 @@ use Rattle.cbor_look.specs.Parts.{is_inside, is_between}
 use Rattle.cbor_look.specs.Takings.{taken_bytes}
 use Rattle.cbor_look.proofs.TakingLaws.{keeps_then}
 use Rattle.cbor_look.proofs.PartLaws.{first_part, next_part, state_due, inside_some, between_text, sound_of}
+use Rattle.cbor_look.proofs.PartLaws.{inside_broken, between_broken}
+use Rattle.ciborium_ll_text.specs.Text.{IsCharacters}
 use Rattle.cbor_look.proofs.PullLaws.{passes_idle, more_passed}
 use Rattle.cbor_look.proofs.taken.Taken.read_text.Goals.{then-more-test+else-is_cut, else-more-test}
 use Rattle.cbor_look.proofs.taken.Taken.read_text.Goals as goal
@@ -74,6 +76,26 @@ returns-in_err-read-2-clause-reads g c = λ some none.
     let test = c.more-test.true in
     rw same (λ place. next_part g.R.Read c.args.left place row _ _ _ _ _ (c.more.invariant.passed none) none
     (omega (arith, value, test)) (omega (arith, due_here, room)) inside c.in_err-read-2.ensures.reads)
+
+pub returns-in_err-read-2-clause-broken : goal.returns-in_err-read-2-clause-broken
+returns-in_err-read-2-clause-broken g c =
+    let row = taken_bytes c.more.self in
+    let residual = c.from_residual-in_err-read-2 in
+    let from = err_from_is_err_and residual.result residual.ensures.1 in
+    let is_error = from.1 in
+    let is_same = from.2 in
+    let same : residual.result ≡ Err c.in_err-read-2.field-0.0 = cc in
+    let inside : is_inside (after Between row) ≡ true =
+    ap (λ (z : List ℕ). is_inside (after Between z)) (sym c.bytes.ensures) ∙ (sym c.is_cut.ensures ∙ c.if-is_cut.true)
+    in
+    rw same (λ some text. inside_broken row inside (subst IsCharacters c.in_err-read-2.ensures.none text))
+
+pub returns-clause-damaged : goal.returns-clause-damaged
+returns-clause-damaged g c = λ is some text.
+    let row = taken_bytes c.more.self in
+    let same : c.is_text.result ≡ is_between (after Between row) =
+    c.is_text.ensures ∙ ap (λ (z : List ℕ). is_between (after Between z)) c.bytes-2.ensures in
+    between_broken row (sym same ∙ is) text
 
 pub returns-clause-text : goal.returns-clause-text
 returns-clause-text g c = λ is.
