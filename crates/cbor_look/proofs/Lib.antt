@@ -3,6 +3,7 @@ pub mod SequenceLaws
 pub mod SingleLaws
 pub mod TakingLaws
 pub mod RowLaws
+mod RowTextLaws
 pub mod PullLaws
 pub mod LeftLaws
 mod PartLaws

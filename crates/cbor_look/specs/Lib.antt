@@ -1,6 +1,7 @@
 pub mod Sequences
 pub mod Singles
 pub mod Levels
+pub mod RowTexts
 pub mod Endings
 pub mod Dumps
 pub mod Parts

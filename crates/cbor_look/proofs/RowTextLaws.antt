@@ -1,0 +1,90 @@
+-- The texts of rows, as they are written step by step.
+use Rattle.std.proofs.Common.{◌≡◌, ◌∙◌, ℕ, zero, suc, ◌+◌, ◌<◌, List, [], ◌∷◌, ◌++◌, refl, sym, ap, arith, false, ◌-◌, ◌^◌}
+use Rattle.std.proofs.Common.{append-nil, append_assoc, length, take, get_or, Option, Some, Result, subst}
+use Rattle.std.proofs.Common.{Ok, Err, true, if◌then◌else◌}
+use Rattle.std.proofs.lemmas.List.{take_more}
+use Rattle.std.proofs.lemmas.Str.{IsUtf8-from_is_utf8, is_utf8-from_IsUtf8}
+use Rattle.std.specs.Result.{MatchResult, result_unwrap_or}
+use Rattle.std.specs.Str.{IsUtf8, is_utf8}
+use Rattle.std.proofs.lemmas.Fmt.{hex_byte}
+use Rattle.std.proofs.lemmas.Grind.{put_two}
+use Rattle.std.specs.Fmt.{HasWritten, IsPlainFormatter, DisplaysOnOk, WritesOnOk, digits, format_spec, padded_integral}
+use Rattle.std.specs.Fmt.{digits_output, styled_digits_output, shown_prefix, radix_prefix}
+use Rattle.std.specs.Option.{option_map}
+use Rattle.std.specs.declared.fmt.Formatter.{Formatter}
+use Rattle.cbor_look.specs.RowTexts.{blank, hex_text, joined_text, more_text, characters_text, character_text, shown_text}
+
+-- one space more
+pub blank_more : (count : ℕ) → blank count ++ 32 ∷ [] ≡ blank (count + 1)
+blank_more zero = refl
+blank_more (suc count) =
+    let same : suc (count + 1) ≡ suc count + 1 = omega arith in
+    ap (λ (z : List ℕ). 32 ∷ z) (blank_more count) ∙ ap blank same
+
+-- what a format of two hexadecimal digits writes
+pub two_digits : (byte : ℕ) → byte < 256
+    → padded_integral (format_spec 32 0 4 2 (2 ^ 64 - 1)) false [] (digits 16 false byte) ≡ hex_text byte
+two_digits byte small = hex_byte false byte small
+
+-- and so by what is known of that format
+pub hex_shown : (radix : _) (spec : _) (byte : ℕ) → spec ≡ format_spec 32 0 4 2 (2 ^ 64 - 1)
+    → digits_output radix ≡ Some (digits 16 false byte) → byte < 256
+    → styled_digits_output radix spec ≡ Some (hex_text byte)
+hex_shown radix spec byte laid digits_are small =
+    let prefix = radix_prefix radix.base in
+    ap (option_map (padded_integral spec false (shown_prefix spec prefix))) digits_are
+    ∙ (ap (λ z. Some (padded_integral z false (shown_prefix z prefix) (digits 16 false byte))) laid
+    ∙ ap Some (two_digits byte small))
+
+-- one byte more, without spaces
+pub joined_more : (bytes : List ℕ) (byte : ℕ) → joined_text (bytes ++ byte ∷ []) ≡ joined_text bytes ++ hex_text byte
+joined_more [] byte = append-nil (hex_text byte)
+joined_more (first ∷ bytes) byte = ap (λ (z : List ℕ). hex_text first ++ z) (joined_more bytes byte)
+
+-- one byte more behind a first one
+pub more_more : (bytes : List ℕ) (byte : ℕ) → more_text (bytes ++ byte ∷ []) ≡ more_text bytes ++ (32 ∷ hex_text byte)
+more_more [] byte = refl
+more_more (first ∷ bytes) byte = ap (λ (z : List ℕ). 32 ∷ (hex_text first ++ z)) (more_more bytes byte)
+
+-- up to a place in a list of bytes, and up to the next one
+pub joined_at : (bytes : List ℕ) (at : ℕ) → at < length bytes
+    → joined_text (take (at + 1) bytes) ≡ joined_text (take at bytes) ++ hex_text (get_or bytes at 0)
+joined_at bytes at less =
+    ap joined_text (take_more bytes at 0 less) ∙ joined_more (take at bytes) (get_or bytes at 0)
+
+pub more_at : (bytes : List ℕ) (at : ℕ) → at < length bytes
+    → more_text (take (at + 1) bytes) ≡ more_text (take at bytes) ++ (32 ∷ hex_text (get_or bytes at 0))
+more_at bytes at less = ap more_text (take_more bytes at 0 less) ∙ more_more (take at bytes) (get_or bytes at 0)
+
+-- one character more
+pub characters_more : (characters : List ℕ) (character : ℕ)
+    → characters_text (characters ++ character ∷ []) ≡ characters_text characters ++ character_text character
+characters_more [] character = append-nil (character_text character)
+characters_more (first ∷ characters) character =
+    ap (λ (z : List ℕ). character_text first ++ z) (characters_more characters character)
+    ∙ sym (append_assoc (character_text first) (characters_text characters) (character_text character))
+
+-- the text that some bytes are, or none
+pub text_or_none : {B E : Type 0} (Rest : E → Type 0) (now : B → List ℕ) (bytes : List ℕ) (result : Result B E)
+    (none : B)
+    → MatchResult result (λ text. (now text ≡ bytes) × IsUtf8 bytes) (λ error. (IsUtf8 bytes → ⊥) × Rest error)
+    → now none ≡ [] → now (result_unwrap_or result none) ≡ shown_text bytes
+text_or_none Rest now bytes (Ok text) none cases empty = rw (is_utf8-from_IsUtf8 bytes cases.1) cases.0
+text_or_none Rest now bytes (Err error) none cases empty = empty ∙
+    (elim (is_utf8 bytes) as (λ b. is_utf8 bytes ≡ b → [] ≡ (if b then bytes else [])) [
+      | true ↦ λ e. absurd (cases.0 (IsUtf8-from_is_utf8 bytes e))
+      | false ↦ λ e. refl
+    ] refl)
+
+module _ {W : Type 0} (took : W → List ℕ → W → Type 0) where
+  -- a text, and then another one
+  pub then_written : (f g h : Formatter W) (first next all : List ℕ)
+      → (IsPlainFormatter f → HasWritten took f first g) → (IsPlainFormatter g → HasWritten took g next h)
+      → first ++ next ≡ all → IsPlainFormatter f → HasWritten took f all h
+  then_written f g h first next all wrote goes_on same plain =
+      let done = wrote plain in put_two took f g h first next all done (goes_on done.plain) same
+
+  -- a text that is known, where a write of it is told
+  pub shows : (f g : Formatter W) (result : Result (Unit {0}) _) (output : Option (List ℕ)) (text : List ℕ)
+      → output ≡ Some text → DisplaysOnOk took f result output g → WritesOnOk took f result text g
+  shows f g result output text same wrote = subst (λ o. DisplaysOnOk took f result o g) same wrote

@@ -1,0 +1,19 @@
+use Rattle.std.proofs.Common.{◌∙◌, ◌<◌, ◌++◌, List, ℕ, Ok, rules, append_assoc, ap, get_or, length, refl, sym, take}
+use Rattle.cbor_look.specs.RowTexts.{hex_text, joined_text}
+use Rattle.cbor_look.proofs.RowTextLaws.{hex_shown, joined_at, shows, then_written}
+use Rattle.cbor_look.proofs.rows.bits.Goals as goal
+
+pub bytes-preserved : goal.bytes-preserved
+bytes-preserved g c =
+    let took = g.W.Write.write_str_gives in
+    let name = c.args.name.now in
+    let all = c.args.bytes.now in
+    let at = c.bytes.byte-index in
+    let less : at < length all = c.bytes-test.true in
+    let small : get_or all at 0 < 256 = search (rules, c.type_inv.bytes at) in
+    let shown = hex_shown c.in_radix.result c.laid_out.result (get_or all at 0) c.laid_out.ensures c.in_radix.ensures
+    small in
+    then_written took _ _ _ (name ++ joined_text (take at all)) (hex_text (get_or all at 0)) _ c.bytes.invariant
+    (λ plain. shows took _ _ (Ok c.in_ok-write.field-0) _ _ shown c.in_ok-write.ensures.writes plain refl)
+    (append_assoc name (joined_text (take at all)) (hex_text (get_or all at 0))
+    ∙ ap (λ (z : List ℕ). name ++ z) (sym (joined_at all at less)))

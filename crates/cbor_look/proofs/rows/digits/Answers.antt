@@ -1,0 +1,33 @@
+use Rattle.std.proofs.Common.{◌∙◌, ◌-◌, ◌+◌, ◌<◌, ◌∷◌, ◌++◌, List, ℕ, Ok, Some, rules, append_assoc, ap, arith, drop, get_or, length}
+use Rattle.std.proofs.Common.{[], refl, sym, take}
+use Rattle.std.proofs.lemmas.Grind.{common_steps}
+use Rattle.std.specs.Fmt.{◌++?◌}
+use Rattle.cbor_look.specs.RowTexts.{hex_text, more_text, digits_text}
+use Rattle.cbor_look.proofs.RowTextLaws.{hex_shown, more_at, shows, then_written}
+use Rattle.cbor_look.proofs.rows.digits.Goals as goal
+
+pub bytes-init : goal.bytes-init
+bytes-init g c = λ plain.
+    let took = g.W.Write.write_str_gives in
+    let small : get_or c.args.bytes.now 0 0 < 256 = search (rules, c.type_inv.bytes 0) in
+    let shown = hex_shown c.in_radix.result c.laid_out.result (get_or c.args.bytes.now 0 0) c.laid_out.ensures
+    c.in_radix.ensures small in
+    shows took _ _ (Ok c.in_ok-write.field-0) _ _ shown c.in_ok-write.ensures.writes plain refl
+
+pub bytes-preserved : goal.bytes-preserved
+bytes-preserved g c =
+    let took = g.W.Write.write_str_gives in
+    let all = c.args.bytes.now in
+    let rest = take (length all - 1) (drop 1 all) in
+    let at = c.bytes.byte-index in
+    let less : at < length rest = c.bytes-test.true in
+    let byte = get_or rest at 0 in
+    let fits = c.type_inv.bytes (at + 1) in
+    let small : byte < 256 = grind (arith, common_steps) in
+    let shown = hex_shown c.in_radix-in-bytes.result c.laid_out-in-bytes.result byte c.laid_out-in-bytes.ensures
+    c.in_radix-in-bytes.ensures small in
+    let first = hex_text (get_or all 0 0) in
+    then_written took _ _ _ (digits_text (get_or all 0 0 ∷ take at rest)) (32 ∷ hex_text byte) _ c.bytes.invariant
+    (λ plain. shows took _ _ (Ok c.in_ok-write-2.field-0) _ _ (ap (λ z. Some (32 ∷ []) ++? z) shown) c.in_ok-write-2.ensures.writes plain refl)
+    (append_assoc first (more_text (take at rest)) (32 ∷ hex_text byte)
+    ∙ ap (λ (z : List ℕ). first ++ z) (sym (more_at rest at less)))
