@@ -56,8 +56,8 @@ pub enum DumpError<E, W> {
 /// not taken. Where besides a steady reader tells its bytes and the offset fits, `Ok` comes exactly where the bytes are
 /// a sequence of items to the depth; else the error is the fault behind the items before it.
 ///
-/// No clause says how rows are printed, nor what is consumed where a header waits, nor where a dump stops whose decoder
-/// is not as strict: a title is then taken or refused as the dump is strict or not.
+/// No clause says what is consumed where a header waits, nor where a dump stops whose decoder is not as strict: a title
+/// is then taken or refused as the dump is strict or not. How a row is printed its own `Display` says.
 pub fn dump<R: Read, S: Rows>(
     decoder: &mut Decoder<R>,
     depth: usize,
