@@ -1,5 +1,6 @@
 //! A map of texts, written.
 
+ghost use Rattle.std.specs.Prelude.{◌≡◌};
 ghost use Rattle.ciborium_ll.specs.Encoding.{WritesBytes, writer_of};
 ghost use Rattle.ciborium_ll_uses.specs.Maps.{entry_bytes, map_bytes};
 
@@ -18,12 +19,13 @@ pub struct Entry<'a> {
 /// Writes a map of texts to texts (RFC 7049, 2.1), whose pairs are counted, and each text in one string, each title the
 /// shortest.
 ///
-/// The only errors are the writer's. A beginning of the map was then written.
+/// The only errors are the writer's. A beginning of the map was then written. A writer into a lent slice stays on it.
 pub fn write_strings<W: Write>(
     encoder: &mut Encoder<W>,
     entries: &[Entry<'_>],
 ) -> Result<(), W::Error>
-    ensures { WritesBytes W.Write (writer_of encoder.old) result (map_bytes entries.now) (writer_of encoder.new) }
+    ensures bytes { WritesBytes W.Write (writer_of encoder.old) result (map_bytes entries.now) (writer_of encoder.new) }
+    ensures target { W.target (writer_of encoder.new) ≡ W.target (writer_of encoder.old) }
 {
     encoder.push(Header::Map(Some(entries.len())))?;
     'entries: for entry in entries {
@@ -35,7 +37,8 @@ pub fn write_strings<W: Write>(
 /// Writes a pair.
 #[tactic(auto, using(crate::proofs::Steps::text_unwritten))]
 fn write_entry<W: Write>(encoder: &mut Encoder<W>, entry: &Entry<'_>) -> Result<(), W::Error>
-    ensures { WritesBytes W.Write (writer_of encoder.old) result (entry_bytes entry.now) (writer_of encoder.new) }
+    ensures bytes { WritesBytes W.Write (writer_of encoder.old) result (entry_bytes entry.now) (writer_of encoder.new) }
+    ensures target { W.target (writer_of encoder.new) ≡ W.target (writer_of encoder.old) }
 {
     encoder.text(entry.key, None)?;
     encoder.text(entry.value, None)
