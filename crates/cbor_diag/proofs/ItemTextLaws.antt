@@ -36,7 +36,7 @@ use Rattle.cbor_diag.specs.ItemTexts.{indent, new_line, nest_opening, nest_closi
 use Rattle.cbor_diag.specs.ItemTexts.{item_lead, is_value_at, is_first_at, kind_quotes, IsAll, scalar, float, string, nest}
 use Rattle.cbor_diag.specs.ItemTexts.{AreShown, none, more, RestShown, WithinShown}
 use Rattle.cbor_diag.specs.ItemStops.{WithinBegun, RestStops, plain, opening, within, closing, WithinStops, title, lead, item}
-use Rattle.cbor_diag.specs.ItemStops.{ItemStops, no_title, behind, ShowsRest, ShowsWithin, ShowsItem}
+use Rattle.cbor_diag.specs.ItemStops.{ComesNoItem, ItemStops, no_item, behind, ShowsRest, ShowsWithin, ShowsItem}
 
 -- ---- lines
 
@@ -285,9 +285,9 @@ module _ {R E W F : Type 0} (source : Reader R E) (sink : Writer W F) (layout : 
 
   -- no title came, or a break that may not stand there
   pub title_stops : (old : Sides R W) (remaining : Remaining) (first : Bool) (now : Sides R W) (error : SkipError E)
-      (new : Decoder R) → ItemsFar old remaining first now
+      (new : Decoder R) → ItemsFar old remaining first now → ComesNoItem source now.decoder error new
       → WithinStops source sink layout level header old (d.Read error) (sides new now.writer)
-  title_stops old remaining first now error new far = title (items_begun old remaining first now far)
+  title_stops old remaining first now error new far came = title (items_begun old remaining first now far) came
 
   -- the writer failed in front of the next item
   pub lead_stops : (old : Sides R W) (remaining : Remaining) (first value : Bool) (now : Sides R W) (next : Header)
@@ -356,12 +356,13 @@ module _ {R E W F : Type 0} (source : Reader R E) (sink : Writer W F) (layout : 
   -- what is said of a break that stands in place of an item, which may close or may not
   pub break_shown : (may : Bool) (old now : Sides R W) (remaining : Remaining) (new : Decoder R)
       (result : Result Bool (DiagError E F)) (first : Bool) (place : ℕ) → ItemsFar old remaining first now
+      → PullsTitle source now.decoder h.Break new
       → result ≡ (if may then Ok first else Err (d.Read (s.Break place)))
       → (may ≡ true → WithinShown source sink layout level header old first (sides new now.writer))
       → ShowsWithin source sink layout level header old result (sides new now.writer)
-  break_shown true old now remaining new result first place far same closed = rw same (closed refl)
-  break_shown false old now remaining new result first place far same closed =
-      rw same (title_stops old remaining first now (s.Break place) new far)
+  break_shown true old now remaining new result first place far pulled same closed = rw same (closed refl)
+  break_shown false old now remaining new result first place far pulled same closed =
+      rw same (title_stops old remaining first now (s.Break place) new far pulled)
 
 -- ---- a tag, an array or a map
 
@@ -446,8 +447,9 @@ module _ {R E W F : Type 0} (source : Reader R E) (sink : Writer W F) where
       }
 
   -- where no title was pulled, nothing was written
-  pub no_item : (layout : Layout) (before old new : Decoder R) (error : Error E) (writer : W) → before ≡ old
+  pub none_came : (layout : Layout) (before old new : Decoder R) (error : Error E) (writer : W) → before ≡ old
       → PullsHeader source before (Err error) new
       → ItemStops source sink layout (sides old writer) (d.Read (s.Read error)) (sides new writer)
-  no_item layout before old new error writer same fails =
-      no_title (subst (λ (first : Decoder R). PullsHeader source first (Err error) new) same fails)
+  none_came layout before old new error writer same fails =
+      no_item {error = s.Read error}
+      (subst (λ (first : Decoder R). PullsHeader source first (Err error) new) same fails)

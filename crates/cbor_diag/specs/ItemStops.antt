@@ -3,7 +3,6 @@ use Rattle.std.specs.Prelude.{ℕ, ◌++◌, Bool, List, Result, Ok, Err}
 use Rattle.ciborium_ll.specs.Types.Read.{Ghosts as Reader}
 use Rattle.ciborium_ll.specs.Types.Write.{Ghosts as Writer}
 use Rattle.ciborium_ll.specs.Types.Decoder.{Decoder}
-use Rattle.ciborium_ll.specs.Types.Error.{Error}
 use Rattle.ciborium_ll.specs.Types.Header.{Header}
 use Rattle.ciborium_ll.specs.Types.Header.TheVariants as h
 use Rattle.ciborium_ll.specs.Decoding.{Passes, PullsHeader, PullsTitle}
@@ -17,6 +16,12 @@ use Rattle.cbor_diag.specs.declared.layout.Layout.{Layout}
 use Rattle.cbor_diag.specs.ItemTexts.{nest_opening, nest_closing, nest_last, item_lead, level_within, is_value_at}
 use Rattle.cbor_diag.specs.ItemTexts.{is_first_at, AreShown, RestShown, WithinShown, ItemShown}
 use Rattle.cbor_diag.specs.Showing.{ShowsHeader}
+
+-- where an item is due no title came, or a break
+abbrev pub ComesNoItem : {R E : Type 0} → Reader R E → Decoder R → SkipError E → Decoder R → Type 0
+ComesNoItem source old (s.Read error) new = PullsHeader source old (Err error) new
+ComesNoItem source old (s.Break place) new = PullsTitle source old h.Break new
+ComesNoItem source old (s.Deep place) new = ⊥
 
 module _ {R E W F : Type 0} (source : Reader R E) (sink : Writer W F) (layout : Layout) where
   -- behind the header so many items were read, and their text was written
@@ -55,9 +60,9 @@ module _ {R E W F : Type 0} (source : Reader R E) (sink : Writer W F) (layout : 
     -- `WithinStops level header old error new`: behind the header some items of this level were shown, and where one
     -- more is due the show ended with the error
     pub data WithinStops : ℕ → Header → Sides R W → DiagError E F → Sides R W → Type 0 where
-      -- no title came, or a break that may not stand there: nothing more was written
+      -- none came, and nothing more was written
       title : {level count : ℕ} {header : Header} {old between : Sides R W} {error : SkipError E} {new : Decoder R}
-          → WithinBegun level header count old between
+          → WithinBegun level header count old between → ComesNoItem source between.decoder error new
           → WithinStops level header old (d.Read error) (sides new between.writer)
       -- the writer failed in front of the item
       lead : {level count : ℕ} {header next : Header} {old between : Sides R W} {titled : Decoder R} {fault : F} {new : W}
@@ -75,10 +80,8 @@ module _ {R E W F : Type 0} (source : Reader R E) (sink : Writer W F) (layout : 
 
   -- the show of an item ended with the error: no title came, or a break, and nothing was written; or behind its title
   pub data ItemStops (old : Sides R W) : DiagError E F → Sides R W → Type 0 where
-    no_title : {error : Error E} {new : Decoder R} → PullsHeader source old.decoder (Err error) new
-        → ItemStops old (d.Read (s.Read error)) (sides new old.writer)
-    at_break : {place : ℕ} {new : Decoder R} → PullsTitle source old.decoder h.Break new
-        → ItemStops old (d.Read (s.Break place)) (sides new old.writer)
+    no_item : {error : SkipError E} {new : Decoder R} → ComesNoItem source old.decoder error new
+        → ItemStops old (d.Read error) (sides new old.writer)
     behind : {header : Header} {titled : Decoder R} {error : DiagError E F} {new : Sides R W}
         → PullsTitle source old.decoder header titled → RestStops 0 header (sides titled old.writer) error new
         → ItemStops old error new

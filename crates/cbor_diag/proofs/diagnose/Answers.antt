@@ -3,8 +3,8 @@ use Rattle.std.proofs.lemmas.Result.{err_from_is_err_and}
 use Rattle.cbor_skip.specs.declared.SkipError.TheVariants as s
 use Rattle.cbor_diag.specs.declared.DiagError.TheVariants as d
 use Rattle.cbor_skip.proofs.ItemSteps.{pull_stops, stops_here}
-use Rattle.cbor_diag.specs.ItemStops.{at_break}
-use Rattle.cbor_diag.proofs.ItemTextLaws.{item_shown, no_item}
+use Rattle.cbor_diag.specs.ItemStops.{no_item}
+use Rattle.cbor_diag.proofs.ItemTextLaws.{item_shown, none_came}
 use Rattle.cbor_diag.proofs.ShowLaws.{moved_then}
 use Rattle.cbor_diag.proofs.diagnose.Goals as goal
 
@@ -27,7 +27,7 @@ returns-in_err-header-clause-shown g c =
     let is_error = from.1 in
     let is_same = from.2 in
     let same : c.from_residual.result ≡ Err (d.Read (s.Read error)) = cc in
-    rw same (no_item g.R.Read g.W.Write c.args.layout _ c.args.decoder.now _ error c.args.writer.now
+    rw same (none_came g.R.Read g.W.Write c.args.layout _ c.args.decoder.now _ error c.args.writer.now
     c.offset-place.ensures.same c.in_err-header.ensures.header)
 
 pub returns-in-Break-clause-reads : goal.returns-in-Break-clause-reads
@@ -42,7 +42,7 @@ returns-in-Break-clause-reads g c = record {
 
 pub returns-in-Break-clause-shown : goal.returns-in-Break-clause-shown
 returns-in-Break-clause-shown g c =
-    at_break (rw (c.offset-place.ensures.same, c.in-Break.is) at c.in_ok-header.ensures.header)
+    no_item {error = s.Break c.offset-place.result} (rw (c.offset-place.ensures.same, c.in-Break.is) at c.in_ok-header.ensures.header)
 
 pub returns-clause-reads : goal.returns-clause-reads
 returns-clause-reads g c =

@@ -13,6 +13,7 @@ use Rattle.cbor_skip.proofs.ItemSteps.{none_read, one_more, stops_here, pull_sto
 use Rattle.cbor_diag.specs.Showing.{ReadsFrom}
 use Rattle.cbor_diag.proofs.ShowLaws.{break_said, reading_stops, reading_unread, when_err, when_ok}
 use Rattle.cbor_diag.proofs.ItemLaws.{ItemRead, nest_deep, nest_read, nest_stops}
+use Rattle.ciborium_ll.specs.Decoding.{PullsHeader}
 use Rattle.cbor_diag.specs.ItemStops.{deep}
 use Rattle.cbor_diag.proofs.ItemTextLaws.{break_shown, item_stops, items_begin, items_closed, items_done, items_more}
 use Rattle.cbor_diag.proofs.ItemTextLaws.{lead_stops, nest_shown, opening_stops, plain_shown, said_failed, said_wrote}
@@ -239,14 +240,16 @@ show_within-returns-in_err-next-clause-shown g t c =
     let is_error = from.1 in
     let is_same = from.2 in
     let same : c.from_residual.result ≡ Err (d.Read (s.Read error)) = cc in
-    rw same (title_stops g.R.Read g.W.Write _ _ c.args.header _ _ _ _ _ _ c.items.invariant.items)
+    let fails = subst (λ x. PullsHeader g.R.Read x (Err error) c.pull.new.self) c.offset-place.ensures.same
+    c.in_err-next.ensures.header in
+    rw same (title_stops g.R.Read g.W.Write _ _ c.args.header _ _ _ _ (s.Read error) _ c.items.invariant.items fails)
 
 pub show_within-returns-in-Break-clause-shown : goal.show_within-returns-in-Break-clause-shown
 show_within-returns-in-Break-clause-shown g t c =
     let pulled = rw (c.offset-place.ensures.same, c.in-Break.is) at c.in_ok-next.ensures.header in
     let steady = rw c.offset-place.ensures.same at c.in_ok-next.ensures.moves_on.steady in
     break_shown g.R.Read g.W.Write _ _ c.args.header (closes c.items.remaining) _ _ _ _ c.at_break.result
-    c.items.is_first c.offset-place.result c.items.invariant.items c.at_break.ensures
+    c.items.is_first c.offset-place.result c.items.invariant.items pulled c.at_break.ensures
     (λ may. items_closed g.R.Read g.W.Write _ _ c.args.header _ _ _ _ _ c.items.invariant.items may pulled steady)
 
 pub show_within-returns-in_err-said-clause-shown : goal.show_within-returns-in_err-said-clause-shown
