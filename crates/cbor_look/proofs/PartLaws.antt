@@ -21,7 +21,7 @@ use Rattle.ciborium_ll_text.specs.declared.state.State.TheVariants as t
 use Rattle.ciborium_ll_text.proofs.StateLaws.{after-append, text_ends, text_from, none_goes_on, some_goes_on}
 use Rattle.ciborium_ll_text.proofs.LastEndLaws.{due, back, Back, begins, goes_on}
 use Rattle.cbor_look.specs.Takings.{ReadsOn}
-use Rattle.cbor_look.specs.Parts.{is_between, is_inside, FailsInBody, IsSound, ReadsPart}
+use Rattle.cbor_look.specs.Parts.{is_between, is_inside, FailsInBody, IsSound, ReadsPart, ReadsText}
 use Rattle.cbor_look.proofs.PullLaws.{passes_idle, first_passed}
 
 -- ---- states
@@ -238,6 +238,27 @@ module _ {R E : Type 0} (source : Ghosts R E) where
       (omega (arith, counted, room, ap length cut.parts, length-append cut.front cut.left)) (omega (arith, counted, more))
       reads.reads
 
+  -- the bytes of a part of a text are none: as one read of them finds
+  pub fault_part : (left place : ℕ) (row : List ℕ) (old new : Decoder R) → length row ≤ left → length row ≤ 16
+      → ReadsText source left row old (Ok false) new → FailsInBody source Text left place old (e.Syntax place) new
+  fault_part left place row old new most few reads = record {
+    room = length row;
+    held = few;
+    ends = (
+      refl,
+      record {
+        textual = refl;
+        between = old;
+        part = begun Text left old old [] [] [] refl (omega arith) IsStuck-nil IsCharacters-nil (omega arith)
+            (Passes-none source old);
+        last = row;
+        filled = omega (arith, most);
+        passed = reads.0;
+        no_text = reads.1;
+      },
+    );
+  }
+
   abbrev begins_behind : (kind : Kind) (len left : ℕ) (front : List ℕ) (old between new : Decoder R)
       → Passes source old front between → IsWritable kind front → length front + left ≡ len
       → BeginsRest source kind [] left between new → BeginsRest source kind [] len old new
@@ -271,16 +292,15 @@ module _ {R E : Type 0} (source : Ghosts R E) where
         ends.0,
         record {
           textual = damaged.textual;
-          read = front ++ damaged.read;
-          front = front ++ damaged.front;
-          left = damaged.left;
-          parts = ap (λ (z : List ℕ). front ++ z) damaged.parts ∙ sym (append_assoc front damaged.front damaged.left);
-          sound = IsCharacters-append front damaged.front
-              (subst (λ (k : Kind). IsWritable k front) damaged.textual written) damaged.sound;
-          within = let within = damaged.within in omega (arith, within, counted, length-append front damaged.read);
-          no_text = no_text_then len left front damaged.read
-              (subst (λ (k : Kind). IsWritable k front) damaged.textual written) counted damaged.no_text;
-          passed = Passes-then source old between new front damaged.read passed damaged.passed;
+          between = damaged.between;
+          part = begins_behind kind len left front old between damaged.between passed written counted damaged.part;
+          last = damaged.last;
+          filled = let filled = damaged.filled in omega (arith, filled, counted, length-append front damaged.part.read);
+          passed = damaged.passed;
+          no_text = subst (λ (z : List ℕ). IsNoText [] len z)
+              (sym (append_assoc front damaged.part.read damaged.last))
+              (no_text_then len left front (damaged.part.read ++ damaged.last)
+              (subst (λ (k : Kind). IsWritable k front) damaged.textual written) counted damaged.no_text);
         },
       )
   ends_behind kind len left room place front old between new e.TooLong passed written counted ends = record {

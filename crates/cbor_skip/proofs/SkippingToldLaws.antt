@@ -25,6 +25,7 @@ use Rattle.ciborium_ll_decoder.specs.Skipping.{SkipsString, SkipsInside, MeetsNo
 use Rattle.ciborium_ll_grammar.proofs.TitleLaws.{shortest_no_longer}
 use Rattle.ciborium_ll_text.proofs.TextLaws.{IsCharacters-nil}
 use Rattle.ciborium_ll_decoder.proofs.BodyLaws.{view_none}
+use Rattle.ciborium_ll_decoder.proofs.DamageLaws.{damage_read}
 use Rattle.ciborium_ll_decoder.proofs.ToldLaws.{consumes_told, next_read_small, first_gone, refused_byte}
 use Rattle.ciborium_ll_text.proofs.Lists.{first_counted, front_of, front_behind}
 use Rattle.ciborium_ll_text.proofs.FrontLaws.{no_text_behind}
@@ -339,11 +340,12 @@ module _ {R E : Type 0} (source : Ghosts R E) (depth room : ℕ) (old : Decoder 
 
     damaged_body : (bytes : List ℕ) (k : Kind) (len start : ℕ) (at new : Decoder R)
         → ReachesItem (strictness old) depth bytes (BodyDue k len start)
-        → Passes source old bytes at → RestDamaged source k [] len at new
+        → Passes source old bytes at → RestDamaged source k [] len room at new
         → MeetsItemFault source (strictness old) depth due (Syntax start) old new
     damaged_body bytes k len start at new reach passed fails =
         let c = came bytes at passed in
-        let gone = consumes_told _ _ c.rest fails.read c.left fails.passed.consumed in
+        let all = damage_read source k [] len room at new fails in
+        let gone = consumes_told _ _ c.rest all.read c.left all.passed.consumed in
         record {
           fault = record {
             before = bytes;
@@ -351,14 +353,15 @@ module _ {R E : Type 0} (source : Ghosts R E) (depth room : ℕ) (old : Decoder 
             ahead = c.rest;
             answer = Syntax start;
             written = with_front [] Text len [];
-            consumed = length fails.read;
-            reach = subst (λ (j : Kind). ReachesItem (strictness old) depth bytes (BodyDue j len start)) fails.textual reach;
+            consumed = length all.read;
+            reach = subst (λ (j : Kind). ReachesItem (strictness old) depth bytes (BodyDue j len start)) all.textual
+                reach;
             is = c.parts;
-            fault = damage (strictness old) bytes len start fails.read c.rest gone.0 gone.2 fails.within fails.no_text;
+            fault = damage (strictness old) bytes len start all.read c.rest gone.0 gone.2 all.within all.no_text;
           };
           answered = refl;
-          left = gone.1 ∙ ap Some (sym (ap (drop (length fails.read)) gone.2 ∙ drop-append_seam fails.read gone.0));
-          offset = omega (arith, fails.passed.offset, passed.offset);
+          left = gone.1 ∙ ap Some (sym (ap (drop (length all.read)) gone.2 ∙ drop-append_seam all.read gone.0));
+          offset = omega (arith, all.passed.offset, passed.offset);
         }
 
     -- a body that fails, by its answer

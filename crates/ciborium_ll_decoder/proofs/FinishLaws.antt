@@ -12,6 +12,7 @@ use Rattle.ciborium_ll_decoder.specs.declared.dec.Error.TheVariants as e
 use Rattle.ciborium_ll_decoder.specs.declared.seg.Parser.{Ghosts as Parser}
 use Rattle.ciborium_ll_decoder.specs.declared.seg.Segment.{Segment}
 use Rattle.ciborium_ll_grammar.specs.Strings.{Kind, Bytes, Text, IsWritable}
+use Rattle.ciborium_ll_text.specs.Text.{IsCharacters}
 use Rattle.ciborium_ll_decoder.specs.Kept.{kept_bytes}
 use Rattle.ciborium_ll_decoder.specs.Decoding.{IsSteady, Passes}
 use Rattle.ciborium_ll_decoder.specs.Chunks.{IsSplit, GivesChunk, EndsInCharacter, KeepsTooMuch}
@@ -25,6 +26,11 @@ use Rattle.ciborium_ll_decoder.proofs.BodyLaws.{stuck_is_no_text, too_much_is_no
 -- a segment is damaged or not
 pub not_both : (damaged : Bool) → damaged ≡ true → damaged ≡ false → ⊥
 not_both damaged one other = cc
+
+-- what is no byte string is a text
+kind_text : (kind : Kind) → (kind ≡ Bytes → ⊥) → kind ≡ Text
+kind_text Bytes other = absurd (other refl)
+kind_text Text other = refl
 
 -- the read of a body ends with this error, and the front was handed out of it
 abbrev pub HandsOut : {R E : Type 0} (source : Reader R E) (kind : Kind) (kept : List ℕ) (unread room place : ℕ)
@@ -126,69 +132,71 @@ module _ {R E P : Type 0} {parser : Parser P} (source : Reader R E) where
       untouched = passes.untouched;
     }
 
-    damaged_end : (new : Segment R P parser) → (kind : Kind) → parser.kind ≡ kind
-        → EndsInCharacter source segment new → IsWritable kind so_far.front → (damaged : RestDamaged source kind
-        (kept_bytes first.kept) first.unread first.decoder.now new.decoder.now) × (damaged.front ≡ so_far.front)
-    damaged_end new Bytes is ends sound = absurd (let none = ap length (segment.text_alone is) in let some =
+    textual_end : (new : Segment R P parser) → EndsInCharacter source segment new → parser.kind ≡ Text
+    textual_end new ends = kind_text parser.kind (λ is. let none = ap length (segment.text_alone is) in let some =
         ends.some_kept in omega (arith, none, some))
-    damaged_end new Text is ends sound = (
-      record {
-        textual = refl;
-        read = so_far.read;
-        front = so_far.front;
-        left = kept_bytes segment.kept;
-        parts = so_far.parts;
-        sound = sound;
-        within = omega (arith, so_far.counted);
-        no_text = inl (
-          omega (arith, so_far.counted, ends.none_unread),
-          stuck_is_no_text (kept_bytes first.kept ++ so_far.read) so_far.front (kept_bytes segment.kept) so_far.parts
-              sound segment.stuck ends.some_kept,
-        );
-        passed = subst (λ (d : Decoder R). Passes source first.decoder.now so_far.read d) (sym ends.decoder)
-            so_far.passed;
-      },
-      refl,
-    )
 
-    damaged_middle : (room : ℕ) (new : Segment R P parser) →
-        (IsSteady source segment.decoder.now → IsSteady source new.decoder.now) → (kind : Kind) → parser.kind ≡ kind
-        → (keeps : KeepsTooMuch source room segment new) → IsWritable kind so_far.front
-        → IsSplit kind (kept_bytes segment.kept ++ keeps.read) keeps.front keeps.left → (damaged : RestDamaged source
-        kind (kept_bytes first.kept) first.unread first.decoder.now new.decoder.now) × (damaged.front ≡ so_far.front)
-    damaged_middle room new steady Bytes is keeps sound split = absurd
-        (let none = ap length split.1 in let much = keeps.too_much in omega (arith, none, much))
-    damaged_middle room new steady Text is keeps sound split =
+    abbrev damaged_end : (room : ℕ) (new : Segment R P parser) → 4 ≤ room → EndsInCharacter source segment new
+        → RestDamaged source parser.kind (kept_bytes first.kept) first.unread room first.decoder.now new.decoder.now
+    damaged_end room new four ends =
+        let is = textual_end new ends in
+        record {
+          textual = is;
+          between = segment.decoder.now;
+          part = part;
+          last = [];
+          filled = omega (arith, four, so_far.counted, ends.none_unread, three_kept segment.kept);
+          passed = subst (λ (d : Decoder R). Passes source segment.decoder.now [] d) (sym ends.decoder)
+              (Passes-none source segment.decoder.now);
+          no_text = inl (
+            omega (arith, so_far.counted, ends.none_unread, length-append so_far.read []),
+            λ whole. stuck_is_no_text (kept_bytes first.kept ++ so_far.read) so_far.front (kept_bytes segment.kept)
+                so_far.parts (subst (λ (k : Kind). IsWritable k so_far.front) is so_far.sound) segment.stuck
+                ends.some_kept
+                (subst (λ (z : List ℕ). IsCharacters (kept_bytes first.kept ++ z)) (append-nil so_far.read) whole),
+          );
+        }
+
+    textual_middle : (room : ℕ) (new : Segment R P parser) → KeepsTooMuch source room segment new
+        → parser.kind ≡ Text
+    textual_middle room new keeps = kind_text parser.kind (λ is.
+        let none = ap length (subst (λ (k : Kind). IsSplit k (kept_bytes segment.kept ++ keeps.read) keeps.front
+        keeps.left) is keeps.split).1 in
+        let much = keeps.too_much in omega (arith, none, much))
+
+    abbrev damaged_middle : (room : ℕ) (new : Segment R P parser) → 4 ≤ room
+        → (IsSteady source segment.decoder.now → IsSteady source new.decoder.now)
+        → KeepsTooMuch source room segment new
+        → RestDamaged source parser.kind (kept_bytes first.kept) first.unread room first.decoder.now new.decoder.now
+    damaged_middle room new four steady keeps =
+        let is = textual_middle room new keeps in
         let kept = kept_bytes first.kept in
         let parts = sym (append_assoc kept so_far.read keeps.read) ∙ ap (λ (z : List ℕ). z ++ keeps.read)
-        so_far.parts ∙ append_assoc so_far.front (kept_bytes segment.kept) keeps.read in (
-          record {
-            textual = refl;
-            read = so_far.read ++ keeps.read;
-            front = so_far.front;
-            left = kept_bytes segment.kept ++ keeps.read;
-            parts = parts;
-            sound = sound;
-            within = omega (arith, so_far.counted, keeps.reads.unread, length-append so_far.read keeps.read);
-            no_text = inr (too_much_is_no_text (kept ++ (so_far.read ++ keeps.read)) so_far.front
-                (kept_bytes segment.kept) keeps.read keeps.front keeps.left parts sound split keeps.too_much);
-            passed = Passes-read source first.decoder.now segment.decoder.now new.decoder.now so_far.read keeps.read
-                so_far.passed keeps.reads.reads steady;
-          },
-          refl,
-        )
+        so_far.parts ∙ append_assoc so_far.front (kept_bytes segment.kept) keeps.read in
+        record {
+          textual = is;
+          between = segment.decoder.now;
+          part = part;
+          last = keeps.read;
+          filled = omega (arith, four, so_far.counted, keeps.reads.count, three_kept segment.kept);
+          passed = Passes-read source segment.decoder.now segment.decoder.now new.decoder.now [] keeps.read
+              (Passes-none source segment.decoder.now) keeps.reads.reads steady;
+          no_text = inr (too_much_is_no_text (kept ++ (so_far.read ++ keeps.read)) so_far.front
+              (kept_bytes segment.kept) keeps.read keeps.front keeps.left parts
+              (subst (λ (k : Kind). IsWritable k so_far.front) is so_far.sound)
+              (subst (λ (k : Kind). IsSplit k (kept_bytes segment.kept ++ keeps.read) keeps.front keeps.left) is
+              keeps.split) keeps.too_much);
+        }
 
     -- the body is found to be no text
-    rest_damaged : (room at : ℕ) (new : Segment R P parser) →
-        (IsSteady source segment.decoder.now → IsSteady source new.decoder.now) → at ≡ first.place
+    rest_damaged : (room at : ℕ) (new : Segment R P parser) → 4 ≤ room
+        → (IsSteady source segment.decoder.now → IsSteady source new.decoder.now) → at ≡ first.place
         → EndsInCharacter source segment new ⊎ KeepsTooMuch source room segment new
         → HandsOut source parser.kind (kept_bytes first.kept) first.unread room first.place first.decoder.now
         (e.Syntax at) so_far.front new.decoder.now
-    rest_damaged room at new steady placed (inl ends) =
-        let found = damaged_end new parser.kind refl ends so_far.sound in ((placed, found.0), found.1)
-    rest_damaged room at new steady placed (inr keeps) =
-        let found = damaged_middle room new steady parser.kind refl keeps so_far.sound keeps.split in
-        ((placed, found.0), found.1)
+    rest_damaged room at new four steady placed (inl ends) = ((placed, damaged_end room new four ends), refl)
+    rest_damaged room at new four steady placed (inr keeps) =
+        ((placed, damaged_middle room new four steady keeps), refl)
 
     -- a pull that fails is the last one: of a body that was sound before
     pub rest_ends : (room : ℕ) (error : Error E) (new : Segment R P parser) → 4 ≤ room → first.damaged ≡ false
@@ -199,7 +207,7 @@ module _ {R E P : Type 0} {parser : Parser P} (source : Reader R E) where
     rest_ends room (e.Io fault) new four undamaged steady fails = (rest_fails room new four fails, refl)
     rest_ends room (e.Syntax at) new four undamaged steady finds = elim finds.cause [
       | inl stays ↦ absurd (let a = stays.damaged-before in let b = so_far.damage in cc)
-      | inr found ↦ rest_damaged room at new steady (finds.place ∙ so_far.at) found
+      | inr found ↦ rest_damaged room at new four steady (finds.place ∙ so_far.at) found
     ]
     rest_ends room e.TooLong new four undamaged steady passes = (rest_passes room new four passes, refl)
     rest_ends room e.Waiting new four undamaged steady never = absurd never
@@ -220,7 +228,7 @@ module _ {R E P : Type 0} {parser : Parser P} (source : Reader R E) where
           })
           | inr found ↦ inl (record {
             undamaged = sym so_far.damage ∙ elim found [ inl ends ↦ ends.sound | inr keeps ↦ keeps.reads.sound ];
-            ends = (rest_damaged room at new steady placed found).0;
+            ends = (rest_damaged room at new four steady placed found).0;
           })
         ]
     rest_error room e.TooLong new four steady passes = inl

@@ -2,6 +2,7 @@ pub mod AdvanceLaws
 pub mod BodyCopyLaws
 pub mod BodyLaws
 pub mod ChunkLaws
+pub mod DamageLaws
 pub mod DecodingLaws
 pub mod FinishLaws
 pub mod FlatStrings

@@ -92,14 +92,12 @@ module _ {R E : Type 0} (source : Reader R E) (k : Kind) (len : ℕ) (old new : 
     damaged.0,
     record {
       textual = damaged.1.textual;
-      read = damaged.1.read;
-      front = damaged.1.front;
-      left = damaged.1.left;
-      parts = damaged.1.parts;
-      sound = damaged.1.sound;
-      within = damaged.1.within;
+      between = damaged.1.between;
+      part = begins_behind damaged.1.between damaged.1.part;
+      last = damaged.1.last;
+      filled = damaged.1.filled;
+      passed = damaged.1.passed;
       no_text = damaged.1.no_text;
-      passed = Passes-then source old new ended [] damaged.1.read passed damaged.1.passed;
     },
   )
   ends_behind room place e.TooLong ended passes = record {

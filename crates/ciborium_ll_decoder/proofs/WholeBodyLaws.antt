@@ -12,7 +12,6 @@ use Rattle.ciborium_ll_decoder.specs.Finishing.{BeginsRest, EndsBody}
 use Rattle.ciborium_ll_decoder.proofs.DecodingLaws.{Passes-none}
 use Rattle.ciborium_ll_decoder.proofs.BodyLaws.{writable_nil, Passes-read}
 use Rattle.ciborium_ll_text.specs.Text.{IsCharacters, IsFront}
-use Rattle.ciborium_ll_text.proofs.TextLaws.{IsCharacters-nil}
 use Rattle.ciborium_ll_text.proofs.FrontLaws.{IsStuck-nil}
 
 -- any bytes are the body of a byte string
@@ -48,6 +47,20 @@ module _ {R E : Type 0} (source : Reader R E) (kind : Kind) (len room place : �
     passed = Passes-none source old;
   }
 
+  -- nothing of it was read
+  abbrev begun : BeginsRest source kind [] len old old
+  begun = record {
+    read = [];
+    front = [];
+    left = [];
+    parts = refl;
+    few = omega arith;
+    stuck = IsStuck-nil;
+    sound = writable_nil kind;
+    within = omega arith;
+    passed = Passes-none source old;
+  }
+
   module _ (read : List ℕ) (new : Decoder R) (all : length read ≡ len) where
     read_passed : ReadsAll source old read new → (IsSteady source old → IsSteady source new)
         → Passes source old read new
@@ -64,37 +77,21 @@ module _ {R E : Type 0} (source : Reader R E) (kind : Kind) (len room place : �
     }
 
     -- it is no text
-    pub damaged_ends : (IsWritable kind read → ⊥) → ReadsAll source old read new
+    pub damaged_ends : len ≤ room → (IsWritable kind read → ⊥) → ReadsAll source old read new
         → (IsSteady source old → IsSteady source new)
         → EndsBody source kind [] len room place old (Err (e.Syntax place)) new
-    damaged_ends unsound reads steady = (
+    damaged_ends held unsound reads steady = (
       refl,
       record {
         textual = textual kind read unsound;
-        read = read;
-        front = [];
-        left = read;
-        parts = refl;
-        sound = IsCharacters-nil;
-        within = omega (arith, all);
-        no_text = inl (all, no_text kind read unsound);
+        between = old;
+        part = begun;
+        last = read;
+        filled = omega (arith, all, held);
         passed = read_passed reads steady;
+        no_text = inl (all, no_text kind read unsound);
       },
     )
-
-  -- nothing of it was read
-  abbrev begun : BeginsRest source kind [] len old old
-  begun = record {
-    read = [];
-    front = [];
-    left = [];
-    parts = refl;
-    few = omega arith;
-    stuck = IsStuck-nil;
-    sound = writable_nil kind;
-    within = omega arith;
-    passed = Passes-none source old;
-  }
 
   -- the read failed, which is one of no more bytes than the buffer holds
   pub unread_ends : (read : List ℕ) (new : Decoder R) (error : Error E) → old.waiting ≡ None → length read ≡ len

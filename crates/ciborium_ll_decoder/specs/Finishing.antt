@@ -63,24 +63,23 @@ module _ {R E : Type 0} (source : Ghosts R E) (kind : Kind) (kept : List ℕ) (u
     pub full : offset_limit ≤ between.offset + count
     pub untouched : IsUntouched between new
 
-  -- what was read of a text is none, as the whole body or however it goes on, behind a front that is (RFC 7049, 2.1)
-  pub record RestDamaged (old new : Decoder R) : Type 0 where
+  -- the body of a text is none (RFC 7049, 2.1): behind a beginning of it one more read, which with the bytes kept filled
+  -- the buffer, or took all that was left of the body, made what was read no text, as the whole body or however it goes on
+  pub record RestDamaged (room : ℕ) (old new : Decoder R) : Type 0 where
     pub textual : kind ≡ Text
-    pub read : List ℕ
-    pub front : List ℕ
-    pub left : List ℕ
-    pub parts : kept ++ read ≡ front ++ left
-    pub sound : IsCharacters front
-    pub within : length read ≤ unread
-    pub no_text : IsNoText kept unread read
-    pub passed : Passes source old read new
+    pub between : Decoder R
+    pub part : BeginsRest old between
+    pub last : List ℕ
+    pub filled : length part.left + length last ≡ min room (length part.left + (unread - length part.read))
+    pub passed : Passes source between last new
+    pub no_text : IsNoText kept unread (part.read ++ last)
 
   -- `EndsBody source kind kept unread room place old result new`: of a body at this place so many bytes are unread and
   -- these are kept; it is read to its end through a buffer of so much room, by the answer
   abbrev pub EndsBody : ℕ → ℕ → Decoder R → Result (Unit {0}) (Error E) → Decoder R → Type 0
   EndsBody room place old (Ok done) new = ReadsRest old new
   EndsBody room place old (Err (e.Io fault)) new = RestFails room old new
-  EndsBody room place old (Err (e.Syntax at)) new = (at ≡ place) × RestDamaged old new
+  EndsBody room place old (Err (e.Syntax at)) new = (at ≡ place) × RestDamaged room old new
   EndsBody room place old (Err e.TooLong) new = RestPasses room old new
   EndsBody room place old (Err e.Waiting) new = ⊥
 
@@ -89,7 +88,7 @@ module _ {R E : Type 0} (source : Ghosts R E) (kind : Kind) (kept : List ℕ) (u
       → EndsBody room place old result new → List ℕ
   handed_out room place old (Ok done) new reads = kept ++ reads.read
   handed_out room place old (Err (e.Io fault)) new fails = fails.part.front
-  handed_out room place old (Err (e.Syntax at)) new damaged = damaged.1.front
+  handed_out room place old (Err (e.Syntax at)) new damaged = damaged.1.part.front
   handed_out room place old (Err e.TooLong) new passes = passes.part.front
   handed_out room place old (Err e.Waiting) new never = []
 

@@ -47,7 +47,8 @@ pub fn skip_bytes<R: Read>(
 /// The conditions are those of [`Decoder::text`], and `buffer` has four bytes at least. The answers are those of
 /// [`skip_bytes`], with each body of the text UTF-8, and `Syntax` also where a body is no text by itself. It then names
 /// the offset of that body's title; where the body is the whole string, the byte from which the header's shortest title
-/// would reach the body.
+/// would reach the body. The last read of that body filled `buffer`, behind the bytes that were kept, or took all that
+/// was left of the body, if anything was.
 pub fn skip_text<R: Read>(
     decoder: &mut Decoder<R>,
     len: Option<usize>,

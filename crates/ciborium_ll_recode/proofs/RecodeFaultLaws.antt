@@ -21,6 +21,7 @@ use Rattle.ciborium_ll_decoder.specs.BodyCopies.{Sides, sides}
 use Rattle.ciborium_ll_recode.specs.Recoding.{Copied, CopiesRun, StopsAtTitle, StopsAtOther, StopsInBody}
 use Rattle.ciborium_ll_recode.specs.RecodingTold.{IsTold, CopiesFront, MeetsFault}
 use Rattle.ciborium_ll_grammar.proofs.ElementLaws.{run_again}
+use Rattle.ciborium_ll_decoder.proofs.DamageLaws.{damage_read}
 use Rattle.ciborium_ll_decoder.proofs.ToldLaws.{consumes_told, refused_byte}
 use Rattle.ciborium_ll_io.proofs.WriteLaws.{appends_told}
 use Rattle.ciborium_ll_recode.proofs.RecodeLaws.{writes_then}
@@ -288,14 +289,15 @@ module _ {R E W F : Type 0} {strict : Bool} (source : Reader R E) (sink : Writer
         old.decoder new
     damaged_told at new stops =
         let c = came stops.bytes stops.marks stops.between stops.copied in
-        let body = stops.stopped.ends.1 in
+        let body = damage_read source stops.kind [] stops.len room stops.between.decoder new.decoder
+        stops.stopped.ends.1 in
         let gone = consumes_told _ _ c.rest body.read c.left body.passed.consumed in
         let reach = subst (λ (k : Kind). Reaches count stops.bytes stops.marks (BodyDue k stops.len stops.start))
         body.textual stops.reaches in
         let spelled = λ (on : strict ≡ true). subst (λ (k : Kind). IsStrictSpelling stops.bytes stops.marks
         (shortest_title (kind_header k (Some stops.len)))) body.textual (stops.strict (told.mode ∙ on)
         (told.none_waits on)) in
-        let f = damage stops.bytes stops.marks stops.len stops.start body.read body.front body.left c.rest gone.0 reach
+        let f = damage stops.bytes stops.marks stops.len stops.start body.read body.front body.more c.rest gone.0 reach
         spelled c.parts gone.2 body.parts body.sound body.within body.no_text in
         let output = front_output stops.marks stops.bytes body.front stops.kind stops.len stops.between stops.titled
         new.writer stops.copied stops.title stops.stopped.written in

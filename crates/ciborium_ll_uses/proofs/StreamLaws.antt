@@ -81,7 +81,8 @@ module _ {R E W F : Type 0} (source : Reader R E) (sink : Writer W F) where
       → EndsBody source kind [] len room place old (Err error) new → new.waiting ≡ None
   ends_settled kind len room place old new (e.Io fault) none ends = ends.fails.none_waits
   ends_settled kind len room place old new (e.Syntax at) none ends =
-      passed_settled old new ends.1.read ends.1.passed none
+      passed_settled ends.1.between new ends.1.last ends.1.passed
+      (passed_settled old ends.1.between ends.1.part.read ends.1.part.passed none)
   ends_settled kind len room place old new e.TooLong none ends =
       ends.untouched.waiting ∙ passed_settled old ends.between ends.part.read ends.part.passed none
   ends_settled kind len room place old new e.Waiting none ends = absurd ends

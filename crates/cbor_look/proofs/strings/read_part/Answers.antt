@@ -1,5 +1,6 @@
 use Rattle.std.proofs.Common.{arith}
-use Rattle.cbor_look.proofs.PartLaws.{bytes_part}
+use Rattle.cbor_look.proofs.PartLaws.{bytes_part, fault_part}
+use Rattle.cbor_look.proofs.RowLaws.{row_few}
 use Rattle.cbor_look.proofs.strings.read_part.Goals as goal
 
 pub returns-in-Bytes-clause-reads : goal.returns-in-Bytes-clause-reads
@@ -8,3 +9,10 @@ returns-in-Bytes-clause-reads g c = λ some none.
     rw c.in-Bytes.is
     (bytes_part g.R.Read c.args.left c.args.place c.min.result _ _ _ _ c.read.result c.requires.none none some
     (omega (arith, value, some)) (omega (arith, value)) c.read.ensures.reads)
+
+pub returns-else-branch-clause-reads : goal.returns-else-branch-clause-reads
+returns-else-branch-clause-reads g c = λ some none.
+    let read = c.in_ok-read_text-in-Text.ensures in
+    rw c.in-Text.is
+    (fault_part g.R.Read c.args.left c.args.place _ _ _ read.most (row_few c.read_text.new.self)
+    (rw c.if-branch.false at (read.reads some none)))

@@ -14,4 +14,5 @@ returns-in_err-read-clause-finishes g c =
 pub returns-else-is_body-clause-finishes : goal.returns-else-is_body-clause-finishes
 returns-else-is_body-clause-finishes g c =
     damaged_ends g.R.Read g.P.Parser.kind c.args.body.length (length c.args.buffer.now) c.args.body.place
-    c.args.decoder.now c.read.new.data c.read.new.self (search rules) (search rules) (search rules) (search rules)
+    c.args.decoder.now c.read.new.data c.read.new.self (search rules) c.requires.held (search rules) (search rules)
+    (search rules)

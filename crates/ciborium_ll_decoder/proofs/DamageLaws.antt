@@ -1,0 +1,39 @@
+-- What was read of a body of a text that is none, by all reads together.
+use Rattle.std.proofs.Common.{◌≡◌, ℕ, ◌≤◌, List, ◌++◌, length, sym, ap, subst, ◌∙◌, arith, append_assoc, length-append}
+use Rattle.ciborium_ll_io.specs.declared.io.Read.{Ghosts as Reader}
+use Rattle.ciborium_ll_decoder.specs.declared.dec.Decoder.{Decoder}
+use Rattle.ciborium_ll_grammar.specs.Strings.{Kind, Text, IsWritable}
+use Rattle.ciborium_ll_text.specs.Text.{IsCharacters}
+use Rattle.ciborium_ll_decoder.specs.Decoding.{Passes}
+use Rattle.ciborium_ll_decoder.specs.Finishing.{IsNoText, RestDamaged}
+use Rattle.ciborium_ll_decoder.proofs.DecodingLaws.{Passes-then}
+
+module _ {R E : Type 0} (source : Reader R E) (kind : Kind) (kept : List ℕ) (unread : ℕ) where
+  -- it is a front that is text, and more
+  pub record ReadsDamage (old new : Decoder R) : Type 0 where
+    pub textual : kind ≡ Text
+    pub read : List ℕ
+    pub front : List ℕ
+    pub more : List ℕ
+    pub parts : kept ++ read ≡ front ++ more
+    pub sound : IsCharacters front
+    pub within : length read ≤ unread
+    pub no_text : IsNoText kept unread read
+    pub passed : Passes source old read new
+
+  abbrev pub damage_read : (room : ℕ) (old new : Decoder R) → RestDamaged source kind kept unread room old new
+      → ReadsDamage old new
+  damage_read room old new damaged =
+      let part = damaged.part in
+      record {
+        textual = damaged.textual;
+        read = part.read ++ damaged.last;
+        front = part.front;
+        more = part.left ++ damaged.last;
+        parts = sym (append_assoc kept part.read damaged.last) ∙ ap (λ (z : List ℕ). z ++ damaged.last) part.parts
+            ∙ append_assoc part.front part.left damaged.last;
+        sound = subst (λ (k : Kind). IsWritable k part.front) damaged.textual part.sound;
+        within = omega (arith, damaged.filled, part.within, length-append part.read damaged.last);
+        no_text = damaged.no_text;
+        passed = Passes-then source old damaged.between new part.read damaged.last part.passed damaged.passed;
+      }
