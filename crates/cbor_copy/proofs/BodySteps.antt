@@ -143,12 +143,14 @@ module _ (count left b : ℕ) (bytes output : List ℕ) (spot : Spot) (state : S
   damaged : may_end (after_byte state b) left ≡ false → (y : List ℕ) → (named : ℕ)
       → due.len ≤ length ((due.part ++ (spot.front ++ b ∷ [])) ++ y)
       → FirstFault false (due.before ++ due.title) due.marks (BodyDue Text due.len named)
-      ((due.part ++ (spot.front ++ b ∷ [])) ++ y) (Syntax named) (with_front due.marks Text due.len due.part) 0
+      ((due.part ++ (spot.front ++ b ∷ [])) ++ y) (Syntax named) (with_front due.marks Text due.len due.part)
+      (length due.part)
   damaged never y named enough =
       let ahead = due.part ++ (spot.front ++ b ∷ []) in
       DamagedText due.part ((spot.front ++ b ∷ []) ++ take left y) enough (no_text never y enough)
       (ap (λ (n : ℕ). take n (ahead ++ y)) (sym long) ∙ take-append-add ahead y left
       ∙ append_assoc due.part (spot.front ++ b ∷ []) (take left y)) due.sound (omega arith)
+      (omega (arith, long, length-append due.part (spot.front ++ b ∷ [])))
 
   broken_leads : may_end (after_byte state b) left ≡ false → Broken spot.place count (bytes ++ b ∷ []) (output ++ [])
   broken_leads never =
@@ -176,15 +178,16 @@ module _ (count left b : ℕ) (bytes output : List ℕ) (spot : Spot) (state : S
           | inr all ↦ record {
             answer = Syntax spot.place;
             written = with_front due.marks Text due.len due.part;
-            consumed = 0;
+            consumed = length due.part;
             fault = damaged never y spot.place all;
           }
         ];
         more = zeros;
         more_bytes = AreBytes-zeros left;
-        consumed = 0;
+        consumed = length due.part;
         fault = subst (λ (z : List ℕ). FirstFault false (due.before ++ due.title) due.marks
-            (BodyDue Text due.len spot.place) (ahead ++ zeros) (Syntax spot.place) z 0) (sym (append-nil output ∙ due.out))
+            (BodyDue Text due.len spot.place) (ahead ++ zeros) (Syntax spot.place) z (length due.part))
+            (sym (append-nil output ∙ due.out))
             (damaged never zeros spot.place enough);
       }
 

@@ -138,13 +138,13 @@ module _ (fault : Fault) (s : Bool) (depth : ℕ) (due : List ℕ) (runs : FromS
       inl (other_named before ahead t rest x k reach e q refused parts
       ∙ ap f.Syntax (syntax_at (length before) at a))
   row_named before ahead written place answer consumed at
-      (DamagedText {len = len} {start = start} front rest fits none parts sound within) reach e a =
+      (DamagedText {len = len} {start = start} front rest fits none parts sound some within) reach e a =
       inl (text_named before ahead Text len start refl reach e (λ long ends. none (text_from (take len ahead) ends))
       ∙ ap f.Syntax (syntax_at start at a))
   row_named before ahead written place answer consumed at (CutBody front rest short parts sound some most within)
       reach e a = absurd (not_short at a)
   row_named before ahead written place answer consumed at
-      (CutDamagedText {len = len} {start = start} front rest short none parts sound within) reach e a =
+      (CutDamagedText {len = len} {start = start} front rest short none parts sound some within) reach e a =
       inl (text_named before ahead Text len start refl reach e (λ long ends. absurd (omega (arith, long, short)))
       ∙ ap f.Syntax (syntax_at start at a))
 

@@ -85,9 +85,9 @@ fault_first s before at ahead answer written consumed (CutTitle title cut) due i
 fault_first s before at ahead answer written consumed (NoTitle title refused) due is none = absurd cc
 fault_first s before at ahead answer written consumed (LongTitle header rest title p longer e) due is none = absurd cc
 fault_first s before at ahead answer written consumed (OtherTitle header rest p m e) due is none = absurd cc
-fault_first s before at ahead answer written consumed (DamagedText front rest l damaged e t c) due is none = absurd cc
+fault_first s before at ahead answer written consumed (DamagedText front rest l damaged e t w c) due is none = absurd cc
 fault_first s before at ahead answer written consumed (CutBody front rest l e w a b c) due is none = absurd cc
-fault_first s before at ahead answer written consumed (CutDamagedText front rest l damaged e t c) due is none =
+fault_first s before at ahead answer written consumed (CutDamagedText front rest l damaged e t w c) due is none =
     absurd cc
 
 -- where there is none, it is short, and none is consumed
@@ -101,6 +101,6 @@ first_fault s before at ahead answer written consumed (NoTitle title refused) du
 first_fault s before at ahead answer written consumed (LongTitle {title = t} header rest title p longer e) due none =
     let counted = ap length (sym e ∙ none) in absurd (omega (arith, counted, title_some t header p, length-append t rest))
 first_fault s before at ahead answer written consumed (OtherTitle header rest p m e) due none = absurd cc
-first_fault s before at ahead answer written consumed (DamagedText front rest l damaged e t c) due none = absurd cc
+first_fault s before at ahead answer written consumed (DamagedText front rest l damaged e t w c) due none = absurd cc
 first_fault s before at ahead answer written consumed (CutBody front rest l e w a b c) due none = absurd cc
-first_fault s before at ahead answer written consumed (CutDamagedText front rest l damaged e t c) due none = absurd cc
+first_fault s before at ahead answer written consumed (CutDamagedText front rest l damaged e t w c) due none = absurd cc

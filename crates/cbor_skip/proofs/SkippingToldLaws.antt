@@ -49,19 +49,20 @@ damage strict before len start read rest behind split within (inl whole) =
     let taken : take len rest ≡ read = front_of len rest read behind split whole.0 in
     let counted = ap length split in
     DamagedText [] read (omega (arith, whole.0, counted, length-append read behind))
-    (λ text. whole.1 (subst IsCharacters taken text)) taken IsCharacters-nil within
+    (λ text. whole.1 (subst IsCharacters taken text)) taken IsCharacters-nil (omega arith) within
 damage strict before len start read rest behind split within (inr begins) =
     elim (cases_lt (length rest) len) [
       | inl cut ↦ (
           let none = subst BeginsNoText (sym split) (no_text_behind read behind begins) in
           let counted = ap length split in
-          CutDamagedText [] rest cut none refl IsCharacters-nil (omega (arith, counted, length-append read behind))
+          CutDamagedText [] rest cut none refl IsCharacters-nil (omega arith)
+          (omega (arith, counted, length-append read behind))
           )
       | inr all ↦ (
           let more = take (len - length read) behind in
           let taken : take len rest ≡ read ++ more = front_behind len rest read behind split within in
           DamagedText [] (read ++ more) all (λ text. begins more (subst IsCharacters taken text)) taken
-          IsCharacters-nil within
+          IsCharacters-nil (omega arith) within
           )
     ]
 

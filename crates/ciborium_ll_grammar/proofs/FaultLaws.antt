@@ -143,10 +143,10 @@ stuck_or_refused strict u ms at s a out c (NoTitle {place = BodyDue k l p} d f) 
 stuck_or_refused strict u ms at s a out c (LongTitle x r d p untaken e) = inr (long x r d p untaken e)
 stuck_or_refused strict u ms at s a out c (OtherTitle {kind = k} {title = t} x r p f e) =
     refused_other strict k s t r x p f e
-stuck_or_refused strict u ms at s a out c (DamagedText b r l f e g m) = inl (bad_body (inr f))
+stuck_or_refused strict u ms at s a out c (DamagedText b r l f e g w m) = inl (bad_body (inr f))
 stuck_or_refused strict u ms at s a out c (CutBody {kind = k} {len = l} b r f e g m m2 m3) =
     inl (bad_body (too_short k l s f))
-stuck_or_refused strict u ms at s a out c (CutDamagedText b r f g e p m) = inl (bad_body (inl f))
+stuck_or_refused strict u ms at s a out c (CutDamagedText b r f g e p w m) = inl (bad_body (inl f))
 
 pub stuck : (u : List ℕ) (ms : List Mark) (at : Place) (s : List ℕ) (a : Answer) (out : List ℕ) (c : ℕ)
     → FirstFault false u ms at s a out c → Stuck at s

@@ -88,10 +88,10 @@ pub data FirstFault (strict : Bool) (before : List ℕ) (marks : List Mark) :
       → IsRefusedIn strict kind header
       → ahead ≡ title ++ rest
       → FirstFault strict before marks (In kind) ahead (Syntax (length before)) (spelling marks) (length title)
-  -- the whole body of a text is no text
+  -- the whole body of a text is no text; what is written of it was consumed
   DamagedText : {len start consumed : ℕ} {ahead : List ℕ} (front rest : List ℕ) → len ≤ length ahead
       → (IsCharacters (take len ahead) → ⊥)
-      → take len ahead ≡ front ++ rest → IsCharacters front → consumed ≤ len
+      → take len ahead ≡ front ++ rest → IsCharacters front → length front ≤ consumed → consumed ≤ len
       → FirstFault strict before marks (BodyDue Text len start) ahead (Syntax start) (with_front marks Text len front)
       consumed
   -- the bytes end within a body
@@ -100,10 +100,10 @@ pub data FirstFault (strict : Bool) (before : List ℕ) (marks : List Mark) :
       → IsWritable kind front → length front ≤ consumed → consumed ≤ length front + most_kept kind → consumed
       ≤ length ahead
       → FirstFault strict before marks (BodyDue kind len start) ahead Short (with_front marks kind len front) consumed
-  -- the bytes end within the body of a text, and no text begins as they do
+  -- the bytes end within the body of a text, and no text begins as they do; what is written of it was consumed
   CutDamagedText : {len start consumed : ℕ} {ahead : List ℕ} (front rest : List ℕ) → length ahead < len
       → BeginsNoText ahead
-      → ahead ≡ front ++ rest → IsCharacters front → consumed ≤ length ahead
+      → ahead ≡ front ++ rest → IsCharacters front → length front ≤ consumed → consumed ≤ length ahead
       → FirstFault strict before marks (BodyDue Text len start) ahead (Syntax start) (with_front marks Text len front)
       consumed
 

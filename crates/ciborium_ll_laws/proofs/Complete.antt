@@ -214,7 +214,7 @@ text_faulty strict n v s ms k l p r sp e le un = record {
   reach = subst (λ (j : Kind). Reaches n v ms (BodyDue j l p)) e r;
   is = refl;
   spelled = subst (λ (j : Kind). Spelled strict v ms (shortest_title (kind_header j (Some l)))) e sp;
-  fault = DamagedText [] (take l s) le un refl IsCharacters-nil (omega arith);
+  fault = DamagedText [] (take l s) le un refl IsCharacters-nil (omega arith) (omega arith);
 }
 
 -- bytes taken from those ahead

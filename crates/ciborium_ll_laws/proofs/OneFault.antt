@@ -245,9 +245,9 @@ bad_of : (k : Kind) (l p : ℕ) (s u : List ℕ) (ms : List Mark) (a : Answer) (
 bad_of k l p s u ms a out c (CutTitle d f) = absurd d
 bad_of k l p s u ms a out c (NoTitle d f) = absurd d
 bad_of k l p s u ms a out c (LongTitle x r d q untaken e) = absurd d
-bad_of k l p s u ms a out c (DamagedText b r g f e z m) = inr f
+bad_of k l p s u ms a out c (DamagedText b r g f e z w m) = inr f
 bad_of k l p s u ms a out c (CutBody b r f e g m m2 m3) = too_short k l s f
-bad_of k l p s u ms a out c (CutDamagedText b r f g e z m) = inl f
+bad_of k l p s u ms a out c (CutDamagedText b r f g e z w m) = inl f
 
 -- a fault by the place where its title was due
 data Seen (n : ℕ) : List ℕ → List Mark → Place → List ℕ → Type 0 where
@@ -325,36 +325,39 @@ same_answer u ms at s a out c (CutTitle d f) a' out' c' (CutTitle d' f') = inl r
 same_answer u ms at s a out c (CutTitle d f) a' out' c' (NoTitle d' f') = absurd (cut_not_refused s f f')
 same_answer u ms at s a out c (CutTitle d f) a' out' c' (OtherTitle {title = t} x r p m e) =
     absurd (title_not_cut t r x p (subst IsCutTitle e f))
-same_answer u ms at s a out c (CutTitle d f) a' out' c' (DamagedText b r l n e z m) = absurd d
+same_answer u ms at s a out c (CutTitle d f) a' out' c' (DamagedText b r l n e z w m) = absurd d
 same_answer u ms at s a out c (CutTitle d f) a' out' c' (CutBody b r l e z m m2 m3) = absurd d
-same_answer u ms at s a out c (CutTitle d f) a' out' c' (CutDamagedText b r l n e z m) = absurd d
+same_answer u ms at s a out c (CutTitle d f) a' out' c' (CutDamagedText b r l n e z w m) = absurd d
 same_answer u ms at s a out c (NoTitle d f) a' out' c' (CutTitle d' f') = absurd (cut_not_refused s f' f)
 same_answer u ms at s a out c (NoTitle d f) a' out' c' (NoTitle d' f') = inl refl
 same_answer u ms at s a out c (NoTitle d f) a' out' c' (OtherTitle x r p m e) = inl refl
-same_answer u ms at s a out c (NoTitle d f) a' out' c' (DamagedText b r l n e z m) = absurd d
+same_answer u ms at s a out c (NoTitle d f) a' out' c' (DamagedText b r l n e z w m) = absurd d
 same_answer u ms at s a out c (NoTitle d f) a' out' c' (CutBody b r l e z m m2 m3) = absurd d
-same_answer u ms at s a out c (NoTitle d f) a' out' c' (CutDamagedText b r l n e z m) = absurd d
+same_answer u ms at s a out c (NoTitle d f) a' out' c' (CutDamagedText b r l n e z w m) = absurd d
 same_answer u ms at s a out c (OtherTitle {title = t} x r p m e) a' out' c' (CutTitle d' f') =
     absurd (title_not_cut t r x p (subst IsCutTitle e f'))
 same_answer u ms at s a out c (OtherTitle x r p m e) a' out' c' (NoTitle d' f') = inl refl
 same_answer u ms at s a out c (OtherTitle x r p m e) a' out' c' (OtherTitle x' r' p' m' e') = inl refl
-same_answer u ms at s a out c (DamagedText b r l n e z m) a' out' c' (CutTitle d' f') = absurd d'
-same_answer u ms at s a out c (DamagedText b r l n e z m) a' out' c' (NoTitle d' f') = absurd d'
-same_answer u ms at s a out c (DamagedText b r l n e z m) a' out' c' (DamagedText b' r' l' n' e' z' m') = inl refl
-same_answer u ms at s a out c (DamagedText b r l n e z m) a' out' c' (CutBody b' r' l' e' z' m' m2 m3) =
+same_answer u ms at s a out c (DamagedText b r l n e z w m) a' out' c' (CutTitle d' f') = absurd d'
+same_answer u ms at s a out c (DamagedText b r l n e z w m) a' out' c' (NoTitle d' f') = absurd d'
+same_answer u ms at s a out c (DamagedText b r l n e z w m) a' out' c' (DamagedText b' r' l' n' e' z' w' m') = inl refl
+same_answer u ms at s a out c (DamagedText b r l n e z w m) a' out' c' (CutBody b' r' l' e' z' m' m2 m3) =
     absurd (omega (arith, l, l'))
-same_answer u ms at s a out c (DamagedText b r l n e z m) a' out' c' (CutDamagedText b' r' l' n' e' z' m') = inl refl
+same_answer u ms at s a out c (DamagedText b r l n e z w m) a' out' c' (CutDamagedText b' r' l' n' e' z' w' m') =
+    inl refl
 same_answer u ms at s a out c (CutBody b r l e z m m2 m3) a' out' c' (CutTitle d' f') = absurd d'
 same_answer u ms at s a out c (CutBody b r l e z m m2 m3) a' out' c' (NoTitle d' f') = absurd d'
-same_answer u ms at s a out c (CutBody b r l e z m m2 m3) a' out' c' (DamagedText b' r' l' n' e' z' m') =
+same_answer u ms at s a out c (CutBody b r l e z m m2 m3) a' out' c' (DamagedText b' r' l' n' e' z' w' m') =
     absurd (omega (arith, l, l'))
 same_answer u ms at s a out c (CutBody b r l e z m m2 m3) a' out' c' (CutBody b' r' l' e' z' m' m2' m3') = inl refl
-same_answer u ms at s a out c (CutBody b r l e z m m2 m3) a' out' c' (CutDamagedText b' r' l' n' e' z' m') = inr n'
-same_answer u ms at s a out c (CutDamagedText b r l n e z m) a' out' c' (CutTitle d' f') = absurd d'
-same_answer u ms at s a out c (CutDamagedText b r l n e z m) a' out' c' (NoTitle d' f') = absurd d'
-same_answer u ms at s a out c (CutDamagedText b r l n e z m) a' out' c' (DamagedText b' r' l' n' e' z' m') = inl refl
-same_answer u ms at s a out c (CutDamagedText b r l n e z m) a' out' c' (CutBody b' r' l' e' z' m' m2 m3) = inr n
-same_answer u ms at s a out c (CutDamagedText b r l n e z m) a' out' c' (CutDamagedText b' r' l' n' e' z' m') = inl refl
+same_answer u ms at s a out c (CutBody b r l e z m m2 m3) a' out' c' (CutDamagedText b' r' l' n' e' z' w' m') = inr n'
+same_answer u ms at s a out c (CutDamagedText b r l n e z w m) a' out' c' (CutTitle d' f') = absurd d'
+same_answer u ms at s a out c (CutDamagedText b r l n e z w m) a' out' c' (NoTitle d' f') = absurd d'
+same_answer u ms at s a out c (CutDamagedText b r l n e z w m) a' out' c' (DamagedText b' r' l' n' e' z' w' m') =
+    inl refl
+same_answer u ms at s a out c (CutDamagedText b r l n e z w m) a' out' c' (CutBody b' r' l' e' z' m' m2 m3) = inr n
+same_answer u ms at s a out c (CutDamagedText b r l n e z w m) a' out' c' (CutDamagedText b' r' l' n' e' z' w' m') =
+    inl refl
 
 -- a fault at the same place
 same_place : (u u' : List ℕ) (ms ms' : List Mark) (at at' : Place) (s s' : List ℕ) (a : Answer) (out : List ℕ) (c : ℕ)

@@ -29,6 +29,10 @@ use Rattle.ciborium_ll_text.proofs.Lists.{front_of, front_behind}
 use Rattle.ciborium_ll_text.proofs.FrontLaws.{no_text_behind}
 use Rattle.ciborium_ll_recode.proofs.RunLaws.{run_settled, run_still}
 
+-- a front of what was read
+front_read : (read front more : List ℕ) → read ≡ front ++ more → length front ≤ length read
+front_read read front more e = omega (arith, ap length e, length-append front more)
+
 -- where a title is due no body's title is under way
 pub spelled_at : (place : Place) (bytes : List ℕ) (marks : List Mark) → IsAtTitle place
     → IsStrictSpelling bytes marks [] → IsStrictSpelling bytes marks (due_title place)
@@ -223,7 +227,7 @@ module _ {R E W F : Type 0} {strict : Bool} (source : Reader R E) (sink : Writer
             is = parts;
             spelled = spelled;
             fault = DamagedText front more (omega (arith, whole.0, counted, length-append read behind))
-                (λ u. whole.1 (subst IsCharacters taken u)) (taken ∙ e) text within;
+                (λ u. whole.1 (subst IsCharacters taken u)) (taken ∙ e) text (front_read read front more e) within;
           },
           refl,
           refl,
@@ -248,6 +252,7 @@ module _ {R E W F : Type 0} {strict : Bool} (source : Reader R E) (sink : Writer
               fault = CutDamagedText front (more ++ behind) cut
                   (subst BeginsNoText (sym split) (no_text_behind read behind begins))
                   (split ∙ ap (λ (z : List ℕ). z ++ behind) e ∙ append_assoc front more behind) text
+                  (front_read read front more e)
                   (let counted = ap length split in omega (arith, counted, length-append read behind));
             },
             refl,
@@ -273,7 +278,7 @@ module _ {R E W F : Type 0} {strict : Bool} (source : Reader R E) (sink : Writer
                   fault = DamagedText front (more ++ take (len - length read) behind) all
                       (λ u. begins (take (len - length read) behind) (subst IsCharacters taken u))
                       (taken ∙ ap (λ (z : List ℕ). z ++ take (len - length read) behind) e ∙ append_assoc front more
-                      (take (len - length read) behind)) text within;
+                      (take (len - length read) behind)) text (front_read read front more e) within;
                 },
                 refl,
                 refl,
