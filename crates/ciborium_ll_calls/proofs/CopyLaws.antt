@@ -141,8 +141,8 @@ module _ {R E W F : Type 0} (source : Reader R E) (sink : Writer W F) where
   -- a writer that tells its room failed where what was due next did not fit
   room_stops : (count room : ℕ) (due : List ℕ) (old new : Sides R W) → IsTold source sink false old due []
       → sink.room old.writer ≡ Some room → StopsWriting source sink count buffer_size old new
-      → (stop : StopsForRoom count due room) × (sink.written new.writer ≡ Some stop.written)
-      × (new.decoder.offset ≡ old.decoder.offset + (length stop.before + length stop.read))
+      → (for_room : StopsForRoom count due room) × (sink.written new.writer ≡ Some for_room.stop.written)
+      × (new.decoder.offset ≡ old.decoder.offset + (length for_room.stop.before + length for_room.stop.read))
   room_stops count room due old new told space stops =
       let gone = consumes_told _ _ due (stops.bytes ++ stops.read) told.due-told stops.passed.consumed in
       let between = appends_told _ _ [] stops.whole told.written-told stops.written.appended in
@@ -151,17 +151,19 @@ module _ {R E W F : Type 0} (source : Reader R E) (sink : Writer W F) where
       let front = stops.fails.front in
       let part = take front.0 stops.next in (
         record {
-          before = stops.bytes;
-          read = stops.read;
-          rest = gone.0;
-          whole = stops.whole;
-          next = stops.next;
-          written = stops.whole ++ part;
-          next_write = stops.next_write;
-          is = gone.2;
+          stop = record {
+            before = stops.bytes;
+            read = stops.read;
+            rest = gone.0;
+            is = gone.2;
+            whole = stops.whole;
+            next = stops.next;
+            next_write = stops.next_write;
+            written = stops.whole ++ part;
+            begun = (part, refl, (drop front.0 stops.next, sym (take-append-drop front.0 stops.next)));
+          };
           fits = omega (arith, left.2);
           lacks = omega (arith, left.2, less);
-          begun = (part, refl, (drop front.0 stops.next, sym (take-append-drop front.0 stops.next)));
         },
         appends_told _ _ stops.whole part between front.1.0,
         omega (arith, stops.passed.offset, length-append stops.bytes stops.read),
@@ -214,10 +216,10 @@ module _ {R E W F : Type 0} (source : Reader R E) (sink : Writer W F) where
       space object start out reports stands =
       let met = room_stops count (length before) due (sides old writer) (sides new writer') told space copied in (
         met.0,
-        stands_too (sink.written writer') output met.0.written before after out met.1 stands,
+        stands_too (sink.written writer') output met.0.stop.written before after out met.1 stands,
         record {
           consumed_is = omega (arith, reports.consumed_is, met.2, start);
-          written_is = reports.written_is ∙ same_length (sink.written writer') output met.0.written out met.1;
+          written_is = reports.written_is ∙ same_length (sink.written writer') output met.0.stop.written out met.1;
           place_is = reports.place_is;
         },
       )

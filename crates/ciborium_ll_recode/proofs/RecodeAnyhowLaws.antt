@@ -156,28 +156,26 @@ module _ {R E W F : Type 0} {strict : Bool} (source : Reader R E) (sink : Writer
         )
 
     pub unwritten : (new : Sides R W) → StopsWriting source sink count room old new
-        → StopsUnwritten source sink count due written old.decoder new
+        → StopsUnwritten source sink count room due written old.decoder new
     unwritten new stops =
         let gone = consumes_told _ _ due (stops.bytes ++ stops.read) told.due-told stops.passed.consumed in
-        let front = stops.stopped.front in
+        let between = appends_told _ _ written stops.whole told.written-told stops.written.appended in
+        let front = stops.fails.front in
+        let part = take front.0 stops.next in
         record {
           stop = record {
             before = stops.bytes;
-            marks = stops.marks;
             read = stops.read;
-            more = stops.more;
             rest = gone.0;
-            belongs = stops.belongs;
             is = gone.2;
-            written = take front.0 (spelling stops.marks ++ stops.more);
-            begun = (
-              drop front.0 (spelling stops.marks ++ stops.more),
-              sym
-                  (take-append-drop front.0 (spelling stops.marks ++ stops.more)),
-            );
+            whole = stops.whole;
+            next = stops.next;
+            next_write = stops.next_write;
+            written = stops.whole ++ part;
+            begun = (part, refl, (drop front.0 stops.next, sym (take-append-drop front.0 stops.next)));
           };
-          output = appends_told _ _ written (take front.0 (spelling stops.marks ++ stops.more)) told.written-told
-              front.1.0;
+          output = appends_told _ _ (written ++ stops.whole) part between front.1.0
+              ∙ ap Some (append_assoc written stops.whole part);
           left = gone.1;
           offset = omega (arith, stops.passed.offset, length-append stops.bytes stops.read);
         }

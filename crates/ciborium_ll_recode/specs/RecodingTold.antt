@@ -14,7 +14,7 @@ use Rattle.ciborium_ll_grammar.specs.Elements.{Mark, spelling, IsRun}
 use Rattle.ciborium_ll_grammar.specs.Faults.{Place, Due, In, BodyDue, Reaches, Answer, Short, Syntax, RunInFront}
 use Rattle.ciborium_ll_grammar.specs.Faults.{HasFault}
 use Rattle.ciborium_ll_decoder.specs.Decoding.{offset_limit, Begins, view, IsSteady}
-use Rattle.ciborium_ll_recode.specs.Recoding.{IsUnderWay}
+use Rattle.ciborium_ll_recode.specs.Recoding.{NextWrite}
 use Rattle.ciborium_ll_decoder.specs.BodyCopies.{Sides}
 
 -- A side failed at this place, with these bytes ahead. `more` is what is written of a body under way: its shortest
@@ -43,19 +43,19 @@ pub record StopInReading (count : ℕ) (bytes : List ℕ) : Type 0 where
   pub written : List ℕ
   pub spelled : written ≡ spelling marks ++ more
 
--- a copy of so many elements stops there, since no more can be written: behind all of them or a part. What is written
--- of it in all is a beginning of its spelling and of a body under way; what was read and not written yet is that body's
-pub record StopInWriting (count : ℕ) (bytes : List ℕ) : Type 0 where
+-- a copy of so many elements, through a buffer of so much room, stops there, since no more can be written: behind all of
+-- them or a part, at one title or one chunk. All before it is written, and of that a beginning; what was read and not
+-- written yet is of the body that the chunk is from
+pub record StopInWriting (count room : ℕ) (bytes : List ℕ) : Type 0 where
   pub before : List ℕ
-  pub marks : List Mark
   pub read : List ℕ
-  pub more : List ℕ
   pub rest : List ℕ
-  pub belongs : (IsRun count before marks × (more ≡ []) × (read ≡ [])) ⊎
-      ((place : Place) × Reaches count before marks place × IsUnderWay place more read)
   pub is : bytes ≡ (before ++ read) ++ rest
+  pub whole : List ℕ
+  pub next : List ℕ
+  pub next_write : NextWrite count room before read whole next
   pub written : List ℕ
-  pub begun : Begins written (spelling marks ++ more)
+  pub begun : (part : List ℕ) × (written ≡ whole ++ part) × Begins part next
 
 module _ {R E W F : Type 0} (source : Reader R E) (sink : Writer W F) where
   -- the bytes that are due are told, and those that were written. The decoder is strict or not, as given; a header
@@ -126,8 +126,9 @@ module _ {R E W F : Type 0} (source : Reader R E) (sink : Writer W F) where
     pub offset : new.decoder.offset ≡ old.offset + length stop.before + stop.consumed
 
   -- the writer failed
-  pub record StopsUnwritten (count : ℕ) (due written : List ℕ) (old : Decoder R) (new : Sides R W) : Type 0 where
-    pub stop : StopInWriting count due
+  pub record StopsUnwritten (count room-in : ℕ) (due written : List ℕ) (old : Decoder R) (new : Sides R W) :
+      Type 0 where
+    pub stop : StopInWriting count room-in due
     pub output : sink.written new.writer ≡ Some (written ++ stop.written)
     pub left : view source new.decoder ≡ Some stop.rest
     pub offset : new.decoder.offset ≡ old.offset + length stop.before + length stop.read
@@ -144,4 +145,4 @@ module _ {R E W F : Type 0} (source : Reader R E) (sink : Writer W F) where
       StopsShort count due written old new × (offset_limit ≤ new.decoder.offset + max 8 room-in)
   RecodesAnyhow strict count room-in due written old (Err (r.Read e.Waiting)) new = ⊥
   RecodesAnyhow strict count room-in due written old (Err (r.Write fault)) new =
-      StopsUnwritten count due written old new
+      StopsUnwritten count room-in due written old new

@@ -101,7 +101,7 @@ module _ {R E W F : Type 0} (source : Reader R E) (sink : Writer W F) where
 
   -- a write failed: a part of the elements was read, and a beginning of its spelling written
   pub record StopsWriting (count : ℕ) (due written : List ℕ) (reader : R) (writer : W) : Type 0 where
-    pub stop : StopInWriting count due
+    pub stop : StopInWriting count 64 due
     pub output : sink.written writer ≡ Some (written ++ stop.written)
     pub left : source.ahead reader ≡ Some stop.rest
 
