@@ -10,7 +10,7 @@ use Rattle.ciborium_ll.specs.Types.Decoder.{Decoder}
 use Rattle.ciborium_ll.specs.Types.Error.TheVariants as e
 use Rattle.ciborium_ll.specs.Types.RecodeError.{RecodeError}
 use Rattle.ciborium_ll.specs.Types.RecodeError.TheVariants as r
-use Rattle.ciborium_ll.specs.Elements.{spelling}
+use Rattle.ciborium_ll.specs.Elements.{Mark, spelling}
 use Rattle.ciborium_ll.specs.Faults.{Place, Due, In, BodyDue, Syntax}
 use Rattle.ciborium_ll.specs.Decoding.{IsFreshAs, IsSteady, offset_limit}
 use Rattle.ciborium_ll.specs.Recoding.{CopiesElements, StopsWriting}
@@ -44,11 +44,11 @@ stands_too known one other before after p q stands =
     subst (λ (bytes : List ℕ). StandInFront bytes before after) (same_bytes known one other p q) stands
 
 -- no more is consumed than is ahead
-no_more : (place : Place) (ahead more : List ℕ) (consumed : ℕ) → StopsAt place ahead more consumed → consumed
-    ≤ length ahead
-no_more Due ahead more consumed stops = omega (arith, stops.1)
-no_more (In kind) ahead more consumed stops = omega (arith, stops.1)
-no_more (BodyDue kind len start) ahead more consumed stops = omega (arith, stops.7)
+no_more : (marks : List Mark) (place : Place) (ahead written : List ℕ) (consumed : ℕ)
+    → StopsAt marks place ahead written consumed → consumed ≤ length ahead
+no_more marks Due ahead written consumed stops = omega (arith, stops.1)
+no_more marks (In kind) ahead written consumed stops = omega (arith, stops.1)
+no_more marks (BodyDue kind len start) ahead written consumed stops = omega (arith, stops.7)
 
 -- a writer whose target is told has just that one
 pub same_target : {one other : Target} → Some one ≡ Some other → one ≡ other
@@ -176,7 +176,7 @@ module _ {R E W F : Type 0} (source : Reader R E) (sink : Writer W F) where
   never_too_long count due old new told object start =
       let stop = told.0.stop in
       let parts = ap length stop.is in
-      let few = no_more stop.place stop.ahead stop.more stop.consumed stop.stops in
+      let few = no_more stop.marks stop.place stop.ahead stop.written stop.consumed stop.stops in
       let full : 2 ^ 64 ≤ new.decoder.offset + max 8 buffer_size = told.1 in
       omega (arith, object, parts, few, full, told.0.offset, start, length-append stop.before stop.ahead)
 
