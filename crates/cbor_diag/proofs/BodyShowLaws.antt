@@ -13,8 +13,7 @@ use Rattle.ciborium_ll.specs.Transfer.{Target}
 use Rattle.ciborium_ll.specs.Strings.{Kind}
 use Rattle.ciborium_ll.specs.Decoding.{Passes}
 use Rattle.ciborium_ll.specs.Encoding.{WritesAll, WritesFront}
-use Rattle.ciborium_ll.specs.Finishing.{handed_out}
-use Rattle.ciborium_ll.specs.Recoding.{BodyUnwritten, BodyWritten, CopiesBody}
+use Rattle.ciborium_ll.specs.Recoding.{BodyUnwritten, CopiesBody}
 use Rattle.ciborium_ll.specs.Sides.{sides}
 use Rattle.cbor_diag.specs.declared.strings.quotes.Quotes.{Quotes}
 use Rattle.cbor_diag.specs.Notation.{body_text}
@@ -25,7 +24,7 @@ use Rattle.cbor_skip.specs.declared.SkipError.TheVariants as s
 use Rattle.cbor_diag.specs.declared.DiagError.{DiagError}
 use Rattle.cbor_diag.specs.declared.DiagError.TheVariants as d
 use Rattle.cbor_diag.specs.Showing.{ShowsText}
-use Rattle.cbor_diag.specs.StringShows.{BodyShown, BodyUnshown, CopiesQuoted, ShowsBody, begun_text, closing, opening}
+use Rattle.cbor_diag.specs.StringShows.{BodyUnshown, CopiesQuoted, ShowsBody, begun_text, closing, opening}
 use Rattle.cbor_diag.proofs.QuotedLaws.{body_text-append, front_longer}
 
 -- no failure, and one
@@ -57,16 +56,10 @@ module _ {R E W F V : Type 0} (source : Reader R E) (sink : Writer W F) (given :
       (none : given v ≡ [])
       (all : count v' ≡ count v → WritesAll sink w (body_text quotes (given v')) w')
       (front : count v' ≡ count v + 1 → WritesFront sink w (body_text quotes (given v')) w') where
-    quoted_whole : (result : Result (Unit {0}) (Error E))
-        → BodyWritten source quoting kind len room place (sides old v) result (sides new v')
-        → BodyShown source sink kind len room place (body_text quotes) (sides old w) result (sides new w')
-    quoted_whole result copied =
-        let handed = handed_out source kind [] len room place old result new copied.ends in
-        let is : given v' ≡ handed = copied.written.appended ∙ ap (λ (z : List ℕ). z ++ handed) none in
-        record {
-          ends = copied.ends;
-          written = subst (λ (z : List ℕ). WritesAll sink w (body_text quotes z) w') is (all copied.written.failures);
-        }
+    quoted_front : (bytes : List ℕ) → WritesAll quoting v bytes v' → WritesAll sink w (body_text quotes bytes) w'
+    quoted_front bytes written =
+        let is : given v' ≡ bytes = written.appended ∙ ap (λ (z : List ℕ). z ++ bytes) none in
+        subst (λ (z : List ℕ). WritesAll sink w (body_text quotes z) w') is (all written.failures)
 
     quoted_part : BodyUnwritten source quoting kind len room (sides old v) (sides new v')
         → BodyUnshown source sink kind len (body_text quotes) (sides old w) (sides new w')
@@ -96,8 +89,9 @@ module _ {R E W F V : Type 0} (source : Reader R E) (sink : Writer W F) (given :
     pub through_quotes : (result : Result (Unit {0}) (RecodeError E F))
         → CopiesBody source quoting kind len room place (sides old v) result (sides new v')
         → CopiesQuoted source sink kind len room place quotes (sides old w) result (sides new w')
-    through_quotes (Ok done) copied = quoted_whole (Ok done) copied
-    through_quotes (Err (r.Read error)) copied = quoted_whole (Err error) copied
+    through_quotes (Ok done) copied = record { ends = copied.ends; written = quoted_front _ copied.written }
+    through_quotes (Err (r.Read error)) copied =
+        record { ends = copied.ends; written = quoted_front _ copied.written }
     through_quotes (Err (r.Write fault)) stops = quoted_part stops
 
 module _ {R E W F : Type 0} (source : Reader R E) (sink : Writer W F) (kind : Kind) (quotes : Quotes)

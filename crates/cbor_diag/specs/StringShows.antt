@@ -13,7 +13,7 @@ use Rattle.ciborium_ll.specs.Strings.{Kind, kind_header, IsString, most_kept}
 use Rattle.ciborium_ll.specs.Faults.{IsInside}
 use Rattle.ciborium_ll.specs.Decoding.{Passes, PullsHeader, PullsTitle}
 use Rattle.ciborium_ll.specs.Encoding.{WritesAll, WritesFront}
-use Rattle.ciborium_ll.specs.Finishing.{EndsBody, handed_out}
+use Rattle.ciborium_ll.specs.Finishing.{ReadsRest, StopsRest}
 use Rattle.ciborium_ll.specs.Sides.{Sides, sides}
 use Rattle.cbor_skip.specs.declared.SkipError.TheVariants as s
 use Rattle.cbor_diag.specs.declared.DiagError.{DiagError}
@@ -56,24 +56,26 @@ module _ {R E W F : Type 0} (source : Reader R E) (sink : Writer W F) (kind : Ki
     pub stopped : WritesFront sink old.writer (text bytes) new.writer
 
 module _ {R E W F : Type 0} (source : Reader R E) (sink : Writer W F) (kind : Kind) (len room place : ℕ) where
-  -- a body of so many bytes at this place was read to this answer, through a buffer of so much room, and the text of
-  -- what was handed out of it was written
-  pub record BodyShown (text : List ℕ → List ℕ) (old : Sides R W) (result : Result (Unit {0}) (Error E))
-      (new : Sides R W) : Type 0 where
-    pub ends : EndsBody source kind [] len room place old.decoder result new.decoder
-    pub written : WritesAll sink old.writer
-        (text (handed_out source kind [] len room place old.decoder result new.decoder ends)) new.writer
+  -- a body of so many bytes was read whole, and its text written
+  pub record BodyShown (text : List ℕ → List ℕ) (old new : Sides R W) : Type 0 where
+    pub ends : ReadsRest source kind [] len old.decoder new.decoder
+    pub written : WritesAll sink old.writer (text ends.read) new.writer
+
+  -- its read was stopped, through a buffer of so much room, and the text of what was handed out of it was written
+  pub record BodyStopped (text : List ℕ → List ℕ) (old : Sides R W) (error : Error E) (new : Sides R W) : Type 0 where
+    pub ends : StopsRest source kind [] len room place old.decoder error new.decoder
+    pub written : WritesAll sink old.writer (text ends.part.front) new.writer
 
   -- a body was copied to a writer of what stands between quotes
   abbrev pub CopiesQuoted : Quotes → Sides R W → Result (Unit {0}) (RecodeError E F) → Sides R W → Type 0
-  CopiesQuoted quotes old (Ok done) new = BodyShown (body_text quotes) old (Ok done) new
-  CopiesQuoted quotes old (Err (r.Read error)) new = BodyShown (body_text quotes) old (Err error) new
+  CopiesQuoted quotes old (Ok done) new = BodyShown (body_text quotes) old new
+  CopiesQuoted quotes old (Err (r.Read error)) new = BodyStopped (body_text quotes) old error new
   CopiesQuoted quotes old (Err (r.Write fault)) new = BodyUnshown source sink kind len (body_text quotes) old new
 
   -- a body was shown in quotes. Where its read stopped, the text ends behind what was handed out
   abbrev pub ShowsBody : Quotes → Sides R W → Result (Unit {0}) (DiagError E F) → Sides R W → Type 0
-  ShowsBody quotes old (Ok done) new = BodyShown (quoted_text quotes) old (Ok done) new
-  ShowsBody quotes old (Err (d.Read (s.Read error))) new = BodyShown (begun_text quotes) old (Err error) new
+  ShowsBody quotes old (Ok done) new = BodyShown (quoted_text quotes) old new
+  ShowsBody quotes old (Err (d.Read (s.Read error))) new = BodyStopped (begun_text quotes) old error new
   ShowsBody quotes old (Err (d.Read (s.Break at))) new = ⊥
   ShowsBody quotes old (Err (d.Read (s.Deep at))) new = ⊥
   ShowsBody quotes old (Err (d.Write fault)) new = BodyUnshown source sink kind len (quoted_text quotes) old new
@@ -177,7 +179,7 @@ module _ {R E W F : Type 0} (source : Reader R E) (sink : Writer W F) (kind : Ki
     at_title : (between : Decoder R) → StringBegun old (sides between new.writer)
         → MeetsNoBody source kind between error new.decoder → StringStops room old error new
     in_body : (count place : ℕ) (between : Sides R W) → BodyAnnounced count old between
-        → BodyShown source sink kind count room place (begun_text quotes) between (Err error) new
+        → BodyStopped source sink kind count room place (begun_text quotes) between error new
         → StringStops room old error new
 
   -- the writer failed: in front of a body, within it, or behind the last one

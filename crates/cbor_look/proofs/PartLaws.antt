@@ -9,7 +9,7 @@ use Rattle.ciborium_ll.specs.Types.Error.{Error}
 use Rattle.ciborium_ll.specs.Types.Error.TheVariants as e
 use Rattle.ciborium_ll.specs.Strings.{Kind, Bytes, Text, IsWritable, most_kept}
 use Rattle.ciborium_ll.specs.Decoding.{Passes, ReadsBytes}
-use Rattle.ciborium_ll.specs.Finishing.{BeginsRest, EndsBody, IsNoText}
+use Rattle.ciborium_ll.specs.Finishing.{BeginsRest, EndsBody, IsNoText, StopsReading}
 use Rattle.ciborium_ll.proofs.DecodingLaws.{Passes-none, Passes-then}
 use Rattle.ciborium_ll.proofs.TextLaws.{IsCharacters-append, IsCharacters-rest, IsCharacters-nil, some_front}
 use Rattle.ciborium_ll.proofs.TextLaws.{no_text_begins}
@@ -191,9 +191,8 @@ module _ {R E : Type 0} (source : Ghosts R E) where
       between = between;
       part = part;
       count = length bytes;
-      some = some;
       filled = omega (arith, more);
-      fails = fails;
+      stops = (some, fails);
     };
   }
   part_fails kind left place old between new bytes (e.Syntax at) part none some few more fails = absurd fails
@@ -205,8 +204,7 @@ module _ {R E : Type 0} (source : Ghosts R E) where
       part = part;
       count = length bytes;
       filled = omega (arith, more);
-      full = fails.1;
-      untouched = fails.2;
+      stops = (fails.1, fails.2);
     };
   }
   part_fails kind left place old between new bytes e.Waiting part none some few more fails =
@@ -244,19 +242,14 @@ module _ {R E : Type 0} (source : Ghosts R E) where
   fault_part left place row old new most few reads = record {
     room = length row;
     held = few;
-    ends = (
-      refl,
-      record {
-        textual = refl;
-        between = old;
-        part = begun Text left old old [] [] [] refl (omega arith) IsStuck-nil IsCharacters-nil (omega arith)
-            (Passes-none source old);
-        last = row;
-        filled = omega (arith, most);
-        passed = reads.0;
-        no_text = reads.1;
-      },
-    );
+    ends = record {
+      between = old;
+      part = begun Text left old old [] [] [] refl (omega arith) IsStuck-nil IsCharacters-nil (omega arith)
+          (Passes-none source old);
+      count = length row;
+      filled = omega (arith, most);
+      stops = (refl, record { textual = refl; last = row; all = refl; no_text = reads.1; passed = reads.0 });
+    };
   }
 
   abbrev begins_behind : (kind : Kind) (len left : ℕ) (front : List ℕ) (old between new : Decoder R)
@@ -274,44 +267,40 @@ module _ {R E : Type 0} (source : Ghosts R E) where
     passed = Passes-then source old between new front part.read passed part.passed;
   }
 
+  stops_behind : (kind : Kind) (len left place count : ℕ) (front read : List ℕ) (between new : Decoder R)
+      (error : Error E) → IsWritable kind front → length front + left ≡ len
+      → StopsReading source kind [] left read place count between error new
+      → StopsReading source kind [] len (front ++ read) place count between error new
+  stops_behind kind len left place count front read between new (e.Io fault) written counted stops = stops
+  stops_behind kind len left place count front read between new (e.Syntax at) written counted stops =
+      let damage = stops.1 in (
+        stops.0,
+        record {
+          textual = damage.textual;
+          last = damage.last;
+          all = damage.all;
+          no_text = subst (λ (z : List ℕ). IsNoText [] len z) (sym (append_assoc front read damage.last))
+              (no_text_then len left front (read ++ damage.last)
+              (subst (λ (k : Kind). IsWritable k front) damage.textual written) counted damage.no_text);
+          passed = damage.passed;
+        },
+      )
+  stops_behind kind len left place count front read between new e.TooLong written counted stops = stops
+  stops_behind kind len left place count front read between new e.Waiting written counted stops = absurd stops
+
   -- a part behind a front
   ends_behind : (kind : Kind) (len left room place : ℕ) (front : List ℕ) (old between new : Decoder R)
       (error : Error E) → Passes source old front between → IsWritable kind front → length front + left ≡ len
       → EndsBody source kind [] left room place between (Err error) new
       → EndsBody source kind [] len room place old (Err error) new
-  ends_behind kind len left room place front old between new (e.Io fault) passed written counted ends = record {
-    between = ends.between;
-    part = begins_behind kind len left front old between ends.between passed written counted ends.part;
-    count = ends.count;
-    some = ends.some;
-    filled = let filled = ends.filled in omega (arith, filled, counted, length-append front ends.part.read);
-    fails = ends.fails;
-  }
-  ends_behind kind len left room place front old between new (e.Syntax at) passed written counted ends =
-      let damaged = ends.1 in (
-        ends.0,
-        record {
-          textual = damaged.textual;
-          between = damaged.between;
-          part = begins_behind kind len left front old between damaged.between passed written counted damaged.part;
-          last = damaged.last;
-          filled = let filled = damaged.filled in omega (arith, filled, counted, length-append front damaged.part.read);
-          passed = damaged.passed;
-          no_text = subst (λ (z : List ℕ). IsNoText [] len z)
-              (sym (append_assoc front damaged.part.read damaged.last))
-              (no_text_then len left front (damaged.part.read ++ damaged.last)
-              (subst (λ (k : Kind). IsWritable k front) damaged.textual written) counted damaged.no_text);
-        },
-      )
-  ends_behind kind len left room place front old between new e.TooLong passed written counted ends = record {
+  ends_behind kind len left room place front old between new error passed written counted ends = record {
     between = ends.between;
     part = begins_behind kind len left front old between ends.between passed written counted ends.part;
     count = ends.count;
     filled = let filled = ends.filled in omega (arith, filled, counted, length-append front ends.part.read);
-    full = ends.full;
-    untouched = ends.untouched;
+    stops = stops_behind kind len left place ends.count front ends.part.read ends.between new error written counted
+        ends.stops;
   }
-  ends_behind kind len left room place front old between new e.Waiting passed written counted ends = absurd ends
 
   pub part_behind : (kind : Kind) (len left place : ℕ) (front : List ℕ) (old between new : Decoder R)
       (error : Error E) → Passes source old front between → IsWritable kind front → length front + left ≡ len

@@ -351,7 +351,7 @@ module _ {R E : Type 0} (source : Ghosts R E) where
     body_stops room (e.Io fault) new meets = inr meets
     body_stops room (e.Syntax at) new meets = inr (inr meets)
     body_stops room e.TooLong new meets = inr meets
-    body_stops room e.Waiting new meets = absurd meets.ends
+    body_stops room e.Waiting new meets = absurd meets.ends.stops
 
     -- no title came
     pub within_no_title : {W : Type 0} → IsTitle title (kind_header kind None) → (error : Error E)

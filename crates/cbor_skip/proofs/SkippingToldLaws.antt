@@ -20,7 +20,7 @@ use Rattle.ciborium_ll_grammar.specs.Faults.{with_front}
 use Rattle.ciborium_ll_grammar.specs.Items.{AreTakenStrings, IsTakenTitle}
 use Rattle.ciborium_ll_decoder.specs.Decoding.{view, next_read, Passes, PullsHeader, PullsTitle, IsSteady, RefusesTitle}
 use Rattle.ciborium_ll_decoder.specs.Decoding.{RefusesLonger}
-use Rattle.ciborium_ll_decoder.specs.Finishing.{EndsBody, RestFails, RestPasses, RestDamaged}
+use Rattle.ciborium_ll_decoder.specs.Finishing.{EndsBody, StopsRest}
 use Rattle.ciborium_ll_decoder.specs.Skipping.{SkipsString, SkipsInside, MeetsNoTitle, MeetsBody}
 use Rattle.ciborium_ll_grammar.proofs.TitleLaws.{shortest_no_longer}
 use Rattle.ciborium_ll_text.proofs.TextLaws.{IsCharacters-nil}
@@ -277,16 +277,17 @@ module _ {R E : Type 0} (source : Ghosts R E) (depth room : ℕ) (old : Decoder 
 
     -- ---- where a body is due
 
-    cut_body : (bytes : List ℕ) (k : Kind) (len start : ℕ) (at new : Decoder R)
-        → ReachesItem (strictness old) depth bytes (BodyDue k len start)
-        → Passes source old bytes at → RestFails source k [] len room at new → MeetsItemFault source (strictness old) depth due Short old new
-    cut_body bytes k len start at new reach passed fails =
+    cut_body : (bytes : List ℕ) (k : Kind) (len start at-place : ℕ) (fault : E) (at new : Decoder R)
+        → ReachesItem (strictness old) depth bytes (BodyDue k len start) → Passes source old bytes at
+        → StopsRest source k [] len room at-place at (e.Io fault) new
+        → MeetsItemFault source (strictness old) depth due Short old new
+    cut_body bytes k len start at-place fault at new reach passed fails =
         let c = came bytes at passed in
         let part = fails.part in
         let gone = consumes_told _ _ c.rest part.read c.left part.passed.consumed in
-        let before = view_none fails.between.waiting (source.ahead fails.between.reader) fails.fails.none_waited in
-        let after = view_none new.waiting (source.ahead new.reader) fails.fails.none_waits in
-        let still = fails.fails.steady (part.passed.steady (passed.steady ready.steady)) in
+        let before = view_none fails.between.waiting (source.ahead fails.between.reader) fails.stops.1.none_waited in
+        let after = view_none new.waiting (source.ahead new.reader) fails.stops.1.none_waits in
+        let still = fails.stops.1.steady (part.passed.steady (passed.steady ready.steady)) in
         let due-behind : source.ahead fails.between.reader ≡ Some gone.0 = sym before ∙ gone.1 in
         let few = rw due-behind at still.1 in
         let behind = ap length gone.2 in
@@ -313,19 +314,19 @@ module _ {R E : Type 0} (source : Ghosts R E) (depth room : ℕ) (old : Decoder 
           left =
               after ∙ still.0 ∙ due-behind ∙ ap Some
               (sym (ap (drop (length part.read)) gone.2 ∙ drop-append_seam part.read gone.0));
-          offset = omega (arith, fails.fails.offset, part.passed.offset, passed.offset);
+          offset = omega (arith, fails.stops.1.offset, part.passed.offset, passed.offset);
         }
 
-    body_fits : (bytes : List ℕ) (k : Kind) (len : ℕ) (at new : Decoder R) → Passes source old bytes at
-        → RestPasses source k [] len room at new → ⊥
-    body_fits bytes k len at new passed fails =
+    body_fits : (bytes : List ℕ) (k : Kind) (len at-place : ℕ) (at new : Decoder R) → Passes source old bytes at
+        → StopsRest source k [] len room at-place at e.TooLong new → ⊥
+    body_fits bytes k len at-place at new passed fails =
         let c = came bytes at passed in
         let part = fails.part in
         let gone = consumes_told _ _ c.rest part.read c.left part.passed.consumed in
         let behind = ap length gone.2 in
         let whole = ap length c.parts in
         let fits : old.offset + length due + room < 2 ^ 64 = ready.fits-chunk in
-        let full : 2 ^ 64 ≤ fails.between.offset + fails.count = fails.full in
+        let full : 2 ^ 64 ≤ fails.between.offset + fails.count = fails.stops.0 in
         omega (
           arith,
           behind,
@@ -339,13 +340,13 @@ module _ {R E : Type 0} (source : Ghosts R E) (depth room : ℕ) (old : Decoder 
           length-append bytes c.rest,
         )
 
-    damaged_body : (bytes : List ℕ) (k : Kind) (len start : ℕ) (at new : Decoder R)
+    damaged_body : (bytes : List ℕ) (k : Kind) (len start at-place n : ℕ) (at new : Decoder R)
         → ReachesItem (strictness old) depth bytes (BodyDue k len start)
-        → Passes source old bytes at → RestDamaged source k [] len room at new
+        → Passes source old bytes at → StopsRest source k [] len room at-place at (e.Syntax n) new
         → MeetsItemFault source (strictness old) depth due (Syntax start) old new
-    damaged_body bytes k len start at new reach passed fails =
+    damaged_body bytes k len start at-place n at new reach passed fails =
         let c = came bytes at passed in
-        let all = damage_read source k [] len room at new fails in
+        let all = damage_read source k [] len room at-place n at new fails in
         let gone = consumes_told _ _ c.rest all.read c.left all.passed.consumed in
         record {
           fault = record {
@@ -372,12 +373,12 @@ module _ {R E : Type 0} (source : Ghosts R E) (depth room : ℕ) (old : Decoder 
         → EndsBody source k [] len room at-place at (Err error) new
         → SkipsTold source (strictness old) depth due old (Err (s.Read error)) new
     body_told bytes k len start at-place at (e.Io fault) new reach passed place ends =
-        cut_body bytes k len start at new reach passed ends
+        cut_body bytes k len start at-place fault at new reach passed ends
     body_told bytes k len start at-place at (e.Syntax n) new reach passed place ends =
-        (start, ends.0 ∙ place, damaged_body bytes k len start at new reach passed ends.1)
+        (start, ends.stops.0 ∙ place, damaged_body bytes k len start at-place n at new reach passed ends)
     body_told bytes k len start at-place at e.TooLong new reach passed place ends =
-        absurd (body_fits bytes k len at new passed ends)
-    body_told bytes k len start at-place at e.Waiting new reach passed place ends = absurd ends
+        absurd (body_fits bytes k len at-place at new passed ends)
+    body_told bytes k len start at-place at e.Waiting new reach passed place ends = absurd ends.stops
 
     -- a title that fails, by its answer
     title_told : (bytes : List ℕ) (place : Place) (at : Decoder R) (error : Error E) (new : Decoder R)

@@ -1,10 +1,11 @@
--- A drain of a body, chunk by chunk.
-use Rattle.std.proofs.Common.{◌≡◌, ℕ, ◌+◌, ◌-◌, ◌<◌, ◌≤◌, ◌⊎◌, min, max, List, [], ◌∷◌, ◌++◌, length, take, drop}
+-- A drain of a body, chunk by chunk: what the calls come to.
+use Rattle.std.proofs.Common.{◌≡◌, ℕ, ◌+◌, ◌-◌, ◌<◌, ◌≤◌, ◌⊎◌, min, All, List, [], ◌∷◌, ◌++◌, length, take, drop}
 use Rattle.std.proofs.Common.{get_or, Ok, refl, sym, ap, ◌∙◌, inl, inr, arith, append_assoc, append-nil, length-append}
 use Rattle.std.proofs.KnownBytes.{Appends-nil}
 use Rattle.std.proofs.lemmas.Bool.{cases_lt}
 use Rattle.std.proofs.Math.Seq.{take-append_seam}
 use Rattle.std.proofs.lemmas.List.{drop_more, take-append-drop, take-append-le}
+use Rattle.std.proofs.lemmas.List.Elements.{All-nil, All-push, All-weaker}
 use Rattle.std.proofs.lemmas.List.Sums.{sum_by_push}
 use Rattle.ciborium_ll_io.specs.declared.io.Read.{Ghosts as Reader}
 use Rattle.ciborium_ll_io.specs.declared.io.Write.{Ghosts as Writer}
@@ -15,50 +16,45 @@ use Rattle.ciborium_ll_decoder.specs.Kept.{kept_bytes}
 use Rattle.ciborium_ll_decoder.specs.Decoding.{IsSteady}
 use Rattle.ciborium_ll_io.specs.Writes.{WritesAll}
 use Rattle.ciborium_ll_decoder.specs.Chunks.{IsSplit, GivesChunk, left_of}
-use Rattle.ciborium_ll.specs.Drains.{gains, greatest, HasBehind, HandsOut, DrainsSome}
+use Rattle.ciborium_ll.specs.Drains.{gains, DrainsEach, ComesTo, DrainsSome, none, more}
 use Rattle.ciborium_ll_decoder.proofs.DecodingLaws.{Passes-none}
 use Rattle.ciborium_ll_text.proofs.Lists.{length_zero}
 use Rattle.ciborium_ll_io.proofs.WriteLaws.{WritesBytes-then, Shrinks-zero}
 use Rattle.ciborium_ll_decoder.proofs.BodyLaws.{split_parts, writable_nil, writable_chunk, few_kept, Passes-read}
 
--- ---- sizes
-
-pub behind_at : (sizes : List ℕ) (index d : ℕ) → index < length sizes
-    → HasBehind sizes (take index sizes) (get_or sizes index d)
-behind_at sizes index d less = (
-  drop (index + 1) sizes,
-  sym (take-append-drop index sizes)
-      ∙ ap (λ (z : List ℕ). take index sizes ++ z) (drop_more sizes index d less),
-)
-
-greatest_push : (sizes : List ℕ) (size : ℕ) → greatest (sizes ++ size ∷ []) ≡ max (greatest sizes) size
-greatest_push [] size = omega arith
-greatest_push (first ∷ sizes) size = let rest = greatest_push sizes size in omega (arith, rest)
-
 module _ {R E P W F : Type 0} {parser : Parser P} (source : Reader R E) (sink : Writer W F) where
-  pub drains_none : (segment : Segment R P parser) (writer : W)
-      → DrainsSome source sink [] segment writer segment writer
+  -- so far each size brought a chunk, and this one is next
+  abbrev pub comes_at : (sizes : List ℕ) (index d : ℕ) → index < length sizes
+      → (old : Segment R P parser) (writer : W) (new : Segment R P parser) (writer' : W)
+      → DrainsEach source sink (take index sizes) old writer new writer'
+      → ComesTo source sink sizes old writer (get_or sizes index d) new writer'
+  comes_at sizes index d less old writer new writer' each = record {
+    before = take index sizes;
+    others = drop (index + 1) sizes;
+    parts = sym (take-append-drop index sizes)
+        ∙ ap (λ (z : List ℕ). take index sizes ++ z) (drop_more sizes index d less);
+    each = each;
+  }
+
+  drains_none : (segment : Segment R P parser) (writer : W) → DrainsSome source sink [] segment writer segment writer
   drains_none segment writer = record {
+    read = [];
     given = [];
-    hands_out = record {
-      read = [];
-      passed = Passes-none source segment.decoder.now;
-      unread = omega arith;
-      parts = append-nil (kept_bytes segment.kept);
-      sound = writable_nil parser.kind;
-      place = refl;
-      damaged = refl;
-    };
+    parts = append-nil (kept_bytes segment.kept);
+    sound = writable_nil parser.kind;
     written = record {
       appended = Appends-nil (sink.written writer);
-      room =
-          Shrinks-zero (sink.room writer);
+      room = Shrinks-zero (sink.room writer);
       failures = refl;
     };
+    passed = Passes-none source segment.decoder.now;
+    unread = omega arith;
+    place = refl;
+    damaged = refl;
     most = omega arith;
     needed = λ count less. absurd (omega (arith, less));
     least = inl (omega arith);
-    filled = inl (omega arith);
+    filled = inl (All-nil (λ (size : ℕ). size ≤ length (kept_bytes segment.kept) + 0));
   }
 
   -- a chunk is no longer than its buffer
@@ -77,11 +73,11 @@ module _ {R E P W F : Type 0} {parser : Parser P} (source : Reader R E) (sink : 
             let parts = sym (append-nil kept) ∙ ap (λ (z : List ℕ). kept ++ z) (sym nothing) ∙ split.parts in
             let none = ap length (old.stuck chunk (kept_bytes new.kept) parts split.text) in
             omega (arith, none)
-        | inr more ↦
+        | inr full ↦
             let parts = ap length split.parts in
             omega (
               arith,
-              more,
+              full,
               parts,
               gives.reads.count,
               length-append (kept_bytes old.kept) gives.read,
@@ -93,29 +89,16 @@ module _ {R E P W F : Type 0} {parser : Parser P} (source : Reader R E) (sink : 
       (now : W) (some : DrainsSome source sink sizes old writer between now)
       (chunk : List ℕ) (new : Segment R P parser) (gives : GivesChunk source size between chunk new) where
     -- what was read with one chunk more
-    chunk_parts : kept_bytes old.kept ++ (some.hands_out.read ++ gives.read)
+    chunk_parts : kept_bytes old.kept ++ (some.read ++ gives.read)
         ≡ (some.given ++ chunk) ++ kept_bytes new.kept
     chunk_parts =
         let kept = kept_bytes between.kept in
-        sym (append_assoc (kept_bytes old.kept) some.hands_out.read gives.read)
-        ∙ ap (λ (z : List ℕ). z ++ gives.read) some.hands_out.parts
+        sym (append_assoc (kept_bytes old.kept) some.read gives.read)
+        ∙ ap (λ (z : List ℕ). z ++ gives.read) some.parts
         ∙ append_assoc some.given kept gives.read
         ∙ ap (λ (z : List ℕ). some.given ++ z) (split_parts parser.kind (kept ++ gives.read) chunk
         (kept_bytes new.kept) gives.split)
         ∙ sym (append_assoc some.given chunk (kept_bytes new.kept))
-
-    hands_out_more : (IsSteady source between.decoder.now → IsSteady source new.decoder.now)
-        → HandsOut source sink old (some.given ++ chunk) new
-    hands_out_more steady = record {
-      read = some.hands_out.read ++ gives.read;
-      passed = Passes-read source old.decoder.now between.decoder.now new.decoder.now some.hands_out.read gives.read
-          some.hands_out.passed gives.reads.reads steady;
-      unread = omega (arith, some.hands_out.unread, gives.reads.unread, length-append some.hands_out.read gives.read);
-      parts = chunk_parts;
-      sound = writable_chunk parser.kind some.given _ chunk _ some.hands_out.sound gives.split;
-      place = gives.reads.place ∙ some.hands_out.place;
-      damaged = gives.still_sound ∙ sym gives.reads.sound ∙ some.hands_out.damaged;
-    }
 
     needed_more : (count : ℕ) → count < length (sizes ++ size ∷ [])
         → gains parser.kind (take count (sizes ++ size ∷ [])) < old.unread
@@ -128,51 +111,61 @@ module _ {R E P W F : Type 0} {parser : Parser P} (source : Reader R E) (sink : 
           let all : take count (sizes ++ size ∷ []) ≡ sizes = ap (λ (n : ℕ). take n (sizes ++ size ∷ [])) at
           ∙ take-append_seam sizes (size ∷ []) in
           let due : gains parser.kind sizes < old.unread = elim some.least [
-            | inl least ↦ omega (arith, least, some.hands_out.unread, gives.reads.some_unread)
-            | inr none ↦ absurd (omega (arith, none, gives.reads.some_unread))
+            | inl least ↦ omega (arith, least, some.unread, gives.reads.some_unread)
+            | inr ended ↦ absurd (omega (arith, ended, gives.reads.some_unread))
           ] in
           rw (sym all) at due
     ]
 
-    least_more : (gains parser.kind (sizes ++ size ∷ []) ≤ length (some.hands_out.read ++ gives.read)) ⊎
+    least_more : (gains parser.kind (sizes ++ size ∷ []) ≤ length (some.read ++ gives.read)) ⊎
         (new.unread ≡ 0)
     least_more =
         let few = few_kept parser.kind between.kept between.text_alone in
         let added = sum_by_push (λ (n : ℕ). n - most_kept parser.kind) sizes size in
-        let joined = length-append some.hands_out.read gives.read in
+        let joined = length-append some.read gives.read in
         elim some.least [
           | inl least ↦ elim (cases_lt (left_of between) size) [
             | inl less ↦ inr (omega (arith, less, gives.reads.count, gives.reads.unread))
-            | inr more ↦ inl (omega (arith, more, few, added, joined, least, gives.reads.count))
+            | inr full ↦ inl (omega (arith, full, few, added, joined, least, gives.reads.count))
           ]
-          | inr none ↦ absurd (omega (arith, none, gives.reads.some_unread))
+          | inr ended ↦ absurd (omega (arith, ended, gives.reads.some_unread))
         ]
 
-    filled_more : (greatest (sizes ++ size ∷ []) ≤ length (kept_bytes old.kept) + length
-        (some.hands_out.read ++ gives.read)) ⊎ (new.unread ≡ 0)
+    filled_more : All (λ (size : ℕ). size ≤ length (kept_bytes old.kept) + length (some.read ++ gives.read))
+        (sizes ++ size ∷ []) ⊎ (new.unread ≡ 0)
     filled_more =
-        let added = greatest_push sizes size in
-        let joined = length-append some.hands_out.read gives.read in
-        let parts = ap length some.hands_out.parts in
-        let before = length-append (kept_bytes old.kept) some.hands_out.read in
+        let joined = length-append some.read gives.read in
+        let parts = ap length some.parts in
+        let before = length-append (kept_bytes old.kept) some.read in
         let after = length-append some.given (kept_bytes between.kept) in
         elim some.filled [
           | inl filled ↦ elim (cases_lt (left_of between) size) [
             | inl less ↦ inr (omega (arith, less, gives.reads.count, gives.reads.unread))
-            | inr more ↦ inl (omega (arith, more, added, joined, parts, before, after, filled, gives.reads.count))
+            | inr full ↦ inl (All-push (λ (n : ℕ). n ≤ length (kept_bytes old.kept) + length (some.read ++ gives.read))
+                sizes size
+                (All-weaker (λ (n : ℕ). n ≤ length (kept_bytes old.kept) + length some.read)
+                (λ (n : ℕ). n ≤ length (kept_bytes old.kept) + length (some.read ++ gives.read))
+                (λ n within. omega (arith, within, joined)) sizes filled)
+                (omega (arith, full, joined, parts, before, after, gives.reads.count)))
           ]
-          | inr none ↦ absurd (omega (arith, none, gives.reads.some_unread))
+          | inr ended ↦ absurd (omega (arith, ended, gives.reads.some_unread))
         ]
 
-    pub drains_more : (writer' : W) → (IsSteady source between.decoder.now → IsSteady source new.decoder.now)
+    drains_more : (writer' : W) → (IsSteady source between.decoder.now → IsSteady source new.decoder.now)
         → WritesAll sink now chunk writer'
         → DrainsSome source sink (sizes ++ size ∷ []) old writer new writer'
-    unfolding hands_out_more
     drains_more writer' steady written = record {
+      read = some.read ++ gives.read;
       given = some.given ++ chunk;
-      hands_out = hands_out_more steady;
+      parts = chunk_parts;
+      sound = writable_chunk parser.kind some.given _ chunk _ some.sound gives.split;
       written = WritesBytes-then sink {T = Unit {0}} writer now writer' (Ok (tt {0})) some.given chunk some.written
           written;
+      passed = Passes-read source old.decoder.now between.decoder.now new.decoder.now some.read gives.read
+          some.passed gives.reads.reads steady;
+      unread = omega (arith, some.unread, gives.reads.unread, length-append some.read gives.read);
+      place = gives.reads.place ∙ some.place;
+      damaged = gives.still_sound ∙ sym gives.reads.sound ∙ some.damaged;
       most = omega (
         arith,
         some.most,
@@ -184,3 +177,11 @@ module _ {R E P W F : Type 0} {parser : Parser P} (source : Reader R E) (sink : 
       least = least_more;
       filled = filled_more;
     }
+
+  pub each_some : (sizes : List ℕ) (old : Segment R P parser) (writer : W) (new : Segment R P parser) (writer' : W)
+      → DrainsEach source sink sizes old writer new writer' → DrainsSome source sink sizes old writer new writer'
+  each_some sizes old writer new writer' none = drains_none old writer
+  each_some sizes old writer new writer'
+      (more {sizes = before} {size = size} {chunk = chunk} {between = between} {now = now} each gives moves written) =
+      drains_more before size old writer between now (each_some before old writer between now each) chunk new gives
+      writer' moves.steady written

@@ -32,6 +32,7 @@ use Rattle.ciborium_ll_decoder.proofs.BodyLaws.{view_none, split_parts, stuck_is
 use Rattle.ciborium_ll_decoder.proofs.ToldLaws.{consumes_told}
 use Rattle.ciborium_ll_io.proofs.WriteLaws.{appends_told, shrinks_told}
 use Rattle.ciborium_ll_text.proofs.Lists.{length_zero}
+use Rattle.ciborium_ll.proofs.DrainLaws.{each_some}
 
 -- ---- sizes
 
@@ -92,17 +93,17 @@ module _ {R E P W F : Type 0} {parser : Parser P} (source : Reader R E) (sink : 
       (some : DrainsSome source sink used old writer new writer') → Came some.given new writer'
   came used new writer' some =
       let kept = kept_bytes old.kept in
-      let read = some.hands_out.read in
+      let read = some.read in
       let told = body_told kept old.unread (source.ahead old.decoder.now.reader) body ready.body-told in
       let due = told.0 in
-      let passed = some.hands_out.passed.consumed in
+      let passed = some.passed.consumed in
       let before = view_none old.decoder.now.waiting (source.ahead old.decoder.now.reader) old.none_waits in
       let after = view_none new.decoder.now.waiting (source.ahead new.decoder.now.reader) new.none_waits in
       let behind = consumes_told _ _ due read (before ∙ told.1) passed in
       let others = behind.0 in
       let known = sym after ∙ behind.1 in
       let more = take new.unread others in
-      let sum : old.unread ≡ length read + new.unread = omega (arith, some.hands_out.unread) in
+      let sum : old.unread ≡ length read + new.unread = omega (arith, some.unread) in
       let front : take old.unread due ≡ read ++ more = ap (take old.unread) behind.2
       ∙ ap (λ (n : ℕ). take n (read ++ others)) sum ∙ take-append-add read others new.unread in
       let long = ap length told.2 in
@@ -121,7 +122,7 @@ module _ {R E P W F : Type 0} {parser : Parser P} (source : Reader R E) (sink : 
           length-append read more,
         );
         parts = told.2 ∙ ap (λ (z : List ℕ). kept ++ z) front ∙ sym (append_assoc kept read more)
-            ∙ ap (λ (z : List ℕ). z ++ more) some.hands_out.parts
+            ∙ ap (λ (z : List ℕ). z ++ more) some.parts
             ∙ append_assoc some.given (kept_bytes new.kept) more;
         left = ap (λ (known : Option (List ℕ)). prepend_known (kept_bytes new.kept)
             (option_map (take new.unread) known)) known;
@@ -134,32 +135,33 @@ module _ {R E P W F : Type 0} {parser : Parser P} (source : Reader R E) (sink : 
       → DrainsAll source sink sizes old writer calls new writer' → WritesBody source sink sizes body written calls
       new writer'
   all_told calls new writer' all =
-      let c = came all.before all.between writer' all.some in
+      let some = each_some source sink _ _ _ _ _ all.comes.each in
+      let c = came all.comes.before all.between writer' some in
       let none = length_zero c.more (omega (arith, c.counted, all.ends.none_unread)) in
       let kept = all.ends.none_kept in
       let nothing : kept_bytes all.between.kept ++ c.more ≡ [] = ap (λ (z : List ℕ). z ++ c.more) kept ∙ none in
-      let whole : body ≡ all.some.given = c.parts ∙ ap (λ (z : List ℕ). all.some.given ++ z) nothing
-      ∙ append-nil all.some.given in
-      let parts = ap length all.is_behind.1 in
-      let counted = length-append all.before (all.size ∷ all.is_behind.0) in
+      let whole : body ≡ some.given = c.parts ∙ ap (λ (z : List ℕ). some.given ++ z) nothing
+      ∙ append-nil some.given in
+      let parts = ap length all.comes.parts in
+      let counted = length-append all.comes.before (all.size ∷ all.comes.others) in
       let same = all.ends.same in
-      let front : take (calls - 1) sizes ≡ all.before =
-      let at : calls - 1 ≡ length all.before = omega (arith, all.counted) in
-      ap (λ (n : ℕ). take n sizes) at ∙ ap (take (length all.before)) all.is_behind.1
-      ∙ take-append_seam all.before (all.size ∷ all.is_behind.0) in
+      let front : take (calls - 1) sizes ≡ all.comes.before =
+      let at : calls - 1 ≡ length all.comes.before = omega (arith, all.counted) in
+      ap (λ (n : ℕ). take n sizes) at ∙ ap (take (length all.comes.before)) all.comes.parts
+      ∙ take-append_seam all.comes.before (all.size ∷ all.comes.others) in
       record {
-        sound = subst (IsWritable parser.kind) (sym whole) all.some.hands_out.sound;
+        sound = subst (IsWritable parser.kind) (sym whole) some.sound;
         output = c.output ∙ ap (λ (z : List ℕ). Some (written ++ z)) (sym whole);
         left = (λ k. prepend_known (kept_bytes (same.kept k))
             (option_map (take (same.unread k)) (source.ahead (all.ends.decoder k).reader))) ∙ c.left ∙ ap Some nothing;
         some_calls = omega (arith, all.counted);
         no_more = omega (arith, all.counted, parts, counted);
-        needed = let long = ap length whole in let added = ap sum front in omega (arith, long, added, all.some.most);
-        soon = λ count enough. elim (cases_lt count (length all.before)) [
+        needed = let long = ap length whole in let added = ap sum front in omega (arith, long, added, some.most);
+        soon = λ count enough. elim (cases_lt count (length all.comes.before)) [
           | inl less ↦
-              let due = all.some.needed count less in
-              let taken : take count sizes ≡ take count all.before = ap (take count) all.is_behind.1
-              ∙ take-append-le count all.before (all.size ∷ all.is_behind.0) (omega (arith, less)) in
+              let due = some.needed count less in
+              let taken : take count sizes ≡ take count all.comes.before = ap (take count) all.comes.parts
+              ∙ take-append-le count all.comes.before (all.size ∷ all.comes.others) (omega (arith, less)) in
               let gained = ap (gains parser.kind) taken in
               absurd (omega (arith, due, gained, enough.enough, ready.whole))
           | inr more ↦ omega (arith, more, all.counted)
@@ -172,20 +174,21 @@ module _ {R E P W F : Type 0} {parser : Parser P} (source : Reader R E) (sink : 
       → DrainsSizes source sink sizes old writer calls new writer'
       → LeavesRest source sink sizes body written calls old new writer'
   rest_told calls new writer' all =
-      let c = came sizes new writer' all.some in
+      let some = each_some source sink _ _ _ _ _ all.each in
+      let c = came sizes new writer' some in
       record {
         all_sizes = all.counted;
-        given = all.some.given;
+        given = some.given;
         behind = kept_bytes new.kept ++ c.more;
         parts = c.parts;
-        sound = all.some.hands_out.sound;
+        sound = some.sound;
         output = c.output;
         left = c.left;
-        least = elim all.some.least [
-          | inl least ↦ inl (omega (arith, least, all.some.hands_out.unread))
+        least = elim some.least [
+          | inl least ↦ inl (omega (arith, least, some.unread))
           | inr none ↦ inr none
         ];
-        too_few = λ count enough. let due = all.some.needed count enough.fewer in
+        too_few = λ count enough. let due = some.needed count enough.fewer in
             omega (arith, due, enough.enough, ready.whole);
       }
 
@@ -239,21 +242,22 @@ module _ {R E P W F : Type 0} {parser : Parser P} (source : Reader R E) (sink : 
       → DrainFails source sink sizes old writer (e.Syntax at) new writer'
       → FindsNoText source sink body written at old writer'
   damage_told at new writer' stops =
-      let c = came stops.before stops.between writer' stops.some in
-      let given = stops.some.given in
+      let some = each_some source sink _ _ _ _ _ stops.comes.each in
+      let c = came stops.comes.before stops.between writer' some in
+      let given = some.given in
       let found : (parser.kind ≡ Text) × IsCharacters given × (IsCharacters body → ⊥) = elim stops.fails.cause [
-        | inl stays ↦ absurd (let a = stays.damaged-before in let b = stops.some.hands_out.damaged in let s =
+        | inl stays ↦ absurd (let a = stays.damaged-before in let b = some.damaged in let s =
             ready.sound in cc)
         | inr found ↦ elim found [
-          | inl ends ↦ damaged_end given stops.between new writer' c parser.kind refl stops.some.hands_out.sound ends
+          | inl ends ↦ damaged_end given stops.between new writer' c parser.kind refl some.sound ends
           | inr keeps ↦ damaged_middle given stops.size stops.between new writer' c parser.kind refl
-              stops.some.hands_out.sound keeps keeps.split
+              some.sound keeps keeps.split
         ]
       ] in
       record {
         textual = found.0;
         no_text = found.2;
-        place = stops.fails.place ∙ stops.some.hands_out.place;
+        place = stops.fails.place ∙ some.place;
         given = given;
         behind = kept_bytes stops.between.kept ++ c.more;
         parts = c.parts;
@@ -266,20 +270,23 @@ module _ {R E P W F : Type 0} {parser : Parser P} (source : Reader R E) (sink : 
   no_failure : (fault : E) (new : Segment R P parser) (writer' : W)
       → DrainFails source sink sizes old writer (e.Io fault) new writer' → ⊥
   no_failure fault new writer' stops =
-      let c = came stops.before stops.between writer' stops.some in
-      let short = stops.fails.fails.steady (stops.some.hands_out.passed.steady ready.steady) in
+      let some = each_some source sink _ _ _ _ _ stops.comes.each in
+      let c = came stops.comes.before stops.between writer' some in
+      let short = stops.fails.fails.steady (some.passed.steady ready.steady) in
       let few = rw c.ahead at short.1 in
       omega (arith, few, c.counted, length-append c.more c.beyond)
 
   no_overflow : (new : Segment R P parser) (writer' : W) → DrainFails source sink sizes old writer e.TooLong new
       writer' → ⊥
   no_overflow new writer' stops =
-      omega (arith, stops.fails.full, stops.some.hands_out.passed.offset, stops.some.hands_out.unread, ready.fits)
+      let some = each_some source sink _ _ _ _ _ stops.comes.each in
+      omega (arith, stops.fails.full, some.passed.offset, some.unread, ready.fits)
 
   no_refusal : (new : Segment R P parser) (writer' : W) → DrainUnwritten source sink sizes old writer new writer' → ⊥
   no_refusal new writer' stops =
-      let c = came stops.before stops.between stops.writer-between stops.some in
-      let told = shrinks_told _ _ ready.room _ ready.room-told stops.some.written.room in
+      let some = each_some source sink _ _ _ _ _ stops.comes.each in
+      let c = came stops.comes.before stops.between stops.writer-between some in
+      let told = shrinks_told _ _ ready.room _ ready.room-told some.written.room in
       let full = rw told.1 at stops.stopped.full in
       let kept = kept_bytes stops.between.kept in
       let split = ap length (split_parts parser.kind (kept ++ stops.gives.read) stops.chunk _ stops.gives.split) in
@@ -293,7 +300,7 @@ module _ {R E P W F : Type 0} {parser : Parser P} (source : Reader R E) (sink : 
         ready.enough,
         c.counted,
         stops.gives.reads.unread,
-        length-append stops.some.given (kept ++ c.more),
+        length-append some.given (kept ++ c.more),
         length-append kept c.more,
         length-append kept stops.gives.read,
         length-append stops.chunk (kept_bytes new.kept),

@@ -1,5 +1,5 @@
 -- A body drained into a writer, through buffers of given sizes.
-use Rattle.std.specs.Prelude.{◌≡◌, ℕ, ◌+◌, ◌-◌, ◌/◌, ◌<◌, ◌≤◌, ◌⊎◌, max, false, List, [], ◌∷◌, ◌++◌, length, take}
+use Rattle.std.specs.Prelude.{◌≡◌, ℕ, ◌+◌, ◌-◌, ◌/◌, ◌<◌, ◌≤◌, ◌⊎◌, false, All, List, [], ◌∷◌, ◌++◌, length, take}
 use Rattle.std.specs.Prelude.{sum, sum_by, Some, Result, Ok, Err}
 use Rattle.ciborium_ll_io.specs.declared.io.Read.{Ghosts as Reader}
 use Rattle.ciborium_ll_io.specs.declared.io.Write.{Ghosts as Writer}
@@ -26,15 +26,6 @@ use Rattle.ciborium_ll_decoder.specs.Chunks.{segment_decoder, segment_reference}
 abbrev pub gains : Kind → List ℕ → ℕ
 gains kind sizes = sum_by (λ size. size - most_kept kind) sizes
 
--- the greatest of the sizes, and 0 of none
-abbrev pub greatest : List ℕ → ℕ
-greatest [] = 0
-greatest (size ∷ sizes) = max size (greatest sizes)
-
--- the sizes are those before, this one and others
-abbrev pub HasBehind : List ℕ → List ℕ → ℕ → Type 0
-HasBehind sizes before size = (others : List ℕ) × (sizes ≡ before ++ size ∷ others)
-
 -- how many calls with buffers of at least this size bring on so many bytes: the bytes by what each call reads at least,
 -- rounded up
 abbrev pub calls_for : Kind → ℕ → ℕ → ℕ
@@ -53,68 +44,53 @@ pub record AddUp (sizes : List ℕ) (bytes count : ℕ) : Type 0 where
 -- ---- over any reader and writer
 
 module _ {R E P W F : Type 0} {parser : Parser P} (source : Reader R E) (sink : Writer W F) where
-  -- of the body these bytes were handed out, and read before that, by calls that all succeeded: what was kept and read
-  -- is what was given and what is kept now
-  pub record HandsOut (old : Segment R P parser) (given : List ℕ) (new : Segment R P parser) : Type 0 where
-    pub read : List ℕ
-    pub passed : Passes source old.decoder.now read new.decoder.now
-    pub unread : new.unread + length read ≡ old.unread
-    pub parts : kept_bytes old.kept ++ read ≡ given ++ kept_bytes new.kept
-    pub sound : IsWritable parser.kind given
-    pub place : new.place ≡ old.place
-    pub damaged : new.damaged ≡ old.damaged
+  -- with a buffer of each of these sizes, one after the other, a call gave a chunk, as `pull` does, and the whole of it
+  -- was written
+  pub data DrainsEach : List ℕ → Segment R P parser → W → Segment R P parser → W → Type 0 where
+    none : {segment : Segment R P parser} {writer : W} → DrainsEach [] segment writer segment writer
+    more : {sizes : List ℕ} {size : ℕ} {chunk : List ℕ} {old between new : Segment R P parser} {writer now writer' : W}
+        → DrainsEach sizes old writer between now → GivesChunk source size between chunk new
+        → MovesOn source (segment_decoder between) (segment_decoder new) → WritesAll sink now chunk writer'
+        → DrainsEach (sizes ++ size ∷ []) old writer new writer'
 
-  -- with buffers of these sizes chunks were handed out and written: no chunk is longer than its buffer, each buffer was
-  -- filled as far as the body reaches, and no size was used once those before it had brought all
-  pub record DrainsSome (sizes : List ℕ) (old : Segment R P parser) (writer : W) (new : Segment R P parser)
+  -- the sizes are those that were used so, this one, which is next, and others
+  pub record ComesTo (sizes : List ℕ) (old : Segment R P parser) (writer : W) (size : ℕ) (new : Segment R P parser)
       (writer' : W) : Type 0 where
-    pub given : List ℕ
-    pub hands_out : HandsOut old given new
-    pub written : WritesAll sink writer given writer'
-    -- no chunk is longer than its buffer
-    pub most : length given ≤ sum sizes
-    -- each size was used while the ones before it had not brought all
-    pub needed : (count : ℕ) → count < length sizes → gains parser.kind (take count sizes) < old.unread
-    -- each buffer is filled as far as the body reaches
-    pub least : (gains parser.kind sizes ≤ length hands_out.read) ⊎ (new.unread ≡ 0)
-    pub filled : (greatest sizes ≤ length (kept_bytes old.kept) + length hands_out.read) ⊎ (new.unread ≡ 0)
+    pub before : List ℕ
+    pub others : List ℕ
+    pub parts : sizes ≡ before ++ size ∷ others
+    pub each : DrainsEach before old writer new writer'
 
-  -- the call with this size behind others found that the body had ended
+  -- the call with the next size found that the body had ended
   pub record DrainsAll (sizes : List ℕ) (old : Segment R P parser) (writer : W) (calls : ℕ)
       (new : Segment R P parser) (writer' : W) : Type 0 where
-    pub before : List ℕ
     pub size : ℕ
-    pub is_behind : HasBehind sizes before size
-    pub counted : calls ≡ length before + 1
     pub between : Segment R P parser
-    pub some : DrainsSome before old writer between writer'
+    pub comes : ComesTo sizes old writer size between writer'
+    pub counted : calls ≡ length comes.before + 1
     pub ends : SegmentEnds source between new
 
   -- each size was used
   pub record DrainsSizes (sizes : List ℕ) (old : Segment R P parser) (writer : W) (calls : ℕ)
       (new : Segment R P parser) (writer' : W) : Type 0 where
+    pub each : DrainsEach sizes old writer new writer'
     pub counted : calls ≡ length sizes
-    pub some : DrainsSome sizes old writer new writer'
 
-  -- the call with this size behind others failed
+  -- the call with the next size failed
   pub record DrainFails (sizes : List ℕ) (old : Segment R P parser) (writer : W) (error : Error E)
       (new : Segment R P parser) (writer' : W) : Type 0 where
-    pub before : List ℕ
     pub size : ℕ
-    pub is_behind : HasBehind sizes before size
     pub between : Segment R P parser
-    pub some : DrainsSome before old writer between writer'
+    pub comes : ComesTo sizes old writer size between writer'
     pub fails : PullsChunk source size between (Err error) new
 
-  -- the write of the chunk that came with this size behind others failed
+  -- the call with the next size gave a chunk, and the write of it failed
   pub record DrainUnwritten (sizes : List ℕ) (old : Segment R P parser) (writer : W) (new : Segment R P parser)
       (writer' : W) : Type 0 where
-    pub before : List ℕ
     pub size : ℕ
-    pub is_behind : HasBehind sizes before size
     pub between : Segment R P parser
     pub writer-between : W
-    pub some : DrainsSome before old writer between writer-between
+    pub comes : ComesTo sizes old writer size between writer-between
     pub chunk : List ℕ
     pub gives : GivesChunk source size between chunk new
     pub stopped : WritesFront sink writer-between chunk writer'
@@ -124,7 +100,7 @@ module _ {R E P W F : Type 0} {parser : Parser P} (source : Reader R E) (sink : 
   EndsDrain sizes old writer calls end.Ended new writer' = DrainsAll sizes old writer calls new writer'
   EndsDrain sizes old writer calls end.OutOfSizes new writer' = DrainsSizes sizes old writer calls new writer'
 
-  -- what `drain_bytes` and `drain_text` do, by their answer, each behind chunks for the sizes before
+  -- what `drain_bytes` and `drain_text` do, by their answer
   abbrev pub Drains : List ℕ → Segment R P parser → W → Result Drained (RecodeError E F) → Segment R P parser → W
       → Type 0
   Drains sizes old writer (Ok drained) new writer' = EndsDrain sizes old writer drained.calls drained.end new writer'
@@ -138,6 +114,27 @@ module _ {R E P W F : Type 0} {parser : Parser P} (source : Reader R E) (sink : 
     pub moves_on : MovesOn source (segment_decoder old) (segment_decoder new)
     pub same_reference : segment_reference new ≡ segment_reference old
     pub target : sink.target writer' ≡ sink.target writer
+
+  -- what the calls of `DrainsEach` come to: what was kept of the body and read is what was given and what is kept now,
+  -- and what was given was written
+  pub record DrainsSome (sizes : List ℕ) (old : Segment R P parser) (writer : W) (new : Segment R P parser)
+      (writer' : W) : Type 0 where
+    pub read : List ℕ
+    pub given : List ℕ
+    pub parts : kept_bytes old.kept ++ read ≡ given ++ kept_bytes new.kept
+    pub sound : IsWritable parser.kind given
+    pub written : WritesAll sink writer given writer'
+    pub passed : Passes source old.decoder.now read new.decoder.now
+    pub unread : new.unread + length read ≡ old.unread
+    pub place : new.place ≡ old.place
+    pub damaged : new.damaged ≡ old.damaged
+    -- no chunk is longer than its buffer
+    pub most : length given ≤ sum sizes
+    -- each size was used while the ones before it had not brought all
+    pub needed : (count : ℕ) → count < length sizes → gains parser.kind (take count sizes) < old.unread
+    -- each buffer is filled as far as the body reaches
+    pub least : (gains parser.kind sizes ≤ length read) ⊎ (new.unread ≡ 0)
+    pub filled : All (λ size. size ≤ length (kept_bytes old.kept) + length read) sizes ⊎ (new.unread ≡ 0)
 
   -- ---- where the bytes are told, and no side fails by itself
 

@@ -13,7 +13,7 @@ mod pieces;
 mod strict;
 
 pub use self::copy::copy_headers;
-pub use self::drains::{Drained, End, drain_bytes, drain_text, enough_sizes};
+pub use self::drains::{Drained, End, drain_bytes, drain_text, drained_in_all, enough_sizes};
 pub use self::headers::{pull_again, same_header};
 pub use self::pieces::{Piece, copy_spelled, write_pieces};
 pub use self::strict::strict_run;

@@ -10,7 +10,7 @@ use Rattle.ciborium_ll.specs.Types.Decoder.{Decoder}
 use Rattle.ciborium_ll.specs.Types.Error.TheVariants as e
 use Rattle.ciborium_ll.specs.Types.RecodeError.{RecodeError}
 use Rattle.ciborium_ll.specs.Types.RecodeError.TheVariants as r
-use Rattle.ciborium_ll.specs.Elements.{spelling}
+use Rattle.ciborium_ll.specs.Elements.{Mark, spelling}
 use Rattle.ciborium_ll.specs.Faults.{Place, Due, In, BodyDue, Syntax}
 use Rattle.ciborium_ll.specs.Decoding.{IsFreshAs, IsSteady, offset_limit}
 use Rattle.ciborium_ll.specs.Recoding.{CopiesElements, StopsWriting}
@@ -44,11 +44,11 @@ stands_too known one other before after p q stands =
     subst (λ (bytes : List ℕ). StandInFront bytes before after) (same_bytes known one other p q) stands
 
 -- no more is consumed than is ahead
-no_more : (place : Place) (ahead more : List ℕ) (consumed : ℕ) → StopsAt place ahead more consumed → consumed
-    ≤ length ahead
-no_more Due ahead more consumed stops = omega (arith, stops.1)
-no_more (In kind) ahead more consumed stops = omega (arith, stops.1)
-no_more (BodyDue kind len start) ahead more consumed stops = omega (arith, stops.7)
+no_more : (marks : List Mark) (place : Place) (ahead written : List ℕ) (consumed : ℕ)
+    → StopsAt marks place ahead written consumed → consumed ≤ length ahead
+no_more marks Due ahead written consumed stops = omega (arith, stops.1)
+no_more marks (In kind) ahead written consumed stops = omega (arith, stops.1)
+no_more marks (BodyDue kind len start) ahead written consumed stops = omega (arith, stops.7)
 
 -- a writer whose target is told has just that one
 pub same_target : {one other : Target} → Some one ≡ Some other → one ≡ other
@@ -141,8 +141,8 @@ module _ {R E W F : Type 0} (source : Reader R E) (sink : Writer W F) where
   -- a writer that tells its room failed where what was due next did not fit
   room_stops : (count room : ℕ) (due : List ℕ) (old new : Sides R W) → IsTold source sink false old due []
       → sink.room old.writer ≡ Some room → StopsWriting source sink count buffer_size old new
-      → (stop : StopsForRoom count due room) × (sink.written new.writer ≡ Some stop.written)
-      × (new.decoder.offset ≡ old.decoder.offset + (length stop.before + length stop.read))
+      → (for_room : StopsForRoom count due room) × (sink.written new.writer ≡ Some for_room.stop.written)
+      × (new.decoder.offset ≡ old.decoder.offset + (length for_room.stop.before + length for_room.stop.read))
   room_stops count room due old new told space stops =
       let gone = consumes_told _ _ due (stops.bytes ++ stops.read) told.due-told stops.passed.consumed in
       let between = appends_told _ _ [] stops.whole told.written-told stops.written.appended in
@@ -151,17 +151,19 @@ module _ {R E W F : Type 0} (source : Reader R E) (sink : Writer W F) where
       let front = stops.fails.front in
       let part = take front.0 stops.next in (
         record {
-          before = stops.bytes;
-          read = stops.read;
-          rest = gone.0;
-          whole = stops.whole;
-          next = stops.next;
-          written = stops.whole ++ part;
-          next_write = stops.next_write;
-          is = gone.2;
+          stop = record {
+            before = stops.bytes;
+            read = stops.read;
+            rest = gone.0;
+            is = gone.2;
+            whole = stops.whole;
+            next = stops.next;
+            next_write = stops.next_write;
+            written = stops.whole ++ part;
+            begun = (part, refl, (drop front.0 stops.next, sym (take-append-drop front.0 stops.next)));
+          };
           fits = omega (arith, left.2);
           lacks = omega (arith, left.2, less);
-          begun = (part, refl, (drop front.0 stops.next, sym (take-append-drop front.0 stops.next)));
         },
         appends_told _ _ stops.whole part between front.1.0,
         omega (arith, stops.passed.offset, length-append stops.bytes stops.read),
@@ -174,7 +176,7 @@ module _ {R E W F : Type 0} (source : Reader R E) (sink : Writer W F) where
   never_too_long count due old new told object start =
       let stop = told.0.stop in
       let parts = ap length stop.is in
-      let few = no_more stop.place stop.ahead stop.more stop.consumed stop.stops in
+      let few = no_more stop.marks stop.place stop.ahead stop.written stop.consumed stop.stops in
       let full : 2 ^ 64 ≤ new.decoder.offset + max 8 buffer_size = told.1 in
       omega (arith, object, parts, few, full, told.0.offset, start, length-append stop.before stop.ahead)
 
@@ -214,10 +216,10 @@ module _ {R E W F : Type 0} (source : Reader R E) (sink : Writer W F) where
       space object start out reports stands =
       let met = room_stops count (length before) due (sides old writer) (sides new writer') told space copied in (
         met.0,
-        stands_too (sink.written writer') output met.0.written before after out met.1 stands,
+        stands_too (sink.written writer') output met.0.stop.written before after out met.1 stands,
         record {
           consumed_is = omega (arith, reports.consumed_is, met.2, start);
-          written_is = reports.written_is ∙ same_length (sink.written writer') output met.0.written out met.1;
+          written_is = reports.written_is ∙ same_length (sink.written writer') output met.0.stop.written out met.1;
           place_is = reports.place_is;
         },
       )

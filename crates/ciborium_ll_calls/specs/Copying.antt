@@ -5,8 +5,7 @@ use Rattle.ciborium_ll.specs.Types.RecodeError.{RecodeError}
 use Rattle.ciborium_ll.specs.Types.RecodeError.TheVariants as r
 use Rattle.ciborium_ll.specs.Elements.{spelling}
 use Rattle.ciborium_ll.specs.Faults.{Short, Syntax, RunInFront, HasFault}
-use Rattle.ciborium_ll.specs.Decoding.{Begins}
-use Rattle.ciborium_ll.specs.Recoding.{NextWrite}
+use Rattle.ciborium_ll.specs.RecodingTold.{StopInWriting}
 use Rattle.ciborium_ll_calls.specs.declared.answer.CllAnswer.{CllAnswer}
 use Rattle.ciborium_ll_calls.specs.declared.answer.CllAnswer.TheVariants as a
 use Rattle.ciborium_ll_calls.specs.declared.answer.CllReport.{CllReport}
@@ -47,26 +46,18 @@ CopiesInto count bytes old answer new report = ⊥
 abbrev pub buffer_size : ℕ
 buffer_size = 1024
 
--- In so much room the copy stops, since what is due next does not fit: the shortest title of a header that was read, or
--- a chunk of a body. All before it was written, and of it at most a beginning
+-- in so much room the copy stops, since what is to be written next does not fit: the shortest title of a header that was
+-- read, or a chunk of a body
 pub record StopsForRoom (count : ℕ) (bytes : List ℕ) (room : ℕ) : Type 0 where
-  pub before : List ℕ
-  pub read : List ℕ
-  pub rest : List ℕ
-  pub whole : List ℕ
-  pub next : List ℕ
-  pub written : List ℕ
-  pub next_write : NextWrite count buffer_size before read whole next
-  pub is : bytes ≡ (before ++ read) ++ rest
-  pub fits : length whole ≤ room
-  pub lacks : room < length whole + length next
-  pub begun : (part : List ℕ) × (written ≡ whole ++ part) × Begins part next
+  pub stop : StopInWriting count buffer_size bytes
+  pub fits : length stop.whole ≤ room
+  pub lacks : room < length stop.whole + length stop.next
 
 -- what `cll_recode` does in any room: the same, but where what is due next does not fit
 abbrev pub CopiesAnyhow : ℕ → List ℕ → List ℕ → CllAnswer → List ℕ → CllReport → Type 0
 CopiesAnyhow count bytes old a.Room new report =
-    (stop : StopsForRoom count bytes (length old)) × StandInFront stop.written old new
-    × ReportsCopy report (length stop.before + length stop.read) (length stop.written) 0
+    (stops : StopsForRoom count bytes (length old)) × StandInFront stops.stop.written old new
+    × ReportsCopy report (length stops.stop.before + length stops.stop.read) (length stops.stop.written) 0
 CopiesAnyhow count bytes old answer new report = CopiesInto count bytes old answer new report
 
 module _ {E F : Type 0} where

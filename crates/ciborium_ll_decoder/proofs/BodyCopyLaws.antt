@@ -14,9 +14,10 @@ use Rattle.ciborium_ll_decoder.specs.Kept.{kept_bytes}
 use Rattle.ciborium_ll_decoder.specs.Decoding.{IsSteady, Passes}
 use Rattle.ciborium_ll_io.specs.Writes.{WritesAll, WritesFront}
 use Rattle.ciborium_ll_decoder.specs.Chunks.{IsWhole, GivesChunk, SegmentEnds, PullsChunk}
-use Rattle.ciborium_ll_decoder.specs.BodyCopies.{BodyUnwritten, CopiesBody, sides}
+use Rattle.ciborium_ll_decoder.specs.Finishing.{StopsRest}
+use Rattle.ciborium_ll_decoder.specs.BodyCopies.{BodyWritten, BodyUnwritten, CopiesBody, sides}
 use Rattle.ciborium_ll_decoder.proofs.BodyLaws.{few_kept, split_parts, three_kept}
-use Rattle.ciborium_ll_decoder.proofs.FinishLaws.{HandsOut, RestSoFar, rest_start, rest_chunk, rest_ends}
+use Rattle.ciborium_ll_decoder.proofs.FinishLaws.{RestSoFar, rest_start, rest_chunk, rest_ends}
 use Rattle.ciborium_ll_io.proofs.WriteLaws.{Shrinks-zero, WritesBytes-then}
 
 module _ {R E P W F : Type 0} {parser : Parser P} (source : Reader R E) (sink : Writer W F) where
@@ -98,10 +99,9 @@ module _ {R E P W F : Type 0} {parser : Parser P} (source : Reader R E) (sink : 
         }
 
     -- the body has ended
-    pub so_far_whole : (room : ℕ) (new : Segment R P parser) → SegmentEnds source segment new
-        → CopiesBody source sink parser.kind body.length room body.place (sides first.decoder.now writer)
-        (Ok (tt {0})) (sides new.decoder.now now)
-    so_far_whole room new ends =
+    pub so_far_whole : (new : Segment R P parser) → SegmentEnds source segment new
+        → BodyWritten source sink parser.kind body.length (sides first.decoder.now writer) (sides new.decoder.now now)
+    so_far_whole new ends =
         let parts : so_far.rest.read ≡ so_far.rest.front =
         ap (λ (z : List ℕ). z ++ so_far.rest.read) (sym whole.kept) ∙ so_far.rest.parts
         ∙ ap (λ (z : List ℕ). so_far.rest.front ++ z) ends.none_kept ∙ append-nil so_far.rest.front in
@@ -124,15 +124,14 @@ module _ {R E P W F : Type 0} {parser : Parser P} (source : Reader R E) (sink : 
         → PullsChunk source room segment (Err error) new → CopiesBody source sink parser.kind body.length room
         body.place (sides first.decoder.now writer) (Err (r.Read error)) (sides new.decoder.now now)
     so_far_error room error new four steady pulled =
-        let handed = rest_ends source first segment so_far.rest room error new four whole.sound steady pulled in
-        let behind : HandsOut source parser.kind [] body.length room body.place first.decoder.now error
-        so_far.rest.front new.decoder.now =
-        subst (λ (z : List ℕ). HandsOut source parser.kind z body.length room body.place first.decoder.now error
-        so_far.rest.front new.decoder.now) whole.kept
-        (subst (λ (n : ℕ). HandsOut source parser.kind (kept_bytes first.kept) body.length room n first.decoder.now
-        error so_far.rest.front new.decoder.now) whole.place
-        (subst (λ (n : ℕ). HandsOut source parser.kind (kept_bytes first.kept) n room first.place first.decoder.now
-        error so_far.rest.front new.decoder.now) whole.unread handed)) in
+        let Stopped : List ℕ → ℕ → ℕ → Type 0 = λ kept unread place.
+        (stops : StopsRest source parser.kind kept unread room place first.decoder.now error new.decoder.now)
+        × (stops.part.front ≡ so_far.rest.front) in
+        let stopped = rest_ends source first segment so_far.rest room error new four whole.sound steady pulled in
+        let behind : Stopped [] body.length body.place =
+        subst (λ (z : List ℕ). Stopped z body.length body.place) whole.kept
+        (subst (λ (n : ℕ). Stopped (kept_bytes first.kept) body.length n) whole.place
+        (subst (λ (n : ℕ). Stopped (kept_bytes first.kept) n first.place) whole.unread stopped)) in
         record {
           ends = behind.0;
           written = subst (λ (z : List ℕ). WritesAll sink writer z now) (sym behind.1) so_far.written;

@@ -2,10 +2,11 @@
 use Rattle.std.proofs.Common.{◌≡◌, ℕ, ◌≤◌, List, ◌++◌, length, sym, ap, subst, ◌∙◌, arith, append_assoc, length-append}
 use Rattle.ciborium_ll_io.specs.declared.io.Read.{Ghosts as Reader}
 use Rattle.ciborium_ll_decoder.specs.declared.dec.Decoder.{Decoder}
+use Rattle.ciborium_ll_decoder.specs.declared.dec.Error.TheVariants as e
 use Rattle.ciborium_ll_grammar.specs.Strings.{Kind, Text, IsWritable}
 use Rattle.ciborium_ll_text.specs.Text.{IsCharacters}
 use Rattle.ciborium_ll_decoder.specs.Decoding.{Passes}
-use Rattle.ciborium_ll_decoder.specs.Finishing.{IsNoText, RestDamaged}
+use Rattle.ciborium_ll_decoder.specs.Finishing.{IsNoText, StopsRest}
 use Rattle.ciborium_ll_decoder.proofs.DecodingLaws.{Passes-then}
 
 module _ {R E : Type 0} (source : Reader R E) (kind : Kind) (kept : List ℕ) (unread : ℕ) where
@@ -21,19 +22,20 @@ module _ {R E : Type 0} (source : Reader R E) (kind : Kind) (kept : List ℕ) (u
     pub no_text : IsNoText kept unread read
     pub passed : Passes source old read new
 
-  abbrev pub damage_read : (room : ℕ) (old new : Decoder R) → RestDamaged source kind kept unread room old new
-      → ReadsDamage old new
-  damage_read room old new damaged =
-      let part = damaged.part in
+  abbrev pub damage_read : (room place at : ℕ) (old new : Decoder R)
+      → StopsRest source kind kept unread room place old (e.Syntax at) new → ReadsDamage old new
+  damage_read room place at old new stops =
+      let part = stops.part in
+      let damage = stops.stops.1 in
       record {
-        textual = damaged.textual;
-        read = part.read ++ damaged.last;
+        textual = damage.textual;
+        read = part.read ++ damage.last;
         front = part.front;
-        more = part.left ++ damaged.last;
-        parts = sym (append_assoc kept part.read damaged.last) ∙ ap (λ (z : List ℕ). z ++ damaged.last) part.parts
-            ∙ append_assoc part.front part.left damaged.last;
-        sound = subst (λ (k : Kind). IsWritable k part.front) damaged.textual part.sound;
-        within = omega (arith, damaged.filled, part.within, length-append part.read damaged.last);
-        no_text = damaged.no_text;
-        passed = Passes-then source old damaged.between new part.read damaged.last part.passed damaged.passed;
+        more = part.left ++ damage.last;
+        parts = sym (append_assoc kept part.read damage.last) ∙ ap (λ (z : List ℕ). z ++ damage.last) part.parts
+            ∙ append_assoc part.front part.left damage.last;
+        sound = subst (λ (k : Kind). IsWritable k part.front) damage.textual part.sound;
+        within = omega (arith, stops.filled, damage.all, part.within, length-append part.read damage.last);
+        no_text = damage.no_text;
+        passed = Passes-then source old stops.between new part.read damage.last part.passed damage.passed;
       }

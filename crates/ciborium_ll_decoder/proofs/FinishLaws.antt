@@ -17,7 +17,7 @@ use Rattle.ciborium_ll_decoder.specs.Kept.{kept_bytes}
 use Rattle.ciborium_ll_decoder.specs.Decoding.{IsSteady, Passes}
 use Rattle.ciborium_ll_decoder.specs.Chunks.{IsSplit, GivesChunk, EndsInCharacter, KeepsTooMuch}
 use Rattle.ciborium_ll_decoder.specs.Chunks.{ChunkFails, ChunkPasses, PullsChunk, read_count}
-use Rattle.ciborium_ll_decoder.specs.Finishing.{BeginsRest, RestFails, RestPasses, RestDamaged, EndsBody, handed_out}
+use Rattle.ciborium_ll_decoder.specs.Finishing.{BeginsRest, GivesNoText, StopsReading, StopsRest}
 use Rattle.ciborium_ll_decoder.specs.Finishing.{Finishes}
 use Rattle.ciborium_ll_decoder.proofs.DecodingLaws.{Passes-none}
 use Rattle.ciborium_ll_decoder.proofs.BodyLaws.{split_parts, writable_nil, writable_chunk, three_kept, few_kept}
@@ -31,13 +31,6 @@ not_both damaged one other = cc
 kind_text : (kind : Kind) → (kind ≡ Bytes → ⊥) → kind ≡ Text
 kind_text Bytes other = absurd (other refl)
 kind_text Text other = refl
-
--- the read of a body ends with this error, and the front was handed out of it
-abbrev pub HandsOut : {R E : Type 0} (source : Reader R E) (kind : Kind) (kept : List ℕ) (unread room place : ℕ)
-    → Decoder R → Error E → List ℕ → Decoder R → Type 0
-HandsOut source kind kept unread room place old error front new =
-    (ends : EndsBody source kind kept unread room place old (Err error) new)
-    × (handed_out source kind kept unread room place old (Err error) new ends ≡ front)
 
 module _ {R E P : Type 0} {parser : Parser P} (source : Reader R E) where
   -- of the rest of the first segment these bytes were read, and those behind the chunks are kept
@@ -110,42 +103,33 @@ module _ {R E P : Type 0} {parser : Parser P} (source : Reader R E) where
       passed = so_far.passed;
     }
 
-    abbrev rest_fails : (room : ℕ) (new : Segment R P parser) → 4 ≤ room → ChunkFails source room segment new
-        → RestFails source parser.kind (kept_bytes first.kept) first.unread room first.decoder.now new.decoder.now
-    rest_fails room new four fails = record {
+    -- one more read stops it
+    abbrev rest_stops : (room count : ℕ) (error : Error E) (new : Segment R P parser) → 4 ≤ room
+        → count ≡ read_count room segment → StopsReading source parser.kind (kept_bytes first.kept) first.unread
+        so_far.read first.place count segment.decoder.now error new.decoder.now
+        → StopsRest source parser.kind (kept_bytes first.kept) first.unread room first.place first.decoder.now error
+        new.decoder.now
+    rest_stops room count error new four asked stops = record {
       between = segment.decoder.now;
       part = part;
-      count = read_count room segment;
-      some = omega (arith, four, fails.some_unread, three_kept segment.kept);
-      filled = omega (arith, four, so_far.counted, three_kept segment.kept);
-      fails = fails.fails;
-    }
-
-    abbrev rest_passes : (room : ℕ) (new : Segment R P parser) → 4 ≤ room → ChunkPasses source room segment new
-        → RestPasses source parser.kind (kept_bytes first.kept) first.unread room first.decoder.now new.decoder.now
-    rest_passes room new four passes = record {
-      between = segment.decoder.now;
-      part = part;
-      count = read_count room segment;
-      filled = omega (arith, four, so_far.counted, three_kept segment.kept);
-      full = passes.full;
-      untouched = passes.untouched;
+      count = count;
+      filled = omega (arith, four, asked, so_far.counted, three_kept segment.kept);
+      stops = stops;
     }
 
     textual_end : (new : Segment R P parser) → EndsInCharacter source segment new → parser.kind ≡ Text
     textual_end new ends = kind_text parser.kind (λ is. let none = ap length (segment.text_alone is) in let some =
         ends.some_kept in omega (arith, none, some))
 
-    abbrev damaged_end : (room : ℕ) (new : Segment R P parser) → 4 ≤ room → EndsInCharacter source segment new
-        → RestDamaged source parser.kind (kept_bytes first.kept) first.unread room first.decoder.now new.decoder.now
-    damaged_end room new four ends =
+    abbrev damaged_end : (new : Segment R P parser) → EndsInCharacter source segment new
+        → GivesNoText source parser.kind (kept_bytes first.kept) first.unread so_far.read 0 segment.decoder.now
+        new.decoder.now
+    damaged_end new ends =
         let is = textual_end new ends in
         record {
           textual = is;
-          between = segment.decoder.now;
-          part = part;
           last = [];
-          filled = omega (arith, four, so_far.counted, ends.none_unread, three_kept segment.kept);
+          all = refl;
           passed = subst (λ (d : Decoder R). Passes source segment.decoder.now [] d) (sym ends.decoder)
               (Passes-none source segment.decoder.now);
           no_text = inl (
@@ -164,21 +148,20 @@ module _ {R E P : Type 0} {parser : Parser P} (source : Reader R E) where
         keeps.left) is keeps.split).1 in
         let much = keeps.too_much in omega (arith, none, much))
 
-    abbrev damaged_middle : (room : ℕ) (new : Segment R P parser) → 4 ≤ room
+    abbrev damaged_middle : (room : ℕ) (new : Segment R P parser)
         → (IsSteady source segment.decoder.now → IsSteady source new.decoder.now)
-        → KeepsTooMuch source room segment new
-        → RestDamaged source parser.kind (kept_bytes first.kept) first.unread room first.decoder.now new.decoder.now
-    damaged_middle room new four steady keeps =
+        → (keeps : KeepsTooMuch source room segment new)
+        → GivesNoText source parser.kind (kept_bytes first.kept) first.unread so_far.read (length keeps.read)
+        segment.decoder.now new.decoder.now
+    damaged_middle room new steady keeps =
         let is = textual_middle room new keeps in
         let kept = kept_bytes first.kept in
         let parts = sym (append_assoc kept so_far.read keeps.read) ∙ ap (λ (z : List ℕ). z ++ keeps.read)
         so_far.parts ∙ append_assoc so_far.front (kept_bytes segment.kept) keeps.read in
         record {
           textual = is;
-          between = segment.decoder.now;
-          part = part;
           last = keeps.read;
-          filled = omega (arith, four, so_far.counted, keeps.reads.count, three_kept segment.kept);
+          all = refl;
           passed = Passes-read source segment.decoder.now segment.decoder.now new.decoder.now [] keeps.read
               (Passes-none source segment.decoder.now) keeps.reads.reads steady;
           no_text = inr (too_much_is_no_text (kept ++ (so_far.read ++ keeps.read)) so_far.front
@@ -189,25 +172,40 @@ module _ {R E P : Type 0} {parser : Parser P} (source : Reader R E) where
         }
 
     -- the body is found to be no text
-    rest_damaged : (room at : ℕ) (new : Segment R P parser) → 4 ≤ room
+    abbrev rest_damaged : (room at : ℕ) (new : Segment R P parser) → 4 ≤ room
         → (IsSteady source segment.decoder.now → IsSteady source new.decoder.now) → at ≡ first.place
         → EndsInCharacter source segment new ⊎ KeepsTooMuch source room segment new
-        → HandsOut source parser.kind (kept_bytes first.kept) first.unread room first.place first.decoder.now
-        (e.Syntax at) so_far.front new.decoder.now
-    rest_damaged room at new four steady placed (inl ends) = ((placed, damaged_end room new four ends), refl)
+        → StopsRest source parser.kind (kept_bytes first.kept) first.unread room first.place first.decoder.now
+        (e.Syntax at) new.decoder.now
+    rest_damaged room at new four steady placed (inl ends) =
+        rest_stops room 0 (e.Syntax at) new four (omega (arith, ends.none_unread)) (placed, damaged_end new ends)
     rest_damaged room at new four steady placed (inr keeps) =
-        ((placed, damaged_middle room new four steady keeps), refl)
+        rest_stops room (length keeps.read) (e.Syntax at) new four keeps.reads.count
+        (placed, damaged_middle room new steady keeps)
+
+    abbrev rest_fails : (room : ℕ) (fault : E) (new : Segment R P parser) → 4 ≤ room → ChunkFails source room segment new
+        → StopsRest source parser.kind (kept_bytes first.kept) first.unread room first.place first.decoder.now
+        (e.Io fault) new.decoder.now
+    rest_fails room fault new four fails = rest_stops room (read_count room segment) (e.Io fault) new four refl
+        (omega (arith, four, fails.some_unread, three_kept segment.kept), fails.fails)
+
+    abbrev rest_passes : (room : ℕ) (new : Segment R P parser) → 4 ≤ room → ChunkPasses source room segment new
+        → StopsRest source parser.kind (kept_bytes first.kept) first.unread room first.place first.decoder.now
+        e.TooLong new.decoder.now
+    rest_passes room new four passes =
+        rest_stops room (read_count room segment) e.TooLong new four refl (passes.full, passes.untouched)
 
     -- a pull that fails is the last one: of a body that was sound before
     pub rest_ends : (room : ℕ) (error : Error E) (new : Segment R P parser) → 4 ≤ room → first.damaged ≡ false
         → (IsSteady source segment.decoder.now → IsSteady source new.decoder.now)
         → PullsChunk source room segment (Err error) new
-        → HandsOut source parser.kind (kept_bytes first.kept) first.unread room first.place first.decoder.now error
-        so_far.front new.decoder.now
-    rest_ends room (e.Io fault) new four undamaged steady fails = (rest_fails room new four fails, refl)
+        → (stops : StopsRest source parser.kind (kept_bytes first.kept) first.unread room first.place
+        first.decoder.now error new.decoder.now) × (stops.part.front ≡ so_far.front)
+    rest_ends room (e.Io fault) new four undamaged steady fails = (rest_fails room fault new four fails, refl)
     rest_ends room (e.Syntax at) new four undamaged steady finds = elim finds.cause [
       | inl stays ↦ absurd (let a = stays.damaged-before in let b = so_far.damage in cc)
-      | inr found ↦ rest_damaged room at new four steady (finds.place ∙ so_far.at) found
+      | inr (inl ends) ↦ (rest_damaged room at new four steady (finds.place ∙ so_far.at) (inl ends), refl)
+      | inr (inr keeps) ↦ (rest_damaged room at new four steady (finds.place ∙ so_far.at) (inr keeps), refl)
     ]
     rest_ends room e.TooLong new four undamaged steady passes = (rest_passes room new four passes, refl)
     rest_ends room e.Waiting new four undamaged steady never = absurd never
@@ -217,7 +215,7 @@ module _ {R E P : Type 0} {parser : Parser P} (source : Reader R E) where
         → (IsSteady source segment.decoder.now → IsSteady source new.decoder.now)
         → PullsChunk source room segment (Err error) new → Finishes source room first (Err error) new.decoder.now
     rest_error room (e.Io fault) new four steady fails = inl
-        (record { undamaged = sym so_far.damage ∙ fails.sound; ends = rest_fails room new four fails })
+        (record { undamaged = sym so_far.damage ∙ fails.sound; ends = rest_fails room fault new four fails })
     rest_error room (e.Syntax at) new four steady finds =
         let placed = finds.place ∙ so_far.at in
         elim finds.cause [
@@ -228,7 +226,7 @@ module _ {R E P : Type 0} {parser : Parser P} (source : Reader R E) where
           })
           | inr found ↦ inl (record {
             undamaged = sym so_far.damage ∙ elim found [ inl ends ↦ ends.sound | inr keeps ↦ keeps.reads.sound ];
-            ends = (rest_damaged room at new four steady placed found).0;
+            ends = rest_damaged room at new four steady placed found;
           })
         ]
     rest_error room e.TooLong new four steady passes = inl

@@ -80,35 +80,13 @@ module _ {R E : Type 0} (source : Reader R E) (k : Kind) (len : ℕ) (old new : 
       → EndsBody source k [] len room place new (Err error) ended → EndsBody source k [] len room place old
       (Err error) ended
   unfolding begins_behind
-  ends_behind room place (e.Io fault) ended fails = record {
-    between = fails.between;
-    part = begins_behind fails.between fails.part;
-    count = fails.count;
-    some = fails.some;
-    filled = fails.filled;
-    fails = fails.fails;
+  ends_behind room place error ended stops = record {
+    between = stops.between;
+    part = begins_behind stops.between stops.part;
+    count = stops.count;
+    filled = stops.filled;
+    stops = stops.stops;
   }
-  ends_behind room place (e.Syntax at) ended damaged = (
-    damaged.0,
-    record {
-      textual = damaged.1.textual;
-      between = damaged.1.between;
-      part = begins_behind damaged.1.between damaged.1.part;
-      last = damaged.1.last;
-      filled = damaged.1.filled;
-      passed = damaged.1.passed;
-      no_text = damaged.1.no_text;
-    },
-  )
-  ends_behind room place e.TooLong ended passes = record {
-    between = passes.between;
-    part = begins_behind passes.between passes.part;
-    count = passes.count;
-    filled = passes.filled;
-    full = passes.full;
-    untouched = passes.untouched;
-  }
-  ends_behind room place e.Waiting ended none = absurd none
 
 -- ---- the loop over segments
 
@@ -247,7 +225,7 @@ module _ {R E : Type 0} (source : Reader R E) (k : Kind) where
   body_stops room opened (e.Io fault) ended meets = inr meets
   body_stops room opened (e.Syntax at) ended meets = inr (inr meets)
   body_stops room opened e.TooLong ended meets = inr meets
-  body_stops room opened e.Waiting ended meets = meets.ends
+  body_stops room opened e.Waiting ended meets = meets.ends.stops
 
   module _ (strict : Bool) (opened now new : Decoder R) (progress progress' : Progress) (mode : strict ≡ opened.strict)
       (bodies : List (List ℕ)) (so_far : StringSoFar source k bodies opened progress now) (settled : 0 < opened.offset)

@@ -80,18 +80,22 @@ module _ {R E : Type 0} (source : Reader R E) (kind : Kind) (len room place : �
     pub damaged_ends : len ≤ room → (IsWritable kind read → ⊥) → ReadsAll source old read new
         → (IsSteady source old → IsSteady source new)
         → EndsBody source kind [] len room place old (Err (e.Syntax place)) new
-    damaged_ends held unsound reads steady = (
-      refl,
-      record {
-        textual = textual kind read unsound;
-        between = old;
-        part = begun;
-        last = read;
-        filled = omega (arith, all, held);
-        passed = read_passed reads steady;
-        no_text = inl (all, no_text kind read unsound);
-      },
-    )
+    damaged_ends held unsound reads steady = record {
+      between = old;
+      part = begun;
+      count = length read;
+      filled = omega (arith, all, held);
+      stops = (
+        refl,
+        record {
+          textual = textual kind read unsound;
+          last = read;
+          all = refl;
+          no_text = inl (all, no_text kind read unsound);
+          passed = read_passed reads steady;
+        },
+      );
+    }
 
   -- the read failed, which is one of no more bytes than the buffer holds
   pub unread_ends : (read : List ℕ) (new : Decoder R) (error : Error E) → old.waiting ≡ None → length read ≡ len
@@ -101,9 +105,8 @@ module _ {R E : Type 0} (source : Reader R E) (kind : Kind) (len room place : �
     between = old;
     part = begun;
     count = length read;
-    some = omega (arith, all, some);
     filled = omega (arith, all, held);
-    fails = fails;
+    stops = (omega (arith, all, some), fails);
   }
   unread_ends read new (e.Syntax at) none all some held fails = absurd fails
   unread_ends read new e.TooLong none all some held fails = record {
@@ -111,7 +114,6 @@ module _ {R E : Type 0} (source : Reader R E) (kind : Kind) (len room place : �
     part = begun;
     count = length read;
     filled = omega (arith, all, held);
-    full = fails.1;
-    untouched = fails.2;
+    stops = (fails.1, fails.2);
   }
   unread_ends read new e.Waiting none all some held fails = absurd (let waits = fails.0 in cc)

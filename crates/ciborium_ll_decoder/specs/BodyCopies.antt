@@ -14,7 +14,7 @@ use Rattle.ciborium_ll_decoder.specs.declared.seg.Body.{Body}
 use Rattle.ciborium_ll_decoder.specs.declared.seg.Parser.{Ghosts as Parser}
 use Rattle.ciborium_ll_decoder.specs.declared.seg.Segments.{Segments}
 use Rattle.ciborium_ll_decoder.specs.Decoding.{MovesOn, Passes}
-use Rattle.ciborium_ll_decoder.specs.Finishing.{EndsBody, handed_out}
+use Rattle.ciborium_ll_decoder.specs.Finishing.{ReadsRest, StopsRest}
 use Rattle.ciborium_ll_decoder.specs.Segments.{progress_of, string_decoder, string_reference, string_strict}
 
 -- the decoder that a copy reads from, and the writer that it writes to
@@ -30,13 +30,15 @@ module _ {R W : Type 0} where
 -- ---- one body
 
 module _ {R E W F : Type 0} (source : Reader R E) (sink : Writer W F) (kind : Kind) where
-  -- a body of so many bytes at this place was read to this answer, through a buffer of so much room, and all that was
-  -- handed out of it was written
-  pub record BodyWritten (len room place : ℕ) (old : Sides R W) (result : Result (Unit {0}) (Error E))
-      (new : Sides R W) : Type 0 where
-    pub ends : EndsBody source kind [] len room place old.decoder result new.decoder
-    pub written : WritesAll sink old.writer
-        (handed_out source kind [] len room place old.decoder result new.decoder ends) new.writer
+  -- a body of so many bytes was read whole and written
+  pub record BodyWritten (len : ℕ) (old new : Sides R W) : Type 0 where
+    pub ends : ReadsRest source kind [] len old.decoder new.decoder
+    pub written : WritesAll sink old.writer ends.read new.writer
+
+  -- its read was stopped, through a buffer of so much room, and all that was handed out of it was written
+  pub record BodyUnread (len room place : ℕ) (old : Sides R W) (error : Error E) (new : Sides R W) : Type 0 where
+    pub ends : StopsRest source kind [] len room place old.decoder error new.decoder
+    pub written : WritesAll sink old.writer ends.part.front new.writer
 
   -- the writer failed at a chunk, which came through a buffer of so much room. Of a text up to three bytes were read
   -- behind it, with which no further text begins
@@ -57,8 +59,8 @@ module _ {R E W F : Type 0} (source : Reader R E) (sink : Writer W F) (kind : Ki
   -- the copy of a body of so many bytes through a buffer of so much room, at this place, which is that of its title:
   -- all that was read and handed out of it was written, or the writer failed at a chunk
   abbrev pub CopiesBody : ℕ → ℕ → ℕ → Sides R W → Result (Unit {0}) (RecodeError E F) → Sides R W → Type 0
-  CopiesBody len room place old (Ok done) new = BodyWritten len room place old (Ok done) new
-  CopiesBody len room place old (Err (r.Read error)) new = BodyWritten len room place old (Err error) new
+  CopiesBody len room place old (Ok done) new = BodyWritten len old new
+  CopiesBody len room place old (Err (r.Read error)) new = BodyUnread len room place old error new
   CopiesBody len room place old (Err (r.Write fault)) new = BodyUnwritten len room old new
 
 module _ {R E W F P : Type 0} {parser : Parser P} (source : Reader R E) (sink : Writer W F) where

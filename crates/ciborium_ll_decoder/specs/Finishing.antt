@@ -43,54 +43,38 @@ module _ {R E : Type 0} (source : Ghosts R E) (kind : Kind) (kept : List ℕ) (u
     pub within : length read ≤ unread
     pub passed : Passes source old read between
 
-  -- the reader failed at more bytes of the rest: the bytes kept and those asked for fill the buffer, or are all that is
-  -- left of the body
-  pub record RestFails (room : ℕ) (old new : Decoder R) : Type 0 where
-    pub between : Decoder R
-    pub part : BeginsRest old between
-    pub count : ℕ
-    pub some : 0 < count
-    pub filled : length part.left + count ≡ min room (length part.left + (unread - length part.read))
-    pub fails : ReadFails source between count new
-
-  -- the offset can't take the read of more bytes of the rest, which with those kept fill the buffer, or are all that is
-  -- left of the body
-  pub record RestPasses (room : ℕ) (old new : Decoder R) : Type 0 where
-    pub between : Decoder R
-    pub part : BeginsRest old between
-    pub count : ℕ
-    pub filled : length part.left + count ≡ min room (length part.left + (unread - length part.read))
-    pub full : offset_limit ≤ between.offset + count
-    pub untouched : IsUntouched between new
-
-  -- the body of a text is none (RFC 7049, 2.1): behind a beginning of it one more read, which with the bytes kept filled
-  -- the buffer, or took all that was left of the body, made what was read no text, as the whole body or however it goes on
-  pub record RestDamaged (room : ℕ) (old new : Decoder R) : Type 0 where
+  -- behind these bytes of the rest so many more were read, which make a text none, as the whole body or however it goes
+  -- on (RFC 7049, 2.1)
+  pub record GivesNoText (read : List ℕ) (count : ℕ) (between new : Decoder R) : Type 0 where
     pub textual : kind ≡ Text
+    pub last : List ℕ
+    pub all : length last ≡ count
+    pub no_text : IsNoText kept unread (read ++ last)
+    pub passed : Passes source between last new
+
+  -- the read of so many bytes behind these stops the read of the body, by the error: the reader failed, the body at this
+  -- place is no text, or the offset can't take that many
+  abbrev pub StopsReading : List ℕ → ℕ → ℕ → Decoder R → Error E → Decoder R → Type 0
+  StopsReading read place count between (e.Io fault) new = (0 < count) × ReadFails source between count new
+  StopsReading read place count between (e.Syntax at) new = (at ≡ place) × GivesNoText read count between new
+  StopsReading read place count between e.TooLong new =
+      (offset_limit ≤ between.offset + count) × IsUntouched between new
+  StopsReading read place count between e.Waiting new = ⊥
+
+  -- behind a beginning of the rest its read was stopped by one more read, which with the bytes kept was to fill the
+  -- buffer, or to take all that is left of the body
+  pub record StopsRest (room place : ℕ) (old : Decoder R) (error : Error E) (new : Decoder R) : Type 0 where
     pub between : Decoder R
     pub part : BeginsRest old between
-    pub last : List ℕ
-    pub filled : length part.left + length last ≡ min room (length part.left + (unread - length part.read))
-    pub passed : Passes source between last new
-    pub no_text : IsNoText kept unread (part.read ++ last)
+    pub count : ℕ
+    pub filled : length part.left + count ≡ min room (length part.left + (unread - length part.read))
+    pub stops : StopsReading part.read place count between error new
 
   -- `EndsBody source kind kept unread room place old result new`: of a body at this place so many bytes are unread and
   -- these are kept; it is read to its end through a buffer of so much room, by the answer
   abbrev pub EndsBody : ℕ → ℕ → Decoder R → Result (Unit {0}) (Error E) → Decoder R → Type 0
   EndsBody room place old (Ok done) new = ReadsRest old new
-  EndsBody room place old (Err (e.Io fault)) new = RestFails room old new
-  EndsBody room place old (Err (e.Syntax at)) new = (at ≡ place) × RestDamaged room old new
-  EndsBody room place old (Err e.TooLong) new = RestPasses room old new
-  EndsBody room place old (Err e.Waiting) new = ⊥
-
-  -- what was handed out of it by then: of a whole body all, else the front
-  abbrev pub handed_out : (room place : ℕ) (old : Decoder R) (result : Result (Unit {0}) (Error E)) (new : Decoder R)
-      → EndsBody room place old result new → List ℕ
-  handed_out room place old (Ok done) new reads = kept ++ reads.read
-  handed_out room place old (Err (e.Io fault)) new fails = fails.part.front
-  handed_out room place old (Err (e.Syntax at)) new damaged = damaged.1.part.front
-  handed_out room place old (Err e.TooLong) new passes = passes.part.front
-  handed_out room place old (Err e.Waiting) new never = []
+  EndsBody room place old (Err error) new = StopsRest room place old error new
 
 module _ {R E P : Type 0} {parser : Parser P} (source : Ghosts R E) where
   -- the segment was found to be damaged before, and nothing is read

@@ -7,3 +7,4 @@ pub mod RoomLaws
 pub mod RunLaws
 pub mod SegmentCopyLaws
 pub mod ThroughEncoder
+pub mod UnderWay

@@ -2,7 +2,7 @@
 use Rattle.std.proofs.Common.{◌≡◌, ℕ, Bool, ◌+◌, ◌^◌, ◌≤◌, List, [], ◌++◌, length, take, drop, min, max}
 use Rattle.std.proofs.Common.{Some, None, Result, Ok, Err, refl, sym, ap, ◌∙◌, inl, inr, arith, append_assoc}
 use Rattle.std.proofs.Common.{length-append}
-use Rattle.std.proofs.lemmas.List.{append-nil, take-append-drop}
+use Rattle.std.proofs.lemmas.List.{take-append-drop}
 use Rattle.std.proofs.Math.Nat.{le-max_left, le-max_right}
 use Rattle.ciborium_ll_io.specs.declared.io.Read.{Ghosts as Reader}
 use Rattle.ciborium_ll_io.specs.declared.io.Write.{Ghosts as Writer}
@@ -13,7 +13,7 @@ use Rattle.ciborium_ll_decoder.specs.declared.copy.RecodeError.TheVariants as r
 use Rattle.ciborium_ll_grammar.specs.Title.{shortest_title}
 use Rattle.ciborium_ll_grammar.specs.Strings.{Kind, kind_header}
 use Rattle.ciborium_ll_grammar.specs.Elements.{Mark, spelling}
-use Rattle.ciborium_ll_grammar.specs.Faults.{Place, Due, In, BodyDue, IsAtTitle, Reaches}
+use Rattle.ciborium_ll_grammar.specs.Faults.{Place, Due, In, BodyDue, IsAtTitle, Reaches, with_front}
 use Rattle.ciborium_ll_decoder.specs.Decoding.{offset_limit, next_read}
 use Rattle.ciborium_ll_io.specs.Writes.{WritesAll}
 use Rattle.ciborium_ll_decoder.specs.Finishing.{BeginsRest}
@@ -30,11 +30,11 @@ use Rattle.ciborium_ll_recode.proofs.RecodeFaultLaws.{front_output, damaged_told
 module _ {R E W F : Type 0} {strict : Bool} (source : Reader R E) (sink : Writer W F) (count room : ℕ)
     (old : Sides R W) (due written : List ℕ) where
   module _ (told : IsTold source sink strict old due written) where
-    at_title : (place : Place) (ahead : List ℕ) (n : ℕ) → IsAtTitle place → n ≤ min 1 (length ahead)
-        → StopsAt place ahead [] n
-    at_title Due ahead n title less = (refl, less)
-    at_title (In k) ahead n title less = (refl, less)
-    at_title (BodyDue k len start) ahead n title less = absurd title
+    at_title : (marks : List Mark) (place : Place) (ahead : List ℕ) (n : ℕ) → IsAtTitle place
+        → n ≤ min 1 (length ahead) → StopsAt marks place ahead (spelling marks) n
+    at_title marks Due ahead n title less = (refl, less)
+    at_title marks (In k) ahead n title less = (refl, less)
+    at_title marks (BodyDue k len start) ahead n title less = absurd title
 
     -- behind elements or parts of one, and at most a first byte
     title_short : (bytes : List ℕ) (marks : List Mark) (place : Place) (between new : Decoder R) (after : W)
@@ -53,13 +53,11 @@ module _ {R E W F : Type 0} {strict : Bool} (source : Reader R E) (sink : Writer
             marks = marks;
             place = place;
             ahead = c.rest;
-            more = [];
             consumed = length read;
             reach = reach;
             is = c.parts;
-            stops = at_title place c.rest (length read) title (omega (arith, few, counted, length-append read behind));
+            stops = at_title marks place c.rest (length read) title (omega (arith, few, counted, length-append read behind));
             written = spelling marks;
-            spelled = sym (append-nil (spelling marks));
           };
           output = c.output;
           offset = omega (arith, offset, copied.passed.offset);
@@ -122,7 +120,6 @@ module _ {R E W F : Type 0} {strict : Bool} (source : Reader R E) (sink : Writer
             marks = marks;
             place = BodyDue k len start;
             ahead = c.rest;
-            more = shortest_title (kind_header k (Some len)) ++ part.front;
             consumed = length part.read;
             reach = reach;
             is = c.parts;
@@ -136,8 +133,7 @@ module _ {R E W F : Type 0} {strict : Bool} (source : Reader R E) (sink : Writer
               omega (arith, parts, part.few, length-append part.front part.left),
               omega (arith, behind, part.within, length-append part.read gone.0),
             );
-            written = spelling marks ++ (shortest_title (kind_header k (Some len)) ++ part.front);
-            spelled = refl;
+            written = with_front marks k len part.front;
           };
           output = front_output source sink count room old due written told marks bytes part.front k len between titled
               new.writer copied title wrote;
@@ -148,36 +144,34 @@ module _ {R E W F : Type 0} {strict : Bool} (source : Reader R E) (sink : Writer
         → StopsShort source sink count due written old.decoder new × (offset_limit ≤ new.decoder.offset + max 8 room)
     body_passes new stops =
         let passes = stops.stopped.ends in
-        let full : 2 ^ 64 ≤ passes.between.offset + passes.count = passes.full in (
+        let full : 2 ^ 64 ≤ passes.between.offset + passes.count = passes.stops.0 in (
           body_short stops.bytes stops.marks stops.kind stops.len stops.start stops.between stops.titled passes.between
               new stops.reaches stops.copied
-              stops.title passes.part stops.stopped.written passes.untouched.offset,
-          omega (arith, full, passes.filled, passes.untouched.offset, le-max_right 8 room),
+              stops.title passes.part stops.stopped.written passes.stops.1.offset,
+          omega (arith, full, passes.filled, passes.stops.1.offset, le-max_right 8 room),
         )
 
     pub unwritten : (new : Sides R W) → StopsWriting source sink count room old new
-        → StopsUnwritten source sink count due written old.decoder new
+        → StopsUnwritten source sink count room due written old.decoder new
     unwritten new stops =
         let gone = consumes_told _ _ due (stops.bytes ++ stops.read) told.due-told stops.passed.consumed in
-        let front = stops.stopped.front in
+        let between = appends_told _ _ written stops.whole told.written-told stops.written.appended in
+        let front = stops.fails.front in
+        let part = take front.0 stops.next in
         record {
           stop = record {
             before = stops.bytes;
-            marks = stops.marks;
             read = stops.read;
-            more = stops.more;
             rest = gone.0;
-            belongs = stops.belongs;
             is = gone.2;
-            written = take front.0 (spelling stops.marks ++ stops.more);
-            begun = (
-              drop front.0 (spelling stops.marks ++ stops.more),
-              sym
-                  (take-append-drop front.0 (spelling stops.marks ++ stops.more)),
-            );
+            whole = stops.whole;
+            next = stops.next;
+            next_write = stops.next_write;
+            written = stops.whole ++ part;
+            begun = (part, refl, (drop front.0 stops.next, sym (take-append-drop front.0 stops.next)));
           };
-          output = appends_told _ _ written (take front.0 (spelling stops.marks ++ stops.more)) told.written-told
-              front.1.0;
+          output = appends_told _ _ (written ++ stops.whole) part between front.1.0
+              ∙ ap Some (append_assoc written stops.whole part);
           left = gone.1;
           offset = omega (arith, stops.passed.offset, length-append stops.bytes stops.read);
         }
@@ -191,7 +185,7 @@ module _ {R E W F : Type 0} {strict : Bool} (source : Reader R E) (sink : Writer
         let fails = stops.stopped.ends in
         body_short stops.bytes stops.marks stops.kind stops.len stops.start stops.between stops.titled fails.between
         new stops.reaches stops.copied
-        stops.title fails.part stops.stopped.written fails.fails.offset
+        stops.title fails.part stops.stopped.written fails.stops.1.offset
     recode_anyhow new (Err (r.Read (e.Syntax at))) (inl stops) =
         no_title_told source sink count room old due written told at new stops
     recode_anyhow new (Err (r.Read (e.Syntax at))) (inr (inl stops)) =

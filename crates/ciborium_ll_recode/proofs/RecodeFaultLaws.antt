@@ -294,8 +294,8 @@ module _ {R E W F : Type 0} {strict : Bool} (source : Reader R E) (sink : Writer
         old.decoder new
     damaged_told at new stops =
         let c = came stops.bytes stops.marks stops.between stops.copied in
-        let body = damage_read source stops.kind [] stops.len room stops.between.decoder new.decoder
-        stops.stopped.ends.1 in
+        let body = damage_read source stops.kind [] stops.len room (old.decoder.offset + stops.start) at
+        stops.between.decoder new.decoder stops.stopped.ends in
         let gone = consumes_told _ _ c.rest body.read c.left body.passed.consumed in
         let reach = subst (λ (k : Kind). Reaches count stops.bytes stops.marks (BodyDue k stops.len stops.start))
         body.textual stops.reaches in
@@ -311,7 +311,7 @@ module _ {R E W F : Type 0} {strict : Bool} (source : Reader R E) (sink : Writer
         ≡ Some (written ++ (spelling stops.marks ++ (shortest_title (kind_header k (Some stops.len)) ++ body.front))))
         body.textual output in (
           stops.start,
-          stops.stopped.ends.0,
+          stops.stopped.ends.stops.0,
           record {
             fault = f.0;
             answered = f.1;

@@ -1,6 +1,6 @@
 -- Where the copy of elements stops, and how an element is added.
 use Rattle.std.proofs.Common.{◌≡◌, ℕ, suc, ◌+◌, ◌-◌, ◌<◌, ◌≤◌, ◌⊎◌, List, [], ◌∷◌, ◌++◌, length, Some}
-use Rattle.std.proofs.Common.{Result, Ok, Err, refl, sym, ap, subst, ◌∙◌, inl, inr, arith}
+use Rattle.std.proofs.Common.{Result, Ok, Err, sym, ap, subst, ◌∙◌, inl, inr, arith}
 use Rattle.std.proofs.Common.{append_assoc, append-nil, length-append}
 use Rattle.std.proofs.lemmas.Bool.{cases_lt}
 use Rattle.ciborium_ll_io.specs.declared.io.Read.{Ghosts as Reader}
@@ -15,10 +15,10 @@ use Rattle.ciborium_ll_grammar.specs.Strings.{Kind, kind_header}
 use Rattle.ciborium_ll_grammar.specs.Strings.IsString.{definite}
 use Rattle.ciborium_ll_grammar.specs.Elements.{Mark, Whole, mark_spelling, spelling, string, IsRun}
 use Rattle.ciborium_ll_grammar.specs.Elements.{IsStrictSpelling}
-use Rattle.ciborium_ll_grammar.specs.Faults.{Place, Due, In, BodyDue, Reaches, IsAtTitle, with_front, due, body}
+use Rattle.ciborium_ll_grammar.specs.Faults.{Place, Due, BodyDue, Reaches, IsAtTitle, with_front, due, body}
 use Rattle.ciborium_ll_decoder.specs.Decoding.{Passes, Strictly}
 use Rattle.ciborium_ll_io.specs.Writes.{WritesAll, WritesFront}
-use Rattle.ciborium_ll_recode.specs.Recoding.{WritesHeader, IsUnderWay}
+use Rattle.ciborium_ll_recode.specs.Recoding.{WritesHeader}
 use Rattle.ciborium_ll_decoder.specs.BodyCopies.{CopiesBody, BodyWritten, BodyUnwritten, Sides, sides}
 use Rattle.ciborium_ll_recode.specs.Recoding.{Copied, CopiesRun, StopsInBody, StopsWriting, StopsCopy, GoesOn}
 use Rattle.ciborium_ll_recode.specs.Recoding.{Alone, Titled, Chunk}
@@ -39,22 +39,11 @@ run_belongs count j bytes marks run within =
       | inr more ↦ (let same : j ≡ count = omega arith in inl (subst (λ (n : ℕ). IsRun n bytes marks) same run))
     ]
 
--- where a title is due nothing is under way
-nothing_under_way : (place : Place) → IsAtTitle place → IsUnderWay place [] []
-nothing_under_way Due title = (refl, refl)
-nothing_under_way (In k) title = (refl, refl)
-nothing_under_way (BodyDue k len start) title = absurd title
-
 module _ {R E W F : Type 0} (source : Reader R E) (sink : Writer W F) where
   pub writes_then : (writer between writer' : W) (xs ys : List ℕ) → WritesAll sink writer xs between
       → WritesAll sink between ys writer' → WritesAll sink writer (xs ++ ys) writer'
   writes_then writer between writer' xs ys first second = WritesBytes-then sink {T = Unit {0}} writer between
       writer' (Ok (tt {0})) xs ys first second
-
-  stops_then : (writer between writer' : W) (fault : F) (xs ys : List ℕ) → WritesAll sink writer xs between
-      → WritesFront sink between ys writer' → WritesFront sink writer (xs ++ ys) writer'
-  stops_then writer between writer' fault xs ys first second =
-      WritesBytes-then sink {T = Unit {0}} writer between writer' (Err fault) xs ys first second
 
   -- marks, and one mark more, are written
   pub marks_then : (writer between writer' : W) (marks others : List Mark)
@@ -73,19 +62,8 @@ module _ {R E W F : Type 0} (source : Reader R E) (sink : Writer W F) where
         × IsAtTitle place) → StopsWriting source sink count room old (sides now.decoder after)
     mark_unwritten bytes marks mark header now after fault spelled copied stopped belongs = record {
       bytes = bytes;
-      marks = marks ++ mark ∷ [];
-      more = [];
       read = [];
       passed = subst (λ (z : List ℕ). Passes source old.decoder z now.decoder) (sym (append-nil bytes)) copied.passed;
-      stopped = subst (λ (z : List ℕ). WritesFront sink old.writer z after) (sym (append-nil
-          (spelling (marks ++ mark ∷ [])) ∙ spelling-append marks (mark ∷ []) ∙ ap (λ (z : List ℕ). spelling marks ++ z)
-          (append-nil (mark_spelling mark) ∙ spelled)))
-          (stops_then old.writer now.writer after fault (spelling marks) (shortest_title header) copied.written
-          stopped);
-      belongs = elim belongs [
-        | inl run ↦ inl (run, refl, refl)
-        | inr reach ↦ inr (reach.0, reach.1, nothing_under_way reach.0 reach.2)
-      ];
       whole = spelling marks;
       next = shortest_title header;
       next_write = Alone marks mark header spelled belongs;
@@ -114,13 +92,9 @@ module _ {R E W F : Type 0} (source : Reader R E) (sink : Writer W F) where
         let title = shortest_title (kind_header k (Some len)) in
         record {
           bytes = bytes;
-          marks = marks;
-          more = title;
           read = [];
           passed = subst (λ (z : List ℕ). Passes source old.decoder z now.decoder) (sym (append-nil bytes))
               copied.passed;
-          stopped = stops_then old.writer now.writer after fault (spelling marks) title copied.written stopped;
-          belongs = inr (BodyDue k len start, reach, ([], sym (append-nil title), ([], refl), omega arith));
           whole = spelling marks;
           next = title;
           next_write = Titled marks k len start reach;
@@ -138,31 +112,12 @@ module _ {R E W F : Type 0} (source : Reader R E) (sink : Writer W F) where
         → StopsWriting source sink count room old new
     body_unwritten bytes marks k len start between titled new fault reach copied title stops =
         let shortest = shortest_title (kind_header k (Some len)) in
-        let part = stops.front ++ stops.chunk in
         let read = stops.front ++ (stops.chunk ++ stops.kept) in
-        let listed : (spelling marks ++ shortest) ++ part ≡ spelling marks ++ (shortest ++ part) =
-        append_assoc (spelling marks) shortest part in
         let before = writes_then old.writer between.writer titled (spelling marks) shortest copied.written title in
-        let front = stops_then titled stops.between new.writer fault stops.front stops.chunk stops.written
-        stops.stopped in
         record {
           bytes = bytes;
-          marks = marks;
-          more = shortest ++ part;
           read = read;
           passed = Passes-then source old.decoder between.decoder new.decoder bytes read copied.passed stops.passed;
-          stopped = subst (λ (z : List ℕ). WritesFront sink old.writer z new.writer) listed
-              (stops_then old.writer titled new.writer fault (spelling marks ++ shortest) part before front);
-          belongs = inr (
-            BodyDue k len start,
-            reach,
-            (
-              part,
-              refl,
-              (stops.kept, sym (append_assoc stops.front stops.chunk stops.kept)),
-              omega (arith, stops.within, stops.filled, length-append stops.front stops.chunk),
-            ),
-          );
           whole = with_front marks k len stops.front;
           next = stops.chunk;
           next_write = Chunk marks k len start stops.front stops.chunk stops.kept reach stops.sound stops.within
@@ -181,7 +136,7 @@ module _ {R E W F : Type 0} (source : Reader R E) (sink : Writer W F) where
     read_stops (e.Io fault) new stops = inr stops
     read_stops (e.Syntax at) new stops = inr (inr stops)
     read_stops e.TooLong new stops = inr (inr stops)
-    read_stops e.Waiting new stops = stops.stopped.ends
+    read_stops e.Waiting new stops = stops.stopped.ends.stops
 
     -- and so does its copy
     pub body_stops : (bytes : List ℕ) (marks : List Mark) (k : Kind) (len start : ℕ) (between : Sides R W)
@@ -218,15 +173,14 @@ module _ {R E W F : Type 0} (source : Reader R E) (sink : Writer W F) where
         omega (arith, e, shortest_no_longer title (kind_header k (Some len)) t, length-append bytes title)
 
     -- the copy of a definite string that goes through adds an element
-    definite_added : (before : ℕ) (bytes title : List ℕ) (marks : List Mark) (k : Kind) (len place : ℕ)
+    definite_added : (before : ℕ) (bytes title : List ℕ) (marks : List Mark) (k : Kind) (len : ℕ)
         (between : Sides R W) (titled : W) (new : Sides R W) → IsTitle title (kind_header k (Some len))
         → IsRun before bytes marks → Copied source sink old (bytes ++ title) marks between
         → WritesAll sink between.writer (shortest_title (kind_header k (Some len))) titled
-        → BodyWritten source sink k len room place (sides between.decoder titled) (Ok (tt {0})) new
+        → BodyWritten source sink k len (sides between.decoder titled) new
         → Strictly old.decoder (IsStrictTitle title (kind_header k (Some len)))
         → Strictly old.decoder (IsStrictSpelling bytes marks []) → CopiesRun source sink (suc before) old new
-    definite_added before bytes title marks k len place between titled new t run copied title-written whole only
-        strict =
+    definite_added before bytes title marks k len between titled new t run copied title-written whole only strict =
         let b = whole.ends.read in
         let lengths : len ≡ length b = sym whole.ends.all in
         let t' = subst (λ (n : ℕ). IsTitle title (kind_header k (Some n))) lengths t in
@@ -267,8 +221,7 @@ module _ {R E W F : Type 0} (source : Reader R E) (sink : Writer W F) where
         → Strictly old.decoder (IsStrictSpelling bytes marks []) → GoesOn source sink count before room old result new
     definite_goes_on before bytes title marks k len place between titled new (Ok done) less t run copied at
         title-written whole only strict =
-        definite_added before bytes title marks k len place between titled new t run copied title-written whole only
-        strict
+        definite_added before bytes title marks k len between titled new t run copied title-written whole only strict
     definite_goes_on before bytes title marks k len place between titled new (Err error) less t run copied at
         title-written stopped only strict =
         let start = length (bytes ++ title) - title_len (kind_header k (Some len)) in

@@ -1,6 +1,6 @@
 -- A copy of elements where bytes are told and no side fails by itself: all elements are copied, or a fault stops it.
-use Rattle.std.proofs.Common.{◌≡◌, ℕ, Bool, ◌+◌, ◌^◌, ◌<◌, ◌≤◌, List, ◌++◌, length, drop, min, Some, Result}
-use Rattle.std.proofs.Common.{Ok, Err, IsOk, ◌↔◌, refl, sym, ap, ◌∙◌, inl, inr, arith, append_assoc, length-append}
+use Rattle.std.proofs.Common.{◌≡◌, ℕ, Bool, false, ◌+◌, ◌^◌, ◌<◌, ◌≤◌, List, ◌++◌, length, drop, min, Some}
+use Rattle.std.proofs.Common.{Result, Ok, Err, IsOk, ◌↔◌, refl, sym, ap, ◌∙◌, inl, inr, arith, append_assoc, length-append}
 use Rattle.std.proofs.lemmas.List.{length-take}
 use Rattle.std.proofs.Math.Seq.{drop-append_seam}
 use Rattle.ciborium_ll_io.specs.declared.io.Read.{Ghosts as Reader}
@@ -15,13 +15,15 @@ use Rattle.ciborium_ll_grammar.specs.Faults.{BodyDue, Short, CutTitle, CutBody, 
 use Rattle.ciborium_ll_decoder.specs.Decoding.{next_read, IsSteady}
 use Rattle.ciborium_ll_decoder.specs.BodyCopies.{Sides, sides}
 use Rattle.ciborium_ll_recode.specs.Recoding.{CopiesElements, StopsAtTitle, StopsTooDeep, StopsInBody, StopsCopy}
-use Rattle.ciborium_ll_recode.specs.Recoding.{StopsWriting}
+use Rattle.ciborium_ll_recode.specs.Recoding.{NextWrite, StopsWriting}
 use Rattle.ciborium_ll_recode.specs.RecodingTold.{IsReady, IsTold, MeetsFault, RecodesTold}
 use Rattle.ciborium_ll_grammar.proofs.ElementLaws.{run_again, one_run}
 use Rattle.ciborium_ll_grammar.proofs.StrictFaultLaws.{no_fault}
 use Rattle.ciborium_ll_decoder.proofs.BodyLaws.{view_none}
 use Rattle.ciborium_ll_decoder.proofs.ToldLaws.{consumes_told, next_read_small, first_gone}
 use Rattle.ciborium_ll_text.proofs.Lists.{first_counted}
+use Rattle.ciborium_ll_io.proofs.WriteLaws.{shrinks_told}
+use Rattle.ciborium_ll_recode.proofs.UnderWay.{spells}
 use Rattle.ciborium_ll_recode.proofs.RunLaws.{way_shorter}
 use Rattle.ciborium_ll_recode.proofs.RoomLaws.{spelled_within}
 use Rattle.ciborium_ll_recode.proofs.RecodeFaultLaws.{came, all_told, no_title_told, other_title_told}
@@ -75,9 +77,9 @@ module _ {R E W F : Type 0} {strict : Bool} (source : Reader R E) (sink : Writer
         let fails = stops.stopped.ends in
         let part = fails.part in
         let gone = consumes_told _ _ c.rest part.read c.left part.passed.consumed in
-        let before = view_none fails.between.waiting (source.ahead fails.between.reader) fails.fails.none_waited in
-        let after = view_none new.decoder.waiting (source.ahead new.decoder.reader) fails.fails.none_waits in
-        let still = fails.fails.steady (part.passed.steady (stops.copied.passed.steady steady)) in
+        let before = view_none fails.between.waiting (source.ahead fails.between.reader) fails.stops.1.none_waited in
+        let after = view_none new.decoder.waiting (source.ahead new.decoder.reader) fails.stops.1.none_waits in
+        let still = fails.stops.1.steady (part.passed.steady (stops.copied.passed.steady steady)) in
         let due-behind : source.ahead fails.between.reader ≡ Some gone.0 = sym before ∙ gone.1 in
         let few = rw due-behind at still.1 in
         let behind = ap length gone.2 in
@@ -107,7 +109,7 @@ module _ {R E W F : Type 0} {strict : Bool} (source : Reader R E) (sink : Writer
               stops.kind stops.len stops.between stops.titled new.writer stops.copied stops.title stops.stopped.written;
           left = after ∙ still.0 ∙ due-behind
               ∙ ap Some (sym (ap (drop (length part.read)) gone.2 ∙ drop-append_seam part.read gone.0));
-          offset = omega (arith, fails.fails.offset, part.passed.offset, stops.copied.passed.offset);
+          offset = omega (arith, fails.stops.1.offset, part.passed.offset, stops.copied.passed.offset);
         }
 
     pub short_told : (fault : E) (new : Sides R W) → StopsCopy source sink count room old (r.Read (e.Io fault)) new
@@ -171,7 +173,7 @@ module _ {R E W F : Type 0} {strict : Bool} (source : Reader R E) (sink : Writer
         let behind = ap length gone.2 in
         let whole = ap length c.parts in
         let fits : old.decoder.offset + length due + room < 2 ^ 64 = ready.fits-chunk in
-        let full : 2 ^ 64 ≤ stops.stopped.ends.between.offset + stops.stopped.ends.count = stops.stopped.ends.full in
+        let full : 2 ^ 64 ≤ stops.stopped.ends.between.offset + stops.stopped.ends.count = stops.stopped.ends.stops.0 in
         omega (
           arith,
           behind,
@@ -186,60 +188,81 @@ module _ {R E W F : Type 0} {strict : Bool} (source : Reader R E) (sink : Writer
         )
 
     -- what was to be written is no longer than what was read
-    writer_shorter : (new : Sides R W) (stops : StopsWriting source sink count room old new)
-        → length (spelling stops.marks ++ stops.more) ≤ length (stops.bytes ++ stops.read)
-    writer_shorter new stops =
-        elim stops.belongs [
+    writer_shorter : (before read whole next : List ℕ) → NextWrite count room before read whole next
+        → length whole + length next ≤ length (before ++ read)
+    writer_shorter before read whole next next_write =
+        let s = spells count room before read whole next next_write in
+        let same = ap length s.is in
+        elim s.belongs [
           | inl all ↦ (
-              let again = run_again count stops.bytes stops.marks all.0 in
+              let again = run_again count before s.marks all.0 in
               let none = ap length all.1 in
               omega (
                 arith,
                 again.shorter,
                 none,
-                length-append (spelling stops.marks) stops.more,
-                length-append
-                    stops.bytes stops.read,
+                same,
+                length-append whole next,
+                length-append (spelling s.marks) s.more,
+                length-append before read,
               )
               )
-          | inr way ↦ way_shorter count stops.bytes stops.marks way.0 stops.more stops.read way.1 way.2
+          | inr way ↦ omega (
+            arith,
+            way_shorter count before s.marks way.0 s.more read way.1 way.2,
+            same,
+            length-append whole next,
+          )
+        ]
+
+    -- nor than the spelling of the elements, where they stand in front
+    writer_within : (before read whole next rest : List ℕ) → NextWrite count room before read whole next
+        → (front : RunInFront false count due) → due ≡ (before ++ read) ++ rest
+        → length whole + length next ≤ length (spelling front.marks)
+    writer_within before read whole next rest next_write front is =
+        let s = spells count room before read whole next next_write in
+        let same = ap length s.is in
+        elim s.belongs [
+          | inl all ↦ (
+              let none = ap length all.1 in
+              let one = one_run count front.elements front.marks front.run before front.rest (read ++ rest) s.marks all.0
+              (sym front.is ∙ is ∙ append_assoc before read rest) in
+              let marks = ap (λ (z : List Mark). length (spelling z)) one.1 in
+              omega (arith, none, same, marks, length-append whole next, length-append (spelling s.marks) s.more)
+              )
+          | inr way ↦ omega (
+            arith,
+            same,
+            length-append whole next,
+            length-append (spelling s.marks) s.more,
+            spelled_within count before s.marks way.0 way.1 s.more read way.2 (read ++ rest) front.elements front.rest
+                front.marks front.run (sym (append_assoc before read rest) ∙ sym is ∙ front.is),
+          )
         ]
 
     pub writer_fits : (new : Sides R W) → StopsWriting source sink count room old new → ⊥
     writer_fits new stops =
         let gone = consumes_told _ _ due (stops.bytes ++ stops.read) ready.told.due-told stops.passed.consumed in
-        let less : ready.room < length (spelling stops.marks ++ stops.more) = rw ready.room-told at stops.stopped.full
-        in
+        let left = shrinks_told _ _ ready.room (length stops.whole) ready.room-told stops.written.room in
+        let less : left.0 < length stops.next = rw left.1 at stops.fails.full in
         let whole = ap length gone.2 in
         elim ready.enough [
-          | inl fits ↦ (
-              let front = fits.0 in
-              let enough : length (spelling front.marks) ≤ ready.room = fits.1 in
-              elim stops.belongs [
-                | inl all ↦ (
-                    let none = ap length all.1 in
-                    let one = one_run count front.elements front.marks front.run stops.bytes front.rest
-                    (stops.read ++ gone.0) stops.marks all.0
-                    (sym front.is ∙ gone.2 ∙ append_assoc stops.bytes stops.read gone.0) in
-                    let same = ap (λ (z : List Mark). length (spelling z)) one.1 in
-                    omega (arith, less, none, same, enough, length-append (spelling stops.marks) stops.more)
-                    )
-                | inr way ↦ omega (
-                  arith,
-                  less,
-                  enough,
-                  length-append (spelling stops.marks) stops.more,
-                  spelled_within count stops.bytes stops.marks way.0 way.1 stops.more stops.read way.2
-                      (stops.read ++ gone.0) front.elements front.rest front.marks front.run
-                      (sym (append_assoc stops.bytes stops.read gone.0) ∙ sym gone.2 ∙ front.is),
-                )
-              ]
-              )
-          | inr fits ↦ (
-              let enough : length due ≤ ready.room = fits in
-              let shorter = writer_shorter new stops in
-              omega (arith, less, shorter, whole, enough, length-append (stops.bytes ++ stops.read) gone.0)
-              )
+          | inl fits ↦ omega (
+            arith,
+            less,
+            left.2,
+            fits.1,
+            writer_within stops.bytes stops.read stops.whole stops.next gone.0 stops.next_write fits.0 gone.2,
+          )
+          | inr fits ↦ omega (
+            arith,
+            less,
+            left.2,
+            fits,
+            whole,
+            writer_shorter stops.bytes stops.read stops.whole stops.next stops.next_write,
+            length-append (stops.bytes ++ stops.read) gone.0,
+          )
         ]
 
     pub recode_told : (new : Sides R W) (result : Result (Unit {0}) (RecodeError E F))

@@ -8,7 +8,7 @@ use Rattle.ciborium_ll_grammar.specs.Strings.IsString.{definite, indefinite}
 use Rattle.ciborium_ll_grammar.specs.Elements.{Mark, Open, pieces, spelling, IsElement, plain, string}
 use Rattle.ciborium_ll_grammar.specs.Elements.{IsPlain, IsRun, done, next}
 use Rattle.ciborium_ll_grammar.specs.Faults.{Place, Reaches, due, inside, body, body_inside}
-use Rattle.ciborium_ll_recode.specs.Recoding.{IsUnderWay}
+use Rattle.ciborium_ll_recode.proofs.UnderWay.{IsUnderWay}
 use Rattle.ciborium_ll_grammar.proofs.TitleLaws.{one_title}
 use Rattle.ciborium_ll_grammar.proofs.StringLaws.{some_is, mixed, fronts, not_break, break_title, string_not_break}
 use Rattle.ciborium_ll_grammar.proofs.StringLaws.{one_string}

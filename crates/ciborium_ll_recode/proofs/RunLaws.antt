@@ -11,7 +11,7 @@ use Rattle.ciborium_ll_grammar.specs.Elements.{Mark, Open, pieces, spelling, IsE
 use Rattle.ciborium_ll_grammar.specs.Elements.{IsRun, done, next}
 use Rattle.ciborium_ll_grammar.specs.Faults.{Place, Due, In, BodyDue, Reaches, due, inside, body, body_inside}
 use Rattle.ciborium_ll_decoder.specs.Decoding.{Begins, Passes}
-use Rattle.ciborium_ll_recode.specs.Recoding.{IsUnderWay}
+use Rattle.ciborium_ll_recode.proofs.UnderWay.{IsUnderWay}
 use Rattle.ciborium_ll_grammar.proofs.TitleLaws.{shortest_no_longer, shortest_some}
 use Rattle.ciborium_ll_grammar.proofs.ElementLaws.{spelling-append, run_again}
 use Rattle.ciborium_ll_grammar.proofs.StrictFaultLaws.{inside_shorter}

@@ -249,13 +249,13 @@ module _ {R E W F : Type 0} (source : Reader R E) (sink : Writer W F) (k : Kind)
   -- ---- one segment more
 
   pub segment_copied : (bodies : List (List ℕ)) (opened now : Sides R W) (new : Decoder R) (titled : W)
-      (ended : Sides R W) (room : ℕ) (body : Body) (progress : Progress) → opened.decoder.waiting ≡ None
+      (ended : Sides R W) (body : Body) (progress : Progress) → opened.decoder.waiting ≡ None
       → AdvancesAmong source k bodies opened.decoder now.decoder (Ok (Some body)) progress new
       → WritesAll sink opened.writer (spelling (pieces k bodies)) now.writer
       → WritesAll sink now.writer (shortest_title (kind_header k (Some body.length))) titled
-      → BodyWritten source sink k body.length room body.place (sides new titled) (Ok (tt {0})) ended
+      → BodyWritten source sink k body.length (sides new titled) ended
       → (IsSteady source new → IsSteady source ended.decoder) → CopiedSoFar opened progress ended
-  segment_copied bodies opened now new titled ended room body progress settled all written title whole steady =
+  segment_copied bodies opened now new titled ended body progress settled all written title whole steady =
       let b = whole.ends.read in
       let lengths : body.length ≡ length b = sym whole.ends.all in
       let title' = subst (λ (n : ℕ). WritesAll sink now.writer (shortest_title (kind_header k (Some n))) titled)

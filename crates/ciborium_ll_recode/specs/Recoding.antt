@@ -15,11 +15,12 @@ use Rattle.ciborium_ll_grammar.specs.Title.{IsTitle, IsStrictTitle, shortest_tit
 use Rattle.ciborium_ll_grammar.specs.Strings.{Kind, kind_header, IsWritable, most_kept}
 use Rattle.ciborium_ll_grammar.specs.Elements.{Mark, Open, mark_spelling, pieces, open_marks, spelling, IsElement}
 use Rattle.ciborium_ll_grammar.specs.Elements.{IsRun, IsStrictSpelling}
-use Rattle.ciborium_ll_grammar.specs.Faults.{Place, Due, In, BodyDue, Reaches, IsAtTitle, IsRefusedIn, with_front}
-use Rattle.ciborium_ll_decoder.specs.Decoding.{offset_limit, Begins, MovesOn, Strictly, Passes, PullsHeader, PullsTitle}
+use Rattle.ciborium_ll_grammar.specs.Faults.{Place, In, BodyDue, Reaches, IsAtTitle, IsRefusedIn, with_front}
+use Rattle.ciborium_ll_decoder.specs.Decoding.{offset_limit, MovesOn, Strictly, Passes, PullsHeader, PullsTitle}
 use Rattle.ciborium_ll_decoder.specs.Segments.{PullsOther}
 use Rattle.ciborium_ll_decoder.specs.BodyCopies.{Sides, sides}
-pub use Rattle.ciborium_ll_decoder.specs.BodyCopies.{BodyWritten, BodyUnwritten, CopiesBody, CopiesSegment}
+pub use Rattle.ciborium_ll_decoder.specs.BodyCopies.{BodyWritten, BodyUnread, BodyUnwritten}
+pub use Rattle.ciborium_ll_decoder.specs.BodyCopies.{CopiesBody, CopiesSegment}
 use Rattle.ciborium_ll_io.specs.Writes.{WritesAll, WritesFront}
 
 -- ---- one header
@@ -32,14 +33,6 @@ module _ {E W F : Type 0} (sink : Writer W F) where
   WritesHeader writer (Err (r.Read error)) header writer' = ⊥
 
 -- ---- elements
-
--- what is under way of a body where its copy stops: its title, and a beginning of what was read of it
-abbrev pub IsUnderWay : Place → List ℕ → List ℕ → Type 0
-IsUnderWay Due more read = (more ≡ []) × (read ≡ [])
-IsUnderWay (In kind) more read = (more ≡ []) × (read ≡ [])
-IsUnderWay (BodyDue kind len start) more read =
-    (part : List ℕ) × (more ≡ shortest_title (kind_header kind (Some len)) ++ part) × Begins part read
-    × (length part ≤ len)
 
 -- `NextWrite count room before read whole next`: of a copy of so many elements, through a buffer of so much room, the
 -- bytes before were read, and these of a body behind them; what they became is written whole, and this title or this
@@ -132,22 +125,16 @@ module _ {R E W F : Type 0} (source : Reader R E) (sink : Writer W F) where
     pub copied : Copied old bytes marks between
     pub titled : W
     pub title : WritesAll sink between.writer (shortest_title (kind_header kind (Some len))) titled
-    pub stopped : BodyWritten source sink kind len room (old.decoder.offset + start) (sides between.decoder titled)
-        (Err error) new
+    pub stopped : BodyUnread source sink kind len room (old.decoder.offset + start) (sides between.decoder titled)
+        error new
     pub strict : Strictly old.decoder
         (IsStrictSpelling bytes marks (shortest_title (kind_header kind (Some len))))
 
-  -- the writer failed at one title or one chunk. All before it was written, and it has a beginning of what was to be
-  -- written so far
+  -- the writer failed at one title or one chunk. All before it was written, and of that a beginning at most
   pub record StopsWriting (count room : ℕ) (old new : Sides R W) : Type 0 where
     pub bytes : List ℕ
-    pub marks : List Mark
-    pub more : List ℕ
     pub read : List ℕ
     pub passed : Passes source old.decoder (bytes ++ read) new.decoder
-    pub stopped : WritesFront sink old.writer (spelling marks ++ more) new.writer
-    pub belongs : (IsRun count bytes marks × (more ≡ []) × (read ≡ [])) ⊎
-        ((place : Place) × Reaches count bytes marks place × IsUnderWay place more read)
     pub whole : List ℕ
     pub next : List ℕ
     pub next_write : NextWrite count room bytes read whole next

@@ -1,6 +1,6 @@
 -- What a copy of elements means where the bytes are told: whatever fails, and where no side fails by itself. A strict
 -- decoder takes elements in their shortest spelling alone.
-use Rattle.std.specs.Prelude.{◌≡◌, ℕ, Bool, true, false, ◌+◌, ◌<◌, ◌≤◌, ◌⊎◌, min, max, List, [], ◌++◌, length, drop, None}
+use Rattle.std.specs.Prelude.{◌≡◌, ℕ, Bool, true, false, ◌+◌, ◌<◌, ◌≤◌, ◌⊎◌, min, max, List, ◌++◌, length, drop, None}
 use Rattle.std.specs.Prelude.{Some, Result, Ok, Err}
 use Rattle.ciborium_ll_io.specs.declared.io.Read.{Ghosts as Reader}
 use Rattle.ciborium_ll_io.specs.declared.io.Write.{Ghosts as Writer}
@@ -8,25 +8,24 @@ use Rattle.ciborium_ll_decoder.specs.declared.dec.Decoder.{Decoder}
 use Rattle.ciborium_ll_decoder.specs.declared.dec.Error.TheVariants as e
 use Rattle.ciborium_ll_decoder.specs.declared.copy.RecodeError.{RecodeError}
 use Rattle.ciborium_ll_decoder.specs.declared.copy.RecodeError.TheVariants as r
-use Rattle.ciborium_ll_grammar.specs.Title.{shortest_title}
-use Rattle.ciborium_ll_grammar.specs.Strings.{kind_header, IsWritable, most_kept}
+use Rattle.ciborium_ll_grammar.specs.Strings.{IsWritable, most_kept}
 use Rattle.ciborium_ll_grammar.specs.Elements.{Mark, spelling, IsRun}
 use Rattle.ciborium_ll_grammar.specs.Faults.{Place, Due, In, BodyDue, Reaches, Answer, Short, Syntax, RunInFront}
-use Rattle.ciborium_ll_grammar.specs.Faults.{HasFault}
+use Rattle.ciborium_ll_grammar.specs.Faults.{HasFault, with_front}
 use Rattle.ciborium_ll_decoder.specs.Decoding.{offset_limit, Begins, view, IsSteady}
-use Rattle.ciborium_ll_recode.specs.Recoding.{IsUnderWay}
+use Rattle.ciborium_ll_recode.specs.Recoding.{NextWrite}
 use Rattle.ciborium_ll_decoder.specs.BodyCopies.{Sides}
 
--- A side failed at this place, with these bytes ahead. `more` is what is written of a body under way: its shortest
--- title, and a front of it. The count is that of the bytes ahead that are consumed: of a title the first byte at most,
--- of a text up to three more than are written
-abbrev pub StopsAt : Place → List ℕ → List ℕ → ℕ → Type 0
-StopsAt Due ahead more consumed = (more ≡ []) × (consumed ≤ min 1 (length ahead))
-StopsAt (In kind) ahead more consumed = (more ≡ []) × (consumed ≤ min 1 (length ahead))
-StopsAt (BodyDue kind len start) ahead more consumed =
-    (front : List ℕ) × (rest : List ℕ) × (ahead ≡ front ++ rest)
-    × (more ≡ shortest_title (kind_header kind (Some len)) ++ front) × IsWritable kind front
-    × (length front ≤ consumed) × (consumed ≤ length front + most_kept kind) × (consumed ≤ min len (length ahead))
+-- `StopsAt marks place ahead written consumed`: behind the marks a side failed at this place, with these bytes ahead.
+-- What is written in all, of a body under way its shortest title and a front of it, and how many bytes ahead are
+-- consumed: of a title the first one at most, of a text up to three more than are written
+abbrev pub StopsAt : List Mark → Place → List ℕ → List ℕ → ℕ → Type 0
+StopsAt marks Due ahead written consumed = (written ≡ spelling marks) × (consumed ≤ min 1 (length ahead))
+StopsAt marks (In kind) ahead written consumed = (written ≡ spelling marks) × (consumed ≤ min 1 (length ahead))
+StopsAt marks (BodyDue kind len start) ahead written consumed =
+    (front : List ℕ) × (rest : List ℕ) × (ahead ≡ front ++ rest) × (written ≡ with_front marks kind len front)
+    × IsWritable kind front × (length front ≤ consumed) × (consumed ≤ length front + most_kept kind)
+    × (consumed ≤ min len (length ahead))
 
 -- a copy of so many elements stops there, since no more can be read: behind a part of them. What is written of it in
 -- all
@@ -35,27 +34,25 @@ pub record StopInReading (count : ℕ) (bytes : List ℕ) : Type 0 where
   pub marks : List Mark
   pub place : Place
   pub ahead : List ℕ
-  pub more : List ℕ
-  pub consumed : ℕ
-  pub reach : Reaches count before marks place
   pub is : bytes ≡ before ++ ahead
-  pub stops : StopsAt place ahead more consumed
+  pub reach : Reaches count before marks place
   pub written : List ℕ
-  pub spelled : written ≡ spelling marks ++ more
+  pub consumed : ℕ
+  pub stops : StopsAt marks place ahead written consumed
 
--- a copy of so many elements stops there, since no more can be written: behind all of them or a part. What is written
--- of it in all is a beginning of its spelling and of a body under way; what was read and not written yet is that body's
-pub record StopInWriting (count : ℕ) (bytes : List ℕ) : Type 0 where
+-- a copy of so many elements, through a buffer of so much room, stops there, since no more can be written: behind all of
+-- them or a part, at one title or one chunk. All before it is written, and of that a beginning; what was read and not
+-- written yet is of the body that the chunk is from
+pub record StopInWriting (count room : ℕ) (bytes : List ℕ) : Type 0 where
   pub before : List ℕ
-  pub marks : List Mark
   pub read : List ℕ
-  pub more : List ℕ
   pub rest : List ℕ
-  pub belongs : (IsRun count before marks × (more ≡ []) × (read ≡ [])) ⊎
-      ((place : Place) × Reaches count before marks place × IsUnderWay place more read)
   pub is : bytes ≡ (before ++ read) ++ rest
+  pub whole : List ℕ
+  pub next : List ℕ
+  pub next_write : NextWrite count room before read whole next
   pub written : List ℕ
-  pub begun : Begins written (spelling marks ++ more)
+  pub begun : (part : List ℕ) × (written ≡ whole ++ part) × Begins part next
 
 module _ {R E W F : Type 0} (source : Reader R E) (sink : Writer W F) where
   -- the bytes that are due are told, and those that were written. The decoder is strict or not, as given; a header
@@ -126,8 +123,9 @@ module _ {R E W F : Type 0} (source : Reader R E) (sink : Writer W F) where
     pub offset : new.decoder.offset ≡ old.offset + length stop.before + stop.consumed
 
   -- the writer failed
-  pub record StopsUnwritten (count : ℕ) (due written : List ℕ) (old : Decoder R) (new : Sides R W) : Type 0 where
-    pub stop : StopInWriting count due
+  pub record StopsUnwritten (count room-in : ℕ) (due written : List ℕ) (old : Decoder R) (new : Sides R W) :
+      Type 0 where
+    pub stop : StopInWriting count room-in due
     pub output : sink.written new.writer ≡ Some (written ++ stop.written)
     pub left : view source new.decoder ≡ Some stop.rest
     pub offset : new.decoder.offset ≡ old.offset + length stop.before + length stop.read
@@ -144,4 +142,4 @@ module _ {R E W F : Type 0} (source : Reader R E) (sink : Writer W F) where
       StopsShort count due written old new × (offset_limit ≤ new.decoder.offset + max 8 room-in)
   RecodesAnyhow strict count room-in due written old (Err (r.Read e.Waiting)) new = ⊥
   RecodesAnyhow strict count room-in due written old (Err (r.Write fault)) new =
-      StopsUnwritten count due written old new
+      StopsUnwritten count room-in due written old new

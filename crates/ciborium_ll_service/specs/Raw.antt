@@ -28,7 +28,7 @@ module _ {W : Type 0} (got : W → List ℕ → Type 0) where
 
   -- the writer failed: it got a beginning of the spelling of all elements, or of a part of them
   pub record WritesShort (count : ℕ) (due written : List ℕ) (writer : W) : Type 0 where
-    pub stop : StopInWriting count due
+    pub stop : StopInWriting count 64 due
     pub output : got writer (written ++ stop.written)
 
   -- a syntax stopped the copy: the writer got what stands before that fault

@@ -1,5 +1,5 @@
 -- A copy of a stream, and the flush behind it.
-use Rattle.std.proofs.Common.{◌≡◌, ℕ, zero, suc, false, ◌+◌, IsTrue, IsSome, Option, List, [], ◌++◌, length, drop, MatchResult}
+use Rattle.std.proofs.Common.{◌≡◌, ℕ, zero, suc, false, ◌+◌, IsTrue, IsSome, Option, List, [], ◌++◌, length, drop}
 use Rattle.std.proofs.Common.{None, Some, Result, Ok, Err, refl, sym, ap, subst, ◌∙◌, inl, inr, arith}
 use Rattle.ciborium_ll.specs.Types.Read.{Ghosts as Reader}
 use Rattle.ciborium_ll.specs.Types.Write.{Ghosts as Writer}
@@ -14,13 +14,13 @@ use Rattle.ciborium_ll.specs.Elements.{spelling}
 use Rattle.ciborium_ll.specs.Faults.{Answer, Short, Syntax}
 use Rattle.ciborium_ll.specs.Decoding.{Passes, IsFresh, behind_waiting, view}
 use Rattle.ciborium_ll.specs.Finishing.{EndsBody}
-use Rattle.ciborium_ll.specs.Recoding.{CopiesAll, StopsAtTitle, StopsInBody, StopsCopy}
+use Rattle.ciborium_ll.specs.Recoding.{CopiesAll, Recodes, StopsAtTitle, StopsInBody, StopsCopy}
 use Rattle.ciborium_ll.specs.RecodingTold.{CopiesFront, IsReady, IsTold, MeetsFault, RecodesTold, RecodesAnyhow}
 use Rattle.ciborium_ll.specs.RecodingTold.{StopsShort}
 use Rattle.ciborium_ll.specs.Sides.{Sides, sides}
 use Rattle.ciborium_ll.proofs.StrictFaultLaws.{no_fault}
 use Rattle.ciborium_ll_uses.specs.Streams.{AreReady, CopiesSo, IsNormalised, Normalises, NormalisesAnyhow, StopsAtFault}
-use Rattle.ciborium_ll_uses.specs.Streams.{StopsReading, TellBytes}
+use Rattle.ciborium_ll_uses.specs.Streams.{CopiesAndFlushes, FlushesSo, RecodesFrom, StopsReading, TellBytes}
 
 -- a room that is told stays told
 room_stays : (old new : Option ℕ) (count room : ℕ) → old ≡ Some room → Shrinks old new count → IsSome new
@@ -79,13 +79,14 @@ module _ {R E W F : Type 0} (source : Reader R E) (sink : Writer W F) where
 
   ends_settled : (kind : Kind) (len room place : ℕ) (old new : Decoder R) (error : Error E) → old.waiting ≡ None
       → EndsBody source kind [] len room place old (Err error) new → new.waiting ≡ None
-  ends_settled kind len room place old new (e.Io fault) none ends = ends.fails.none_waits
+  ends_settled kind len room place old new (e.Io fault) none ends = ends.stops.1.none_waits
   ends_settled kind len room place old new (e.Syntax at) none ends =
-      passed_settled ends.1.between new ends.1.last ends.1.passed
-      (passed_settled old ends.1.between ends.1.part.read ends.1.part.passed none)
+      let damage = ends.stops.1 in
+      passed_settled ends.between new damage.last damage.passed
+      (passed_settled old ends.between ends.part.read ends.part.passed none)
   ends_settled kind len room place old new e.TooLong none ends =
-      ends.untouched.waiting ∙ passed_settled old ends.between ends.part.read ends.part.passed none
-  ends_settled kind len room place old new e.Waiting none ends = absurd ends
+      ends.stops.1.waiting ∙ passed_settled old ends.between ends.part.read ends.part.passed none
+  ends_settled kind len room place old new e.Waiting none ends = absurd ends.stops
 
   body_settled : (count room : ℕ) (old new : Sides R W) (error : Error E) → old.decoder.waiting ≡ None
       → StopsInBody source sink count room old error new → new.decoder.waiting ≡ None
@@ -197,25 +198,52 @@ module _ {R E W F : Type 0} (source : Reader R E) (sink : Writer W F) where
   -- ---- the flush behind it, whose answer is that of the call
 
   module _ (count : ℕ) (due written : List ℕ) (reader' : R) (copied last : W)
-      (copies : CopiesSo source sink count due written reader' copied)
-      (kept : IsSome (sink.room copied) → sink.written last ≡ sink.written copied) where
-    -- what the flush of a writer answers
-    abbrev pub FlushAnswer : Result (Unit {0}) (RecodeError E F) → Type 0
-    FlushAnswer result =
-        MatchResult result (λ _. sink.flushed copied last) (λ error. (fault : F) × (error ≡ r.Write fault))
-
+      (copies : CopiesSo source sink count due written reader' copied) where
     normalises : sink.flushed copied last → Normalises source sink count due written reader' last
     normalises flushed = record { copied = copied; copies = copies; flushed = flushed }
 
-    pub flush_told : IsSome (sink.room copied) → (result : Result (Unit {0}) (RecodeError E F)) → FlushAnswer result
-        → IsNormalised source sink count due written result reader' last
-    flush_told told (Ok done) answer = normalises answer
-    flush_told told (Err (r.Read error)) answer = absurd (let e = answer.1 in cc)
-    flush_told told (Err (r.Write fault)) answer =
-        record { front = copies.front; output = kept told ∙ copies.output; left = copies.left }
+    pub flush_told : IsSome (sink.room copied) → (result : Result (Unit {0}) (RecodeError E F))
+        → FlushesSo sink copied result last → IsNormalised source sink count due written result reader' last
+    flush_told told (Ok done) flushes = normalises flushes.flushed
+    flush_told told (Err (r.Read error)) never = absurd never
+    flush_told told (Err (r.Write fault)) flushes =
+        record { front = copies.front; output = flushes.bytes told ∙ copies.output; left = copies.left }
 
-    pub flush_anyhow : (result : Result (Unit {0}) (RecodeError E F)) → FlushAnswer result
+    pub flush_anyhow : (result : Result (Unit {0}) (RecodeError E F)) → FlushesSo sink copied result last
         → NormalisesAnyhow source sink count due written result reader' last
-    flush_anyhow (Ok done) answer = normalises answer
-    flush_anyhow (Err (r.Read error)) answer = absurd (let e = answer.1 in cc)
-    flush_anyhow (Err (r.Write fault)) answer = inr (record { copied = copied; copies = copies; kept = kept })
+    flush_anyhow (Ok done) flushes = normalises flushes.flushed
+    flush_anyhow (Err (r.Read error)) never = absurd never
+    flush_anyhow (Err (r.Write fault)) flushes =
+        inr (record { copied = copied; copies = copies; kept = flushes.bytes })
+
+  -- ---- over any reader and writer
+
+  module _ (count : ℕ) (reader reader' : R) (writer : W) where
+    pub recodes_from : (made left between : W) (old new : Decoder R) (result : Result (Unit {0}) (RecodeError E F))
+        → IsFresh reader 0 old → reader' ≡ new.reader → made ≡ writer → between ≡ left
+        → Recodes source sink count 64 (sides old made) result (sides new left)
+        → RecodesFrom source sink count reader writer result reader' between
+    recodes_from made left between old new result fresh same from stays recodes = record {
+      decoder = old;
+      fresh = fresh;
+      behind = new;
+      recodes = subst (λ (w : W). Recodes source sink count 64 (sides old w) result (sides new between)) from
+          (subst (λ (w : W). Recodes source sink count 64 (sides old made) result (sides new w)) (sym stays) recodes);
+      left = same;
+    }
+
+    pub flush_copies : (between last : W) (result : Result (Unit {0}) (RecodeError E F))
+        → RecodesFrom source sink count reader writer (Ok (tt {0})) reader' between
+        → FlushesSo sink between result last
+        → CopiesAndFlushes source sink count reader writer result reader' last
+    flush_copies between last (Ok done) copies flushes =
+        record { between = between; copies = copies; flushes = flushes }
+    flush_copies between last (Err (r.Read error)) copies never = absurd never
+    flush_copies between last (Err (r.Write fault)) copies flushes =
+        inr (record { between = between; copies = copies; flushes = flushes })
+
+    pub error_copies : (last : W) (error : RecodeError E F)
+        → RecodesFrom source sink count reader writer (Err error) reader' last
+        → CopiesAndFlushes source sink count reader writer (Err error) reader' last
+    error_copies last (r.Read error) stops = stops
+    error_copies last (r.Write fault) stops = inl stops

@@ -1,17 +1,66 @@
--- What a copy of a stream to its shortest spelling does, where its bytes are told.
+-- What a copy of a stream to its shortest spelling does.
 use Rattle.std.specs.Prelude.{◌≡◌, ℕ, ◌+◌, ◌<◌, ◌≤◌, ◌^◌, ◌⊎◌, false, List, ◌++◌, length, drop, IsTrue, IsSome, Some}
-use Rattle.std.specs.Prelude.{Result, Ok, Err}
+use Rattle.std.specs.Prelude.{Result, Ok, Err, OnOk, OnErr}
 use Rattle.ciborium_ll.specs.Types.Read.{Ghosts as Reader}
 use Rattle.ciborium_ll.specs.Types.Write.{Ghosts as Writer}
+use Rattle.ciborium_ll.specs.Types.Decoder.{Decoder}
 use Rattle.ciborium_ll.specs.Types.Error.TheVariants as e
 use Rattle.ciborium_ll.specs.Types.RecodeError.{RecodeError}
 use Rattle.ciborium_ll.specs.Types.RecodeError.TheVariants as r
+use Rattle.ciborium_ll.specs.Decoding.{IsFresh, reader_of}
 use Rattle.ciborium_ll.specs.Elements.{spelling}
 use Rattle.ciborium_ll.specs.Faults.{Answer, Short, Syntax, HasFault, RunInFront}
+use Rattle.ciborium_ll.specs.Recoding.{Recodes}
 use Rattle.ciborium_ll.specs.RecodingTold.{StopInReading, StopInWriting}
+use Rattle.ciborium_ll.specs.Sides.{sides}
+
+-- ---- over any reader and writer
+
+module _ {W F : Type 0} (sink : Writer W F) where
+  -- the writer was flushed, with this answer; one that tells its room keeps its bytes
+  pub record Flushes (old : W) (result : Result (Unit {0}) F) (new : W) : Type 0 where
+    pub flushed : OnOk result (sink.flushed old new)
+    pub ok : OnOk result (sink.failures new ≡ sink.failures old)
+    pub err : OnErr result (sink.failures new ≡ sink.failures old + 1)
+    pub bytes : IsSome (sink.room old) → sink.written new ≡ sink.written old
+    pub room : IsSome (sink.room old) → sink.room new ≡ sink.room old
+    pub target : sink.target new ≡ sink.target old
+
+  -- the same, where an error is that of the flush
+  abbrev pub FlushesSo : {E : Type 0} → W → Result (Unit {0}) (RecodeError E F) → W → Type 0
+  FlushesSo old (Ok done) new = Flushes old (Ok done) new
+  FlushesSo old (Err (r.Write fault)) new = Flushes old (Err fault) new
+  FlushesSo old (Err (r.Read error)) new = ⊥
 
 module _ {R E W F : Type 0} (source : Reader R E) (sink : Writer W F) where
-  -- ---- what is asked
+  -- `recode` copied so many elements to the writer, with this answer, from a new decoder over the reader, through a
+  -- buffer of 64 bytes; the reader is as that decoder left it
+  pub record RecodesFrom (count : ℕ) (reader : R) (writer : W) (result : Result (Unit {0}) (RecodeError E F))
+      (reader' : R) (writer' : W) : Type 0 where
+    pub decoder : Decoder R
+    pub fresh : IsFresh reader 0 decoder
+    pub behind : Decoder R
+    pub recodes : Recodes source sink count 64 (sides decoder writer) result (sides behind writer')
+    pub left : reader' ≡ reader_of behind
+
+  -- all elements were copied, and behind them the writer was flushed, with this answer
+  pub record FlushesBehind (count : ℕ) (reader : R) (writer : W) (result : Result (Unit {0}) F) (reader' : R)
+      (writer' : W) : Type 0 where
+    pub between : W
+    pub copies : RecodesFrom count reader writer (Ok tt) reader' between
+    pub flushes : Flushes sink between result writer'
+
+  -- what `normalise` does, by its answer: a copy and the flush behind it, or a copy alone, which failed
+  abbrev pub CopiesAndFlushes : ℕ → R → W → Result (Unit {0}) (RecodeError E F) → R → W → Type 0
+  CopiesAndFlushes count reader writer (Ok done) reader' writer' =
+      FlushesBehind count reader writer (Ok done) reader' writer'
+  CopiesAndFlushes count reader writer (Err (r.Read error)) reader' writer' =
+      RecodesFrom count reader writer (Err (r.Read error)) reader' writer'
+  CopiesAndFlushes count reader writer (Err (r.Write fault)) reader' writer' =
+      RecodesFrom count reader writer (Err (r.Write fault)) reader' writer' ⊎
+      FlushesBehind count reader writer (Err fault) reader' writer'
+
+  -- ---- what is asked where bytes are told
 
   -- the reader tells its bytes, and the writer those that were written
   pub record TellBytes (reader : R) (writer : W) (due written : List ℕ) : Type 0 where
@@ -52,7 +101,7 @@ module _ {R E W F : Type 0} (source : Reader R E) (sink : Writer W F) where
 
   -- a write failed: a part of the elements was read, and a beginning of its spelling written
   pub record StopsWriting (count : ℕ) (due written : List ℕ) (reader : R) (writer : W) : Type 0 where
-    pub stop : StopInWriting count due
+    pub stop : StopInWriting count 64 due
     pub output : sink.written writer ≡ Some (written ++ stop.written)
     pub left : source.ahead reader ≡ Some stop.rest
 

@@ -1,7 +1,8 @@
 //! A stream, copied to its shortest spelling.
 
-ghost use Rattle.std.specs.Prelude.{◌≡◌, ℕ, IsSome, List, MatchResult};
-ghost use Rattle.ciborium_ll_uses.specs.Streams.{AreReady, IsNormalised, NormalisesAnyhow, TellBytes};
+ghost use Rattle.std.specs.Prelude.{ℕ, List};
+ghost use Rattle.ciborium_ll_uses.specs.Streams.{AreReady, CopiesAndFlushes, FlushesSo, IsNormalised, NormalisesAnyhow};
+ghost use Rattle.ciborium_ll_uses.specs.Streams.{TellBytes};
 
 use ciborium_ll::io::{Read, Write};
 use ciborium_ll::recode::recode;
@@ -10,9 +11,11 @@ use ciborium_ll::{Decoder, Encoder, RecodeError};
 /// Copies so many elements from a reader to a writer, each in its shortest spelling, and flushes the writer. It hands
 /// back both. An element is a header that begins no string, or a whole string (RFC 7049, 2.1 and 2.2).
 ///
-/// The errors are those of `recode`, behind which nothing is flushed, and `Write` where the flush failed. The reader
-/// and the writer are then as `recode` left them: what was read of the elements is gone, and what was written of them
-/// stands in the writer.
+/// Over any reader and writer the copy is that of `recode`, from a new decoder and through a buffer of 64 bytes, and
+/// behind all elements the writer is flushed. The errors are those of `recode`, behind which nothing is flushed, and
+/// `Write` with the fault of the flush. Both come back as `recode` left them, the writer but for the flush: what was
+/// read of the elements is gone, and what was written of them stands in the writer. One that tells its room keeps that
+/// behind a flush that failed, too.
 ///
 /// Where bytes are told on both sides, `Ok` says that the writer got the shortest spelling of so many elements and was
 /// flushed, and that the reader has what follows them. After `Syntax` the first fault was met, with its place: the
@@ -28,6 +31,7 @@ pub fn normalise<R: Read, W: Write>(
     writer: W,
     count: usize,
 ) -> (R, W, Result<(), RecodeError<R::Error, W::Error>>)
+    ensures copied { CopiesAndFlushes R.Read W.Write count reader writer result.2 result.0 result.1 }
     ensures anyhow { (due written : List ℕ) → TellBytes R.Read W.Write reader writer due written
         → NormalisesAnyhow R.Read W.Write count due written result.2 result.0 result.1 }
     ensures exactly { (due written : List ℕ) → AreReady R.Read W.Write count reader writer due written
@@ -48,9 +52,7 @@ pub fn normalise<R: Read, W: Write>(
 
 /// Flushes the writer.
 fn flushed<E, W: Write>(writer: &mut W) -> Result<(), RecodeError<E, W::Error>>
-    ensures answer { MatchResult result (λ _. W.flushed writer.old writer.new)
-        (λ error. (fault : W.Error) × (error ≡ RecodeError.Write fault)) }
-    ensures kept { IsSome (W.room writer.old) → W.written writer.new ≡ W.written writer.old }
+    ensures { FlushesSo W.Write writer.old result writer.new }
 {
     writer.flush().map_err(|fault| RecodeError::Write(fault))
 }

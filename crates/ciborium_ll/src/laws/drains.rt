@@ -3,11 +3,12 @@
 ghost use Rattle.std.specs.Prelude.{◌≡◌, ◌≤◌, ◌<◌, ◌+◌, ◌↔◌, ℕ, List, All, IfOk, length};
 ghost use Rattle.ciborium_ll_decoder.specs.Chunks.{segment_decoder, segment_reference};
 ghost use Rattle.ciborium_ll_decoder.specs.Decoding.{MovesOn};
+ghost use Rattle.ciborium_ll_decoder.specs.declared.seg.Segment.{Segment as AnySegment};
 ghost use Rattle.ciborium_ll_encoder.specs.Encoding.{writer_of};
 ghost use Rattle.ciborium_ll_grammar.specs.Strings.{Kind, Text as text_strings, most_kept};
 ghost use Rattle.ciborium_ll_text.specs.Text.{IsCharacters};
-ghost use Rattle.ciborium_ll.specs.Drains.{calls_for, AddUp, Drains, DrainsSegment, DrainsTold, HasEnded, IsDrainable};
-ghost use Rattle.ciborium_ll.specs.Drains.{IsEnough};
+ghost use Rattle.ciborium_ll.specs.Drains.{calls_for, AddUp, Drains, DrainsEach, DrainsSegment, DrainsSome, DrainsTold};
+ghost use Rattle.ciborium_ll.specs.Drains.{HasEnded, IsDrainable, IsEnough};
 
 use ciborium_ll_decoder::seg::{Bytes, Chunked, Segment, Text};
 use ciborium_ll_encoder::enc::Encoder;
@@ -71,13 +72,24 @@ pub fn enough_sizes()
         → calls_for kind size bytes < length sizes → IsEnough kind sizes bytes (calls_for kind size bytes) }
 {}
 
+/// What chunks come to that calls with buffers of these sizes gave, each of which was written. What was kept of the
+/// body and what was read of it are what was written and what is kept now. No more was written than the sizes add up
+/// to. Each buffer was filled as far as the body reaches, and no size was used once those before it had brought all.
+pub fn drained_in_all<R: Read, W: Write, P: Chunked>()
+    ensures { (sizes : List ℕ) (old new : AnySegment R P P.Parser) (writer writer' : W)
+        → DrainsEach R.Read W.Write sizes old writer new writer'
+        → DrainsSome R.Read W.Write sizes old writer new writer' }
+{}
+
 /// Reads a body of bytes through buffers of the sizes, one `pull` for each, and writes each chunk, until the body has
 /// ended, a call fails or the sizes are used up. Each size is that of the front of `buffer` that one `pull` gets, so
 /// none may pass its length.
 ///
-/// The errors are `Read` with the error of the `pull` that failed, and `Write` with the writer's; the chunks before it
-/// are written. In any case what was read is what was written and what is kept, no size is used once those before it
-/// brought all, the decoder moves on, and the writer stays on its slice.
+/// Over any reader and writer each size gave a chunk, as `pull` does with a buffer of that size, and the whole of it
+/// was written, up to the last size or to one whose call ends the drain: the body had ended (`Ended`), the `pull`
+/// failed (`Read` with its error), or the write of its chunk did (`Write` with the writer's, and a beginning of the
+/// chunk is written). [`drained_in_all`] says what these chunks come to. The decoder moves on, and the writer stays on
+/// its slice.
 ///
 /// Where the whole body is there, and the writer has room for it, no call fails. The answer is then `Ended` exactly
 /// where the first few of the sizes add up to the body's length, and one more is there to see its end: the whole body
@@ -106,9 +118,11 @@ pub fn drain_bytes<R: Read, W: Write>(
 /// ended, a call fails or the sizes are used up. Each size is that of the front of `buffer` that one `pull` gets, so
 /// none may pass its length.
 ///
-/// The errors are `Read` with the error of the `pull` that failed, and `Write` with the writer's; the chunks before it
-/// are written. In any case what was read is what was written and what is kept, no size is used once those before it
-/// brought all, the decoder moves on, and the writer stays on its slice.
+/// Over any reader and writer each size gave a chunk, as `pull` does with a buffer of that size, and the whole of it
+/// was written, up to the last size or to one whose call ends the drain: the body had ended (`Ended`), the `pull`
+/// failed (`Read` with its error), or the write of its chunk did (`Write` with the writer's, and a beginning of the
+/// chunk is written). [`drained_in_all`] says what these chunks come to. The decoder moves on, and the writer stays on
+/// its slice.
 ///
 /// Where the whole body is there, and the writer has room for it, no call fails but for a body that is no text. Where
 /// what the sizes have above 3 each adds up to the body's length, and one more size is there, the answer is `Ended`

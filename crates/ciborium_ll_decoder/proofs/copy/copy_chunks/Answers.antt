@@ -36,7 +36,7 @@ chunks-preserved g c =
 pub returns-clause-copied : goal.returns-clause-copied
 returns-clause-copied g c =
     let none : c.in_ok-chunk.field-0 ≡ None = search rules in
-    so_far_whole g.R.Read g.W.Write c.args.body _ _ _ _ c.requires.whole c.chunks.invariant.so_far _
+    so_far_whole g.R.Read g.W.Write c.args.body _ _ _ _ c.requires.whole c.chunks.invariant.so_far
     c.chunk.new.segment (rw none at c.in_ok-chunk.ensures.chunk)
 
 pub returns-in_err-chunk-clause-copied : goal.returns-in_err-chunk-clause-copied

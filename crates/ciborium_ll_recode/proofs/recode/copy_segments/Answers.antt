@@ -115,7 +115,7 @@ segments-preserved g c =
       same = search rules;
       mode = c.copy.ensures.mode ∙ (c.advance.ensures.mode ∙ c.segments.invariant.mode);
       so_far = segment_copied g.R.Read g.W.Write k so_far.bodies opened now c.advance.new.self.decoder.now
-          c.write_header.new.encoder.writer (sides_of c.copy.new.self.decoder.now c.copy.new.writer) _
+          c.write_header.new.encoder.writer (sides_of c.copy.new.self.decoder.now c.copy.new.writer)
           c.in-Some.body c.copy.new.self.progress c.requires.none_waits
           (rw (sym c.copy.ensures.progress) at all) so_far.written titled whole copy.steady;
       moves_on = MovesOn-then g.R.Read _ _ _ c.segments.invariant.moves_on (MovesOn-then g.R.Read _ _ _ advance copy);

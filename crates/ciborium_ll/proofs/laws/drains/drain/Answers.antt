@@ -1,17 +1,18 @@
-use Rattle.std.proofs.Common.{rules, ◌≡◌, ℕ, length, take, get_or, refl, subst, sym, ◌∙◌, arith, None, Err}
-use Rattle.std.proofs.Common.{length-take-le}
+use Rattle.std.proofs.Common.{rules, ◌≡◌, ℕ, [], ◌∷◌, ◌++◌, length, take, get_or, refl, subst, sym, ◌∙◌, arith, None}
+use Rattle.std.proofs.Common.{Err, length-take-le}
 use Rattle.std.proofs.lemmas.List.{take_more, take_all}
 use Rattle.std.proofs.lemmas.Result.{err_from_is_err_and}
 use Rattle.ciborium_ll_decoder.specs.declared.copy.RecodeError.TheVariants as r
 use Rattle.ciborium_ll_decoder.specs.Chunks.{GivesChunk, PullsChunk}
 use Rattle.ciborium_ll_decoder.proofs.DecodingLaws.{MovesOn-none, MovesOn-then}
-use Rattle.ciborium_ll.proofs.DrainLaws.{behind_at, drains_none, drains_more}
+use Rattle.ciborium_ll.specs.Drains.{DrainsEach, none, more}
+use Rattle.ciborium_ll.proofs.DrainLaws.{comes_at}
 use Rattle.ciborium_ll.proofs.laws.drains.drain.Goals as goal
 
 pub sizes-init : goal.sizes-init
 sizes-init g c = record {
   same = search rules;
-  some = drains_none g.R.Read g.W.Write c.args.segment.now c.args.sink.now.writer;
+  each = none;
   moves_on = MovesOn-none g.R.Read c.args.segment.now.decoder.now;
   target = refl;
 }
@@ -21,12 +22,10 @@ returns-in_default-clause-drains g c =
     let sizes = c.args.sizes.now in
     let none : c.in_ok-chunk.field-0 ≡ None = search rules in
     record {
-      before = take c.sizes.index sizes;
       size = get_or sizes c.sizes.index 0;
-      is_behind = behind_at sizes c.sizes.index 0 c.sizes-test.true;
-      counted = omega (arith, length-take-le c.sizes.index sizes (omega (arith, c.sizes-test.true)));
       between = c.sizes.segment;
-      some = c.sizes.invariant.some;
+      comes = comes_at g.R.Read g.W.Write sizes c.sizes.index 0 c.sizes-test.true _ _ _ _ c.sizes.invariant.each;
+      counted = omega (arith, length-take-le c.sizes.index sizes (omega (arith, c.sizes-test.true)));
       ends = rw none at c.in_ok-chunk.ensures.chunk;
     }
 
@@ -43,11 +42,9 @@ returns-in_err-chunk-clause-drains g c =
     let room : length (take size c.sizes.buffer) ≡ size = length-take-le size c.sizes.buffer
     (omega (arith, fits, c.sizes.auto.buffer)) in
     rw same (record {
-      before = take c.sizes.index sizes;
       size = size;
-      is_behind = behind_at sizes c.sizes.index 0 c.sizes-test.true;
       between = c.sizes.segment;
-      some = c.sizes.invariant.some;
+      comes = comes_at g.R.Read g.W.Write sizes c.sizes.index 0 c.sizes-test.true _ _ _ _ c.sizes.invariant.each;
       fails = subst (λ (n : ℕ). PullsChunk g.R.Read n c.sizes.segment (Err error) c.chunk.new.segment) room
           c.in_err-chunk.ensures.chunk;
     })
@@ -62,12 +59,10 @@ returns-in-Err-clause-drains g c =
     let pulled = c.in_ok-chunk.ensures in
     let wrote = c.in-Err.ensures in
     record {
-      before = take c.sizes.index sizes;
       size = size;
-      is_behind = behind_at sizes c.sizes.index 0 c.sizes-test.true;
       between = c.sizes.segment;
       writer-between = c.sizes.sink.writer;
-      some = c.sizes.invariant.some;
+      comes = comes_at g.R.Read g.W.Write sizes c.sizes.index 0 c.sizes-test.true _ _ _ _ c.sizes.invariant.each;
       chunk = c.in-Some.chunk.now;
       gives = subst (λ (n : ℕ). GivesChunk g.R.Read n c.sizes.segment c.in-Some.chunk.now c.chunk.new.segment)
           room (rw c.in-Some.is at pulled.chunk);
@@ -85,12 +80,13 @@ sizes-preserved g c =
     let gives = subst (λ (n : ℕ). GivesChunk g.R.Read n c.sizes.segment c.in-Some.chunk.now c.chunk.new.segment)
     room (rw c.in-Some.is at pulled.chunk) in
     let wrote = c.in_default-write_all.ensures in
-    let more = drains_more g.R.Read g.W.Write (take c.sizes.index sizes) size _ _ c.sizes.segment _
-    c.sizes.invariant.some _ c.chunk.new.segment gives _ pulled.moves_on.steady
+    let each : DrainsEach g.R.Read g.W.Write (take c.sizes.index sizes ++ size ∷ []) c.args.segment.now
+    c.args.sink.now.writer c.chunk.new.segment c.write_all.new.self.writer =
+    more c.sizes.invariant.each gives pulled.moves_on
     (record { appended = wrote.bytes; room = wrote.fills; failures = wrote.ok }) in
     record {
       same = search rules;
-      some = rw (sym (take_more sizes c.sizes.index 0 c.sizes-test.true)) at more;
+      each = rw (sym (take_more sizes c.sizes.index 0 c.sizes-test.true)) at each;
       moves_on = MovesOn-then g.R.Read _ _ _ c.sizes.invariant.moves_on pulled.moves_on;
       target = wrote.target ∙ c.sizes.invariant.target;
     }
@@ -100,6 +96,6 @@ returns-clause-drains g c =
     let sizes = c.args.sizes.now in
     let all = take_all c.sizes.index sizes (omega (arith, c.sizes-test.false)) in
     record {
+      each = rw all at c.sizes.invariant.each;
       counted = refl;
-      some = rw all at c.sizes.invariant.some;
     }
