@@ -13,7 +13,7 @@ use Rattle.cbor_copy.specs.declared.phase.StringKind.{StringKind}
 use Rattle.cbor_copy.specs.declared.phase.StringKind.TheVariants as k
 use Rattle.cbor_copy.specs.declared.phase.Within.{Within}
 use Rattle.cbor_copy.specs.declared.phase.Within.TheVariants as w
-use Rattle.cbor_copy.specs.Spots.{Spot, at_phase, putting, elements_due, string_done, body_phase, body_due, IsWhole}
+use Rattle.cbor_copy.specs.Spots.{Spot, at_phase, putting, elements_due, string_done, body_phase, body_due, IsPutOut}
 use Rattle.cbor_copy.specs.Steps.{IsFed, more, StepIn, byte_put, with_char, char_put, counted_by, text_left}
 use Rattle.cbor_copy.proofs.EnterLaws.{body_put}
 
@@ -157,7 +157,7 @@ whole_spot kind left n spot new clear e =
 -- bytes of a body, behind which so many are left
 pub body_comes : (kind : StringKind) (count left n : ℕ) (xs : List ℕ) (spot new : Spot) (fed out : List ℕ) → Below xs
     → spot.phase ≡ body_phase kind left → spot.front ≡ [] → 0 < n → n ≤ length xs → n ≤ left
-    → IsWhole kind (take n xs) → IsFed count fed (putting [] spot) out
+    → IsPutOut kind (take n xs) → IsFed count fed (putting [] spot) out
     → new ≡ body_due kind (left - n) (counted_by n spot)
     → IsFed count (fed ++ take n xs) (putting [] new) (out ++ take n xs)
 body_comes k.Bytes count left n xs spot new fed out below at clear some le within whole is e =
@@ -181,7 +181,7 @@ body_comes k.Text count left n xs spot new fed out below at clear some le within
 -- the same of what was given: front is what was given before of the room, and end what is then
 pub body_given : (kind : StringKind) (count left n : ℕ) (xs : List ℕ) (spot new : Spot) (fed given front end : List ℕ)
     → Below xs → spot.phase ≡ body_phase kind left → spot.front ≡ [] → spot.put ≡ [] → 0 < n → n ≤ length xs → n ≤ left
-    → IsWhole kind (take n xs) → new ≡ body_due kind (left - n) (counted_by n spot) → end ≡ front ++ take n xs
+    → IsPutOut kind (take n xs) → new ≡ body_due kind (left - n) (counted_by n spot) → end ≡ front ++ take n xs
     → IsFed count fed (putting [] spot) ((given ++ front) ++ spot.put)
     → IsFed count (fed ++ take n xs) (putting [] new) ((given ++ end) ++ new.put)
 body_given kind count left n xs spot new fed given front end below at clear none some le within whole e given_is is =

@@ -53,9 +53,9 @@ body_phase k.Bytes len = p.Bytes len
 body_phase k.Text len = p.Text len s.Between
 
 -- bytes of a body that are put out as they are: any of a byte string, and of a text whole characters (RFC 7049, 2.2.2)
-abbrev pub IsWhole : StringKind → List ℕ → Type 0
-IsWhole k.Bytes bytes = Unit {0}
-IsWhole k.Text bytes = IsCharacters bytes
+abbrev pub IsPutOut : StringKind → List ℕ → Type 0
+IsPutOut k.Bytes bytes = Unit {0}
+IsPutOut k.Text bytes = IsCharacters bytes
 
 -- so many bytes of a body are due, and where none are the string is done (RFC 7049, 2.1)
 abbrev pub body_due : StringKind → ℕ → Spot → Spot

@@ -3,7 +3,7 @@
 ghost use Rattle.std.specs.Prelude.{◌≡◌, ◌+◌, ◌<◌, ◌≤◌, [], length, take, true};
 ghost use Rattle.cbor_copy.specs.Fronts.{has_left, most_front, open_count};
 ghost use Rattle.cbor_copy.specs.Blocked.{is_blocked};
-ghost use Rattle.cbor_copy.specs.Spots.{IsWhole};
+ghost use Rattle.cbor_copy.specs.Spots.{IsPutOut};
 ghost use Rattle.ciborium_ll_text.specs.States.{may_end};
 
 use crate::few::Few;
@@ -32,7 +32,7 @@ fn is_blocked(within: Within, kind: TitleKind) -> bool
 #[inline(always)]
 fn whole_len(kind: StringKind, bytes: &[u8]) -> usize
     ensures within { result ≤ length bytes.now }
-    ensures whole { IsWhole kind (take result bytes.now) }
+    ensures whole { IsPutOut kind (take result bytes.now) }
 {
     match kind {
         StringKind::Bytes => bytes.len(),

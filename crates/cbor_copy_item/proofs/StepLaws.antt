@@ -10,14 +10,14 @@ use Rattle.cbor_copy.specs.Spots.{putting}
 use Rattle.cbor_copy.specs.Telling.{NoneGoOn}
 use Rattle.cbor_feed.specs.Spots.{Spot}
 use Rattle.cbor_feed.specs.Steps.{IsFed}
-use Rattle.cbor_feed.specs.Telling.{is_due, HasFault}
+use Rattle.cbor_feed.specs.Telling.{is_due, IsAtFault}
 use Rattle.cbor_copy_item.specs.Copying.{most, AreFed, rest_of}
 use Rattle.cbor_copy_item.proofs.TakenLaws.{fed_bytes, front_bytes, back_bytes, due_all, less_last, fault_fed, sound_fed}
 use Rattle.cbor_copy_item.proofs.TellLaws.{sound_goes, before_goes}
 
 -- so many bytes of those that a checker took are copied: all of them, but the one at fault
 abbrev pub AreKept : Spot → ℕ → ℕ → Type 0
-AreKept new taken kept = (HasFault new × (kept + 1 ≡ taken)) ⊎ ((HasFault new → ⊥) × (kept ≡ taken))
+AreKept new taken kept = (IsAtFault new × (kept + 1 ≡ taken)) ⊎ ((IsAtFault new → ⊥) × (kept ≡ taken))
 
 kept_within : (new : Spot) (taken kept : ℕ) → AreKept new taken kept → kept ≤ taken
 kept_within new taken kept (inl fault) = let one = fault.1 in omega (arith, one)

@@ -26,7 +26,7 @@ use Rattle.cbor_feed.specs.declared.progress.Progress.{Progress}
 use Rattle.cbor_feed.specs.declared.progress.Progress.TheVariants as r
 use Rattle.cbor_feed.specs.Spots.{Spot}
 use Rattle.cbor_feed.specs.Steps.{IsFed, fresh, more, start}
-use Rattle.cbor_feed.specs.Telling.{is_due, progress_in, IsAnswer, IsMore, Tells, FaultIn, HasFault}
+use Rattle.cbor_feed.specs.Telling.{is_due, progress_in, IsAnswer, IsMore, Tells, FaultIn, IsAtFault}
 use Rattle.cbor_feed.proofs.OneSpot.{one_spot}
 use Rattle.cbor_copy_item.specs.Copying.{most, AreTaken, AreFed, rest_of}
 use Rattle.cbor_copy_item.proofs.RunLaws.{run_long}
@@ -226,7 +226,7 @@ module _ (s : Bool) (d : ℕ) (fed bytes : List ℕ) (taken kept : ℕ) (old new
     (copied : IsCopied most (fed ++ take kept bytes) (given ++ out) copier')
     (was : AreFed s d fed old (putting [] (copy.spot_of copier)) (given ++ rest_of copier)) where
   -- the byte at fault isn't copied
-  pub fault_fed : HasFault new → kept + 1 ≡ taken → taken ≤ length bytes
+  pub fault_fed : IsAtFault new → kept + 1 ≡ taken → taken ≤ length bytes
       → AreFed s d (fed ++ take taken bytes) new (putting [] (copy.spot_of copier')) ((given ++ out) ++ rest_of copier')
   fault_fed has one within = record {
     checked = checked;
@@ -237,7 +237,7 @@ module _ (s : Bool) (d : ℕ) (fed bytes : List ℕ) (taken kept : ℕ) (old new
   }
 
   -- each other one is
-  pub sound_fed : (HasFault new → ⊥) → kept ≡ taken
+  pub sound_fed : (IsAtFault new → ⊥) → kept ≡ taken
       → AreFed s d (fed ++ take taken bytes) new (putting [] (copy.spot_of copier')) ((given ++ out) ++ rest_of copier')
   sound_fed sound all = record {
     checked = checked;

@@ -16,14 +16,14 @@ use Rattle.cbor_feed.specs.declared.progress.End.TheVariants as g
 use Rattle.cbor_feed.specs.Spots.{Spot}
 use Rattle.cbor_feed.specs.Steps.{IsFed, StepIn, fresh, more}
 use Rattle.cbor_feed.specs.Telling as checker
-use Rattle.cbor_feed.specs.Telling.{FaultIn, HasFault, has_left, is_due, progress_in}
+use Rattle.cbor_feed.specs.Telling.{FaultIn, IsAtFault, has_left, is_due, progress_in}
 use Rattle.cbor_feed.proofs.ExactLaws.{fault_exact}
 use Rattle.cbor_feed.proofs.TellLaws as told
 use Rattle.cbor_copy_item.specs.declared.progress.Progress.{Progress}
 use Rattle.cbor_copy_item.specs.declared.progress.Progress.TheVariants as r
 use Rattle.cbor_copy_item.specs.declared.copier.ItemCopier.{ItemCopier}
 use Rattle.cbor_copy_item.specs.Copying.{most, AreTaken, AreFed, IsItemCopied, elements_spot, item_spot, pending}
-use Rattle.cbor_copy_item.specs.Telling.{of_checker, of_end, progress_of, end_of, IsCut, IsSpelled}
+use Rattle.cbor_copy_item.specs.Telling.{of_checker, of_end, progress_of, end_of, IsCutCopy, IsSpelled}
 use Rattle.cbor_copy_item.specs.Telling.{TellsWhole, Tells, TellsEnd}
 use Rattle.cbor_copy_item.specs.declared.progress.End.{End}
 use Rattle.cbor_copy_item.proofs.OutLaws.{cut_in, whole_in}
@@ -50,7 +50,7 @@ same_front (x ∷ xs) (y ∷ ys) b c e =
     let rest = same_front xs ys b c tails in
     cc
 
-pub sound_goes : (s : Bool) (d : ℕ) (fed : List ℕ) (spot : Spot) → IsFed s d fed spot → (HasFault spot → ⊥)
+pub sound_goes : (s : Bool) (d : ℕ) (fed : List ℕ) (spot : Spot) → IsFed s d fed spot → (IsAtFault spot → ⊥)
     → NoneGoOn most fed → ⊥
 sound_goes s d fed spot is sound never =
     sound ((fault_exact s d fed spot is).1 (λ behind i.
@@ -85,7 +85,7 @@ module _ (s : Bool) (d : ℕ) (fed : List ℕ) (item : Spot) (elements : Element
   pub goes : NoneGoOn most are.bytes → ⊥
   goes = goes_in item.phase s d fed are.bytes item refl are.checked are.taken
 
-  cut : IsCut are.bytes output
+  cut : IsCutCopy are.bytes output
   cut = λ count fewer.
       cut_in most count are.bytes output elements fewer elements.phase
       (fed_holds most are.bytes output elements are.copied)
@@ -106,9 +106,9 @@ module _ (s : Bool) (d : ℕ) (fed : List ℕ) (item : Spot) (elements : Element
 
   whole_told : (phase : Phase) → AreTaken phase fed are.bytes → checker.Tells s d fed (progress_in phase item)
       → TellsWhole s d fed output (of_checker (progress_in phase item))
-  whole_told p.Title taken says = (says, subst (λ (z : List ℕ). IsCut z output) (sym taken) cut)
-  whole_told (p.Bytes left) taken says = (says, subst (λ (z : List ℕ). IsCut z output) (sym taken) cut)
-  whole_told (p.Text left state) taken says = (says, subst (λ (z : List ℕ). IsCut z output) (sym taken) cut)
+  whole_told p.Title taken says = (says, subst (λ (z : List ℕ). IsCutCopy z output) (sym taken) cut)
+  whole_told (p.Bytes left) taken says = (says, subst (λ (z : List ℕ). IsCutCopy z output) (sym taken) cut)
+  whole_told (p.Text left state) taken says = (says, subst (λ (z : List ℕ). IsCutCopy z output) (sym taken) cut)
   whole_told p.Ended taken says = (
     says,
     subst (λ (z : List ℕ). IsSpelled z output) (sym taken) (spelled (subst (IsItem s d) taken says.0)),
@@ -116,8 +116,8 @@ module _ (s : Bool) (d : ℕ) (fed : List ℕ) (item : Spot) (elements : Element
   whole_told (p.Faulted fault) taken says =
       (says, record { before = are.bytes; last = taken.0; is = taken.1; cut = cut })
 
-  pub due_cut : is_due item.phase ≡ true → IsCut fed output
-  due_cut due = subst (λ (z : List ℕ). IsCut z output) (sym (due_all item.phase fed are.bytes due are.taken)) cut
+  pub due_cut : is_due item.phase ≡ true → IsCutCopy fed output
+  due_cut due = subst (λ (z : List ℕ). IsCutCopy z output) (sym (due_all item.phase fed are.bytes due are.taken)) cut
 
   pub tells_whole : has_left item.phase ≡ true → length item.front ≤ affix_len (slice_index item.front 0 % 32)
       → TellsWhole s d fed output (of_checker (checker.progress_of item))
@@ -164,7 +164,7 @@ pub tells_long : (rest : List ℕ) (s : Bool) (d : ℕ) (fed given : List ℕ) (
 tells_long rest s d fed given item elements due e are far =
     let on = more_due rest item due e in
     let all : given ++ rest ≡ given = ap (λ (z : List ℕ). given ++ z) on.0 ∙ append-nil given in
-    (far, subst (IsCut fed) all (due_cut s d fed item elements (given ++ rest) are on.1))
+    (far, subst (IsCutCopy fed) all (due_cut s d fed item elements (given ++ rest) are on.1))
 
 -- ---- no more bytes come
 

@@ -58,27 +58,27 @@ abbrev pub IsSpelled : List ℕ → List ℕ → Type 0
 IsSpelled bytes output = (count : ℕ) × AreSpelled count bytes output
 
 -- a copy of elements has put this out of them when they end too early, however many elements are due
-abbrev pub IsCut : List ℕ → List ℕ → Type 0
-IsCut bytes output = (count : ℕ) → length bytes < count → ComesTo count bytes Short output
+abbrev pub IsCutCopy : List ℕ → List ℕ → Type 0
+IsCutCopy bytes output = (count : ℕ) → length bytes < count → ComesTo count bytes Short output
 
 -- it has put this out of all of them but the last one
 pub record IsCutBefore (bytes output : List ℕ) : Type 0 where
   pub before : List ℕ
   pub last : ℕ
   pub is : bytes ≡ before ++ last ∷ []
-  pub cut : IsCut before output
+  pub cut : IsCutCopy before output
 
 -- What a checker says, and: of a part of an item all that can be was put out; of a whole one its shortest spelling
 -- (RFC 7049, 3.9); and where no item begins so, what was put out before the last byte
 abbrev pub TellsWhole : Bool → ℕ → List ℕ → List ℕ → Progress → Type 0
 TellsWhole strict depth bytes output (r.More due) =
-    checker.Tells strict depth bytes (f.More due) × IsCut bytes output
+    checker.Tells strict depth bytes (f.More due) × IsCutCopy bytes output
 TellsWhole strict depth bytes output r.Room = ⊥
 TellsWhole strict depth bytes output (r.Ended len) =
     checker.Tells strict depth bytes (f.Ended len) × IsSpelled bytes output
 TellsWhole strict depth bytes output (r.Fault fault) =
     checker.Tells strict depth bytes (f.Fault fault) × IsCutBefore bytes output
-TellsWhole strict depth bytes output r.TooLong = checker.Tells strict depth bytes f.TooLong × IsCut bytes output
+TellsWhole strict depth bytes output r.TooLong = checker.Tells strict depth bytes f.TooLong × IsCutCopy bytes output
 
 -- of what was written and a pending rest one of these is so
 pub record LacksRoom (strict : Bool) (depth : ℕ) (bytes output : List ℕ) : Type 0 where

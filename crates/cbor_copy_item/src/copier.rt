@@ -8,7 +8,7 @@ ghost use Rattle.cbor_copy.specs.Telling.{NoneGoOn};
 ghost use Rattle.cbor_feed.specs.Checking.{spot_of};
 ghost use Rattle.cbor_feed.specs.Spots.{Spot};
 ghost use Rattle.cbor_feed.specs.Steps.{IsFed};
-ghost use Rattle.cbor_feed.specs.Telling.{HasFault, is_due};
+ghost use Rattle.cbor_feed.specs.Telling.{IsAtFault, is_due};
 ghost use Rattle.cbor_copy_item.specs.Copying.{most, rest_of};
 
 use crate::progress::{Copied, End, Progress};
@@ -26,8 +26,8 @@ fn lacks_room(copier: &Copier) -> bool
 
 /// Whether no item goes on so.
 fn has_fault(checker: &Checker) -> bool
-    ensures yes { result ≡ true → HasFault (spot_of checker.now) }
-    ensures no { result ≡ false → HasFault (spot_of checker.now) → ⊥ }
+    ensures yes { result ≡ true → IsAtFault (spot_of checker.now) }
+    ensures no { result ≡ false → IsAtFault (spot_of checker.now) → ⊥ }
 {
     matches!(checker.progress(), Checked::Fault(_))
 }
@@ -49,8 +49,8 @@ fn check(checker: &mut Checker, bytes: &[u8]) -> usize
 /// How many of the bytes that a checker took are copied: all of them, but the one at fault.
 fn copied_len(checker: &Checker, taken: usize) -> usize
     requires { 0 < taken }
-    ensures { (HasFault (spot_of checker.now) × (result + 1 ≡ taken))
-        ⊎ ((HasFault (spot_of checker.now) → ⊥) × (result ≡ taken)) }
+    ensures { (IsAtFault (spot_of checker.now) × (result + 1 ≡ taken))
+        ⊎ ((IsAtFault (spot_of checker.now) → ⊥) × (result ≡ taken)) }
 {
     if has_fault(checker) { taken - 1 } else { taken }
 }

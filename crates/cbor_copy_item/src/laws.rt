@@ -6,7 +6,7 @@ ghost use Rattle.ciborium_ll_grammar.specs.Elements.{IsRun, Mark, spelling};
 ghost use Rattle.ciborium_ll_grammar.specs.Items.{IsItem};
 ghost use Rattle.cbor_copy.specs.Spots.{Spot as Elements};
 ghost use Rattle.cbor_feed.specs.Spots.{Spot};
-ghost use Rattle.cbor_feed.specs.Telling.{HasEnded, HasFault};
+ghost use Rattle.cbor_feed.specs.Telling.{HasEnded, IsAtFault};
 ghost use Rattle.cbor_copy_item.specs.Copying.{AreFed, most};
 
 /// The same bytes lead to one state, and put the same out, however they were cut into pieces and whatever room there
@@ -33,7 +33,7 @@ pub fn exact_item_copies()
         → AreFed strict depth bytes item elements output → (HasEnded item ↔ IsItem strict depth bytes) }
     ensures fault { (strict : Bool) (depth : ℕ) (bytes output : List ℕ) (item : Spot) (elements : Elements)
         → AreFed strict depth bytes item elements output
-        → (HasFault item ↔ ((more : List ℕ) → IsItem strict depth (bytes ++ more) → ⊥)) }
+        → (IsAtFault item ↔ ((more : List ℕ) → IsItem strict depth (bytes ++ more) → ⊥)) }
     ensures spelled { (strict : Bool) (depth : ℕ) (bytes output : List ℕ) (item : Spot) (elements : Elements)
         → AreFed strict depth bytes item elements output → IsItem strict depth bytes
         → (count : ℕ) (marks : List Mark) → IsRun count bytes marks → output ≡ spelling marks }

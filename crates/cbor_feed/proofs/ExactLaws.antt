@@ -10,7 +10,7 @@ use Rattle.cbor_feed.specs.declared.phase.Phase.TheVariants as p
 use Rattle.cbor_feed.specs.declared.phase.Fault.{Fault}
 use Rattle.cbor_feed.specs.Spots.{Spot}
 use Rattle.cbor_feed.specs.Steps.{IsFed}
-use Rattle.cbor_feed.specs.Telling.{EndedIn, HasEnded, FaultIn, HasFault}
+use Rattle.cbor_feed.specs.Telling.{EndedIn, HasEnded, FaultIn, IsAtFault}
 use Rattle.cbor_feed.proofs.Waiting.{BodyThen, AnyBody, TextBody, StringDone, WaitsIn, Waits}
 use Rattle.cbor_feed.proofs.StepLaws.{Titled, due_titled, fed_same}
 use Rattle.cbor_feed.proofs.LiveLaws.{FrontSound, SoundIn, fed_sound, fed_goes}
@@ -34,7 +34,7 @@ fault_or p.Ended spot e has = absurd (has (λ fault same. let both = e ∙ same 
 
 -- there is a fault just where no item begins so
 pub fault_exact : (s : Bool) (d : ℕ) (fed : List ℕ) (spot : Spot) → IsFed s d fed spot
-    → HasFault spot ↔ ((more : List ℕ) → IsItem s d (fed ++ more) → ⊥)
+    → IsAtFault spot ↔ ((more : List ℕ) → IsItem s d (fed ++ more) → ⊥)
 fault_exact s d fed spot is = (
   λ has y i. fault_none spot.phase spot y refl has ((fed_same s d fed spot is y).0 i),
   λ never. fault_or spot.phase spot refl (λ sound. let o = fed_goes s d fed spot is sound in never o.0 o.1),

@@ -20,7 +20,7 @@ use Rattle.ciborium_ll_grammar.specs.TitleRows.{IsTitleKind}
 use Rattle.ciborium_ll_grammar.proofs.LongerLaws.{taken}
 use Rattle.cbor_feed.specs.declared.plain.TheConstants.{LENS, TEXT_LENS}
 use Rattle.cbor_feed.specs.Blocked.{is_value}
-use Rattle.cbor_feed.specs.Plain.{ArePlain, IsPlain, IsSpan, IsValueMajor, more, passed}
+use Rattle.cbor_feed.specs.Plain.{ArePlain, IsPlainItem, IsSpan, IsValueMajor, more, passed}
 use Rattle.cbor_feed.specs.Spots.{Spot, item_done}
 use Rattle.cbor_feed.specs.Steps.{counted_by}
 use Rattle.cbor_feed.proofs.ShortLeads.{short_bytes, short_leads, short_text, value_leads}
@@ -150,7 +150,7 @@ unfronted spot len clear =
     (sym (length_zero spot.front clear))
 
 small_value : (b : ℕ) (xs : List ℕ) (strict : Bool) → Below (b ∷ xs) → b % 32 < 24 → IsValueMajor (b / 32)
-    → IsPlain strict (take 1 (b ∷ xs))
+    → IsPlainItem strict (take 1 (b ∷ xs))
 small_value b xs strict below small (inl none) = λ spot at clear due same.
     let e : b ≡ 32 * major_code Unsigned + b % 32 = omega arith in
     short_leads (b ∷ xs) spot _ (h.Positive (b % 32)) below at clear due (omega arith) (one_title b
@@ -175,7 +175,7 @@ passed_by spot n len e =
     ap (λ (z : ℕ). record spot { front = []; place = spot.offset; offset = z }) same
 
 small_bytes : (b : ℕ) (xs : List ℕ) (strict : Bool) → Below (b ∷ xs) → b % 32 < 24 → b / 32 ≡ 2
-    → 1 + b % 32 ≤ length (b ∷ xs) → IsPlain strict (take (1 + b % 32) (b ∷ xs))
+    → 1 + b % 32 ≤ length (b ∷ xs) → IsPlainItem strict (take (1 + b % 32) (b ∷ xs))
 small_bytes b xs strict below small two le = λ spot at clear due same.
     let e : b ≡ 32 * major_code ByteString + b % 32 = omega arith in
     let long = length-take-le (1 + b % 32) (b ∷ xs) le in
@@ -184,7 +184,7 @@ small_bytes b xs strict below small two le = λ spot at clear due same.
     (ap item_done (passed_by spot (b % 32) _ long))
 
 small_text : (b : ℕ) (xs : List ℕ) (strict : Bool) → Below (b ∷ xs) → b % 32 < 24 → b / 32 ≡ 3
-    → 1 + b % 32 ≤ length (b ∷ xs) → IsAscii (take (b % 32) xs) → IsPlain strict (take (1 + b % 32) (b ∷ xs))
+    → 1 + b % 32 ≤ length (b ∷ xs) → IsAscii (take (b % 32) xs) → IsPlainItem strict (take (1 + b % 32) (b ∷ xs))
 small_text b xs strict below small three le ascii = λ spot at clear due same.
     let e : b ≡ 32 * major_code TextString + b % 32 = omega arith in
     let long = length-take-le (1 + b % 32) (b ∷ xs) le in
@@ -209,7 +209,7 @@ kind_of b less (inr (inl one)) = record { kind = k.Negative; is = (one, named b 
 kind_of b less (inr (inr seven)) = record { kind = k.Other; is = (seven, named b less); value = refl }
 
 long_value : (b : ℕ) (xs : List ℕ) (n : ℕ) → Below (b ∷ xs) → n ≡ 1 + affix_len (b % 32) → 0 < affix_len (b % 32)
-    → b % 32 < 28 → IsValueMajor (b / 32) → n ≤ length (b ∷ xs) → IsPlain false (take n (b ∷ xs))
+    → b % 32 < 28 → IsValueMajor (b / 32) → n ≤ length (b ∷ xs) → IsPlainItem false (take n (b ∷ xs))
 long_value b xs n below counts some less major le = λ spot at clear due any.
     let kind = kind_of b less major in
     let long = length-take-le n (b ∷ xs) le in
@@ -221,18 +221,20 @@ long_value b xs n below counts some less major le = λ spot at clear due any.
 -- of a longer title any spelling is taken, and of a text the body is ASCII
 pub span_plain : (xs : List ℕ) (len text_len : ℕ) (strict : Bool) → Below xs → 0 < length xs
     → IsSpan (slice_index xs 0) len text_len → 0 < len → len ≤ length xs
-    → (24 ≤ slice_index xs 0 % 32 → strict ≡ false) → IsAscii (take text_len (drop 1 xs)) → IsPlain strict (take len xs)
+    → (24 ≤ slice_index xs 0 % 32 → strict ≡ false) → IsAscii (take text_len (drop 1 xs))
+    → IsPlainItem strict (take len xs)
 span_plain [] len text_len strict below some is least le any ascii = absurd (omega arith)
 span_plain (b ∷ xs) len text_len strict below some (inl none) least le any ascii = absurd (omega (arith, none, least))
 span_plain (b ∷ xs) len text_len strict below some (inr (inl v)) least le any ascii =
-    subst (λ (z : ℕ). IsPlain strict (take z (b ∷ xs))) (sym v.0) (small_value b xs strict below v.1 v.2)
+    subst (λ (z : ℕ). IsPlainItem strict (take z (b ∷ xs))) (sym v.0) (small_value b xs strict below v.1 v.2)
 span_plain (b ∷ xs) len text_len strict below some (inr (inr (inl v))) least le any ascii =
-    subst (λ (z : ℕ). IsPlain strict (take z (b ∷ xs))) (sym v.0)
+    subst (λ (z : ℕ). IsPlainItem strict (take z (b ∷ xs))) (sym v.0)
     (small_bytes b xs strict below v.1 v.2 (omega (arith, v.0, le)))
 span_plain (b ∷ xs) len text_len strict below some (inr (inr (inr (inl v)))) least le any ascii =
-    subst (λ (z : Bool). IsPlain z (take len (b ∷ xs))) (sym (any v.2)) (long_value b xs len below v.0 v.1 v.3 v.4 le)
+    subst (λ (z : Bool). IsPlainItem z (take len (b ∷ xs))) (sym (any v.2))
+    (long_value b xs len below v.0 v.1 v.3 v.4 le)
 span_plain (b ∷ xs) len text_len strict below some (inr (inr (inr (inr v)))) least le any ascii =
-    subst (λ (z : ℕ). IsPlain strict (take z (b ∷ xs))) (sym v.0)
+    subst (λ (z : ℕ). IsPlainItem strict (take z (b ∷ xs))) (sym v.0)
     (small_text b xs strict below v.1 v.2 (omega (arith, v.0, le))
     (subst (λ (z : ℕ). IsAscii (take z xs)) v.3 ascii))
 
@@ -241,7 +243,7 @@ span_plain (b ∷ xs) len text_len strict below some (inr (inr (inr (inr v)))) l
 -- one more
 pub plain_more : (strict : Bool) (offset first last most left at len : ℕ) (xs : List ℕ) → at ≤ length xs → 0 < left
     → left ≤ most → ArePlain strict offset first (most - left) last (take at xs)
-    → IsPlain strict (take len (drop at xs))
+    → IsPlainItem strict (take len (drop at xs))
     → ArePlain strict offset first (most - (left - 1)) (offset + at) (take (at + len) xs)
 plain_more strict offset first last most left at len xs le some fits so_far one =
     let rest : List ℕ = take len (drop at xs) in

@@ -22,7 +22,7 @@ use Rattle.cbor_feed.specs.declared.phase.Phase.TheVariants as p
 use Rattle.cbor_feed.specs.declared.phase.Within.{Within}
 use Rattle.cbor_feed.specs.declared.phase.Within.TheVariants as w
 use Rattle.cbor_feed.specs.Blocked.{blocked}
-use Rattle.cbor_feed.specs.Plain.{IsPlain, passed}
+use Rattle.cbor_feed.specs.Plain.{IsPlainItem, passed}
 use Rattle.cbor_feed.specs.Spots.{Spot, at_phase, body_placed, bytes_due, entered, item_done, string_done, text_due}
 use Rattle.cbor_feed.specs.Steps.{Leads, counted_by, text_left}
 use Rattle.cbor_feed.proofs.LeadLaws.{between_ends, bytes_lead, due_alike, leads_more, left_alike}
@@ -82,7 +82,7 @@ none_left : (len : ℕ) → len - len ≡ 0
 none_left len = omega arith
 
 pub string_bytes : (b c : ℕ) (xs : List ℕ) (strict : Bool) → Below (b ∷ c ∷ xs) → b ≡ 88 → 24 ≤ c → c ≤ length xs
-    → IsPlain strict (take (2 + c) (b ∷ c ∷ xs))
+    → IsPlainItem strict (take (2 + c) (b ∷ c ∷ xs))
 string_bytes b zero xs strict below is least le = absurd (omega (arith, least))
 string_bytes b (suc n) xs strict below is least le = λ spot at clear due same.
     let c : ℕ = suc n in
@@ -115,7 +115,7 @@ placed spot c least lt =
     ap (λ (z : ℕ). record spot { place = z; offset = spot.offset + 2 }) same
 
 pub string_text : (b c : ℕ) (xs : List ℕ) (strict : Bool) → Below (b ∷ c ∷ xs) → b ≡ 120 → 24 ≤ c → c ≤ length xs
-    → IsAscii (take c xs) → IsPlain strict (take (2 + c) (b ∷ c ∷ xs))
+    → IsAscii (take c xs) → IsPlainItem strict (take (2 + c) (b ∷ c ∷ xs))
 string_text b zero xs strict below is least le ascii = absurd (omega (arith, least))
 string_text b (suc n) xs strict below is least le ascii = λ spot at clear due same.
     let c : ℕ = suc n in
@@ -144,20 +144,20 @@ string_text b (suc n) xs strict below is least le ascii = λ spot at clear due s
 -- ---- as the code has it
 
 pub long_bytes : (xs : List ℕ) (len : ℕ) (strict : Bool) → Below xs → 1 < length xs → slice_index xs 0 ≡ 88
-    → 24 ≤ slice_index xs 1 → len ≡ 2 + slice_index xs 1 → len ≤ length xs → IsPlain strict (take len xs)
+    → 24 ≤ slice_index xs 1 → len ≡ 2 + slice_index xs 1 → len ≤ length xs → IsPlainItem strict (take len xs)
 long_bytes [] len strict below some is least e le = absurd (omega arith)
 long_bytes (b ∷ []) len strict below some is least e le = absurd (omega arith)
 long_bytes (b ∷ c ∷ xs) len strict below some is least e le =
-    subst (λ (z : ℕ). IsPlain strict (take z (b ∷ c ∷ xs))) (sym e)
+    subst (λ (z : ℕ). IsPlainItem strict (take z (b ∷ c ∷ xs))) (sym e)
     (string_bytes b c xs strict below is least (omega (arith, e, le)))
 
 pub long_text : (xs : List ℕ) (len : ℕ) (strict : Bool) → Below xs → 1 < length xs → slice_index xs 0 ≡ 120
     → 24 ≤ slice_index xs 1 → len ≡ 2 + slice_index xs 1 → len ≤ length xs → IsAscii (take (len - 2) (drop 2 xs))
-    → IsPlain strict (take len xs)
+    → IsPlainItem strict (take len xs)
 long_text [] len strict below some is least e le ascii = absurd (omega arith)
 long_text (b ∷ []) len strict below some is least e le ascii = absurd (omega arith)
 long_text (b ∷ c ∷ xs) len strict below some is least e le ascii =
     let less : len - 2 ≡ c = omega (arith, e) in
-    subst (λ (z : ℕ). IsPlain strict (take z (b ∷ c ∷ xs))) (sym e)
+    subst (λ (z : ℕ). IsPlainItem strict (take z (b ∷ c ∷ xs))) (sym e)
     (string_text b c xs strict below is least (omega (arith, e, le)) (subst (λ (z : ℕ). IsAscii
     (take z xs)) less ascii))

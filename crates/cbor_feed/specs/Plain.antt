@@ -14,8 +14,8 @@ abbrev pub passed : ℕ → Spot → Spot
 passed len spot = record spot { front = []; place = spot.offset; offset = spot.offset + len }
 
 -- where an item is due, these bytes are one, and lead behind it (RFC 7049, 2.1)
-abbrev pub IsPlain : Bool → List ℕ → Type 0
-IsPlain strict bytes = (spot : Spot) → spot.phase ≡ p.Title → length spot.front ≡ 0 → spot.within ≡ w.Nothing
+abbrev pub IsPlainItem : Bool → List ℕ → Type 0
+IsPlainItem strict bytes = (spot : Spot) → spot.phase ≡ p.Title → length spot.front ≡ 0 → spot.within ≡ w.Nothing
     → spot.strict ≡ strict → Leads spot bytes (item_done (passed (length bytes) spot))
 
 -- the major types of numbers, floats and simple values (RFC 7049, 2.1)
@@ -39,7 +39,8 @@ IsSpan first len text_len =
 -- Where there is none the place is the one that was given
 pub data ArePlain (strict : Bool) (offset first : ℕ) : ℕ → ℕ → List ℕ → Type 0 where
   none : ArePlain strict offset first zero first []
-  more : {count last : ℕ} {bytes item : List ℕ} → ArePlain strict offset first count last bytes → IsPlain strict item
+  more : {count last : ℕ} {bytes item : List ℕ} → ArePlain strict offset first count last bytes
+      → IsPlainItem strict item
       → ArePlain strict offset first (suc count) (offset + length bytes) (bytes ++ item)
 
 -- how many items are due in a nest behind the one that is, where they are counted (RFC 7049, 2.1)

@@ -92,5 +92,5 @@ FaultIn (p.Faulted fault) = Unit {0}
 FaultIn phase = ⊥
 
 -- no item goes on from the spot
-abbrev pub HasFault : Spot → Type 0
-HasFault spot = FaultIn spot.phase
+abbrev pub IsAtFault : Spot → Type 0
+IsAtFault spot = FaultIn spot.phase

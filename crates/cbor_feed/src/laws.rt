@@ -4,7 +4,7 @@ ghost use Rattle.std.specs.Prelude.{Bool, ℕ, ◌≡◌, ◌++◌, ◌↔◌, L
 ghost use Rattle.ciborium_ll_grammar.specs.Items.{IsItem};
 ghost use Rattle.cbor_feed.specs.Spots.{Spot};
 ghost use Rattle.cbor_feed.specs.Steps.{IsFed};
-ghost use Rattle.cbor_feed.specs.Telling.{HasEnded, HasFault};
+ghost use Rattle.cbor_feed.specs.Telling.{HasEnded, IsAtFault};
 
 /// The same bytes lead to one state, however they were cut into pieces.
 pub fn one_state()
@@ -18,5 +18,5 @@ pub fn exact_states()
     ensures ended { (strict : Bool) (depth : ℕ) (bytes : List ℕ) (spot : Spot) → IsFed strict depth bytes spot
         → (HasEnded spot ↔ IsItem strict depth bytes) }
     ensures fault { (strict : Bool) (depth : ℕ) (bytes : List ℕ) (spot : Spot) → IsFed strict depth bytes spot
-        → (HasFault spot ↔ ((more : List ℕ) → IsItem strict depth (bytes ++ more) → ⊥)) }
+        → (IsAtFault spot ↔ ((more : List ℕ) → IsItem strict depth (bytes ++ more) → ⊥)) }
 {}

@@ -2,7 +2,7 @@
 
 ghost use Rattle.std.specs.Prelude.{Bool, ℕ, ◌≡◌, ◌+◌, ◌-◌, ◌<◌, ◌≤◌, drop, take, length, slice_index, true};
 ghost use Rattle.std.specs.Str.{IsAscii};
-ghost use Rattle.cbor_feed.specs.Plain.{ArePlain, IsPlain, IsSpan};
+ghost use Rattle.cbor_feed.specs.Plain.{ArePlain, IsPlainItem, IsSpan};
 
 /// Of each first byte that tells it, two lines for each major type: how many bytes the item has with its title. 0 is
 /// nothing.
@@ -175,7 +175,7 @@ pub(crate) fn is_short_ascii(bytes: &[u8], at: usize, len: usize) -> bool
 fn string_len(bytes: &[u8]) -> usize
     requires some { 0 < length bytes.now }
     ensures within { result ≤ length bytes.now }
-    ensures plain { (strict : Bool) → 0 < result → IsPlain strict (take result bytes.now) }
+    ensures plain { (strict : Bool) → 0 < result → IsPlainItem strict (take result bytes.now) }
 {
     if bytes.len() < 2 || bytes[1] < 24 {
         return 0;
@@ -198,7 +198,7 @@ fn string_len(bytes: &[u8]) -> usize
 fn plain_len(bytes: &[u8], at: usize, strict: bool) -> usize
     requires some { at < length bytes.now }
     ensures within { at + result ≤ length bytes.now }
-    ensures plain { 0 < result → IsPlain strict (take result (drop at bytes.now)) }
+    ensures plain { 0 < result → IsPlainItem strict (take result (drop at bytes.now)) }
 {
     let span = span_of(bytes[at]);
     if span.len == 0 {

@@ -27,7 +27,7 @@ use Rattle.cbor_feed.specs.Spots.{Spot}
 use Rattle.cbor_feed.specs.Steps.{StepIn, IsFed}
 use Rattle.cbor_feed.specs.Telling.{progress_in, progress_of, IsAnswer, IsMore, Tells}
 use Rattle.cbor_feed_laws.specs.SameFaults.{Names, HasLongNest, NamesSyntax, AnswersFault}
-use Rattle.cbor_feed_laws.specs.SameFaults.{IsEnd, IsFault, BeginsNoItem, FeedTells, SkipTells}
+use Rattle.cbor_feed_laws.specs.SameFaults.{SaysEnd, IsFault, BeginsNoItem, FeedTells, SkipTells}
 use Rattle.cbor_feed_laws.proofs.Runs.{Runs, faulted, goes, fed_runs, at, behind}
 use Rattle.cbor_feed_laws.proofs.TitleRuns.{taken_run}
 use Rattle.cbor_feed_laws.proofs.ItemRuns.{completes_run}
@@ -230,7 +230,7 @@ module _ (s : Bool) (depth taken : ℕ) (bytes : List ℕ) (spot : Spot) (room :
     feed_tells r.TooLong answers tells all = absurd (not_long tells)
 
     pub ended_exactly : (progress : Progress) → IsAnswer progress spot → Tells s depth fed progress
-        → (IsMore progress → taken ≡ length bytes) → IsEnd progress ↔ ItemInFront s depth bytes
+        → (IsMore progress → taken ≡ length bytes) → SaysEnd progress ↔ ItemInFront s depth bytes
     ended_exactly (r.More due) answers tells all =
         (λ is. absurd is, λ front. more_none due tells (all tt) front)
     ended_exactly (r.Ended len) answers tells all = (λ is. ended_front tells.0, λ front. tt)

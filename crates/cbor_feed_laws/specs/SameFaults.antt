@@ -49,9 +49,9 @@ pub record Names (strict : Bool) (depth : ℕ) (fed : List ℕ) (fault : Fault) 
   pub answers : progress_of spot ≡ r.Fault fault
 
 -- the answer is that the item has ended
-abbrev pub IsEnd : Progress → Type 0
-IsEnd (r.Ended len) = Unit {0}
-IsEnd progress = ⊥
+abbrev pub SaysEnd : Progress → Type 0
+SaysEnd (r.Ended len) = Unit {0}
+SaysEnd progress = ⊥
 
 -- the answer is a fault
 abbrev pub IsFault : Progress → Type 0

@@ -8,7 +8,7 @@ ghost use Rattle.cbor_feed.specs.Checking.{spot_of};
 ghost use Rattle.cbor_feed.specs.Steps.{IsFed};
 ghost use Rattle.cbor_feed.specs.declared.phase.Fault.{Fault};
 ghost use Rattle.cbor_feed.specs.declared.progress.Progress.TheVariants as r;
-ghost use Rattle.cbor_feed_laws.specs.SameFaults.{AnswersFault, BeginsNoItem, FeedTells, IsEnd, IsFault, SkipTells};
+ghost use Rattle.cbor_feed_laws.specs.SameFaults.{AnswersFault, BeginsNoItem, FeedTells, SaysEnd, IsFault, SkipTells};
 
 pub mod laws;
 
@@ -39,7 +39,7 @@ pub fn feed_and_skip(
     requires room { length bytes.now + BUFFER_SIZE ≤ usize.MAX }
     ensures feed_told { FeedTells strict depth bytes.now result.0 }
     ensures skip_told { SkipTells strict depth bytes.now result.1 }
-    ensures ended { IsEnd result.0 ↔ ItemInFront strict depth bytes.now }
+    ensures ended { SaysEnd result.0 ↔ ItemInFront strict depth bytes.now }
     ensures skipped { IsOk result.1 ↔ ItemInFront strict depth bytes.now }
     ensures faulted { IsFault result.0 ↔ BeginsNoItem strict depth bytes.now }
     ensures same { (fault : Fault) → result.0 ≡ r.Fault fault → AnswersFault strict depth bytes.now fault 0 result.1 }

@@ -16,7 +16,7 @@ use Rattle.ciborium_ll_decoder.specs.Kept.{kept_bytes}
 use Rattle.ciborium_ll_decoder.specs.Decoding.{IsSteady}
 use Rattle.ciborium_ll_io.specs.Writes.{WritesAll}
 use Rattle.ciborium_ll_decoder.specs.Chunks.{IsSplit, GivesChunk, left_of}
-use Rattle.ciborium_ll.specs.Drains.{gains, DrainsEach, ComesTo, DrainsSome, none, more}
+use Rattle.ciborium_ll.specs.Drains.{gains, DrainsEach, DrainsUpTo, DrainsSome, none, more}
 use Rattle.ciborium_ll_decoder.proofs.DecodingLaws.{Passes-none}
 use Rattle.ciborium_ll_text.proofs.Lists.{length_zero}
 use Rattle.ciborium_ll_io.proofs.WriteLaws.{WritesBytes-then, Shrinks-zero}
@@ -27,7 +27,7 @@ module _ {R E P W F : Type 0} {parser : Parser P} (source : Reader R E) (sink : 
   abbrev pub comes_at : (sizes : List ℕ) (index d : ℕ) → index < length sizes
       → (old : Segment R P parser) (writer : W) (new : Segment R P parser) (writer' : W)
       → DrainsEach source sink (take index sizes) old writer new writer'
-      → ComesTo source sink sizes old writer (get_or sizes index d) new writer'
+      → DrainsUpTo source sink sizes old writer (get_or sizes index d) new writer'
   comes_at sizes index d less old writer new writer' each = record {
     before = take index sizes;
     others = drop (index + 1) sizes;

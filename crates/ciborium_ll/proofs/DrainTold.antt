@@ -27,7 +27,7 @@ use Rattle.ciborium_ll_decoder.specs.Decoding.{ReadsAll}
 use Rattle.ciborium_ll_decoder.specs.Chunks.{IsSplit, EndsInCharacter, KeepsTooMuch, rest}
 use Rattle.ciborium_ll.specs.Drains.{gains, calls_for, IsEnough, AddUp, DrainsSome, DrainsAll, DrainsSizes}
 use Rattle.ciborium_ll.specs.Drains.{DrainFails, DrainUnwritten, EndsDrain, Drains, IsDrainable, WritesBody}
-use Rattle.ciborium_ll.specs.Drains.{LeavesRest, FindsNoText, EndsTold, DrainsTold, HasEnded}
+use Rattle.ciborium_ll.specs.Drains.{LeavesRest, FindsNoText, EndsTold, DrainsTold, SaysEnded}
 use Rattle.ciborium_ll_decoder.proofs.BodyLaws.{view_none, split_parts, stuck_is_no_text, too_much_is_no_text}
 use Rattle.ciborium_ll_decoder.proofs.ToldLaws.{consumes_told}
 use Rattle.ciborium_ll_io.proofs.WriteLaws.{appends_told, shrinks_told}
@@ -346,7 +346,7 @@ module _ {R E P W F : Type 0} {parser : Parser P} (source : Reader R E) (sink : 
   pub bytes_exactly : (result : Result Drained (RecodeError E F)) (new : Segment R P parser) (writer' : W)
       → parser.kind ≡ Bytes
       → DrainsTold source sink sizes body written old result new writer'
-      → HasEnded result ↔ ((count : ℕ) × AddUp sizes (length body) count)
+      → SaysEnded result ↔ ((count : ℕ) × AddUp sizes (length body) count)
   bytes_exactly (Ok drained) new writer' is told = ended_bytes drained.calls drained.end new writer' is told
   bytes_exactly (Err (r.Read (e.Syntax at))) new writer' is told = absurd (let not = told.textual in cc)
   bytes_exactly (Err (r.Read (e.Io fault))) new writer' is told = absurd told
@@ -387,7 +387,7 @@ module _ {R E P W F : Type 0} {parser : Parser P} (source : Reader R E) (sink : 
 
   pub text_exactly : (result : Result Drained (RecodeError E F)) (new : Segment R P parser) (writer' : W)
       (count : ℕ) → parser.kind ≡ Text → IsEnough parser.kind sizes (length body) count
-      → DrainsTold source sink sizes body written old result new writer' → HasEnded result ↔ IsCharacters body
+      → DrainsTold source sink sizes body written old result new writer' → SaysEnded result ↔ IsCharacters body
   text_exactly (Ok drained) new writer' count is enough told =
       ended_text drained.calls drained.end new writer' count is enough told
   text_exactly (Err (r.Read (e.Syntax at))) new writer' count is enough told =

@@ -19,7 +19,7 @@ use Rattle.ciborium_ll_grammar.specs.Elements.{Mark, Plain, IsPlain, spelling, I
 use Rattle.ciborium_ll_grammar.specs.Values.{value_limit, segments, IsWritten, in_one, in_pieces}
 use Rattle.ciborium_ll_io.specs.Writes.{WritesAll, WritesFront, WritesBytes}
 use Rattle.ciborium_ll_encoder.specs.Encoding.{WritesValue}
-use Rattle.ciborium_ll.specs.Pieces.{IsValue, IsPiece, HaveMarks, AreSpelled, CopiesSame, WritesMarked, WritesEach}
+use Rattle.ciborium_ll.specs.Pieces.{IsValue, IsPiece, HaveMarks, HaveSpelling, CopiesSame, WritesMarked, WritesEach}
 use Rattle.ciborium_ll.specs.Pieces.{WritesElements}
 use Rattle.ciborium_ll.specs.Pieces.HaveMarks.{none as no_pieces, next as next_piece}
 use Rattle.ciborium_ll_grammar.proofs.TitleLaws.{IsTitle-shortest}
@@ -86,8 +86,8 @@ have_one pieces marks (next_piece {piece = first} {rest = rest} ms {others = ns}
     subst (λ (z : List Mark). HaveMarks (first ∷ rest ++ piece ∷ []) z) (sym (append_assoc ms ns others))
     (next_piece ms one (have_one rest ns more piece others is))
 
-spelled_one : (pieces : List Piece) → AreSpelled pieces → (piece : Piece) (others : List Mark) → IsPiece piece others
-    → IsElement (spelling others) others → AreSpelled (pieces ++ piece ∷ [])
+spelled_one : (pieces : List Piece) → HaveSpelling pieces → (piece : Piece) (others : List Mark) → IsPiece piece others
+    → IsElement (spelling others) others → HaveSpelling (pieces ++ piece ∷ [])
 spelled_one pieces s piece others is element =
     let counted : suc (length pieces) ≡ length (pieces ++ piece ∷ []) =
     omega (arith, length-append pieces (piece ∷ [])) in

@@ -54,7 +54,7 @@ module _ {R E P W F : Type 0} {parser : Parser P} (source : Reader R E) (sink : 
         → DrainsEach (sizes ++ size ∷ []) old writer new writer'
 
   -- the sizes are those that were used so, this one, which is next, and others
-  pub record ComesTo (sizes : List ℕ) (old : Segment R P parser) (writer : W) (size : ℕ) (new : Segment R P parser)
+  pub record DrainsUpTo (sizes : List ℕ) (old : Segment R P parser) (writer : W) (size : ℕ) (new : Segment R P parser)
       (writer' : W) : Type 0 where
     pub before : List ℕ
     pub others : List ℕ
@@ -66,7 +66,7 @@ module _ {R E P W F : Type 0} {parser : Parser P} (source : Reader R E) (sink : 
       (new : Segment R P parser) (writer' : W) : Type 0 where
     pub size : ℕ
     pub between : Segment R P parser
-    pub comes : ComesTo sizes old writer size between writer'
+    pub comes : DrainsUpTo sizes old writer size between writer'
     pub counted : calls ≡ length comes.before + 1
     pub ends : SegmentEnds source between new
 
@@ -81,7 +81,7 @@ module _ {R E P W F : Type 0} {parser : Parser P} (source : Reader R E) (sink : 
       (new : Segment R P parser) (writer' : W) : Type 0 where
     pub size : ℕ
     pub between : Segment R P parser
-    pub comes : ComesTo sizes old writer size between writer'
+    pub comes : DrainsUpTo sizes old writer size between writer'
     pub fails : PullsChunk source size between (Err error) new
 
   -- the call with the next size gave a chunk, and the write of it failed
@@ -90,7 +90,7 @@ module _ {R E P W F : Type 0} {parser : Parser P} (source : Reader R E) (sink : 
     pub size : ℕ
     pub between : Segment R P parser
     pub writer-between : W
-    pub comes : ComesTo sizes old writer size between writer-between
+    pub comes : DrainsUpTo sizes old writer size between writer-between
     pub chunk : List ℕ
     pub gives : GivesChunk source size between chunk new
     pub stopped : WritesFront sink writer-between chunk writer'
@@ -203,6 +203,6 @@ module _ {R E P W F : Type 0} {parser : Parser P} (source : Reader R E) (sink : 
   DrainsTold sizes body written old (Err (r.Write fault)) new writer' = ⊥
 
 -- the answer says that the body has ended
-abbrev pub HasEnded : {E F : Type 0} → Result Drained (RecodeError E F) → Type 0
-HasEnded (Ok drained) = drained.end ≡ end.Ended
-HasEnded (Err error) = ⊥
+abbrev pub SaysEnded : {E F : Type 0} → Result Drained (RecodeError E F) → Type 0
+SaysEnded (Ok drained) = drained.end ≡ end.Ended
+SaysEnded (Err error) = ⊥

@@ -39,7 +39,7 @@ pub data HaveMarks : List Piece → List Mark → Type 0 where
       → HaveMarks (piece ∷ rest) (marks ++ others)
 
 -- marks of the pieces, whose spelling is an element for each piece
-pub record AreSpelled (pieces : List Piece) : Type 0 where
+pub record HaveSpelling (pieces : List Piece) : Type 0 where
   pub marks : List Mark
   pub have_marks : HaveMarks pieces marks
   pub run : IsRun (length pieces) (spelling marks) marks
@@ -56,7 +56,7 @@ module _ {W F : Type 0} (sink : Ghosts W F) where
 
   -- each of the pieces was written: an element for each
   pub record WritesEach (pieces : List Piece) (old new : W) : Type 0 where
-    pub spelled : AreSpelled pieces
+    pub spelled : HaveSpelling pieces
     pub written : WritesAll sink old (spelling spelled.marks) new
 
   -- the writer failed at one of the pieces: those in front of it were written, and of its spelling a beginning

@@ -9,7 +9,7 @@ use Rattle.cbor_feed.specs.declared.phase.Phase.TheVariants as p
 use Rattle.cbor_feed.specs.declared.progress.Progress.TheVariants as r
 use Rattle.cbor_feed.specs.Spots.{Spot}
 use Rattle.cbor_feed.specs.Steps.{IsFed, fresh, more, StepIn, TitleStep, cut, early, whole, none, with_byte}
-use Rattle.cbor_feed.specs.Telling.{FaultIn, HasFault, progress_in, progress_of, title_due}
+use Rattle.cbor_feed.specs.Telling.{FaultIn, IsAtFault, progress_in, progress_of, title_due}
 
 -- a title is due, of which all of these bytes came
 record AtTitle (bytes : List ℕ) (spot : Spot) : Type 0 where
@@ -31,7 +31,7 @@ no_step p.Ended spot new b has step = has
 
 -- a byte more of a title that stays cut
 title_goes : (bytes : List ℕ) (b : ℕ) (spot new : Spot) → AtTitle bytes spot → IsCutTitle (bytes ++ b ∷ [])
-    → TitleStep (with_byte b spot) new → AtTitle (bytes ++ b ∷ []) new ⊎ HasFault new
+    → TitleStep (with_byte b spot) new → AtTitle (bytes ++ b ∷ []) new ⊎ IsAtFault new
 title_goes bytes b spot new at is_cut (cut c some may) =
     inl (record { phase = at.phase; front = ap (λ (z : List ℕ). z ++ b ∷ []) at.front })
 title_goes bytes b spot new at is_cut (early fault c some all) = inr tt
@@ -42,7 +42,7 @@ title_goes bytes b spot new at is_cut (whole header is_title taken) =
 title_goes bytes b spot new at is_cut (none never) = inr tt
 
 at_title : (strict : Bool) (depth : ℕ) (bytes : List ℕ) (spot : Spot) → IsFed strict depth bytes spot
-    → IsCutTitle bytes → AtTitle bytes spot ⊎ HasFault spot
+    → IsCutTitle bytes → AtTitle bytes spot ⊎ IsAtFault spot
 at_title strict depth bytes spot fresh is_cut = inl (record { phase = refl; front = refl })
 at_title strict depth bytes spot (more {bytes = before} {spot = old} b byte fed step) is_cut =
     elim (at_title strict depth before old fed (cut_sooner before b is_cut)) [

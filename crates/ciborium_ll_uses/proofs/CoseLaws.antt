@@ -20,9 +20,10 @@ use Rattle.ciborium_ll_uses.specs.declared.cose.TheConstants.{MAP_DEPTH}
 use Rattle.ciborium_ll_uses.specs.declared.cose.CoseError.{CoseError}
 use Rattle.ciborium_ll_uses.specs.Cose.{IsByteString, IsMap, IsPayload, BeginsSign1, Due}
 use Rattle.ciborium_ll_uses.specs.Cose.{TagDue, ArrayDue, ProtectedDue}
-use Rattle.ciborium_ll_uses.specs.Cose.{UnprotectedDue, PayloadDue, SignatureDue, IsAllowed, Reaches, to_tag, to_array}
+use Rattle.ciborium_ll_uses.specs.Cose.{UnprotectedDue, PayloadDue, SignatureDue, IsAllowed, ReachesPart}
+use Rattle.ciborium_ll_uses.specs.Cose.{to_tag, to_array}
 use Rattle.ciborium_ll_uses.specs.Cose.{to_protected, to_unprotected, to_payload, to_signature, Took, TookBody}
-use Rattle.ciborium_ll_uses.specs.Cose.{TookString, TookPayload, TookMap, StopsAt, StopsSign1}
+use Rattle.ciborium_ll_uses.specs.Cose.{TookString, TookPayload, TookMap, StopsAtPart, StopsSign1}
 
 -- where the bytes are known, what was taken is in front of them
 pub taken_front : (all : List ℕ) (new : Option (List ℕ)) (bytes : List ℕ) → Consumes (Some all) new bytes
@@ -162,7 +163,7 @@ module _ {R E : Type 0} (source : Ghosts R E) where
   -- these bytes were taken from the first on, and behind them this is due
   pub record Came (first : Decoder R) (before : List ℕ) (due : Due) (now : Decoder R) : Type 0 where
     pub took : Took source first before now
-    pub reached : Reaches before due
+    pub reached : ReachesPart before due
 
   pub came_none : (first : Decoder R) → first.waiting ≡ None → Came first [] TagDue first
   came_none first none = record { took = took_passed first first [] (Passes-none source first) none; reached = to_tag }
@@ -214,7 +215,7 @@ module _ {R E : Type 0} (source : Ghosts R E) where
     -- and there it stopped
     pub stopped : (bytes before : List ℕ) (due : Due) (now ended : Decoder R) (error : CoseError E)
         → view source first ≡ Some bytes → first.strict ≡ true → ((d : Decoder R) → IsSteady source d)
-        → Came first before due now → StopsAt source (IsAllowed due) now error ended → StopsSign1 source bytes error
+        → Came first before due now → StopsAtPart source (IsAllowed due) now error ended → StopsSign1 source bytes error
     stopped bytes before due now ended error told strict steady came stops =
         let left = rest_told bytes before (view source now)
         (subst (λ (v : Option (List ℕ)). Consumes v (view source now) before) told came.took.consumed) in

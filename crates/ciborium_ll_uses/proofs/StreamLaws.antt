@@ -20,7 +20,7 @@ use Rattle.ciborium_ll.specs.RecodingTold.{StopsShort}
 use Rattle.ciborium_ll.specs.Sides.{Sides, sides}
 use Rattle.ciborium_ll.proofs.StrictFaultLaws.{no_fault}
 use Rattle.ciborium_ll_uses.specs.Streams.{AreReady, CopiesSo, IsNormalised, Normalises, NormalisesAnyhow, StopsAtFault}
-use Rattle.ciborium_ll_uses.specs.Streams.{CopiesAndFlushes, FlushesSo, RecodesFrom, StopsReading, TellBytes}
+use Rattle.ciborium_ll_uses.specs.Streams.{CopiesAndFlushes, FlushesSo, RecodesFrom, FailsToRead, TellBytes}
 
 -- a room that is told stays told
 room_stays : (old new : Option ℕ) (count room : ℕ) → old ≡ Some room → Shrinks old new count → IsSome new
@@ -172,7 +172,7 @@ module _ {R E W F : Type 0} (source : Reader R E) (sink : Writer W F) where
     error_told (r.Write fault) stops told = absurd told
 
     abbrev short : StopsShort source sink count due written old (sides new writer')
-        → StopsReading source sink count due written writer'
+        → FailsToRead source sink count due written writer'
     short stops = record { stop = stops.stop; output = stops.output }
 
     pub error_anyhow : (error : RecodeError E F)

@@ -90,17 +90,17 @@ IsAllowed UnprotectedDue header = BeginsMap header
 IsAllowed PayloadDue header = BeginsPayload header
 IsAllowed SignatureDue header = BeginsBytes header
 
--- `Reaches bytes due`: the bytes are a beginning of a tagged COSE_Sign1, behind which this is due (RFC 9052, 4.2)
-pub data Reaches : List ℕ → Due → Type 0 where
-  to_tag : Reaches [] TagDue
-  to_array : Reaches (0xd2 ∷ []) ArrayDue
-  to_protected : Reaches (0xd2 ∷ 0x84 ∷ []) ProtectedDue
-  to_unprotected : (before bytes : List ℕ) (span : Span) → Reaches before ProtectedDue
-      → IsByteString bytes (length before) span → Reaches (before ++ bytes) UnprotectedDue
-  to_payload : (before bytes : List ℕ) (span : Span) → Reaches before UnprotectedDue
-      → IsMap bytes (length before) span → Reaches (before ++ bytes) PayloadDue
-  to_signature : (before bytes : List ℕ) (span : Option Span) → Reaches before PayloadDue
-      → IsPayload bytes (length before) span → Reaches (before ++ bytes) SignatureDue
+-- `ReachesPart bytes due`: the bytes are a beginning of a tagged COSE_Sign1, behind which this is due (RFC 9052, 4.2)
+pub data ReachesPart : List ℕ → Due → Type 0 where
+  to_tag : ReachesPart [] TagDue
+  to_array : ReachesPart (0xd2 ∷ []) ArrayDue
+  to_protected : ReachesPart (0xd2 ∷ 0x84 ∷ []) ProtectedDue
+  to_unprotected : (before bytes : List ℕ) (span : Span) → ReachesPart before ProtectedDue
+      → IsByteString bytes (length before) span → ReachesPart (before ++ bytes) UnprotectedDue
+  to_payload : (before bytes : List ℕ) (span : Span) → ReachesPart before UnprotectedDue
+      → IsMap bytes (length before) span → ReachesPart (before ++ bytes) PayloadDue
+  to_signature : (before bytes : List ℕ) (span : Option Span) → ReachesPart before PayloadDue
+      → IsPayload bytes (length before) span → ReachesPart (before ++ bytes) SignatureDue
 
 -- what the error of an item of a map says, which begins at the place: of a break there, where one may stand, that the
 -- map has ended (RFC 7049, 2.2.1)
@@ -181,10 +181,10 @@ module _ {R E : Type 0} (source : Ghosts R E) where
 
     -- why a part was not read where such a header is due: no title came, another one came, or the part is cut or
     -- broken behind its title
-    abbrev pub StopsAt : Decoder R → CoseError E → Decoder R → Type 0
-    StopsAt old (c.Read error) new = PullsHeader source old (Err error) new ⊎ StopsInBytes old error new
-    StopsAt old (c.Skip error) new = StopsInMap old error new
-    StopsAt old (c.Unexpected at) new = PullsOther source (λ header. IsDue header → ⊥) old at new
+    abbrev pub StopsAtPart : Decoder R → CoseError E → Decoder R → Type 0
+    StopsAtPart old (c.Read error) new = PullsHeader source old (Err error) new ⊎ StopsInBytes old error new
+    StopsAtPart old (c.Skip error) new = StopsInMap old error new
+    StopsAtPart old (c.Unexpected at) new = PullsOther source (λ header. IsDue header → ⊥) old at new
 
   -- Why no COSE_Sign1 was read: the bytes begin as one does, and what is due behind them a strict decoder did not read,
   -- to which they are those up to its offset, and which fails only where bytes are missing
@@ -193,7 +193,7 @@ module _ {R E : Type 0} (source : Ghosts R E) where
     pub rest : List ℕ
     pub is : bytes ≡ before ++ rest
     pub due : Due
-    pub reached : Reaches before due
+    pub reached : ReachesPart before due
     pub decoder : Decoder R
     pub told : view source decoder ≡ Some rest
     pub place : decoder.offset ≡ length before
@@ -201,4 +201,4 @@ module _ {R E : Type 0} (source : Ghosts R E) where
     pub strict : decoder.strict ≡ true
     pub steady : IsSteady source decoder
     pub ended : Decoder R
-    pub stops : StopsAt (IsAllowed due) decoder error ended
+    pub stops : StopsAtPart (IsAllowed due) decoder error ended

@@ -95,12 +95,12 @@ module _ {R E W F : Type 0} (source : Reader R E) (sink : Writer W F) where
     pub left : source.ahead reader ≡ Some (drop fault.consumed fault.ahead)
 
   -- the reader failed, or the offset is full: a part of the elements was read, and written but for what was kept
-  pub record StopsReading (count : ℕ) (due written : List ℕ) (writer : W) : Type 0 where
+  pub record FailsToRead (count : ℕ) (due written : List ℕ) (writer : W) : Type 0 where
     pub stop : StopInReading count due
     pub output : sink.written writer ≡ Some (written ++ stop.written)
 
   -- a write failed: a part of the elements was read, and a beginning of its spelling written
-  pub record StopsWriting (count : ℕ) (due written : List ℕ) (reader : R) (writer : W) : Type 0 where
+  pub record FailsToWrite (count : ℕ) (due written : List ℕ) (reader : R) (writer : W) : Type 0 where
     pub stop : StopInWriting count 64 due
     pub output : sink.written writer ≡ Some (written ++ stop.written)
     pub left : source.ahead reader ≡ Some stop.rest
@@ -136,12 +136,12 @@ module _ {R E W F : Type 0} (source : Reader R E) (sink : Writer W F) where
   -- what `normalise` does, whatever fails
   abbrev pub NormalisesAnyhow : ℕ → List ℕ → List ℕ → Result (Unit {0}) (RecodeError E F) → R → W → Type 0
   NormalisesAnyhow count due written (Ok done) reader writer = Normalises count due written reader writer
-  NormalisesAnyhow count due written (Err (r.Read (e.Io fault))) reader writer = StopsReading count due written writer
+  NormalisesAnyhow count due written (Err (r.Read (e.Io fault))) reader writer = FailsToRead count due written writer
   NormalisesAnyhow count due written (Err (r.Read (e.Syntax place))) reader writer =
       StopsAtFault count due written (Syntax place) reader writer
   NormalisesAnyhow count due written (Err (r.Read e.TooLong)) reader writer =
-      (stops : StopsReading count due written writer)
+      (stops : FailsToRead count due written writer)
       × (2 ^ 64 ≤ length stops.stop.before + stops.stop.consumed + 64)
   NormalisesAnyhow count due written (Err (r.Read e.Waiting)) reader writer = ⊥
   NormalisesAnyhow count due written (Err (r.Write fault)) reader writer =
-      StopsWriting count due written reader writer ⊎ FailsToFlush count due written reader writer
+      FailsToWrite count due written reader writer ⊎ FailsToFlush count due written reader writer

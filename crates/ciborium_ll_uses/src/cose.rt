@@ -3,7 +3,7 @@
 ghost use Rattle.std.specs.Prelude.{◌≡◌, IfErr, IfOk, OnOk, None, true};
 ghost use Rattle.ciborium_ll.specs.Decoding.{strict_of, waiting_of};
 ghost use Rattle.ciborium_ll.specs.Title.{shortest_title};
-ghost use Rattle.ciborium_ll_uses.specs.Cose.{BeginsBytes, BeginsMap, BeginsPayload, BeginsSign1, BodyFails, EndsPairs, StopsAt};
+ghost use Rattle.ciborium_ll_uses.specs.Cose.{BeginsBytes, BeginsMap, BeginsPayload, BeginsSign1, BodyFails, EndsPairs, StopsAtPart};
 ghost use Rattle.ciborium_ll_uses.specs.Cose.{SkipsPairs, StopsSign1, Took, TookBody, TookMap, TookPayload, TookString};
 
 use cbor_skip::{Remaining, SkipError, skip_item};
@@ -103,7 +103,7 @@ fn title<R: Read>(decoder: &mut Decoder<R>, header: Header) -> Result<(), CoseEr
     requires strict { strict_of decoder.old ≡ true }
     requires none_waits { waiting_of decoder.old ≡ None }
     ensures took { OnOk result (Took R.Read decoder.old (shortest_title header) decoder.new) }
-    ensures stops { IfErr result (λ error. StopsAt R.Read (λ other. other ≡ header) decoder.old error decoder.new) }
+    ensures stops { IfErr result (λ error. StopsAtPart R.Read (λ other. other ≡ header) decoder.old error decoder.new) }
 {
     let place = decoder.offset();
     let next = decoder.pull()?;
@@ -119,7 +119,7 @@ fn byte_string<R: Read>(decoder: &mut Decoder<R>) -> Result<Span, CoseError<R::E
     requires strict { strict_of decoder.old ≡ true }
     requires none_waits { waiting_of decoder.old ≡ None }
     ensures took { IfOk result (λ span. TookString R.Read decoder.old span decoder.new) }
-    ensures stops { IfErr result (λ error. StopsAt R.Read BeginsBytes decoder.old error decoder.new) }
+    ensures stops { IfErr result (λ error. StopsAtPart R.Read BeginsBytes decoder.old error decoder.new) }
 {
     let place = decoder.offset();
     match decoder.pull()? {
@@ -135,7 +135,7 @@ fn byte_string_or_null<R: Read>(
     requires strict { strict_of decoder.old ≡ true }
     requires none_waits { waiting_of decoder.old ≡ None }
     ensures took { IfOk result (λ span. TookPayload R.Read decoder.old span decoder.new) }
-    ensures stops { IfErr result (λ error. StopsAt R.Read BeginsPayload decoder.old error decoder.new) }
+    ensures stops { IfErr result (λ error. StopsAtPart R.Read BeginsPayload decoder.old error decoder.new) }
 {
     let place = decoder.offset();
     match decoder.pull()? {
@@ -168,7 +168,7 @@ fn map<R: Read>(decoder: &mut Decoder<R>) -> Result<Span, CoseError<R::Error>>
     requires strict { strict_of decoder.old ≡ true }
     requires none_waits { waiting_of decoder.old ≡ None }
     ensures took { IfOk result (λ span. TookMap R.Read decoder.old span decoder.new) }
-    ensures stops { IfErr result (λ error. StopsAt R.Read BeginsMap decoder.old error decoder.new) }
+    ensures stops { IfErr result (λ error. StopsAtPart R.Read BeginsMap decoder.old error decoder.new) }
 {
     let start = decoder.offset();
     match decoder.pull()? {

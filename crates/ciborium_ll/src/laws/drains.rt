@@ -8,7 +8,7 @@ ghost use Rattle.ciborium_ll_encoder.specs.Encoding.{writer_of};
 ghost use Rattle.ciborium_ll_grammar.specs.Strings.{Kind, Text as text_strings, most_kept};
 ghost use Rattle.ciborium_ll_text.specs.Text.{IsCharacters};
 ghost use Rattle.ciborium_ll.specs.Drains.{calls_for, AddUp, Drains, DrainsEach, DrainsSegment, DrainsSome, DrainsTold};
-ghost use Rattle.ciborium_ll.specs.Drains.{HasEnded, IsDrainable, IsEnough};
+ghost use Rattle.ciborium_ll.specs.Drains.{SaysEnded, IsDrainable, IsEnough};
 
 use ciborium_ll_decoder::seg::{Bytes, Chunked, Segment, Text};
 use ciborium_ll_encoder::enc::Encoder;
@@ -106,7 +106,7 @@ pub fn drain_bytes<R: Read, W: Write>(
     ensures told { (body written : List ℕ) → IsDrainable R.Read W.Write segment.old (writer_of sink.old) body written
         → DrainsTold R.Read W.Write sizes.now body written segment.old result segment.new (writer_of sink.new) }
     ensures exactly { (body written : List ℕ) → IsDrainable R.Read W.Write segment.old (writer_of sink.old) body written
-        → (HasEnded result ↔ ((count : ℕ) × AddUp sizes.now (length body) count)) }
+        → (SaysEnded result ↔ ((count : ℕ) × AddUp sizes.now (length body) count)) }
     ensures soonest { (body written : List ℕ) (count : ℕ)
         → IsDrainable R.Read W.Write segment.old (writer_of sink.old) body written
         → AddUp sizes.now (length body) count → IfOk result (λ drained. drained.calls ≤ count + 1) }
@@ -140,7 +140,7 @@ pub fn drain_text<R: Read, W: Write>(
         → DrainsTold R.Read W.Write sizes.now body written segment.old result segment.new (writer_of sink.new) }
     ensures any_sizes { (body written : List ℕ) (count : ℕ)
         → IsDrainable R.Read W.Write segment.old (writer_of sink.old) body written
-        → IsEnough text_strings sizes.now (length body) count → (HasEnded result ↔ IsCharacters body) }
+        → IsEnough text_strings sizes.now (length body) count → (SaysEnded result ↔ IsCharacters body) }
 {
     drain::<R, W, Text>(segment, sizes, buffer, sink)
 }

@@ -2,7 +2,7 @@ use Rattle.std.proofs.Common.{◌≡◌, length, length-append, take, drop, sym,
 use Rattle.std.proofs.Math.Seq.{take-append_seam}
 use Rattle.ciborium_ll_text.specs.Text.{IsCharacters}
 use Rattle.cbor_copy.specs.declared.phase.StringKind.{StringKind}
-use Rattle.cbor_copy.specs.Spots.{IsWhole}
+use Rattle.cbor_copy.specs.Spots.{IsPutOut}
 use Rattle.cbor_copy.proofs.copier.whole_len.Goals as goal
 
 pub returns-in-Text-clause-within : goal.returns-in-Text-clause-within
@@ -18,5 +18,5 @@ returns-in-Text-clause-whole c =
     let is = c.text_front.ensures.front in
     let same : take (length front) bytes ≡ front =
     ap (take (length front)) is.parts ∙ take-append_seam front (drop (length front) bytes) in
-    subst (λ (z : StringKind). IsWhole z (take (length front) bytes)) (sym c.in-Text.is)
+    subst (λ (z : StringKind). IsPutOut z (take (length front) bytes)) (sym c.in-Text.is)
     (subst IsCharacters (sym same) is.text)

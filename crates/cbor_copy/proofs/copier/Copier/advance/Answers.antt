@@ -1,7 +1,7 @@
 use Rattle.std.proofs.Common.{refl, ◌+◌, ◌-◌, ◌≤◌, length, length-take, take, ap, ◌∙◌, inl, subst, rules, arith}
 use Rattle.std.proofs.lemmas.List.{length-take-le, take-take}
 use Rattle.cbor_copy.specs.Copying.{spot_of}
-use Rattle.cbor_copy.specs.Spots.{Spot, IsWhole}
+use Rattle.cbor_copy.specs.Spots.{Spot, IsPutOut}
 use Rattle.cbor_copy.specs.Steps.{counted_by}
 use Rattle.cbor_copy.proofs.BodyRuns.{body_given}
 use Rattle.cbor_copy.proofs.EnterLaws.{body_put}
@@ -18,7 +18,7 @@ returns-then-len-gt0-clause-copied c = λ count fed given is.
     let fits : most ≤ length bytes = search rules in
     let long = length-take-le most bytes fits in
     let within : c.whole_len-len.result ≤ most = omega (arith, long, c.whole_len-len.ensures.within) in
-    let whole = subst (IsWhole c.in-Some.kind) (take-take c.whole_len-len.result most bytes within)
+    let whole = subst (IsPutOut c.in-Some.kind) (take-take c.whole_len-len.result most bytes within)
     c.whole_len-len.ensures.whole in
     body_given c.in-Some.kind count c.in-Some.left c.whole_len-len.result bytes (spot_of c.args.self.now)
     (spot_of c.bytes_put.new.self) fed given (take c.args.at c.args.out.now) _ (λ i less. search rules) (search rules)
