@@ -3,11 +3,12 @@ use Rattle.std.proofs.Common.{◌≡◌, ℕ, ◌+◌, ◌<◌, ◌≤◌, List,
 use Rattle.std.proofs.Common.{◌∙◌, subst, arith, append-nil, length-append}
 use Rattle.ciborium_ll.specs.Types.Read.{Ghosts}
 use Rattle.ciborium_ll.specs.Types.Decoder.{Decoder}
-use Rattle.ciborium_ll.specs.Decoding.{offset_limit, view}
+use Rattle.ciborium_ll.specs.Decoding.{offset_limit, view, Passes}
+use Rattle.ciborium_ll.proofs.BodyLaws.{Passes-read}
 use Rattle.ciborium_ll.proofs.CopyingTold.{consumes_told}
 use Rattle.cbor_look.specs.Dumps.{Draws, ShowsLeft, fault_lines}
 use Rattle.cbor_look.specs.Levels.{Line}
-use Rattle.cbor_look.specs.Takings.{IsIdle, IsLast, Keeps, Takes, most_bytes}
+use Rattle.cbor_look.specs.Takings.{EndsRow, IsIdle, IsLast, Keeps, ReadsOn, Takes, most_bytes}
 
 -- what follows where all went well
 pub on_ok : {A E : Type 0} {P Q : Type 0} (result : Result A E) → (P → Q) → OnOk result P → OnOk result Q
@@ -30,15 +31,25 @@ module _ {R E : Type 0} (source : Ghosts R E) where
       (omega (arith, counted, long, fits, keeps.takes.offset, length-append keeps.bytes gone.0)) in
       same ∙ sym (gone.2 ∙ (ap (λ (z : List ℕ). keeps.bytes ++ z) none ∙ append-nil keeps.bytes))
 
-  pub shows_left : (level : ℕ) (drawn then_drawn : Option (List Line)) (old new : Decoder R) (bytes : List ℕ)
-      → Keeps source [] bytes old new → length bytes ≤ most_bytes
+  -- one byte more came
+  pub one_passed : (old between new : Decoder R) (before after : List ℕ) → Passes source old before between
+      → ReadsOn source 1 before after between (Ok tt) new → Passes source old after new
+  one_passed old between new before after passed reads =
+      subst (λ (z : List ℕ). Passes source old z new) (sym reads.behind)
+      (Passes-read source old between new before reads.bytes passed reads.reads.read reads.reads.steady)
+
+  pub shows_left : (level : ℕ) (drawn then_drawn : Option (List Line)) (old between new : Decoder R) (bytes : List ℕ)
+      → Keeps source [] bytes old new → Passes source old bytes between → EndsRow source (length bytes) between new → length bytes ≤ most_bytes
       → (IsIdle source old → IsLast source bytes new)
       → Draws drawn then_drawn (fault_lines level old.offset bytes)
       → ShowsLeft source level drawn then_drawn old new
-  shows_left level drawn then_drawn old new bytes keeps few last draws = record {
+  shows_left level drawn then_drawn old between new bytes keeps passed ends few last draws = record {
     bytes = bytes;
     draws = draws;
     few = few;
     takes = subst (λ (z : List ℕ). Takes source old z new) (sym keeps.appended) keeps.takes;
+    between = between;
+    passed = passed;
+    ends = ends;
     all = taken_all old new bytes keeps last;
   }

@@ -222,7 +222,7 @@ module _ {R E : Type 0} (source : Ghosts R E) where
       part_fails kind left place old old new reads.bytes error
       (begun kind left old old [] [] [] refl (omega arith) IsStuck-nil (writable_first kind) (omega arith)
       (Passes-none source old))
-      none (omega (arith, counted, zero, any)) (omega (arith, counted)) (omega (arith, counted, most)) reads.reads
+      none (omega (arith, counted, zero, any)) (omega (arith, counted)) (omega (arith, counted, most)) reads.reads.read
 
   -- a further one, behind bytes of a text that are cut
   pub next_part : (left place : ℕ) (row next : List ℕ) (old between new : Decoder R) (error : Error E)
@@ -236,7 +236,7 @@ module _ {R E : Type 0} (source : Ghosts R E) where
       (begun Text left old between row cut.front cut.left cut.parts cut.few cut.stuck cut.text (omega (arith, more)) passed)
       (passes_idle source old between row passed none) (omega (arith, counted, room))
       (omega (arith, counted, room, ap length cut.parts, length-append cut.front cut.left)) (omega (arith, counted, more))
-      reads.reads
+      reads.reads.read
 
   abbrev begins_behind : (kind : Kind) (len left : ℕ) (front : List ℕ) (old between new : Decoder R)
       → Passes source old front between → IsWritable kind front → length front + left ≡ len

@@ -11,10 +11,10 @@ use Rattle.ciborium_ll.specs.Types.Error.{Error}
 use Rattle.ciborium_ll.specs.Types.Error.TheVariants as e
 use Rattle.ciborium_ll.specs.Title.{IsCutTitle, affix_len}
 use Rattle.ciborium_ll.specs.Decoding.{view, Begins, IsSteady, IsUntouched, Passes, PullsHeader, ReadsAll}
-use Rattle.ciborium_ll.specs.Decoding.{ReadsBytes}
+use Rattle.ciborium_ll.specs.Decoding.{IsWaiting, ReadsBytes}
 use Rattle.ciborium_ll.proofs.DecodingLaws.{IfSome-all, Passes-none}
 use Rattle.ciborium_ll.proofs.BodyLaws.{view_none, Passes-read}
-use Rattle.cbor_look.specs.Takings.{IsAlike, Means, PullsRow, ReadsOn}
+use Rattle.cbor_look.specs.Takings.{IsAlike, Means, PullsRow, ReadsOn, RefusesRead}
 use Rattle.cbor_look.proofs.ItemRows.{nothing}
 
 -- ---- bytes that are told
@@ -75,7 +75,7 @@ module _ {R E : Type 0} (source : Ghosts R E) where
       → Passes source old row new
   more_passed count before row old between new passed none reads =
       subst (λ (z : List ℕ). Passes source old z new) (sym reads.behind)
-      (Passes-read source old between new before reads.bytes passed reads.reads reads.steady)
+      (Passes-read source old between new before reads.bytes passed reads.reads.read reads.reads.steady)
 
   -- the first bytes of a row
   pub first_passed : (count : ℕ) (before row : List ℕ) (old new : Decoder R) → before ≡ [] → old.waiting ≡ None
@@ -83,6 +83,23 @@ module _ {R E : Type 0} (source : Ghosts R E) where
   first_passed count before row old new empty none reads =
       more_passed count before row old old new
       (subst (λ (z : List ℕ). Passes source old z old) (sym empty) (Passes-none source old)) none reads
+
+  -- ---- where a header waits
+
+  -- no read is all right
+  pub waits_no_read : (count : ℕ) (before after : List ℕ) (old new : Decoder R) → IsWaiting old
+      → ReadsOn source count before after old (Ok tt) new → ⊥
+  waits_no_read count before after old new waits reads = let never = rw reads.reads.read.none_waited at waits in cc
+
+  pub waits_refused : (count : ℕ) (before after : List ℕ) (error : Error E) (old new : Decoder R) → IsWaiting old
+      → ReadsOn source count before after old (Err error) new → (error ≡ e.Waiting) × RefusesRead old new
+  waits_refused count before after (e.Io fault) old new waits reads =
+      absurd (let never = rw reads.reads.read.none_waited at waits in cc)
+  waits_refused count before after (e.Syntax place) old new waits reads = absurd reads.reads.read
+  waits_refused count before after e.TooLong old new waits reads =
+      absurd (let never = rw reads.reads.read.0 at waits in cc)
+  waits_refused count before after e.Waiting old new waits reads =
+      (refl, record { untouched = reads.reads.read.1; counted = reads.reads.refusals })
 
   -- ---- a read that fails
 

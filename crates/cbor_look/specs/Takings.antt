@@ -8,7 +8,8 @@ use Rattle.ciborium_ll.specs.Types.Error.{Error}
 use Rattle.ciborium_ll.specs.Types.Error.TheVariants as e
 use Rattle.ciborium_ll.specs.Types.Header.{Header}
 use Rattle.ciborium_ll.specs.Title.{IsTitle, IsStrictTitle, IsRefused}
-use Rattle.ciborium_ll.specs.Decoding.{offset_limit, view, IsSteady, PullsHeader, PullsTitle, ReadsBytes}
+use Rattle.ciborium_ll.specs.Decoding.{offset_limit, refusals_of, view, IsSteady, IsUntouched, PullsHeader, PullsTitle}
+use Rattle.ciborium_ll.specs.Decoding.{Reads}
 use Rattle.cbor_look.specs.declared.taken.Taken.{Taken}
 
 -- the bytes that were read for a row
@@ -37,15 +38,29 @@ pub record IsAlike {R : Type 0} (strict : Bool) (decoder : Decoder R) : Type 0 w
   pub none_waits : decoder.waiting ≡ None
   pub mode : decoder.strict ≡ strict
 
+-- a read was refused, since a header waits: but for the count of refusals nothing changed
+pub record RefusesRead {R : Type 0} (old new : Decoder R) : Type 0 where
+  pub untouched : IsUntouched old new
+  pub counted : refusals_of new ≡ refusals_of old + 1
+
 module _ {R E : Type 0} (source : Ghosts R E) where
   -- so many bytes were read behind those before, or as many as there was room for
   pub record ReadsOn (count : ℕ) (before after : List ℕ) (old : Decoder R) (result : Result (Unit {0}) (Error E))
       (new : Decoder R) : Type 0 where
     pub bytes : List ℕ
     pub counted : length bytes ≡ min count (most_bytes - length before)
-    pub reads : ReadsBytes source old result bytes new
+    pub reads : Reads source old result bytes new
     pub behind : OnOk result (after ≡ before ++ bytes)
-    pub steady : IsSteady source old → IsSteady source new
+
+  -- one more byte was asked for, and the read failed
+  pub record FailsNext (old new : Decoder R) : Type 0 where
+    pub error : Error E
+    pub byte : ℕ
+    pub fails : Reads source old (Err error) (byte ∷ []) new
+
+  -- no more is read for a row of so many bytes: it is full, or one read of one more byte failed
+  abbrev pub EndsRow : ℕ → Decoder R → Decoder R → Type 0
+  EndsRow count old new = ((count ≡ most_bytes) × (new ≡ old)) ⊎ ((count < most_bytes) × FailsNext old new)
 
   -- a title was read as `pull` reads it, by the answer
   abbrev pub PullsRow : Decoder R → Result Header (Error E) → Decoder R → Type 0

@@ -1,13 +1,17 @@
 //! A dump: each title of a sequence of items on a line, and bodies of strings below theirs.
 
-ghost use Rattle.std.specs.Prelude.{◌≡◌, ℕ, ◌+◌, ◌-◌, ◌<◌, ◌≤◌, ◌↔◌, List, [], ◌∷◌, ◌++◌, length, Bool, IfErr, IsOk};
+ghost use Rattle.std.specs.Prelude.{◌≡◌, ℕ, ◌+◌, ◌-◌, ◌<◌, ◌≤◌, ◌↔◌, List, [], ◌∷◌, ◌++◌, length, Bool, Err, IfErr, IsOk};
 ghost use Rattle.ciborium_ll.specs.Items.{IsTakenTitle};
 ghost use Rattle.ciborium_ll.specs.Title.{IsTitle, title_len};
-ghost use Rattle.ciborium_ll.specs.Decoding.{offset_of, strict_of};
+ghost use Rattle.ciborium_ll.specs.Decoding.{offset_of, strict_of, IsWaiting};
 ghost use Rattle.cbor_skip.specs.Due.{IsNest};
 ghost use Rattle.cbor_skip.specs.SkippingTold.{IsReadyToSkip};
 ghost use Rattle.cbor_look.specs.Checking.{AnswersTold, ReadsAsCheck};
-ghost use Rattle.cbor_look.specs.Dumps.{AreTaken, Draws, EndsTitles, IsRefusal, IsTaken, SaysFault, fault_lines};
+ghost use Rattle.cbor_look.specs.Dumps.{AnswersWaiting, AreTaken, Draws, EndsTitles, IsRefusal, IsTaken, SaysFault};
+ghost use Rattle.cbor_look.specs.Dumps.{fault_lines};
+ghost use Rattle.ciborium_ll.specs.Types.Error.TheVariants.{Waiting};
+ghost use Rattle.cbor_skip.specs.declared.SkipError.TheVariants as s;
+ghost use Rattle.cbor_look.specs.declared.dump.DumpError.TheVariants as d;
 ghost use Rattle.cbor_look.specs.Sequences.{IsSequence};
 ghost use Rattle.cbor_look.specs.Takings.{IsAlike, most_bytes, taken_bytes};
 ghost use Rattle.ciborium_ll.specs.Strings.{kind_header};
@@ -56,8 +60,11 @@ pub enum DumpError<E, W> {
 /// not taken. Where besides a steady reader tells its bytes and the offset fits, `Ok` comes exactly where the bytes are
 /// a sequence of items to the depth; else the error is the fault behind the items before it.
 ///
-/// No clause says what is consumed where a header waits, nor where a dump stops whose decoder is not as strict: a title
-/// is then taken or refused as the dump is strict or not. How a row is printed its own `Display` says.
+/// Where a header waits, the error is `Error::Waiting`: no row is taken, nothing is read, and but for its count of
+/// refusals, which grows by one, the decoder is as it was.
+///
+/// No clause says where a dump stops whose decoder is not as strict: a title is then taken or refused as the dump is
+/// strict or not. How a row is printed its own `Display` says.
 pub fn dump<R: Read, S: Rows>(
     decoder: &mut Decoder<R>,
     depth: usize,
@@ -69,6 +76,7 @@ where
     requires { depth ≤ 256 }
     ensures shows { AreTaken result
         → ShowsAll R.Read strict depth (S.drawn rows.old) (S.drawn rows.new) result decoder.old decoder.new }
+    ensures waits { IsWaiting decoder.old → AnswersWaiting rows.old decoder.old result rows.new decoder.new }
     ensures reads { IsAlike strict decoder.old → AreTaken result
         → ReadsAsCheck R.Read depth most_bytes decoder.old result decoder.new }
     ensures told { (due : List ℕ) → IsAlike strict decoder.old
@@ -104,6 +112,8 @@ fn ended<E: Drop, S: Rows>(
     ensures draws { AreTaken result
         → Draws (S.drawn rows.old) (S.drawn rows.new) (fault_lines level offset (taken_bytes taken.now)) }
     ensures ends { EndsTitles error level (length (taken_bytes taken.now)) result }
+    ensures waits { error ≡ Waiting → taken_bytes taken.now ≡ []
+        → (result ≡ Err (d.Item (s.Read Waiting))) × (rows.new ≡ rows.old) }
 {
     match error {
         Error::Io(end) if level == 0 && taken.len() == 0 => Ok(end),
@@ -122,6 +132,7 @@ pub(crate) fn fault<E: Drop, S: Rows>(
     ensures draws { IsTaken result
         → Draws (S.drawn rows.old) (S.drawn rows.new) (fault_lines level offset (taken_bytes taken.now)) }
     ensures says { SaysFault error result }
+    ensures none { taken_bytes taken.now ≡ [] → (result ≡ d.Item (s.Read error)) × (rows.new ≡ rows.old) }
 {
     match fault_row(taken, offset, level, rows) {
         Ok(()) => DumpError::Item(SkipError::Read(error)),

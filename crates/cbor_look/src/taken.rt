@@ -1,8 +1,8 @@
 //! Bytes that were read for one row.
 
-ghost use Rattle.std.specs.Prelude.{◌≡◌, ◌+◌, ◌-◌, ◌%◌, ◌<◌, ◌≤◌, [], length, min, suc, false, IfErr, IfOk, IsTrue, None};
+ghost use Rattle.std.specs.Prelude.{◌≡◌, ◌+◌, ◌-◌, ◌%◌, ◌<◌, ◌≤◌, [], length, min, suc, false, IfErr, IfOk, IsTrue, None, Ok, Err};
 ghost use Rattle.ciborium_ll.specs.Title.{affix_len};
-ghost use Rattle.ciborium_ll.specs.Decoding.{offset_of, waiting_of, Passes};
+ghost use Rattle.ciborium_ll.specs.Decoding.{offset_of, waiting_of, IsWaiting, Passes};
 
 use crate::fronts::{header_of, is_cut, is_text};
 use ciborium_ll::io::Read;
@@ -24,7 +24,9 @@ impl Taken {
     ghost use Rattle.ciborium_ll.specs.Items.{IsTakenTitle};
     ghost use Rattle.ciborium_ll.specs.Title.{IsTitle};
     ghost use Rattle.ciborium_ll_text.specs.Text.{IsCharacters};
-    ghost use Rattle.cbor_look.specs.Takings.{HasFault, IsAlike, IsIdle, IsLast, Keeps, PullsRow, ReadsOn, taken_bytes};
+    ghost use Rattle.cbor_look.specs.Takings.{EndsRow, HasFault, IsAlike, IsIdle, IsLast, Keeps, PullsRow, ReadsOn};
+    ghost use Rattle.cbor_look.specs.Takings.{RefusesRead, taken_bytes};
+    ghost use Rattle.ciborium_ll.specs.Types.Error.TheVariants.{Waiting};
     ghost use Rattle.cbor_look.specs.Parts.{IsBroken, ReadsText};
     ghost use Rattle.ciborium_ll.specs.Strings.{Text};
     ghost use Rattle.cbor_look.specs.Levels.{IsWithinTitle};
@@ -81,6 +83,10 @@ impl Taken {
         ensures one { IsTrue result → length (taken_bytes self.new) ≡ suc (length (taken_bytes self.old)) }
         ensures last { result ≡ false → IsIdle R.Read decoder.old
             → IsLast R.Read (taken_bytes self.new) decoder.new }
+        ensures came { IsTrue result
+            → ReadsOn R.Read 1 (taken_bytes self.old) (taken_bytes self.new) decoder.old (Ok tt) decoder.new }
+        ensures ends { result ≡ false → (taken_bytes self.new ≡ taken_bytes self.old)
+            × EndsRow R.Read (length (taken_bytes self.old)) decoder.old decoder.new }
     {
         if self.len == MOST_BYTES {
             return false;
@@ -103,6 +109,8 @@ impl Taken {
             → IfOk result (λ _. Passes R.Read decoder.old (taken_bytes self.new) decoder.new) }
         ensures fault { IfErr result (λ error. HasFault error (taken_bytes self.new)) }
         ensures within { IfErr result (λ _. IsWithinTitle (taken_bytes self.new)) }
+        ensures waits { IsWaiting decoder.old → (result ≡ Err Waiting) × (taken_bytes self.new ≡ [])
+            × RefusesRead decoder.old decoder.new }
         ensures pulls { IsAlike strict decoder.old → place ≡ offset_of decoder.old
             → PullsRow R.Read decoder.old result decoder.new }
     {

@@ -9,7 +9,7 @@ use Rattle.std.proofs.lemmas.Grind.{common_steps}
 use Rattle.cbor_look.specs.Takings.{Means, taken_bytes}
 use Rattle.cbor_look.proofs.TakingLaws.{keeps_then, one_of}
 use Rattle.cbor_look.proofs.PullLaws.{first_fails, affix_fails, first_passed, more_passed, passes_idle, row_pulled}
-use Rattle.cbor_look.proofs.PullLaws.{row_refused}
+use Rattle.cbor_look.proofs.PullLaws.{row_refused, waits_no_read, waits_refused}
 use Rattle.cbor_look.proofs.taken.Taken.read_title.Goals as goal
 
 pub returns-in_err-read-clause-pulls : goal.returns-in_err-read-clause-pulls
@@ -22,7 +22,28 @@ returns-in_err-read-clause-pulls g c = λ alike at.
     let is_same = from.2 in
     let same : c.from_residual.result ≡ Err c.in_err-read.field-0.0 = cc in
     rw same
-    (first_fails g.R.Read _ _ _ reads.bytes alike.none_waits (omega (arith, counted, empty)) reads.reads)
+    (first_fails g.R.Read _ _ _ reads.bytes alike.none_waits (omega (arith, counted, empty)) reads.reads.read)
+
+pub returns-in_err-read-clause-waits : goal.returns-in_err-read-clause-waits
+returns-in_err-read-clause-waits g c = λ waits.
+    let from = err_from_is_err_and c.from_residual.result c.from_residual.ensures.1 in
+    let is_error = from.1 in
+    let is_same = from.2 in
+    let same : c.from_residual.result ≡ Err c.in_err-read.field-0.0 = cc in
+    let refused = waits_refused g.R.Read 1 _ _ c.in_err-read.field-0.0 _ _ waits c.in_err-read.ensures.reads in
+    (same ∙ ap Err refused.0, c.in_err-read.ensures.none ∙ c.requires.none, refused.1)
+
+pub returns-in_err-read-2-clause-waits : goal.returns-in_err-read-2-clause-waits
+returns-in_err-read-2-clause-waits g c = λ waits.
+    absurd (waits_no_read g.R.Read 1 _ _ _ _ waits c.in_ok-read.ensures.reads)
+
+pub returns-in-Some-clause-waits : goal.returns-in-Some-clause-waits
+returns-in-Some-clause-waits g c = λ waits.
+    absurd (waits_no_read g.R.Read 1 _ _ _ _ waits c.in_ok-read.ensures.reads)
+
+pub returns-in-None-clause-waits : goal.returns-in-None-clause-waits
+returns-in-None-clause-waits g c = λ waits.
+    absurd (waits_no_read g.R.Read 1 _ _ _ _ waits c.in_ok-read.ensures.reads)
 
 pub returns-in_err-read-2-clause-keeps : goal.returns-in_err-read-2-clause-keeps
 returns-in_err-read-2-clause-keeps g c =
@@ -49,8 +70,8 @@ returns-in_err-read-2-clause-pulls g c = λ alike at.
     let same : residual.result ≡ Err c.in_err-read-2.field-0.0 = cc in
     rw same
     (affix_fails g.R.Read _ _ _ _ byte second.bytes
-    (subst (λ (z : List ℕ). ReadsAll g.R.Read c.args.decoder.now z c.read.new.decoder) is first.reads) first.steady
-    (omega (arith, counted', long, announced, few)) second.reads)
+    (subst (λ (z : List ℕ). ReadsAll g.R.Read c.args.decoder.now z c.read.new.decoder) is first.reads.read) first.reads.steady
+    (omega (arith, counted', long, announced, few)) second.reads.read)
 
 pub returns-in-Some-clause-title : goal.returns-in-Some-clause-title
 returns-in-Some-clause-title g c =
