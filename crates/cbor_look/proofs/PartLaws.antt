@@ -20,8 +20,8 @@ use Rattle.ciborium_ll_text.specs.declared.state.State.{State}
 use Rattle.ciborium_ll_text.specs.declared.state.State.TheVariants as t
 use Rattle.ciborium_ll_text.proofs.StateLaws.{after-append, text_ends, text_from, none_goes_on, some_goes_on}
 use Rattle.ciborium_ll_text.proofs.LastEndLaws.{due, back, Back, begins, goes_on}
-use Rattle.cbor_look.specs.Takings.{ReadsOn}
-use Rattle.cbor_look.specs.Parts.{is_between, is_inside, FailsInBody, IsSound, ReadsPart}
+use Rattle.cbor_look.specs.Takings.{ReadsOn, most_text}
+use Rattle.cbor_look.specs.Parts.{is_between, is_inside, FailsInBody, IsCutText, IsSound, ReadsPart}
 use Rattle.cbor_look.proofs.PullLaws.{passes_idle, first_passed}
 
 -- ---- states
@@ -58,6 +58,18 @@ inside_not t.BehindEd is = (omega arith, λ e. absurd cc)
 inside_not t.BehindF0 is = (omega arith, λ e. absurd cc)
 inside_not t.BehindF4 is = (omega arith, λ e. absurd cc)
 inside_not t.Damaged is = absurd cc
+
+-- no more than three are due
+pub due_few : (state : State) → due state ≤ 3
+due_few t.Between = omega arith
+due_few t.OneDue = omega arith
+due_few t.TwoDue = omega arith
+due_few t.ThreeDue = omega arith
+due_few t.BehindE0 = omega arith
+due_few t.BehindEd = omega arith
+due_few t.BehindF0 = omega arith
+due_few t.BehindF4 = omega arith
+due_few t.Damaged = omega arith
 
 -- inside a character one byte less is due behind a further one
 due_step : (state : State) (byte : ℕ) → 0 < due state → due (after_byte state byte) < due state
@@ -125,6 +137,12 @@ cut_of bytes is =
         text = f.2.text;
       }
     ]
+
+pub cut_text : (left : ℕ) (bytes : List ℕ) → is_inside (after t.Between bytes) ≡ true → most_text ≤ length bytes
+    → length bytes < left → IsCutText left bytes
+cut_text left bytes is many less =
+    let more = some_goes_on bytes (inside_not (after t.Between bytes) is).1 in
+    record { many = many; due = less; no_text = inside_broken bytes is; more = more.0; goes_on = more.1 }
 
 -- where no more is read the bytes are all that was left, or they are cut nowhere
 pub sound_of : (left : ℕ) (bytes : List ℕ) (whole : Bool) → whole ≡ is_between (after t.Between bytes)

@@ -12,9 +12,14 @@ use Rattle.ciborium_ll.specs.Types.Error.TheVariants as e
 use Rattle.ciborium_ll.specs.Title.{IsCutTitle, affix_len}
 use Rattle.ciborium_ll.specs.Decoding.{view, Begins, IsSteady, IsUntouched, Passes, PullsHeader, ReadsAll}
 use Rattle.ciborium_ll.specs.Decoding.{IsWaiting, ReadsBytes}
-use Rattle.ciborium_ll.proofs.DecodingLaws.{IfSome-all, Passes-none}
+use Rattle.ciborium_ll.proofs.DecodingLaws.{Passes-none}
 use Rattle.ciborium_ll.proofs.BodyLaws.{view_none, Passes-read}
-use Rattle.cbor_look.specs.Takings.{IsAlike, Means, PullsRow, ReadsOn, RefusesRead}
+use Rattle.ciborium_ll.specs.Strings.{Kind, Text}
+use Rattle.cbor_look.specs.Parts.{IsCutText, IsPartRow}
+use Rattle.cbor_look.specs.Takings.{IsAlike, IsTitleRow, Leaves, LeavesBehind, Means, PullsRow, ReadsOn, RefusesRead}
+use Rattle.std.proofs.Common.{get_or, length-append}
+use Rattle.ciborium_ll.proofs.DecodingLaws.{IfSome-all}
+use Rattle.cbor_look.proofs.TakingLaws.{one_of}
 use Rattle.cbor_look.proofs.ItemRows.{nothing}
 
 -- ---- bytes that are told
@@ -43,6 +48,18 @@ cut_behind None known' byte c less = tt
 cut_behind (Some due) None byte c less = absurd c
 cut_behind (Some due) (Some rest) byte c less =
     subst (λ (z : List ℕ). IsCutTitle z × (byte ∷ [] ≡ take 1 z)) (sym c) (less, refl)
+
+each_less : (known : Option (List ℕ)) (count : ℕ) (row : List ℕ)
+    → ((left : List ℕ) → length left < count → Leaves row left) → IfSome known (λ due. length due < count)
+    → IfSome known (Leaves row)
+each_less None count row follows less = tt
+each_less (Some left) count row follows less = follows left less
+
+-- a row of several bytes leaves none
+pub several_leave : (row left : List ℕ) → 1 < length row → left ≡ [] → Leaves row left
+several_leave [] left several none = absurd (omega (arith, several))
+several_leave (byte ∷ []) left several none = absurd (omega (arith, several))
+several_leave (byte ∷ (next ∷ more)) left several none = none
 
 module _ {R E : Type 0} (source : Ghosts R E) where
   -- ---- behind what passed
@@ -100,6 +117,68 @@ module _ {R E : Type 0} (source : Ghosts R E) where
       absurd (let never = rw reads.reads.read.0 at waits in cc)
   waits_refused count before after e.Waiting old new waits reads =
       (refl, record { untouched = reads.reads.read.1; counted = reads.reads.refusals })
+
+  -- a row that one byte was read for
+  pub first_byte : (before row : List ℕ) (old new : Decoder R) → before ≡ []
+      → ReadsOn source 1 before row old (Ok tt) new → row ≡ get_or row 0 0 ∷ []
+  first_byte before row old new none reads =
+      let empty = ap length none in
+      let counted = reads.counted in
+      let long = ap length reads.behind in
+      one_of row (omega (arith, empty, counted, long, length-append before reads.bytes))
+
+  -- ---- what a row has where a read fails
+
+  -- of a title nothing, or its first byte
+  pub row_nothing : (strict : Bool) (count : ℕ) (before after : List ℕ) (error : Error E) (old new : Decoder R)
+      → ReadsOn source count before after old (Err error) new → (row : List ℕ) → row ≡ [] → IsTitleRow strict error row
+  row_nothing strict count before after (e.Io fault) old new reads row none = inl none
+  row_nothing strict count before after (e.Syntax at) old new reads row none = absurd reads.reads.read
+  row_nothing strict count before after e.TooLong old new reads row none = inl none
+  row_nothing strict count before after e.Waiting old new reads row none = inl none
+
+  pub row_first : (strict : Bool) (count : ℕ) (before after : List ℕ) (error : Error E) (old new : Decoder R)
+      → ReadsOn source count before after old (Err error) new → (byte : ℕ) (row : List ℕ) → row ≡ byte ∷ []
+      → IsTitleRow strict error row
+  row_first strict count before after (e.Io fault) old new reads byte row one = inr (byte, one)
+  row_first strict count before after (e.Syntax at) old new reads byte row one = absurd reads.reads.read
+  row_first strict count before after e.TooLong old new reads byte row one = inr (byte, one)
+  row_first strict count before after e.Waiting old new reads byte row one = inr (byte, one)
+
+  -- of a body nothing, or the front of a text
+  pub part_nothing : (kind : Kind) (left count : ℕ) (before after : List ℕ) (error : Error E) (old new : Decoder R)
+      → ReadsOn source count before after old (Err error) new → (row : List ℕ) → row ≡ []
+      → IsPartRow kind left error row
+  part_nothing kind left count before after (e.Io fault) old new reads row none = inl none
+  part_nothing kind left count before after (e.Syntax at) old new reads row none = absurd reads.reads.read
+  part_nothing kind left count before after e.TooLong old new reads row none = inl none
+  part_nothing kind left count before after e.Waiting old new reads row none = inl none
+
+  pub part_cut : (left count : ℕ) (before after : List ℕ) (error : Error E) (old new : Decoder R)
+      → ReadsOn source count before after old (Err error) new → (row : List ℕ) → IsCutText left row
+      → IsPartRow Text left error row
+  part_cut left count before after (e.Io fault) old new reads row cut = inr (refl, cut)
+  part_cut left count before after (e.Syntax at) old new reads row cut = absurd reads.reads.read
+  part_cut left count before after e.TooLong old new reads row cut = inr (refl, cut)
+  part_cut left count before after e.Waiting old new reads row cut = inr (refl, cut)
+
+  -- and behind it a steady reader leaves less than was asked for
+  pub less_left : (count : ℕ) (before after : List ℕ) (error : Error E) (old new : Decoder R)
+      → (reads : ReadsOn source count before after old (Err error) new) → IsSteady source old → (row : List ℕ)
+      → ((left : List ℕ) → length left < length reads.bytes → Leaves row left)
+      → IfSome (view source new) (LeavesBehind error row)
+  less_left count before after (e.Io fault) old new reads steady row follows =
+      let fails = reads.reads.read in
+      let still = fails.steady steady in
+      subst (λ (z : Option (List ℕ)). IfSome z (Leaves row))
+      (sym (view_none new.waiting (source.ahead new.reader) fails.none_waits ∙ still.0))
+      (each_less (source.ahead old.reader) (length reads.bytes) row follows still.1)
+  less_left count before after (e.Syntax at) old new reads steady row follows =
+      IfSome-all (view source new) _ (λ any. tt)
+  less_left count before after e.TooLong old new reads steady row follows =
+      IfSome-all (view source new) _ (λ any. tt)
+  less_left count before after e.Waiting old new reads steady row follows =
+      IfSome-all (view source new) _ (λ any. tt)
 
   -- ---- a read that fails
 

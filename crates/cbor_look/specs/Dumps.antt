@@ -1,6 +1,6 @@
 -- What `dump` and its parts do with the lines: their bytes, joined, are those that were consumed, and each stands at
 -- its level.
-use Rattle.std.specs.Prelude.{◌≡◌, ℕ, ◌+◌, ◌<◌, ◌≤◌, List, [], ◌∷◌, ◌++◌, length, Option, Some, None, Result, Ok, Err}
+use Rattle.std.specs.Prelude.{◌≡◌, ℕ, ◌+◌, ◌<◌, ◌≤◌, List, [], ◌∷◌, ◌++◌, length, Option, Some, None, IfSome, Result, Ok, Err}
 use Rattle.ciborium_ll.specs.Types.Read.{Ghosts}
 use Rattle.ciborium_ll.specs.Types.Decoder.{Decoder}
 use Rattle.ciborium_ll.specs.Types.Error.{Error}
@@ -11,8 +11,8 @@ use Rattle.cbor_look.specs.declared.dump.DumpError.TheVariants as d
 use Rattle.cbor_look.specs.declared.rows.Meaning.TheVariants as m
 use Rattle.ciborium_ll.specs.Decoding.{offset_limit, view, Passes}
 use Rattle.cbor_look.specs.Takings.{EndsRow, IsIdle, RefusesRead, Takes, most_bytes}
-use Rattle.cbor_look.specs.Levels.{Line, bytes_of, AllStand}
-use Rattle.cbor_look.specs.Endings.{Ending, EndAs}
+use Rattle.cbor_look.specs.Levels.{Line, Ending, bytes_of, AllStand}
+use Rattle.cbor_look.specs.Endings.{EndAs, LeavesAs, bytes_at_fault}
 
 -- each line was taken, though a fault stands behind them
 abbrev pub IsTaken : {E W : Type 0} → DumpError E W → Type 0
@@ -70,22 +70,25 @@ pub record Lines (depth start : ℕ) (old new : Option (List Line)) (before byte
     : Type 0 where
   pub lines : List Line
   pub drawn : Draws old new lines
-  pub stand : AllStand depth start before lines
+  pub stand : AllStand ending depth start before lines
   pub joined : bytes_of lines ≡ bytes
   pub ends : EndAs ending lines
 
 module _ {R E : Type 0} (source : Ghosts R E) where
-  -- lines were drawn of just the bytes that were consumed
+  -- lines were drawn of just the bytes that were consumed; where those that are told end too early, it is known how many
+  -- are left
   pub record Shows (depth start : ℕ) (drawn then_drawn : Option (List Line)) (before bytes : List ℕ)
       (ending : Ending) (old new : Decoder R) : Type 0 where
     pub lines : Lines depth start drawn then_drawn before bytes ending
     pub takes : Takes source old bytes new
+    pub left : IsIdle source old → IfSome (view source new) (LeavesAs ending (bytes_at_fault lines.lines))
 
   -- the bytes consumed before were drawn, and then that
   pub record ShowsBehind (depth start : ℕ) (drawn then_drawn : Option (List Line)) (before row bytes : List ℕ)
       (ending : Ending) (old new : Decoder R) : Type 0 where
     pub lines : Lines depth start drawn then_drawn before (row ++ bytes) ending
     pub takes : Takes source old bytes new
+    pub left : IsIdle source old → IfSome (view source new) (LeavesAs ending (bytes_at_fault lines.lines))
 
   -- What was left behind a dump is shown at the level: in a line, where there is some, are just bytes that were consumed,
   -- and no more than a line has. They came one by one, until the line was full or a read failed, behind which there was

@@ -85,7 +85,7 @@ module _ {R E W : Type 0} (source : Ghosts R E) where
       (len : Option ℕ) (strict : Bool) (place : ℕ) (result : Result (Unit {0}) (DumpError E W)) (old new : Decoder R)
       : Type 0 where
     pub bytes : List ℕ
-    pub shows : Shows source depth start drawn then_drawn before bytes (ending result) old new
+    pub shows : Shows source depth start drawn then_drawn before bytes (ending strict result) old new
     pub whole : OnOk result (IsRest strict kind len bytes)
     pub passed : IsAlike strict old → OnOk result (Passes source old bytes new)
     pub stops : IsAlike strict old → StopsRest kind len place old result new

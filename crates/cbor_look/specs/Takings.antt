@@ -1,5 +1,5 @@
 -- The bytes of a row: just those that were consumed for it.
-use Rattle.std.specs.Prelude.{◌≡◌, ℕ, ◌+◌, ◌-◌, ◌<◌, ◌≤◌, min, Bool, IsTrue, List, [], ◌∷◌, ◌++◌, length, take, Option, None}
+use Rattle.std.specs.Prelude.{◌≡◌, ℕ, ◌+◌, ◌-◌, ◌%◌, ◌<◌, ◌≤◌, min, Bool, IsTrue, List, [], ◌∷◌, ◌++◌, length, take, Option, None}
 use Rattle.std.specs.Prelude.{Some, Result, Ok, Err, OnOk, ◌⊎◌}
 use Rattle.std.specs.Io.KnownBytes.{Consumes}
 use Rattle.ciborium_ll.specs.Types.Read.{Ghosts}
@@ -7,7 +7,7 @@ use Rattle.ciborium_ll.specs.Types.Decoder.{Decoder}
 use Rattle.ciborium_ll.specs.Types.Error.{Error}
 use Rattle.ciborium_ll.specs.Types.Error.TheVariants as e
 use Rattle.ciborium_ll.specs.Types.Header.{Header}
-use Rattle.ciborium_ll.specs.Title.{IsTitle, IsStrictTitle, IsRefused}
+use Rattle.ciborium_ll.specs.Title.{IsTitle, IsStrictTitle, IsRefused, affix_len}
 use Rattle.ciborium_ll.specs.Decoding.{offset_limit, refusals_of, view, IsSteady, IsUntouched, PullsHeader, PullsTitle}
 use Rattle.ciborium_ll.specs.Decoding.{Reads}
 use Rattle.cbor_look.specs.declared.taken.Taken.{Taken}
@@ -20,6 +20,10 @@ taken_bytes taken = take taken.len taken.bytes
 abbrev pub most_bytes : ℕ
 most_bytes = 16
 
+-- the most bytes of a text that are read at once: behind them is room for the rest of a character
+abbrev pub most_text : ℕ
+most_text = 13
+
 -- what a decoder says of a first byte and as many as that announces, where it is strict or not: they are a title of the
 -- header, and where it is strict one that it takes; or none is, by the first byte or where it is strict by all (RFC
 -- 7049, 2.1 to 2.3 and 3.9)
@@ -27,6 +31,27 @@ abbrev pub Means : Bool → List ℕ → Option Header → Type 0
 Means strict bytes (Some header) = IsTitle bytes header × (IsTrue strict → IsStrictTitle bytes header)
 Means strict bytes None = ((byte : ℕ) × IsRefused byte × (bytes ≡ byte ∷ []))
     ⊎ (IsTrue strict × ((header : Header) × IsTitle bytes header × (IsStrictTitle bytes header → ⊥)))
+
+-- a first byte, which is all that came of a title
+abbrev pub IsFirstByte : List ℕ → Type 0
+IsFirstByte bytes = (byte : ℕ) × (bytes ≡ byte ∷ [])
+
+-- what was read of a title where the read stopped so: all of one that is refused, or nothing, or its first byte
+abbrev pub IsTitleRow : {E : Type 0} → Bool → Error E → List ℕ → Type 0
+IsTitleRow strict (e.Syntax at) bytes = Means strict bytes None
+IsTitleRow strict error bytes = (bytes ≡ []) ⊎ IsFirstByte bytes
+
+-- So many bytes are left behind those of a row at fault, where the bytes end too early: behind none fewer than a row has,
+-- behind a first byte fewer than it announces (RFC 7049, 2.1), and none behind the front of a text
+abbrev pub Leaves : List ℕ → List ℕ → Type 0
+Leaves [] left = length left < most_bytes
+Leaves (byte ∷ []) left = length left < affix_len (byte % 32)
+Leaves bytes left = left ≡ []
+
+-- the same where the reader failed: of no other error anything is said
+abbrev pub LeavesBehind : {E : Type 0} → Error E → List ℕ → List ℕ → Type 0
+LeavesBehind (e.Io fault) bytes left = Leaves bytes left
+LeavesBehind error bytes left = Unit {0}
 
 -- where bytes are at fault, some were read
 abbrev pub HasFault : {E : Type 0} → Error E → List ℕ → Type 0

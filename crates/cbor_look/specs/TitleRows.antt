@@ -49,7 +49,7 @@ module _ {E W : Type 0} where
   pub record DrawsTitle (strict : Bool) (depth whole start : ℕ) (drawn then_drawn : Option (List Line))
       (before title : List ℕ) (header : Header) (walk : Walk) (place : ℕ)
       (result : Result (Unit {0}) (DumpError E W)) : Type 0 where
-    pub lines : Lines depth start drawn then_drawn before title (ending result)
+    pub lines : Lines depth start drawn then_drawn before title (ending strict result)
     pub due : OnOk result (IsDueBehind strict depth whole walk (before ++ title))
     pub stops : StopsAlone strict depth whole header place before result
 
@@ -81,7 +81,7 @@ module _ {R E W : Type 0} (source : Ghosts R E) where
       (header : Header) (walk : Walk) (strict : Bool) (place : ℕ) (result : Result (Unit {0}) (DumpError E W))
       (old new : Decoder R) : Type 0 where
     pub bytes : List ℕ
-    pub shows : ShowsBehind source depth start drawn then_drawn before title bytes (ending result) old new
+    pub shows : ShowsBehind source depth start drawn then_drawn before title bytes (ending strict result) old new
     pub due : OnOk result (IsDueBehind strict depth whole walk (before ++ (title ++ bytes)))
     pub passed : IsAlike strict old → OnOk result (Passes source old bytes new)
     pub stops : IsAlike strict old → StopsTitle strict depth whole header place before old result new
@@ -94,5 +94,5 @@ module _ {R E W : Type 0} (source : Ghosts R E) where
       (DumpError E W))
       (old new : Decoder R) : Type 0 where
     pub bytes : List ℕ
-    pub shows : Shows source depth old.offset drawn then_drawn [] bytes (ending result) old new
+    pub shows : Shows source depth old.offset drawn then_drawn [] bytes (ending strict result) old new
     pub whole : OnOk result (IsSequence strict depth bytes)

@@ -44,9 +44,15 @@ pub enum DumpError<E, W> {
 /// `Ok` has what the reader answered where a further item would begin. Before an error all that was read is shown.
 /// Nothing is read ahead of the rows, and no memory is taken.
 ///
-/// No row means a fault but the last one before an error. Where bytes are no item (`Error::Syntax`) that one does, and
-/// where a read stopped for another reason it may. It has what was read of one title, or bytes of a text that are no
-/// whole characters. A break where none may stand, and the title of a nest too deep, are shown as what they are.
+/// No row means a fault but the last one before an error. Where bytes are no item (`Error::Syntax`) that one does: it has
+/// all of a title that is refused, by its first byte, by a strict dump since it is not strict, or since it may not stand
+/// in its string; or bytes of a text that are none, as the rest of the body or however they go on. Where a read stopped
+/// for another reason it may: it has the first byte of a title, or 13 bytes or more of a text, of which more are due and
+/// which end inside a character. A break where none may stand, and the title of a nest too deep, are shown as what they
+/// are.
+///
+/// Where a steady reader that tells its bytes fails, and no header waited, few of them are left: behind a first byte at
+/// fault fewer than it announces, behind a text at fault none, and where no row is at fault at most 15.
 ///
 /// Each row has from 1 to 16 bytes, stands at its level, and has the offset of its first byte. The level of a title is
 /// the number of tags, arrays, maps and opens that it stands within in the grammar, and a break that closes one has the

@@ -7,6 +7,7 @@ use Rattle.ciborium_ll.specs.Title.{IsTitle}
 use Rattle.ciborium_ll.specs.Types.Error.TheVariants as e
 use Rattle.ciborium_ll.proofs.NestLaws.{title_some}
 use Rattle.cbor_look.specs.Takings.{IsAlike, most_bytes, taken_bytes}
+use Rattle.cbor_look.proofs.RowLaws.{row_few}
 use Rattle.cbor_look.proofs.StringLaws.{taken_all}
 use Rattle.cbor_look.proofs.DumpLaws.{shows_none}
 use Rattle.cbor_look.proofs.PullLaws.{passes_alike}
@@ -50,7 +51,9 @@ returns-in-Err g c =
     record {
       shows = λ all. up_ended g.R.Read c.args.strict c.args.depth _ _ _ c.titles.walk row c.offset-place.result
           c.level-level.result _ _ _ c.in-Err.error c.ended.result up takes place level (c.ended.ensures.draws all)
-          ended (rw c.in-Err.is at c.read_title.ensures.within) (rw c.in-Err.is at c.read_title.ensures.fault) all;
+          ended (rw c.in-Err.is at c.read_title.ensures.row)
+          (row_few c.read_title.new.self) (rw c.in-Err.is at c.read_title.ensures.fault)
+          (rw (c.offset-place.ensures.same, c.in-Err.is) at c.read_title.ensures.left) all;
       waits = λ waits.
           let still = c.titles.invariant.1 waits in
           let refused = (rw (c.offset-place.ensures.same, still.0, c.in-Err.is) at c.read_title.ensures.waits) waits in

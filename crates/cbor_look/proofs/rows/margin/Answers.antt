@@ -1,4 +1,4 @@
-use Rattle.std.proofs.Common.{◌≡◌, ◌+◌, ◌*◌, ◌-◌, ℕ, min, arith, refl}
+use Rattle.std.proofs.Common.{◌≡◌, min, arith, refl}
 use Rattle.std.proofs.lemmas.Grind.{put_three}
 use Rattle.cbor_look.proofs.RowTextLaws.{margin_is}
 use Rattle.cbor_look.proofs.rows.margin.Goals as goal
