@@ -17,10 +17,18 @@ use Rattle.ciborium_ll.proofs.BodyLaws.{view_none, Passes-read}
 use Rattle.ciborium_ll.specs.Strings.{Kind, Text}
 use Rattle.cbor_look.specs.Parts.{IsCutText, IsPartRow}
 use Rattle.cbor_look.specs.Takings.{IsAlike, IsTitleRow, Leaves, LeavesBehind, Means, PullsRow, ReadsOn, RefusesRead}
-use Rattle.std.proofs.Common.{get_or, length-append}
+use Rattle.std.proofs.Common.{get_or, length-append, ◌++◌, ◌≤◌, Result}
 use Rattle.ciborium_ll.proofs.DecodingLaws.{IfSome-all}
 use Rattle.cbor_look.proofs.TakingLaws.{one_of}
 use Rattle.cbor_look.proofs.ItemRows.{nothing}
+
+-- ---- answers
+
+pub same_error : {A E : Type 0} (one other : E) → ◌≡◌ {A = Result A E} (Err one) (Err other) → one ≡ other
+same_error one other same = cc
+
+pub no_error : {A E : Type 0} (value : A) (error : E) → ◌≡◌ {A = Result A E} (Ok value) (Err error) → ⊥
+no_error value error same = cc
 
 -- ---- bytes that are told
 
@@ -126,6 +134,22 @@ module _ {R E : Type 0} (source : Ghosts R E) where
       let counted = reads.counted in
       let long = ap length reads.behind in
       one_of row (omega (arith, empty, counted, long, length-append before reads.bytes))
+
+  -- what a decoder says of a first byte and its affix, which were read one behind the other
+  pub row_means : (strict : Bool) (count : ℕ) (before one row shown : List ℕ) (old between new : Decoder R)
+      (result : Option Header) → before ≡ [] → ReadsOn source 1 before one old (Ok tt) between
+      → count ≡ affix_len (get_or one 0 0 % 32) → count ≤ 8 → ReadsOn source count one row between (Ok tt) new
+      → shown ≡ row
+      → ((first : ℕ) (affix : List ℕ) → shown ≡ first ∷ affix → length affix ≡ affix_len (first % 32)
+      → Means strict shown result) → Means strict row result
+  row_means strict count before one row shown old between new result none first announced few second same says =
+      let is = first_byte before one old between none first in
+      let counted = second.counted in
+      let long = ap length is in
+      subst (λ (z : List ℕ). Means strict z result) same
+      (says (get_or one 0 0) second.bytes
+      (same ∙ (second.behind ∙ ap (λ (z : List ℕ). z ++ second.bytes) is))
+      (omega (arith, counted, long, announced, few)))
 
   -- ---- what a row has where a read fails
 
@@ -273,6 +297,20 @@ module _ {R E : Type 0} (source : Ghosts R E) where
       }
   affix_fails e.Waiting old between new byte bytes first steady long fails =
       absurd (let waits = rw first.none_waits at fails.0 in cc)
+
+  -- and so behind a first byte that was read for a row
+  pub second_fails : (error : Error E) (count : ℕ) (before one after : List ℕ) (old between new : Decoder R)
+      → before ≡ [] → ReadsOn source 1 before one old (Ok tt) between → count ≡ affix_len (get_or one 0 0 % 32)
+      → count ≤ 8 → ReadsOn source count one after between (Err error) new → PullsHeader source old (Err error) new
+  second_fails error count before one after old between new none first announced few second =
+      let is = first_byte before one old between none first in
+      let all : first.bytes ≡ get_or one 0 0 ∷ [] =
+      sym (first.behind ∙ ap (λ (z : List ℕ). z ++ first.bytes) none) ∙ is in
+      let counted = second.counted in
+      let long = ap length is in
+      affix_fails error old between new (get_or one 0 0) second.bytes
+      (subst (λ (z : List ℕ). ReadsAll source old z between) all first.reads.read) first.reads.steady
+      (omega (arith, counted, long, announced, few)) second.reads.read
 
   -- ---- a title that was read whole
 

@@ -1,16 +1,15 @@
-use Rattle.std.proofs.Common.{◌≡◌, [], ◌++◌, length, Err, refl, ◌∙◌, arith}
+use Rattle.std.proofs.Common.{[], ◌++◌, length, Err, refl, ◌∙◌, arith}
 use Rattle.ciborium_ll.proofs.DecodingLaws.{exit_is}
 use Rattle.cbor_look.specs.Checking.{ReadsAsCheck}
 use Rattle.cbor_look.specs.Dumps.{AreTaken, IsTaken}
 use Rattle.ciborium_ll.specs.Items.{IsTakenTitle}
 use Rattle.ciborium_ll.specs.Title.{IsTitle}
-use Rattle.ciborium_ll.specs.Types.Error.TheVariants as e
 use Rattle.ciborium_ll.proofs.NestLaws.{title_some}
 use Rattle.cbor_look.specs.Takings.{IsAlike, most_bytes, taken_bytes}
 use Rattle.cbor_look.proofs.RowLaws.{row_few}
 use Rattle.cbor_look.proofs.StringLaws.{taken_all}
 use Rattle.cbor_look.proofs.DumpLaws.{shows_none}
-use Rattle.cbor_look.proofs.PullLaws.{passes_alike}
+use Rattle.cbor_look.proofs.PullLaws.{no_error, passes_alike, same_error}
 use Rattle.cbor_look.proofs.CheckLaws.{comes_first, comes_next, comes_alike, comes_end, comes_title, answers_told}
 use Rattle.cbor_look.proofs.CheckLaws.{answers_exactly}
 use Rattle.cbor_look.proofs.TitleLaws.{nests_few, up_ended, up_title}
@@ -57,9 +56,7 @@ returns-in-Err g c =
       waits = λ waits.
           let still = c.titles.invariant.1 waits in
           let refused = (rw (c.offset-place.ensures.same, still.0, c.in-Err.is) at c.read_title.ensures.waits) waits in
-          let is_error = refused.0 in
-          let same : c.in-Err.error ≡ e.Waiting = cc in
-          let answered = c.ended.ensures.waits same refused.1 in
+          let answered = c.ended.ensures.waits (same_error _ _ refused.0) refused.1 in
           record {
             answer = answered.0;
             no_row = answered.1 ∙ still.1;
@@ -128,9 +125,8 @@ returns-in_err-title g c =
           };
       waits = λ waits.
           let still = c.titles.invariant.1 waits in
-          let never =
-          ((rw (c.offset-place.ensures.same, still.0, c.in-Ok.is) at c.read_title.ensures.waits) waits).0 in
-          absurd cc;
+          absurd (no_error _ _
+          ((rw (c.offset-place.ensures.same, still.0, c.in-Ok.is) at c.read_title.ensures.waits) waits).0);
       reads = reads;
       told = λ due alike ready all. answers_told g.R.Read c.args.depth c.args.decoder.now due ready
           (Err error) _ (reads alike all);
@@ -186,7 +182,6 @@ titles-preserved g c = (
       },
   λ waits.
       let still = c.titles.invariant.1 waits in
-      let never =
-      ((rw (c.offset-place.ensures.same, still.0, c.in-Ok.is) at c.read_title.ensures.waits) waits).0 in
-      absurd cc,
+      absurd (no_error _ _
+      ((rw (c.offset-place.ensures.same, still.0, c.in-Ok.is) at c.read_title.ensures.waits) waits).0),
 )

@@ -1,6 +1,6 @@
-use Rattle.std.proofs.Common.{◌≡◌, ◌++◌, true, ℕ, List, length, Err, arith, ap, subst, sym, ◌∙◌}
+use Rattle.std.proofs.Common.{◌≡◌, ◌++◌, true, ℕ, List, length, arith, ap, subst, sym, ◌∙◌}
 use Rattle.std.proofs.Common.{length-append}
-use Rattle.std.proofs.lemmas.Result.{err_from_is_err_and}
+use Rattle.ciborium_ll.proofs.DecodingLaws.{exit_is}
 use Rattle.ciborium_ll.specs.Strings.{Text}
 use Rattle.ciborium_ll_text.specs.States.{after}
 use Rattle.ciborium_ll_text.specs.declared.state.State.TheVariants.{Between}
@@ -23,10 +23,7 @@ returns-in_err-read-2-clause-keeps g c =
 pub returns-in_err-read-clause-reads : goal.returns-in_err-read-clause-reads
 returns-in_err-read-clause-reads g c = λ some none.
     let reads = c.in_err-read.ensures.reads in
-    let from = err_from_is_err_and c.from_residual.result c.from_residual.ensures.1 in
-    let is_error = from.1 in
-    let is_same = from.2 in
-    let same : c.from_residual.result ≡ Err c.in_err-read.field-0.0 = cc in
+    let same = exit_is c.from_residual.result c.in_err-read.field-0.0 c.from_residual.ensures.1 in
     rw same (λ place. first_part g.R.Read Text c.args.left place c.min.result _ _ _ _ _ c.requires.none none some
     (omega (arith, some)) (omega arith) reads)
 
@@ -83,10 +80,7 @@ pub returns-in_err-read-2-clause-reads : goal.returns-in_err-read-2-clause-reads
 returns-in_err-read-2-clause-reads g c = λ some none.
     let row = taken_bytes c.more.self in
     let residual = c.from_residual-in_err-read-2 in
-    let from = err_from_is_err_and residual.result residual.ensures.1 in
-    let is_error = from.1 in
-    let is_same = from.2 in
-    let same : residual.result ≡ Err c.in_err-read-2.field-0.0 = cc in
+    let same = exit_is residual.result c.in_err-read-2.field-0.0 residual.ensures.1 in
     let inside : is_inside (after Between row) ≡ true =
     ap (λ (z : List ℕ). is_inside (after Between z)) (sym c.bytes.ensures) ∙ (sym c.is_cut.ensures ∙ c.if-is_cut.true)
     in
@@ -99,19 +93,13 @@ returns-in_err-read-2-clause-reads g c = λ some none.
 
 pub returns-in_err-read-clause-row : goal.returns-in_err-read-clause-row
 returns-in_err-read-clause-row g c = λ some.
-    let from = err_from_is_err_and c.from_residual.result c.from_residual.ensures.1 in
-    let is_error = from.1 in
-    let is_same = from.2 in
-    let same : c.from_residual.result ≡ Err c.in_err-read.field-0.0 = cc in
+    let same = exit_is c.from_residual.result c.in_err-read.field-0.0 c.from_residual.ensures.1 in
     rw same (part_nothing g.R.Read Text c.args.left _ _ _ _ _ _ c.in_err-read.ensures.reads _
     (c.in_err-read.ensures.none ∙ c.requires.none))
 
 pub returns-in_err-read-clause-left : goal.returns-in_err-read-clause-left
 returns-in_err-read-clause-left g c = λ some.
-    let from = err_from_is_err_and c.from_residual.result c.from_residual.ensures.1 in
-    let is_error = from.1 in
-    let is_same = from.2 in
-    let same : c.from_residual.result ≡ Err c.in_err-read.field-0.0 = cc in
+    let same = exit_is c.from_residual.result c.in_err-read.field-0.0 c.from_residual.ensures.1 in
     let reads = c.in_err-read.ensures.reads in
     let counted = reads.counted in
     let none = c.in_err-read.ensures.none ∙ c.requires.none in
@@ -122,10 +110,7 @@ pub returns-in_err-read-2-clause-row : goal.returns-in_err-read-2-clause-row
 returns-in_err-read-2-clause-row g c = λ some.
     let row = taken_bytes c.more.self in
     let residual = c.from_residual-in_err-read-2 in
-    let from = err_from_is_err_and residual.result residual.ensures.1 in
-    let is_error = from.1 in
-    let is_same = from.2 in
-    let same : residual.result ≡ Err c.in_err-read-2.field-0.0 = cc in
+    let same = exit_is residual.result c.in_err-read-2.field-0.0 residual.ensures.1 in
     let inside : is_inside (after Between row) ≡ true =
     ap (λ (z : List ℕ). is_inside (after Between z)) (sym c.bytes.ensures) ∙ (sym c.is_cut.ensures ∙ c.if-is_cut.true)
     in
@@ -139,10 +124,7 @@ returns-in_err-read-2-clause-row g c = λ some.
 pub returns-in_err-read-2-clause-left : goal.returns-in_err-read-2-clause-left
 returns-in_err-read-2-clause-left g c = λ some.
     let residual = c.from_residual-in_err-read-2 in
-    let from = err_from_is_err_and residual.result residual.ensures.1 in
-    let is_error = from.1 in
-    let is_same = from.2 in
-    let same : residual.result ≡ Err c.in_err-read-2.field-0.0 = cc in
+    let same = exit_is residual.result c.in_err-read-2.field-0.0 residual.ensures.1 in
     let many = c.more.invariant.many in
     let value = c.len.ensures.value in
     let test = c.more-test.true in
