@@ -73,6 +73,12 @@ module _ {W F : Type 0} (sink : Writer W F) where
             all);
       }
 
+  -- all of it was
+  pub line_ends : (level far : ℕ) (old now : W) → far ≡ level → LineFar far old now
+      → WritesAll sink old (new_line level) now
+  line_ends level far old now same begun =
+      subst (λ (n : ℕ). WritesAll sink old (new_line n) now) same begun.written
+
   -- the writer failed within it
   pub line_stops : {T : Type 0} (level far : ℕ) (old now new : W) (result : Result T F) → far < level
       → LineFar far old now → IsErr result → WritesFront sink now (codes "  ") new
