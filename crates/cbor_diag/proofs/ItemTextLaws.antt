@@ -33,9 +33,11 @@ use Rattle.ciborium_ll.specs.Types.Write.{Ghosts as Writer}
 use Rattle.ciborium_ll.specs.Encoding.{WritesAll, WritesBytes, WritesFront}
 use Rattle.ciborium_ll.proofs.EncodingLaws.{WritesBytes-stopped, WritesBytes-then}
 use Rattle.cbor_diag.specs.ItemTexts.{indent, new_line, nest_opening, nest_closing, nest_last, nest_end, level_within}
-use Rattle.cbor_diag.specs.ItemTexts.{item_lead, is_value_at, is_first_at, kind_quotes, IsAll, scalar, float, string, nest}
+use Rattle.cbor_diag.specs.ItemTexts.{item_lead, is_value_at, is_first_at, kind_quotes, IsAll, scalar, float, string}
+use Rattle.cbor_diag.specs.ItemTexts.{nest}
 use Rattle.cbor_diag.specs.ItemTexts.{AreShown, none, more, RestShown, WithinShown}
-use Rattle.cbor_diag.specs.ItemStops.{WithinBegun, RestStops, plain, opening, within, closing, WithinStops, title, lead, item}
+use Rattle.cbor_diag.specs.ItemStops.{WithinBegun, RestStops, plain, opening, within, closing, WithinStops, title, lead}
+use Rattle.cbor_diag.specs.ItemStops.{item}
 use Rattle.cbor_diag.specs.ItemStops.{ComesNoItem, ItemStops, no_item, behind, ShowsRest, ShowsWithin, ShowsItem}
 
 -- ---- lines

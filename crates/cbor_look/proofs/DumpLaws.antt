@@ -113,7 +113,8 @@ read_ends strict e.Waiting level offset (byte ∷ bytes) some = inr refl
 pub title_row : {E : Type 0} (strict : Bool) (kind : Kind) (opens : ℕ) (error : Error E) (bytes : List ℕ)
     → IsTitleRow strict error bytes → 0 < length bytes → IsTitleFault (ending_of strict error) kind opens bytes
 title_row strict kind opens (e.Syntax at) bytes row some = inl row
-title_row strict kind opens (e.Io fault) bytes (inl none) some = absurd (let l = ap length none in omega (arith, l, some))
+title_row strict kind opens (e.Io fault) bytes (inl none) some =
+    absurd (let l = ap length none in omega (arith, l, some))
 title_row strict kind opens (e.Io fault) bytes (inr first) some = first
 title_row strict kind opens e.TooLong bytes (inl none) some = absurd (let l = ap length none in omega (arith, l, some))
 title_row strict kind opens e.TooLong bytes (inr first) some = first
@@ -178,7 +179,8 @@ lines_then {how} depth start old middle new before first second a b = record {
 -- one line
 pub lines_one : {how : Ending} (depth start : ℕ) (old new : Option (List Line)) (before : List ℕ) (line : Line)
     → Draws old new (line ∷ []) → line.offset ≡ start + length before → IsFilled line.bytes
-    → Stands how depth before line.meaning line → EndAs how (line ∷ []) → Lines depth start old new before line.bytes how
+    → Stands how depth before line.meaning line → EndAs how (line ∷ [])
+    → Lines depth start old new before line.bytes how
 lines_one depth start old new before line drawn offset filled stands ends = record {
   lines = line ∷ [];
   drawn = drawn;

@@ -1,5 +1,6 @@
 -- What is left behind a dump, byte by byte.
-use Rattle.std.proofs.Common.{◌≡◌, ℕ, ◌+◌, ◌<◌, ◌≤◌, List, [], ◌++◌, length, Option, Some, Result, Ok, Err, OnOk, sym, ap}
+use Rattle.std.proofs.Common.{◌≡◌, ℕ, ◌+◌, ◌<◌, ◌≤◌, List, [], ◌++◌, length, Option, Some, Result, Ok, Err, OnOk, sym}
+use Rattle.std.proofs.Common.{ap}
 use Rattle.std.proofs.Common.{◌∙◌, subst, arith, append-nil, length-append}
 use Rattle.ciborium_ll.specs.Types.Read.{Ghosts}
 use Rattle.ciborium_ll.specs.Types.Decoder.{Decoder}
@@ -39,7 +40,8 @@ module _ {R E : Type 0} (source : Ghosts R E) where
       (Passes-read source old between new before reads.bytes passed reads.reads.read reads.reads.steady)
 
   pub shows_left : (level : ℕ) (drawn then_drawn : Option (List Line)) (old between new : Decoder R) (bytes : List ℕ)
-      → Keeps source [] bytes old new → Passes source old bytes between → EndsRow source (length bytes) between new → length bytes ≤ most_bytes
+      → Keeps source [] bytes old new → Passes source old bytes between → EndsRow source (length bytes) between new
+      → length bytes ≤ most_bytes
       → (IsIdle source old → IsLast source bytes new)
       → Draws drawn then_drawn (fault_lines level old.offset bytes)
       → ShowsLeft source level drawn then_drawn old new

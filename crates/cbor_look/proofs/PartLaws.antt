@@ -205,7 +205,7 @@ module _ {R E : Type 0} (source : Ghosts R E) where
   part_fails kind left place old between new bytes (e.Io fault) part none some few more fails = record {
     room = length part.left + length bytes;
     held = few;
-    ends = record {
+    holds = record {
       between = between;
       part = part;
       count = length bytes;
@@ -218,7 +218,7 @@ module _ {R E : Type 0} (source : Ghosts R E) where
   part_fails kind left place old between new bytes e.TooLong part none some few more fails = record {
     room = length part.left + length bytes;
     held = few;
-    ends = record {
+    holds = record {
       between = between;
       part = part;
       count = length bytes;
@@ -317,7 +317,7 @@ module _ {R E : Type 0} (source : Ghosts R E) where
   part_behind kind len left place front old between new error passed written counted fails = record {
     room = fails.room;
     held = fails.held;
-    ends = ends_behind kind len left fails.room place front old between new error passed written counted fails.ends;
+    holds = ends_behind kind len left fails.room place front old between new error passed written counted fails.holds;
   }
 
   -- a part of the body of a byte string

@@ -368,7 +368,7 @@ module _ {R E : Type 0} (source : Ghosts R E) where
         record {
           room = most_bytes;
           held = omega arith;
-          stops = subst (λ (x : Error E). StopsInside source kind most_bytes old x new) (sym same)
+          holds = subst (λ (x : Error E). StopsInside source kind most_bytes old x new) (sym same)
               (no_title_stops most_bytes error new (record {
                 between = between;
                 part = skips_inside p alike;
@@ -389,7 +389,7 @@ module _ {R E : Type 0} (source : Ghosts R E) where
         record {
           room = most_bytes;
           held = omega arith;
-          stops = subst (λ (x : Error E). StopsInside source kind most_bytes old x new) (sym same)
+          holds = subst (λ (x : Error E). StopsInside source kind most_bytes old x new) (sym same)
               (inr (inl (record {
                 between = between;
                 part = skips_inside p alike;
@@ -416,14 +416,14 @@ module _ {R E : Type 0} (source : Ghosts R E) where
         record {
           room = stops.room;
           held = stops.held;
-          stops = body_stops stops.room error new (record {
+          holds = body_stops stops.room error new (record {
             between = between;
             part = skips_inside p alike;
             titled = titled;
             len = len;
             pulled = pulled;
             steady = λ holds. steady ((so_far.passed alike.none_waits).steady holds);
-            ends = subst (λ (n : ℕ). EndsBody source kind [] len stops.room n titled (Err error) new) at stops.ends;
+            ends = subst (λ (n : ℕ). EndsBody source kind [] len stops.room n titled (Err error) new) at stops.holds;
           });
         }
     within_body p len place titled new pulled steady (d.Item (s.Break other)) stops at alike = absurd stops

@@ -1,5 +1,6 @@
 -- The texts of rows, as they are written step by step.
-use Rattle.std.proofs.Common.{◌≡◌, ◌∙◌, ℕ, zero, suc, ◌+◌, ◌<◌, List, [], ◌∷◌, ◌++◌, refl, sym, ap, arith, false, ◌-◌, ◌^◌}
+use Rattle.std.proofs.Common.{◌≡◌, ◌∙◌, ℕ, zero, suc, ◌+◌, ◌<◌, List, [], ◌∷◌, ◌++◌, refl, sym, ap, arith, false, ◌-◌}
+use Rattle.std.proofs.Common.{◌^◌}
 use Rattle.std.proofs.Common.{append-nil, append_assoc, length, take, get_or, Option, Some, Result, subst}
 use Rattle.std.proofs.Common.{Ok, Err, true, if◌then◌else◌, ◌*◌, min, ◌⊎◌, inl, inr}
 use Rattle.std.proofs.lemmas.List.{take_more}
@@ -12,7 +13,8 @@ use Rattle.std.specs.Fmt.{HasWritten, IsPlainFormatter, DisplaysOnOk, WritesOnOk
 use Rattle.std.specs.Fmt.{digits_output, styled_digits_output, shown_prefix, radix_prefix}
 use Rattle.std.specs.Option.{option_map}
 use Rattle.std.specs.declared.fmt.Formatter.{Formatter}
-use Rattle.cbor_look.specs.RowTexts.{blank, hex_text, joined_text, more_text, characters_text, character_text, shown_text}
+use Rattle.cbor_look.specs.RowTexts.{blank, hex_text, joined_text, more_text, characters_text, character_text}
+use Rattle.cbor_look.specs.RowTexts.{shown_text}
 use Rattle.cbor_look.specs.RowTexts.{digits_text, margin_text, meaning_text, row_text}
 use Rattle.cbor_look.specs.declared.rows.Meaning.{Meaning}
 use Rattle.cbor_look.specs.declared.rows.Meaning.TheVariants as m

@@ -126,8 +126,8 @@ module _ {R E : Type 0} (source : Ghosts R E) where
       → Shows source depth start drawn then_drawn (outer ++ title) (so_far.front ++ bytes) (ending_of strict error) old
       new
   unfolding body_here
-  part_fails strict error depth start opens nests outer title kind len left level offset drawn middle then_drawn bytes old between
-      new at begun so_far takes few here drawn_fault row fit some left_behind =
+  part_fails strict error depth start opens nests outer title kind len left level offset drawn middle then_drawn bytes
+      old between new at begun so_far takes few here drawn_fault row fit some left_behind =
       let counted = so_far.counted in
       let rest : left ≡ len - length so_far.front = omega (arith, counted) in
       shows_then source depth start drawn middle then_drawn (outer ++ title) so_far.front bytes old between new

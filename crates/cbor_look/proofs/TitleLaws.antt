@@ -1,6 +1,7 @@
 -- The lines of titles, and what is due behind them.
 use Rattle.std.proofs.Common.{◌≡◌, ℕ, ◌+◌, ◌-◌, ◌≤◌, List, [], ◌∷◌, ◌++◌, length, Option, Some, None, refl, sym}
-use Rattle.std.proofs.Common.{ap, subst, ◌∙◌, arith, append-nil, length-append, Bool, Result, Ok, Err, OnOk, IfSome, inl}
+use Rattle.std.proofs.Common.{ap, subst, ◌∙◌, arith, append-nil, length-append, Bool, Result, Ok, Err, OnOk, IfSome}
+use Rattle.std.proofs.Common.{inl}
 use Rattle.ciborium_ll.specs.Types.Read.{Ghosts}
 use Rattle.ciborium_ll.specs.Types.Decoder.{Decoder}
 use Rattle.ciborium_ll.specs.Types.Header.{Header}

@@ -1,6 +1,7 @@
 -- What `dump` and its parts do with the lines: their bytes, joined, are those that were consumed, and each stands at
 -- its level.
-use Rattle.std.specs.Prelude.{◌≡◌, ℕ, ◌+◌, ◌<◌, ◌≤◌, List, [], ◌∷◌, ◌++◌, length, Option, Some, None, IfSome, Result, Ok, Err}
+use Rattle.std.specs.Prelude.{◌≡◌, ℕ, ◌+◌, ◌<◌, ◌≤◌, List, [], ◌∷◌, ◌++◌, length, Option, Some, None, IfSome, Result}
+use Rattle.std.specs.Prelude.{Ok, Err}
 use Rattle.ciborium_ll.specs.Types.Read.{Ghosts}
 use Rattle.ciborium_ll.specs.Types.Decoder.{Decoder}
 use Rattle.ciborium_ll.specs.Types.Error.{Error}
@@ -75,8 +76,8 @@ pub record Lines (depth start : ℕ) (old new : Option (List Line)) (before byte
   pub ends : EndAs ending lines
 
 module _ {R E : Type 0} (source : Ghosts R E) where
-  -- lines were drawn of just the bytes that were consumed; where those that are told end too early, it is known how many
-  -- are left
+  -- lines were drawn of just the bytes that were consumed; where bytes that are told end too early, it is said how many
+  -- of them are left
   pub record Shows (depth start : ℕ) (drawn then_drawn : Option (List Line)) (before bytes : List ℕ)
       (ending : Ending) (old new : Decoder R) : Type 0 where
     pub lines : Lines depth start drawn then_drawn before bytes ending
@@ -90,10 +91,10 @@ module _ {R E : Type 0} (source : Ghosts R E) where
     pub takes : Takes source old bytes new
     pub left : IsIdle source old → IfSome (view source new) (LeavesAs ending (bytes_at_fault lines.lines))
 
-  -- What was left behind a dump is shown at the level: in a line, where there is some, are just bytes that were consumed,
-  -- and no more than a line has. They came one by one, until the line was full or a read failed, behind which there was
-  -- none. Where the reader is steady, no header waits, and so few bytes are told as one line has and the offset fits,
-  -- they are all of these
+  -- What was left behind a dump is shown at the level: in a line, where there is some, are just bytes that were
+  -- consumed, and no more than a line has. They came one by one, until the line was full or a read failed, behind which
+  -- there was none. Where the reader is steady, no header waits, and so few bytes are told as one line has and the
+  -- offset fits, they are all of these
   pub record ShowsLeft (level : ℕ) (drawn then_drawn : Option (List Line)) (old new : Decoder R) : Type 0 where
     pub bytes : List ℕ
     pub draws : Draws drawn then_drawn (fault_lines level old.offset bytes)

@@ -114,8 +114,8 @@ pub data Ending : Type 0 where
   Failed : Ending
   Stopped : Ending
 
--- all bytes of a title that is refused, within so many opens of the kind: by its first byte, since it is not strict where
--- only such are taken, or since it may not stand in the string (RFC 7049, 2.1, 2.2.2 and 3.9)
+-- all bytes of a title that is refused, within so many opens of the kind: by its first byte, since it is not strict
+-- where only such are taken, or since it may not stand in the string (RFC 7049, 2.1, 2.2.2 and 3.9)
 abbrev pub IsNoTitle : Bool → Kind → ℕ → List ℕ → Type 0
 IsNoTitle strict kind opens bytes = Means strict bytes None
     ⊎ ((0 < opens) × ((header : Header) × IsTitle bytes header × IsRefusedIn strict kind header))

@@ -10,7 +10,7 @@ use Rattle.ciborium_ll.specs.Finishing.{EndsBody, IsNoText}
 use Rattle.ciborium_ll_text.specs.Text.{IsCharacters}
 use Rattle.ciborium_ll_text.specs.declared.state.State.{State}
 use Rattle.ciborium_ll_text.specs.declared.state.State.TheVariants as t
-use Rattle.cbor_look.specs.Takings.{most_bytes, most_text}
+use Rattle.cbor_look.specs.Takings.{HasRoom, most_text}
 
 -- the bytes so far end between two characters (Unicode, Table 3-7)
 abbrev pub is_between : State → Bool
@@ -45,11 +45,9 @@ IsPartRow kind left error bytes = (bytes ≡ []) ⊎ ((kind ≡ Text) × IsCutTe
 module _ {R E : Type 0} (source : Ghosts R E) where
   -- the read of a body of which so many bytes are left failed as that of a skip does, through a buffer of some room, but
   -- of no more than a row has (RFC 7049, 2.1; RFC 3629, 4)
-  pub record FailsInBody (kind : Kind) (left place : ℕ) (old : Decoder R) (error : Error E) (new : Decoder R) : Type 0
-    where
-      pub room : ℕ
-      pub held : room ≤ most_bytes
-      pub ends : EndsBody source kind [] left room place old (Err error) new
+  abbrev pub FailsInBody : Kind → ℕ → ℕ → Decoder R → Error E → Decoder R → Type 0
+  FailsInBody kind left place old error new =
+      HasRoom (λ room. EndsBody source kind [] left room place old (Err error) new)
 
   -- bytes of a text were read, of which so many were left, or the read of them failed as that of the whole body does
   -- (RFC 7049, 2.1; RFC 3629, 4)

@@ -1,5 +1,6 @@
 -- The bytes of a row: just those that were consumed for it.
-use Rattle.std.specs.Prelude.{◌≡◌, ℕ, ◌+◌, ◌-◌, ◌%◌, ◌<◌, ◌≤◌, min, Bool, IsTrue, List, [], ◌∷◌, ◌++◌, length, take, Option, None}
+use Rattle.std.specs.Prelude.{◌≡◌, ℕ, ◌+◌, ◌-◌, ◌%◌, ◌<◌, ◌≤◌, min, Bool, IsTrue, List, [], ◌∷◌, ◌++◌, length, take}
+use Rattle.std.specs.Prelude.{Option, None}
 use Rattle.std.specs.Prelude.{Some, Result, Ok, Err, OnOk, ◌⊎◌}
 use Rattle.std.specs.Io.KnownBytes.{Consumes}
 use Rattle.ciborium_ll.specs.Types.Read.{Ghosts}
@@ -19,6 +20,12 @@ taken_bytes taken = take taken.len taken.bytes
 -- the most bytes that one row has
 abbrev pub most_bytes : ℕ
 most_bytes = 16
+
+-- this holds of some room of a buffer, which is no more than a row has
+pub record HasRoom (Holds : ℕ → Type 0) : Type 0 where
+  pub room : ℕ
+  pub held : room ≤ most_bytes
+  pub holds : Holds room
 
 -- the most bytes of a text that are read at once: behind them is room for the rest of a character
 abbrev pub most_text : ℕ
@@ -41,8 +48,8 @@ abbrev pub IsTitleRow : {E : Type 0} → Bool → Error E → List ℕ → Type 
 IsTitleRow strict (e.Syntax at) bytes = Means strict bytes None
 IsTitleRow strict error bytes = (bytes ≡ []) ⊎ IsFirstByte bytes
 
--- So many bytes are left behind those of a row at fault, where the bytes end too early: behind none fewer than a row has,
--- behind a first byte fewer than it announces (RFC 7049, 2.1), and none behind the front of a text
+-- so many bytes are left behind those of a row at fault, where the bytes end too early: behind none fewer than a row
+-- has, behind a first byte fewer than it announces (RFC 7049, 2.1), and none behind the front of a text
 abbrev pub Leaves : List ℕ → List ℕ → Type 0
 Leaves [] left = length left < most_bytes
 Leaves (byte ∷ []) left = length left < affix_len (byte % 32)

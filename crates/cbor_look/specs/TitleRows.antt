@@ -1,5 +1,5 @@
 -- What the rows of a title show, and of the string that it begins.
-use Rattle.std.specs.Prelude.{◌≡◌, ℕ, ◌≤◌, Bool, false, List, [], ◌++◌, Option, Result, Ok, Err, OnOk}
+use Rattle.std.specs.Prelude.{◌≡◌, ℕ, Bool, false, List, [], ◌++◌, Option, Result, Ok, Err, OnOk}
 use Rattle.ciborium_ll.specs.Types.Read.{Ghosts}
 use Rattle.ciborium_ll.specs.Types.Decoder.{Decoder}
 use Rattle.ciborium_ll.specs.Types.Error.{Error}
@@ -17,7 +17,7 @@ use Rattle.cbor_look.specs.Levels.{Line, Nest, StandsBehind, closes_one}
 use Rattle.cbor_look.specs.Dumps.{Lines, Shows, ShowsBehind}
 use Rattle.cbor_look.specs.Endings.{ending}
 use Rattle.cbor_look.specs.Walks.{IsDueBehind, IsDeepest}
-use Rattle.cbor_look.specs.Takings.{IsAlike, most_bytes}
+use Rattle.cbor_look.specs.Takings.{HasRoom, IsAlike}
 use Rattle.cbor_look.specs.Sequences.{IsSequence}
 
 -- behind the bytes an item is due, in place of which no break may stand
@@ -56,11 +56,8 @@ module _ {E W : Type 0} where
 module _ {R E : Type 0} (source : Ghosts R E) where
   -- a string of this length failed as a skip of it does, through a buffer of some room, but of no more than a row has
   -- (RFC 7049, 2.2)
-  pub record FailsInString (kind : Kind) (len : Option ℕ) (old : Decoder R) (error : Error E) (new : Decoder R)
-      : Type 0 where
-    pub room : ℕ
-    pub held : room ≤ most_bytes
-    pub skipped : SkipsString source kind len room old (Err error) new
+  abbrev pub FailsInString : Kind → Option ℕ → Decoder R → Error E → Decoder R → Type 0
+  FailsInString kind len old error new = HasRoom (λ room. SkipsString source kind len room old (Err error) new)
 
 module _ {R E W : Type 0} (source : Ghosts R E) where
   -- how a title ends a dump, or the string that it begins, which stops as a skip of it does (RFC 7049, 2.2)

@@ -1,6 +1,7 @@
 //! A dump: each title of a sequence of items on a line, and bodies of strings below theirs.
 
-ghost use Rattle.std.specs.Prelude.{◌≡◌, ℕ, ◌+◌, ◌-◌, ◌<◌, ◌≤◌, ◌↔◌, List, [], ◌∷◌, ◌++◌, length, Bool, Err, IfErr, IsOk};
+ghost use Rattle.std.specs.Prelude.{◌≡◌, ℕ, ◌+◌, ◌-◌, ◌<◌, ◌≤◌, ◌↔◌, List, [], ◌∷◌, ◌++◌, length, Bool, Err, IfErr};
+ghost use Rattle.std.specs.Prelude.{IsOk};
 ghost use Rattle.ciborium_ll.specs.Items.{IsTakenTitle};
 ghost use Rattle.ciborium_ll.specs.Title.{IsTitle, title_len};
 ghost use Rattle.ciborium_ll.specs.Decoding.{offset_of, strict_of, IsWaiting};
@@ -44,15 +45,15 @@ pub enum DumpError<E, W> {
 /// `Ok` has what the reader answered where a further item would begin. Before an error all that was read is shown.
 /// Nothing is read ahead of the rows, and no memory is taken.
 ///
-/// No row means a fault but the last one before an error. Where bytes are no item (`Error::Syntax`) that one does: it has
-/// all of a title that is refused, by its first byte, by a strict dump since it is not strict, or since it may not stand
-/// in its string; or bytes of a text that are none, as the rest of the body or however they go on. Where a read stopped
-/// for another reason it may: it has the first byte of a title, or 13 bytes or more of a text, of which more are due and
-/// which end inside a character. A break where none may stand, and the title of a nest too deep, are shown as what they
-/// are.
+/// No row means a fault but the last one before an error. Where bytes are no item (`Error::Syntax`) that one does: it
+/// has all of a title that is refused, by its first byte, by a strict dump since it is not strict, or since it may not
+/// stand in its string; or bytes of a text that are none, as the rest of the body or however they go on. Where a read
+/// stopped for another reason it may: it has the first byte of a title, or 13 bytes or more of a text, which end inside
+/// a character, and more are due. A break where none may stand, and the title of a nest too deep, are shown as what
+/// they are.
 ///
-/// Where a steady reader that tells its bytes fails, and no header waited, few of them are left: behind a first byte at
-/// fault fewer than it announces, behind a text at fault none, and where no row is at fault at most 15.
+/// Where a steady reader that tells its bytes fails within an item, and no header waited, few of them are left: behind
+/// a first byte at fault fewer than it announces, behind a text at fault none, and where no row is at fault at most 15.
 ///
 /// Each row has from 1 to 16 bytes, stands at its level, and has the offset of its first byte. The level of a title is
 /// the number of tags, arrays, maps and opens that it stands within in the grammar, and a break that closes one has the
@@ -84,7 +85,7 @@ where
         → ShowsAll R.Read strict depth (S.drawn rows.old) (S.drawn rows.new) result decoder.old decoder.new }
     ensures waits { IsWaiting decoder.old → AnswersWaiting rows.old decoder.old result rows.new decoder.new }
     ensures reads { IsAlike strict decoder.old → AreTaken result
-        → ReadsAsCheck R.Read depth most_bytes decoder.old result decoder.new }
+        → ReadsAsCheck R.Read depth decoder.old result decoder.new }
     ensures told { (due : List ℕ) → IsAlike strict decoder.old
         → IsReadyToSkip R.Read most_bytes decoder.old due → AreTaken result
         → AnswersTold R.Read depth due decoder.old result decoder.new }

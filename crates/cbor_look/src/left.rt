@@ -17,8 +17,8 @@ use ciborium_ll::io::Read;
 /// its bytes, no header waits, and at most 16 are left, which the offset fits, these are all of them. The error is that
 /// of the row.
 ///
-/// Of a dump that stopped because its bytes ended at most 15 are left, as its contract says. No clause says that what is
-/// left is that beginning: behind another error, or over another reader, it is what comes next.
+/// Of a dump that stopped because its bytes ended at most 15 are left, as its contract says. No clause says that what
+/// is left is that beginning: behind another error, or over another reader, it is what comes next.
 pub fn dump_left<R: Read, S: Rows>(
     decoder: &mut Decoder<R>,
     level: usize,

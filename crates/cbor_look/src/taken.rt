@@ -1,6 +1,7 @@
 //! Bytes that were read for one row.
 
-ghost use Rattle.std.specs.Prelude.{◌≡◌, ◌+◌, ◌-◌, ◌%◌, ◌<◌, ◌≤◌, [], length, min, suc, false, IfErr, IfOk, IfSome, IsTrue, None, Ok, Err};
+ghost use Rattle.std.specs.Prelude.{◌≡◌, ◌+◌, ◌-◌, ◌%◌, ◌<◌, ◌≤◌, [], length, min, suc, false, IfErr, IfOk, IfSome};
+ghost use Rattle.std.specs.Prelude.{IsTrue, None, Ok, Err};
 ghost use Rattle.ciborium_ll.specs.Title.{affix_len};
 ghost use Rattle.ciborium_ll.specs.Decoding.{offset_of, view, waiting_of, IsWaiting, Passes};
 

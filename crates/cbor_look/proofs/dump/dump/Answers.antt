@@ -5,7 +5,7 @@ use Rattle.cbor_look.specs.Dumps.{AreTaken, IsTaken}
 use Rattle.ciborium_ll.specs.Items.{IsTakenTitle}
 use Rattle.ciborium_ll.specs.Title.{IsTitle}
 use Rattle.ciborium_ll.proofs.NestLaws.{title_some}
-use Rattle.cbor_look.specs.Takings.{IsAlike, most_bytes, taken_bytes}
+use Rattle.cbor_look.specs.Takings.{IsAlike, taken_bytes}
 use Rattle.cbor_look.proofs.RowLaws.{row_few}
 use Rattle.cbor_look.proofs.StringLaws.{taken_all}
 use Rattle.cbor_look.proofs.DumpLaws.{shows_none}
@@ -38,7 +38,7 @@ returns-in-Err g c =
     let place = c.offset-place.ensures.value in
     let ended = c.ended.ensures.ends in
     let reads : IsAlike c.args.strict c.args.decoder.now → AreTaken c.ended.result
-    → ReadsAsCheck g.R.Read c.args.depth most_bytes c.args.decoder.now c.ended.result c.read_title.new.decoder =
+    → ReadsAsCheck g.R.Read c.args.depth c.args.decoder.now c.ended.result c.read_title.new.decoder =
     λ alike all.
     let come = up.came alike in
     let here = comes_alike g.R.Read c.args.strict c.args.depth c.titles.walk _ _ come in
@@ -99,7 +99,7 @@ returns-in_err-title g c =
     let taken : IsTakenTitle c.args.strict row c.in-Ok.header = rw c.in-Ok.is at c.read_title.ensures.taken in
     let some = title_some row c.in-Ok.header titled in
     let reads : IsAlike c.args.strict c.args.decoder.now → IsTaken error
-    → ReadsAsCheck g.R.Read c.args.depth most_bytes c.args.decoder.now (Err error)
+    → ReadsAsCheck g.R.Read c.args.depth c.args.decoder.now (Err error)
     c.title.new.decoder = λ alike all.
     let come = up.came alike in
     let here = comes_alike g.R.Read c.args.strict c.args.depth c.titles.walk _ _ come in

@@ -1,4 +1,5 @@
-use Rattle.std.proofs.Common.{◌≡◌, ◌∙◌, ◌-◌, ◌+◌, ◌<◌, ◌∷◌, ◌++◌, List, ℕ, Ok, Some, rules, append_assoc, ap, arith, drop, get_or, length}
+use Rattle.std.proofs.Common.{◌≡◌, ◌∙◌, ◌-◌, ◌+◌, ◌<◌, ◌∷◌, ◌++◌, List, ℕ, Ok, Some, rules, append_assoc, ap, arith}
+use Rattle.std.proofs.Common.{drop, get_or, length}
 use Rattle.std.proofs.Common.{[], refl, subst, sym, take}
 use Rattle.std.proofs.lemmas.Grind.{common_steps}
 use Rattle.std.specs.Fmt.{◌++?◌, HasWritten}

@@ -12,7 +12,8 @@ use Rattle.cbor_look.specs.Parts.{IsCutText}
 use Rattle.cbor_look.specs.Takings.{Leaves}
 use Rattle.cbor_look.proofs.ItemRows.{nothing}
 use Rattle.cbor_look.proofs.PartLaws.{cut_text, due_few, first_part, next_part, state_due, inside_some, sound_of}
-use Rattle.cbor_look.proofs.PullLaws.{first_passed, less_left, more_passed, part_cut, part_nothing, passes_idle, several_leave}
+use Rattle.cbor_look.proofs.PullLaws.{first_passed, less_left, more_passed, part_cut, part_nothing, passes_idle}
+use Rattle.cbor_look.proofs.PullLaws.{several_leave}
 use Rattle.cbor_look.proofs.taken.Taken.read_text.Goals.{then-more-test+else-is_cut, else-more-test}
 use Rattle.cbor_look.proofs.taken.Taken.read_text.Goals as goal
 
