@@ -9,7 +9,7 @@ use Rattle.ciborium_ll.specs.Types.Error.{Error}
 use Rattle.ciborium_ll.specs.Types.Error.TheVariants as e
 use Rattle.ciborium_ll.specs.Types.Header.{Header}
 use Rattle.ciborium_ll.specs.Title.{IsTitle, IsStrictTitle, IsRefused, affix_len}
-use Rattle.ciborium_ll.specs.Decoding.{offset_limit, refusals_of, view, IsSteady, IsUntouched, PullsHeader, PullsTitle}
+use Rattle.ciborium_ll.specs.Decoding.{refusals_of, view, IsSteady, IsUntouched, PullsHeader, PullsTitle}
 use Rattle.ciborium_ll.specs.Decoding.{Reads}
 use Rattle.cbor_look.specs.declared.taken.Taken.{Taken}
 
@@ -114,8 +114,3 @@ module _ {R E : Type 0} (source : Ghosts R E) where
     pub bytes : List ℕ
     pub appended : after ≡ before ++ bytes
     pub takes : Takes old bytes new
-
-  -- of the bytes that are told none are left that would fit the row and the offset
-  abbrev pub IsLast : List ℕ → Decoder R → Type 0
-  IsLast taken decoder = (left : List ℕ) → view source decoder ≡ Some left → length taken + length left ≤ most_bytes
-      → decoder.offset + length left < offset_limit → left ≡ []

@@ -24,7 +24,7 @@ pub(crate) struct Taken {
 impl Taken {
     ghost use Rattle.ciborium_ll.specs.Items.{IsTakenTitle};
     ghost use Rattle.ciborium_ll.specs.Title.{IsTitle};
-    ghost use Rattle.cbor_look.specs.Takings.{EndsRow, HasFault, IsAlike, IsIdle, IsLast, Keeps, PullsRow, ReadsOn};
+    ghost use Rattle.cbor_look.specs.Takings.{EndsRow, HasFault, IsAlike, IsIdle, Keeps, PullsRow, ReadsOn};
     ghost use Rattle.cbor_look.specs.Takings.{IsTitleRow, LeavesBehind, RefusesRead, taken_bytes};
     ghost use Rattle.ciborium_ll.specs.Types.Error.TheVariants.{Waiting};
     ghost use Rattle.cbor_look.specs.Parts.{IsPartRow, IsSound, ReadsText};
@@ -80,8 +80,6 @@ impl Taken {
         R::Error: Drop,
         ensures keeps { Keeps R.Read (taken_bytes self.old) (taken_bytes self.new) decoder.old decoder.new }
         ensures one { IsTrue result → length (taken_bytes self.new) ≡ suc (length (taken_bytes self.old)) }
-        ensures last { result ≡ false → IsIdle R.Read decoder.old
-            → IsLast R.Read (taken_bytes self.new) decoder.new }
         ensures came { IsTrue result
             → ReadsOn R.Read 1 (taken_bytes self.old) (taken_bytes self.new) decoder.old (Ok tt) decoder.new }
         ensures ends { result ≡ false → (taken_bytes self.new ≡ taken_bytes self.old)

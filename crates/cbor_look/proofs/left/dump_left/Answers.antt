@@ -21,7 +21,7 @@ returns g c =
           c.bytes.invariant.1)
           (subst (λ (z : List ℕ). EndsRow g.R.Read (length z) c.bytes.decoder c.read_one.new.decoder) (sym ends.0)
           ends.1) (omega (arith, length-take row.len row.bytes, row.within))
-          (λ idle. c.read_one.ensures.last stopped (c.bytes.invariant.0.takes.consumed idle).1)
+          (λ idle. (c.bytes.invariant.0.takes.consumed idle).1)
           (rw c.offset-offset.ensures.value at draws)) c.fault_row.ensures.draws;
     }
 
