@@ -33,11 +33,12 @@ EndAs (Refused strict) lines = EndAtFault lines
 EndAs Failed lines = AreMeant lines ⊎ EndAtFault lines
 EndAs Stopped lines = AreMeant lines ⊎ EndAtFault lines
 
--- the bytes of the line at fault, or none
+-- the bytes of a line, where it is at fault
 abbrev pub fault_part : Meaning → List ℕ → List ℕ
 fault_part m.Fault bytes = bytes
 fault_part meaning bytes = []
 
+-- those of the lines at fault, of which there is one at most
 abbrev pub bytes_at_fault : List Line → List ℕ
 bytes_at_fault [] = []
 bytes_at_fault (line ∷ lines) = fault_part line.meaning line.bytes ++ bytes_at_fault lines

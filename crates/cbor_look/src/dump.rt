@@ -81,9 +81,9 @@ pub fn dump<R: Read, S: Rows>(
 where
     R::Error: Drop,
     requires { depth ≤ 256 }
+    ensures waits { IsWaiting decoder.old → AnswersWaiting rows.old decoder.old result rows.new decoder.new }
     ensures shows { AreTaken result
         → ShowsAll R.Read strict depth (S.drawn rows.old) (S.drawn rows.new) result decoder.old decoder.new }
-    ensures waits { IsWaiting decoder.old → AnswersWaiting rows.old decoder.old result rows.new decoder.new }
     ensures reads { IsAlike strict decoder.old → AreTaken result
         → ReadsAsCheck R.Read depth decoder.old result decoder.new }
     ensures told { (due : List ℕ) → IsAlike strict decoder.old
